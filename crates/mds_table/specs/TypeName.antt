@@ -1,0 +1,17 @@
+-- The names of event types.
+use Rattle.std.specs.Prelude.{◌≡◌, ℕ, ◌≤◌, ◌&&◌, ◌||◌, ◌==◌, List, length, Bool, true, nat_le}
+use Rattle.std.specs.List.{list_all}
+
+-- a byte of a-z, 0-9 or _
+abbrev pub may_stand : ℕ → Bool
+may_stand byte = ((nat_le 97 byte && nat_le byte 122) || (nat_le 48 byte && nat_le byte 57)) || (byte == 95)
+
+-- 1 to 32 bytes, each of which may stand in a name
+pub record IsTypeName (text : List ℕ) : Type 0 where
+  pub some : 1 ≤ length text
+  pub short : length text ≤ 32
+  pub bytes : list_all may_stand text ≡ true
+
+-- the same as a test
+abbrev pub is_type_name : List ℕ → Bool
+is_type_name text = (nat_le 1 (length text) && nat_le (length text) 32) && list_all may_stand text

@@ -1,0 +1,20 @@
+//! The states of shared vehicles, the types of their events, and the table of allowed transitions.
+//!
+//! A table is a set of rows, each a state, an event type and the state that it leads to. States and event types are
+//! named after the micromobility mode of the Mobility Data Specification (MDS) 2.0, section "Vehicle States" and
+//! "Vehicle Events"; which rows the profile has is this project's own choice.
+#![tactic(auto)]
+
+pub mod laws;
+mod profile;
+mod row;
+mod state;
+mod table;
+#[cfg(test)]
+mod tests;
+mod type_name;
+
+pub use row::Row;
+pub use state::State;
+pub use table::Table;
+pub use type_name::{NameFault, TypeName};

@@ -1,0 +1,90 @@
+//! The states of a vehicle.
+ghost use Rattle.std.specs.Prelude.{◌≡◌, ◌≢◌, Some, IfSome, IfNone, slice_get};
+ghost use Rattle.mds_table.specs.State.{code_of, name_of};
+
+use std::fmt;
+
+/// The state of a vehicle, after MDS 2.0, "Vehicle States". States are ordered by their codes.
+#[derive(Clone, Copy, Debug, PartialEq, Eq, PartialOrd, Ord, Hash)]
+pub enum State {
+    /// Off the street: not deployed, or taken away.
+    Removed,
+    /// For hire on the street.
+    Available,
+    /// On the street, and not for hire.
+    NonOperational,
+    /// Held for a rider who has not set off yet.
+    Reserved,
+    /// In a rider's use.
+    OnTrip,
+    /// Outside the city.
+    Elsewhere,
+    /// Out of touch: its provider gets no message from it.
+    NonContactable,
+    /// Not to be found.
+    Missing,
+}
+
+impl State {
+    /// Every state, in the order of codes.
+    pub const ALL: [State; 8] = [
+        State::Removed,
+        State::Available,
+        State::NonOperational,
+        State::Reserved,
+        State::OnTrip,
+        State::Elsewhere,
+        State::NonContactable,
+        State::Missing,
+    ];
+
+    /// The code of the state, from 0 to 7: its place in [`State::ALL`].
+    pub fn code(self) -> u8
+        ensures code { result ≡ code_of self }
+        ensures place { slice_get State.ALL result ≡ Some self }
+    {
+        self as u8
+    }
+
+    /// The name of the state, as MDS writes it.
+    pub fn name(self) -> &'static str
+        ensures { result.now ≡ name_of self }
+    {
+        match self {
+            State::Removed => "removed",
+            State::Available => "available",
+            State::NonOperational => "non_operational",
+            State::Reserved => "reserved",
+            State::OnTrip => "on_trip",
+            State::Elsewhere => "elsewhere",
+            State::NonContactable => "non_contactable",
+            State::Missing => "missing",
+        }
+    }
+
+    /// The state of this name, or `None` where no state has it.
+    pub fn of_name(name: &str) -> Option<State>
+        ensures found { IfSome result (λ state. name_of state ≡ name.now) }
+        ensures none { IfNone result ((state : State) → name_of state ≢ name.now) }
+    {
+        match name {
+            "removed" => Some(State::Removed),
+            "available" => Some(State::Available),
+            "non_operational" => Some(State::NonOperational),
+            "reserved" => Some(State::Reserved),
+            "on_trip" => Some(State::OnTrip),
+            "elsewhere" => Some(State::Elsewhere),
+            "non_contactable" => Some(State::NonContactable),
+            "missing" => Some(State::Missing),
+            _ => None,
+        }
+    }
+}
+
+impl fmt::Display for State {
+    ghost output = { λ state. Some (name_of state) };
+
+    fn fmt<W: fmt::Write>(&self, f: &mut fmt::Formatter<W>) -> fmt::Result {
+        f.write_str(self.name())
+    }
+}

@@ -1,0 +1,138 @@
+//! What no clause says: values from outside, and that each call can succeed.
+use crate::{NameFault, State, Table, TypeName};
+use std::test::Fail;
+
+/// Every type of the profile.
+const PROFILE_TYPES: [&str; 27] = [
+    "agency_drop_off",
+    "agency_pick_up",
+    "battery_charged",
+    "battery_low",
+    "changed_geographies",
+    "comms_lost",
+    "comms_restored",
+    "compliance_pick_up",
+    "decommissioned",
+    "located",
+    "maintenance",
+    "maintenance_pick_up",
+    "not_located",
+    "off_hours",
+    "on_hours",
+    "provider_drop_off",
+    "rebalance_pick_up",
+    "reservation_cancel",
+    "reservation_start",
+    "system_resume",
+    "system_suspend",
+    "trip_cancel",
+    "trip_end",
+    "trip_enter_jurisdiction",
+    "trip_leave_jurisdiction",
+    "trip_start",
+    "unspecified",
+];
+
+fn type_name(text: &str) -> Result<TypeName, Fail> {
+    Ok(TypeName::new(text)?)
+}
+
+#[test]
+fn states_have_codes_and_names(rt: HostRuntime) {
+    let expected = [
+        (State::Removed, 0u8, "removed"),
+        (State::Available, 1, "available"),
+        (State::NonOperational, 2, "non_operational"),
+        (State::Reserved, 3, "reserved"),
+        (State::OnTrip, 4, "on_trip"),
+        (State::Elsewhere, 5, "elsewhere"),
+        (State::NonContactable, 6, "non_contactable"),
+        (State::Missing, 7, "missing"),
+    ];
+    for (state, code, name) in expected {
+        assert_eq!(rt; state.code(), code);
+        assert_eq!(rt; state.name(), name);
+        assert_eq!(rt; State::of_name(name), Some(state));
+    }
+    assert_eq!(rt; State::of_name("flying"), None);
+    assert_eq!(rt; State::of_name("Removed"), None);
+    assert_eq!(rt; State::of_name(""), None);
+}
+
+#[test]
+fn type_name_faults(rt: HostRuntime) -> Result<(), Fail> {
+    let letters = "abcdefghijklmnopqrstuvwxyzabcdefg";
+    assert_eq!(rt; letters.len(), 33);
+    assert_eq!(rt; TypeName::new("").err(), Some(NameFault::Empty));
+    assert_eq!(rt; TypeName::new(letters).err(), Some(NameFault::TooLong));
+    assert_eq!(rt; TypeName::new("Trip").err(), Some(NameFault::BadByte(0)));
+    assert_eq!(rt;
+        TypeName::new("trip-end").err(),
+        Some(NameFault::BadByte(4))
+    );
+    let longest = "abcdefghijklmnopqrstuvwxyz_01289";
+    assert_eq!(rt; longest.len(), 32);
+    assert_eq!(rt; type_name(longest)?.as_str(), longest);
+    assert_eq!(rt; type_name("a")?.copy().as_str(), "a");
+    Ok(())
+}
+
+#[test]
+fn text_is_the_name(rt: HostRuntime) -> Result<(), Fail> {
+    let alloc = rt.alloc();
+    let state = State::NonContactable.to_string(alloc)?;
+    assert_eq!(rt; state.as_str(), "non_contactable");
+    let kind = type_name("trip_end")?.to_string(alloc)?;
+    assert_eq!(rt; kind.as_str(), "trip_end");
+    assert_eq!(rt; TypeName::default().as_str(), "unspecified");
+    Ok(())
+}
+
+#[test]
+fn profile_has_74_rows(rt: HostRuntime) -> Result<(), Fail> {
+    let table = Table::profile(rt.alloc())?;
+    let mut count = 0u32;
+    for text in PROFILE_TYPES {
+        let kind = type_name(text)?;
+        for from in State::ALL {
+            for to in State::ALL {
+                if table.has_row(from, &kind, to) {
+                    count = count.saturating_add(1);
+                }
+            }
+        }
+    }
+    assert_eq!(rt; count, 74);
+    Ok(())
+}
+
+#[test]
+fn profile_rows_lead_as_printed(rt: HostRuntime) -> Result<(), Fail> {
+    let table = Table::profile(rt.alloc())?;
+    let expected = [
+        ("agency_drop_off", State::Removed, State::Available, true),
+        ("agency_drop_off", State::Available, State::Removed, false),
+        ("trip_start", State::Reserved, State::OnTrip, true),
+        ("trip_end", State::OnTrip, State::Available, true),
+        ("trip_end", State::OnTrip, State::NonOperational, false),
+        (
+            "comms_restored",
+            State::NonContactable,
+            State::Elsewhere,
+            true,
+        ),
+        ("not_located", State::Removed, State::Missing, false),
+        ("decommissioned", State::Removed, State::Removed, true),
+        (
+            "changed_geographies",
+            State::Elsewhere,
+            State::NonOperational,
+            true,
+        ),
+        ("service_end", State::Available, State::Removed, false),
+    ];
+    for (text, from, to, there) in expected {
+        assert_eq!(rt; table.has_row(from, &type_name(text)?, to), there, "{text}");
+    }
+    Ok(())
+}
