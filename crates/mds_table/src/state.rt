@@ -1,5 +1,6 @@
 //! The states of a vehicle.
 ghost use Rattle.std.specs.Prelude.{◌≡◌, ◌≢◌, Some, IfSome, IfNone, slice_get};
+ghost use Rattle.mds_table.specs.declared.state.State.TheVariants.{Removed};
 ghost use Rattle.mds_table.specs.State.{code_of, name_of};
 
 use std::fmt;
@@ -78,6 +79,15 @@ impl State {
             "missing" => Some(State::Missing),
             _ => None,
         }
+    }
+}
+
+impl Default for State {
+    ghost is_default = { λ state. state ≡ Removed };
+
+    /// The state of a vehicle before its first event: removed.
+    fn default() -> State {
+        State::Removed
     }
 }
 

@@ -13,7 +13,7 @@ pub const MAX_NAME_BYTES: usize = 32;
 /// The name of an event type: 1 to 32 bytes of `a` to `z`, `0` to `9` and `_`. It holds no memory of its own.
 #[derive(Debug, Drop)]
 pub struct TypeName {
-    text: ArrayString<32>,
+    text: ArrayString<MAX_NAME_BYTES>,
 }
 
 impl Model for TypeName {

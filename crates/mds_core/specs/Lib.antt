@@ -1,0 +1,12 @@
+pub use Rattle.mds_table.specs.State
+pub use Rattle.mds_table.specs.Row
+pub use Rattle.mds_table.specs.Profile
+pub use Rattle.mds_table.specs.Chain
+pub mod Position
+pub mod Reported
+pub mod EventFault
+pub mod History
+pub mod Answer
+pub mod Run
+pub mod Lawful
+pub mod Machine

@@ -1,0 +1,157 @@
+//! Events, as providers report them.
+ghost use Rattle.std.specs.Prelude.{◌≡◌, ◌↔◌, ◌≤◌, length, IsOk, IfOk, IfErr};
+ghost use Rattle.mds_core.specs.Reported.{MayBeReported};
+ghost use Rattle.mds_core.specs.EventFault.{FaultOf};
+
+use crate::{Key, Position};
+use arrayvec::ArrayVec;
+use mds_table::{State, TypeName};
+use std::marker::Model;
+use uuid::Uuid;
+
+/// The most types that an event carries.
+pub const MAX_TYPES: usize = 16;
+
+/// The latest time of an event: the greatest number below which each whole number is a double.
+pub const MAX_TIME: u64 = 9_007_199_254_740_991;
+
+/// An event, as a provider reports it (MDS 2.0, "Events"). It holds no memory of its own.
+#[derive(Drop)]
+pub struct Event {
+    key: Key,
+    id: Uuid,
+    state: State,
+    types: ArrayVec<TypeName, MAX_TYPES>,
+    time: u64,
+    position: Option<Position>,
+}
+
+impl Model for Event {
+    ghost use Rattle.mds_core.specs.Reported.{Reported, MayBeReported};
+
+    ghost Value = { Reported };
+
+    ghost view = { λ event. record { key = event.key; id = event.id; state = event.state; types = event.types.items; time = event.time; position = event.position } };
+
+    ghost invariant = { λ event. MayBeReported event.types.items event.time };
+}
+
+/// Why no event can be made of some types and a time.
+#[derive(Clone, Copy, Debug, PartialEq, Eq, Hash)]
+pub enum EventFault {
+    /// There is no type.
+    NoTypes,
+    /// There are more than 16 types.
+    TooManyTypes,
+    /// The time is past [`MAX_TIME`].
+    BadTime,
+}
+
+impl Event {
+    /// An event of these types, 1 to 16, in their order, at a time in milliseconds since the Unix epoch.
+    ///
+    /// # Errors
+    ///
+    /// The first fault of the types and the time, in the order of [`EventFault`].
+    pub fn new(
+        key: Key,
+        id: Uuid,
+        state: State,
+        types: &[TypeName],
+        time: u64,
+        position: Option<Position>,
+    ) -> Result<Event, EventFault>
+        ensures exact { IsOk result ↔ MayBeReported types.now time }
+        ensures event { IfOk result (λ event. event ≡ record { key = key; id = id; state = state; types = types.now; time = time; position = position }) }
+        ensures fault { IfErr result (FaultOf types.now time) }
+    {
+        if types.is_empty() {
+            return Err(EventFault::NoTypes);
+        }
+        if types.len() > MAX_TYPES {
+            return Err(EventFault::TooManyTypes);
+        }
+        if time > MAX_TIME {
+            return Err(EventFault::BadTime);
+        }
+        Ok(Event {
+            key,
+            id,
+            state,
+            types: copy_types(types),
+            time,
+            position,
+        })
+    }
+
+    /// The vehicle.
+    pub fn key(&self) -> &Key
+        ensures { result.now ≡ self.now.key }
+    {
+        &self.key
+    }
+
+    /// The identifier of the event.
+    pub fn id(&self) -> Uuid
+        ensures { result ≡ self.now.id }
+    {
+        self.id
+    }
+
+    /// The state that the event leads to, as reported.
+    pub fn state(&self) -> State
+        ensures { result ≡ self.now.state }
+    {
+        self.state
+    }
+
+    /// The types of the event, 1 to 16, in their order.
+    pub fn types(&self) -> &[TypeName]
+        ensures types { result.now ≡ self.now.types }
+        ensures some { 1 ≤ length result.now }
+        ensures few { length result.now ≤ 16 }
+    {
+        self.types.as_slice()
+    }
+
+    /// The time of the event, in milliseconds since the Unix epoch, at most [`MAX_TIME`].
+    pub fn time(&self) -> u64
+        ensures time { result ≡ self.now.time }
+        ensures in_range { result ≤ 9007199254740991 }
+    {
+        self.time
+    }
+
+    /// Where the vehicle was, if the event says so.
+    pub fn position(&self) -> Option<Position>
+        ensures { result ≡ self.now.position }
+    {
+        self.position
+    }
+
+    /// The same event again.
+    pub fn copy(&self) -> Event
+        ensures { result ≡ self.now }
+    {
+        Event {
+            key: self.key,
+            id: self.id,
+            state: self.state,
+            types: copy_types(self.types.as_slice()),
+            time: self.time,
+            position: self.position,
+        }
+    }
+}
+
+/// The same types again.
+fn copy_types(types: &[TypeName]) -> ArrayVec<TypeName, MAX_TYPES>
+    requires { length types.now ≤ 16 }
+    ensures { result.items ≡ types.now }
+{
+    let mut copies = ArrayVec::new();
+    for kind in types {
+        copies.push(kind.copy());
+    }
+    copies
+}

@@ -1,0 +1,18 @@
+//! The machine that keeps the states of shared vehicles: registrations and events go in, each gets an acceptance or
+//! one named refusal.
+//!
+//! Events carry several types, identifiers are UUIDs (RFC 9562) and times are whole milliseconds since the Unix epoch,
+//! as in the micromobility mode of the Mobility Data Specification (MDS) 2.0. The order of refusals is this project's.
+#![tactic(auto)]
+
+mod event;
+mod key;
+mod position;
+mod reply;
+mod request;
+
+pub use event::{Event, EventFault, MAX_TIME, MAX_TYPES};
+pub use key::Key;
+pub use position::Position;
+pub use reply::{Outcome, Refusal, Reply, Standing};
+pub use request::Request;

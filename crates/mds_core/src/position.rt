@@ -1,0 +1,60 @@
+//! Positions on the Earth.
+ghost use Rattle.std.specs.Prelude.{◌≡◌, ◌↔◌, IsSome, IfSome};
+ghost use Rattle.mds_core.specs.Position.{IsOnEarth};
+
+use std::marker::Model;
+
+/// The most ten-millionths of a degree of latitude, north or south.
+pub const MAX_LATITUDE: i64 = 900_000_000;
+
+/// The most ten-millionths of a degree of longitude, east or west.
+pub const MAX_LONGITUDE: i64 = 1_800_000_000;
+
+/// A latitude and a longitude, in ten-millionths of a degree.
+#[derive(Clone, Copy, Debug, PartialEq, Eq, Hash)]
+pub struct Position {
+    lat: i64,
+    lng: i64,
+}
+
+impl Model for Position {
+    ghost use Rattle.mds_core.specs.Position.{Place, IsOnEarth};
+
+    ghost Value = { Place };
+
+    ghost view = { λ position. record { lat = position.lat; lng = position.lng } };
+
+    ghost invariant = { λ position. IsOnEarth position.lat position.lng };
+
+    ghost inverse = { λ place. record { lat = place.lat; lng = place.lng } };
+}
+
+impl Position {
+    /// The position at this latitude and longitude, or `None` where one of them is past its limit.
+    pub fn new(lat: i64, lng: i64) -> Option<Position>
+        ensures exact { IsSome result ↔ IsOnEarth lat lng }
+        ensures position { IfSome result (λ position. position ≡ record { lat = lat; lng = lng }) }
+    {
+        if lat < -MAX_LATITUDE || MAX_LATITUDE < lat {
+            return None;
+        }
+        if lng < -MAX_LONGITUDE || MAX_LONGITUDE < lng {
+            return None;
+        }
+        Some(Position { lat, lng })
+    }
+
+    /// The latitude, in ten-millionths of a degree, north of the equator.
+    pub fn lat(self) -> i64
+        ensures { result ≡ self.lat }
+    {
+        self.lat
+    }
+
+    /// The longitude, in ten-millionths of a degree, east of Greenwich.
+    pub fn lng(self) -> i64
+        ensures { result ≡ self.lng }
+    {
+        self.lng
+    }
+}

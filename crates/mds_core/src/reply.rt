@@ -1,0 +1,59 @@
+//! What the machine replies.
+use crate::Position;
+use mds_table::State;
+
+/// Where a registered vehicle stands.
+#[derive(Clone, Copy, Debug, PartialEq, Eq, Hash)]
+pub struct Standing {
+    /// The state that it holds: the one of its last event, `removed` before its first.
+    pub state: State,
+    /// How many of its events were accepted.
+    pub events: usize,
+    /// The time of the last of them.
+    pub last: Option<u64>,
+    /// The position of the last of them that carried one.
+    pub position: Option<Position>,
+}
+
+/// What became of a request.
+#[derive(Clone, Copy, Debug, PartialEq, Eq, Hash)]
+pub enum Outcome {
+    /// It was accepted.
+    Done,
+    /// It was a look, and this was seen.
+    Seen(Standing),
+    /// It was refused.
+    Refused(Refusal),
+}
+
+/// Why a request was refused: the first that holds, in this order.
+#[derive(Clone, Copy, Debug, PartialEq, Eq, Hash)]
+pub enum Refusal {
+    /// A registration of a vehicle that is registered.
+    AlreadyRegistered,
+    /// An event of a vehicle that isn't registered, or a look at one.
+    Unregistered,
+    /// The vehicle has an event with this identifier.
+    Repeated,
+    /// The time of the event is before that of the vehicle's last event.
+    Late {
+        /// The time of the vehicle's last event.
+        last: u64,
+    },
+    /// No rows of the table lead, one for each type, from the state held to the state reported.
+    NoChain {
+        /// The state that the vehicle holds.
+        held: State,
+        /// The place of the first type that no chain passes, or the number of types where all can be passed.
+        at: usize,
+    },
+}
+
+/// A reply of the machine.
+#[derive(Clone, Copy, Debug, PartialEq, Eq, Hash)]
+pub struct Reply {
+    /// How many requests were accepted before this one.
+    pub place: usize,
+    /// What became of the request.
+    pub outcome: Outcome,
+}

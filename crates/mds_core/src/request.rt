@@ -1,0 +1,40 @@
+//! What the machine is asked.
+ghost use Rattle.std.specs.Prelude.{◌≡◌};
+
+use crate::{Event, Key};
+
+/// What the machine is asked. It holds no memory of its own.
+#[derive(Drop)]
+pub enum Request {
+    /// The vehicle is registered with the city.
+    Register(Key),
+    /// A provider reports an event.
+    Report(Event),
+    /// Where does the vehicle stand?
+    Look(Key),
+}
+
+impl Request {
+    ghost use Rattle.mds_core.specs.History.{key_of};
+
+    /// The vehicle that the request is about.
+    pub fn key(&self) -> &Key
+        ensures { result.now ≡ key_of self.now }
+    {
+        match self {
+            Request::Register(key) | Request::Look(key) => key,
+            Request::Report(event) => event.key(),
+        }
+    }
+
+    /// The same request again.
+    pub fn copy(&self) -> Request
+        ensures { result ≡ self.now }
+    {
+        match self {
+            Request::Register(key) => Request::Register(*key),
+            Request::Report(event) => Request::Report(event.copy()),
+            Request::Look(key) => Request::Look(*key),
+        }
+    }
+}
