@@ -1,0 +1,5 @@
+pub mod Lookups
+pub mod Stuck
+pub mod Outcomes
+pub mod Histories
+pub mod RunLaws

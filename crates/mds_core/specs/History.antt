@@ -9,7 +9,7 @@ use Rattle.mds_core.specs.declared.key.Key.{Key}
 use Rattle.mds_core.specs.declared.request.Request.{Request}
 use Rattle.mds_core.specs.declared.request.Request.TheVariants.{Register, Report, Look}
 use Rattle.mds_core.specs.declared.reply.Standing.{Standing}
-use Rattle.mds_core.specs.Position.{Place}
+use Rattle.mds_core.specs.declared.position.Position.{Position}
 use Rattle.mds_core.specs.Reported.{Reported}
 
 -- the same vehicle
@@ -49,7 +49,7 @@ abbrev pub last_time : List Request → Option ℕ
 last_time requests = option_map (λ event. event.time) (last_report requests)
 
 -- the position of the last event that carried one
-abbrev pub last_position : List Request → Option Place
+abbrev pub last_position : List Request → Option Position
 last_position requests = last_or None (filter_map (λ event. event.position) (reports requests))
 
 -- an event has this identifier

@@ -6,7 +6,10 @@ pub mod Position
 pub mod Reported
 pub mod EventFault
 pub mod History
+pub mod Lookup
 pub mod Answer
 pub mod Run
 pub mod Lawful
 pub mod Machine
+pub mod Headline
+pub mod Laws

@@ -2,7 +2,7 @@
 use Rattle.std.specs.Prelude.{ℕ, ◌≤◌, List, length, Option}
 use Rattle.mds_table.specs.declared.state.State.{State}
 use Rattle.mds_core.specs.declared.key.Key.{Key}
-use Rattle.mds_core.specs.Position.{Place}
+use Rattle.mds_core.specs.declared.position.Position.{Position}
 
 -- an event as a provider reports it
 pub record Reported : Type 0 where
@@ -11,7 +11,7 @@ pub record Reported : Type 0 where
   pub state : State
   pub types : List (List ℕ)
   pub time : ℕ
-  pub position : Option Place
+  pub position : Option Position
 
 -- 1 to 16 types, and a time that a double can hold exactly
 pub record MayBeReported (types : List (List ℕ)) (time : ℕ) : Type 0 where

@@ -5,14 +5,24 @@
 //! as in the micromobility mode of the Mobility Data Specification (MDS) 2.0. The order of refusals is this project's.
 #![tactic(auto)]
 
+mod answers;
 mod event;
+mod fleet;
 mod key;
+pub mod laws;
+mod lookup;
 mod position;
 mod reply;
 mod request;
+mod runs;
+#[cfg(test)]
+mod tests;
 
+pub use answers::answer;
 pub use event::{Event, EventFault, MAX_TIME, MAX_TYPES};
+pub use fleet::Fleet;
 pub use key::Key;
 pub use position::Position;
 pub use reply::{Outcome, Refusal, Reply, Standing};
 pub use request::Request;
+pub use runs::run;

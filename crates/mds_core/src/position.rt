@@ -2,8 +2,6 @@
 ghost use Rattle.std.specs.Prelude.{◌≡◌, ◌↔◌, IsSome, IfSome};
 ghost use Rattle.mds_core.specs.Position.{IsOnEarth};
 
-use std::marker::Model;
-
 /// The most ten-millionths of a degree of latitude, north or south.
 pub const MAX_LATITUDE: i64 = 900_000_000;
 
@@ -15,18 +13,6 @@ pub const MAX_LONGITUDE: i64 = 1_800_000_000;
 pub struct Position {
     lat: i64,
     lng: i64,
-}
-
-impl Model for Position {
-    ghost use Rattle.mds_core.specs.Position.{Place, IsOnEarth};
-
-    ghost Value = { Place };
-
-    ghost view = { λ position. record { lat = position.lat; lng = position.lng } };
-
-    ghost invariant = { λ position. IsOnEarth position.lat position.lng };
-
-    ghost inverse = { λ place. record { lat = place.lat; lng = place.lng } };
 }
 
 impl Position {

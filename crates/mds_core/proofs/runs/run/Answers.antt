@@ -1,0 +1,20 @@
+use Rattle.std.proofs.Common.{◌≡◌, List, [], drop, refl, arith}
+use Rattle.std.proofs.lemmas.List.{append-nil, drop_all}
+use Rattle.mds_core.specs.declared.request.Request.{Request}
+use Rattle.mds_core.specs.Run.{IsRun}
+use Rattle.mds_core.proofs.RunLaws.{steps_of_run}
+use Rattle.mds_core.proofs.runs.run.Goals as goal
+use Rattle.mds_core.proofs.runs.run.Goals.{After-loop-request}
+
+-- at the end nothing is left, and the replies so far are all
+whole : (c : After-loop-request) → IsRun c.args.table [] c.args.requests.now c.loop-request.replies.items c.loop-request.fleet.history
+whole c =
+    let nothing_left : drop c.loop-request.request-index c.args.requests.now ≡ [] =
+    drop_all c.loop-request.request-index c.args.requests.now (omega arith) in
+    rw append-nil at (c.loop-request.invariant.run [] c.loop-request.fleet.history (rw nothing_left refl))
+
+pub returns-clause-run : goal.returns-clause-run
+returns-clause-run c = whole c
+
+pub returns-clause-steps : goal.returns-clause-steps
+returns-clause-steps c = steps_of_run c.args.table [] c.args.requests.now c.loop-request.replies.items c.loop-request.fleet.history (whole c)

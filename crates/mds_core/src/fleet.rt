@@ -1,0 +1,85 @@
+//! The plain machine: a history of accepted requests, in which everything is looked up.
+ghost use Rattle.std.specs.Prelude.{◌≡◌, ◌≢◌, [], IfNone, IfSome, IfOk, OnErr, MatchOption};
+ghost use Rattle.mds_core.specs.History.{own, reports, standing_of};
+ghost use Rattle.mds_core.specs.Answer.{Answers, MayBeDone, next};
+
+use crate::answers::answer;
+use crate::lookup::{events_in, standing_in};
+use crate::{Event, Key, Outcome, Reply, Request, Standing};
+use mds_table::Table;
+use std::alloc::{AllocError, Global};
+use std::marker::Model;
+
+/// The plain machine over one table. It keeps its history of accepted requests alone, and looks everything up in it:
+/// this is the program of the definitions, and the measure of faster ones.
+#[derive(Drop)]
+pub struct Fleet {
+    table: Table,
+    history: Vec<Request>,
+}
+
+impl Model for Fleet {
+    ghost use Rattle.mds_core.specs.Machine.{Machine};
+
+    ghost Value = { Machine };
+
+    ghost view = { λ fleet. record { rows = fleet.table; history = fleet.history.items } };
+}
+
+impl Fleet {
+    /// A machine over the table, with nothing accepted yet. It takes no memory.
+    pub fn open(alloc: Global, table: Table) -> Fleet
+        ensures { result ≡ record { rows = table; history = [] } }
+    {
+        Fleet {
+            table,
+            history: Vec::new(alloc),
+        }
+    }
+
+    /// Answers one request, and keeps it in the history where it was accepted.
+    ///
+    /// # Errors
+    ///
+    /// `AllocError` where the request would be accepted and there is no memory to keep it; nothing has changed then.
+    pub fn step(&mut self, request: &Request) -> Result<Reply, AllocError>
+        ensures answer { IfOk result (Answers self.old.rows self.old.history request.now) }
+        ensures rows { self.new.rows ≡ self.old.rows }
+        ensures next { IfOk result (λ reply. self.new.history ≡ next self.old.history request.now reply.outcome) }
+        ensures memory { OnErr result (MayBeDone self.old.rows self.old.history request.now) }
+        ensures unchanged { OnErr result (self.new.history ≡ self.old.history) }
+    {
+        let reply = answer(&self.table, &self.history, request);
+        if let Outcome::Done = reply.outcome {
+            self.history.push(request.copy())?;
+        }
+        Ok(reply)
+    }
+
+    /// The accepted requests, in the order in which they were accepted.
+    pub fn history(&self) -> &[Request]
+        ensures { result.now ≡ self.now.history }
+    {
+        self.history.as_slice()
+    }
+
+    /// Where the vehicle stands, or `None` where it isn't registered.
+    pub fn standing(&self, key: &Key) -> Option<Standing>
+        ensures none { IfNone result (own self.now.history key.now ≡ []) }
+        ensures registered { IfSome result (λ _. own self.now.history key.now ≢ []) }
+        ensures standing { IfSome result (λ standing. standing ≡ standing_of (own self.now.history key.now)) }
+    {
+        standing_in(&self.history, key)
+    }
+
+    /// The accepted events of the vehicle in their order, or `None` where it isn't registered.
+    ///
+    /// # Errors
+    ///
+    /// `AllocError` where there is no memory for the list.
+    pub fn events(&self, alloc: Global, key: &Key) -> Result<Option<Vec<Event>>, AllocError>
+        ensures { IfOk result (λ events. MatchOption events (own self.now.history key.now ≡ []) (λ v. (own self.now.history key.now ≢ []) × (v.items ≡ reports (own self.now.history key.now)))) }
+    {
+        events_in(alloc, &self.history, key)
+    }
+}

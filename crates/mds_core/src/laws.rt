@@ -1,0 +1,40 @@
+//! What holds of the definitions alone: of the answers, the histories and the runs, whoever computes them. Each law is
+//! a function that does nothing; its contract is the law.
+ghost use Rattle.mds_core.specs.Laws.{DependsOnOwn, AnswersAreOne, RunsAreOne, KeepsOthers, RunsAreLawful, JoinsApart, RunsAreSteps};
+
+/// Histories that agree on a vehicle give its requests the same outcomes, so schedules that agree on one vehicle do.
+pub fn outcomes_depend_on_own_lists()
+    ensures { DependsOnOwn }
+{}
+
+/// Two replies that both answer a request after a history are equal.
+pub fn answers_are_one()
+    ensures { AnswersAreOne }
+{}
+
+/// Two runs of a list of requests have the same replies and leave the same history.
+pub fn runs_are_one()
+    ensures { RunsAreOne }
+{}
+
+/// A request changes nothing for vehicles other than its own.
+pub fn other_vehicles_are_kept()
+    ensures { KeepsOthers }
+{}
+
+/// What a run leaves could have been accepted, vehicle by vehicle.
+pub fn runs_are_lawful()
+    ensures { RunsAreLawful }
+{}
+
+/// Lawful histories of different vehicles, one after the other, are lawful.
+pub fn histories_apart_join()
+    ensures { JoinsApart }
+{}
+
+/// In every run an event is accepted exactly where its vehicle is registered, its identifier is new there, its time is
+/// not before the last, and rows of the table lead, one for each of its types in order, from the state held to the state
+/// reported; that state is then held, a look changes nothing, and no other vehicle changes.
+pub fn runs_are_steps()
+    ensures { RunsAreSteps }
+{}

@@ -1,0 +1,35 @@
+//! The machine over whole lists of requests.
+ghost use Rattle.std.specs.Prelude.{◌≡◌, [], IfOk};
+ghost use Rattle.mds_core.specs.Run.{IsRun};
+ghost use Rattle.mds_core.specs.Headline.{AreSteps};
+
+use crate::{Fleet, Reply, Request};
+use mds_table::Table;
+use std::alloc::{AllocError, Global};
+
+/// The machine over a whole list: the fleet after it, and a reply to each request.
+///
+/// An event is accepted exactly where its vehicle is registered, its identifier is new there, its time is not before the
+/// last, and rows of the table lead, one for each of its types in order, from the state held to the state reported; that
+/// state is then held, and no other vehicle changes.
+///
+/// # Errors
+///
+/// `AllocError` where there is no memory for the history or the replies.
+pub fn run(
+    alloc: Global,
+    table: Table,
+    requests: &[Request],
+) -> Result<(Fleet, Vec<Reply>), AllocError>
+    ensures rows { IfOk result (λ ran. ran.0.rows ≡ table) }
+    ensures run { IfOk result (λ ran. IsRun table [] requests.now ran.1.items ran.0.history) }
+    ensures steps { IfOk result (λ ran. AreSteps table [] requests.now ran.1.items) }
+{
+    let mut fleet = Fleet::open(alloc, table);
+    let mut replies = Vec::with_capacity(alloc, requests.len())?;
+    for request in requests {
+        let reply = fleet.step(request)?;
+        replies.push(reply)?;
+    }
+    Ok((fleet, replies))
+}

@@ -1,0 +1,39 @@
+//! Whether an event is admitted.
+ghost use Rattle.std.specs.Prelude.{◌↔◌, IsOk, IfErr};
+ghost use Rattle.mds_table.specs.Chain.{Leads, IsStuckAt};
+
+use crate::StateSet;
+use crate::steps::next_states;
+use mds_table::{State, Table, TypeName};
+
+/// No chain leads from the state held to the state reported.
+#[derive(Clone, Copy, Debug, PartialEq, Eq, Hash)]
+pub struct NoChain {
+    /// The place of the first type that no chain passes, or the number of types where all can be passed and only the
+    /// state reported can't be reached.
+    pub at: usize,
+}
+
+/// Whether an event with these types may lead from the state held to the state reported.
+///
+/// # Errors
+///
+/// [`NoChain`] where no chain leads there, with the place at which the event gets stuck.
+pub fn admit(table: &Table, held: State, types: &[TypeName], reported: State) -> Result<(), NoChain>
+    ensures exact { IsOk result ↔ Leads table.now held types.now reported }
+    ensures fault { IfErr result (λ fault.
+        (Leads table.now held types.now reported → ⊥) × IsStuckAt table.now held types.now fault.at) }
+{
+    let mut possible = StateSet::of(held);
+    for (at, kind) in types.iter().enumerate() {
+        possible = next_states(table, &possible, kind);
+        if possible.is_empty() {
+            return Err(NoChain { at });
+        }
+    }
+    if possible.contains(reported) {
+        Ok(())
+    } else {
+        Err(NoChain { at: types.len() })
+    }
+}

@@ -1,0 +1,17 @@
+//! Sets of possible states, and whether an event of several types may lead from one state to another.
+//!
+//! An event leads from the state held to the state reported where some chain does: a state after each of its types,
+//! each step by a row of the table. No chain is looked for here: the set of states that are possible after each type is
+//! enough, and has eight states at most.
+#![tactic(auto)]
+
+mod admission;
+mod reach;
+mod state_set;
+mod steps;
+#[cfg(test)]
+mod tests;
+
+pub use admission::{NoChain, admit};
+pub use reach::{forward, openings};
+pub use state_set::StateSet;

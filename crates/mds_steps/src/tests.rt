@@ -1,0 +1,160 @@
+//! What no clause says: worked cases, and each call once.
+use crate::{NoChain, StateSet, admit, forward, openings};
+use mds_table::State::{
+    Available, Elsewhere, Missing, NonContactable, NonOperational, OnTrip, Removed, Reserved,
+};
+use mds_table::{State, Table, TypeName};
+use std::process::Abort;
+use std::test::Fail;
+
+fn type_name(text: &str) -> Result<TypeName, Fail> {
+    Ok(TypeName::new(text)?)
+}
+
+/// Asserts that the set has these states.
+fn expect_states(rt: &impl Abort, set: &StateSet, expected: &[State]) {
+    assert_eq!(rt; set.states().as_slice(), expected);
+}
+
+#[test]
+fn sets_of_states(rt: HostRuntime) {
+    expect_states(&rt, &StateSet::empty(), &[]);
+    expect_states(&rt, &StateSet::all(), &State::ALL);
+    expect_states(&rt, &StateSet::of(Reserved), &[Reserved]);
+    assert!(rt; StateSet::empty().is_empty());
+    assert!(rt; !StateSet::of(Removed).is_empty());
+    let pair = StateSet::of(OnTrip).union(&StateSet::of(Available));
+    expect_states(&rt, &pair, &[Available, OnTrip]);
+    expect_states(
+        &rt,
+        &pair.union(&StateSet::of(OnTrip)),
+        &[Available, OnTrip],
+    );
+    expect_states(&rt, &pair.copy(), &[Available, OnTrip]);
+    assert!(rt; pair.contains(OnTrip));
+    assert!(rt; !pair.contains(Missing));
+}
+
+#[test]
+fn trip_ends_with_a_low_battery(rt: HostRuntime) -> Result<(), Fail> {
+    let table = Table::profile(rt.alloc())?;
+    let types = [type_name("trip_end")?, type_name("battery_low")?];
+    assert_eq!(rt; admit(&table, OnTrip, &types, NonOperational), Ok(()));
+    expect_states(
+        &rt,
+        &forward(&table, &StateSet::of(OnTrip), &types),
+        &[NonOperational],
+    );
+    expect_states(&rt, &openings(&table, &types, NonOperational), &[OnTrip]);
+    Ok(())
+}
+
+#[test]
+fn comms_back_then_trip_end(rt: HostRuntime) -> Result<(), Fail> {
+    let table = Table::profile(rt.alloc())?;
+    let types = [type_name("comms_restored")?, type_name("trip_end")?];
+    assert_eq!(rt; admit(&table, NonContactable, &types, Available), Ok(()));
+    let held = StateSet::of(NonContactable);
+    let heard = [
+        Removed,
+        Available,
+        NonOperational,
+        Reserved,
+        OnTrip,
+        Elsewhere,
+    ];
+    expect_states(&rt, &forward(&table, &held, &types[..1]), &heard);
+    expect_states(&rt, &forward(&table, &held, &types), &[Available]);
+    Ok(())
+}
+
+#[test]
+fn comms_back_and_lost_again(rt: HostRuntime) -> Result<(), Fail> {
+    let table = Table::profile(rt.alloc())?;
+    let types = [type_name("comms_restored")?, type_name("comms_lost")?];
+    assert_eq!(rt;
+        admit(&table, NonContactable, &types, NonContactable),
+        Ok(())
+    );
+    Ok(())
+}
+
+#[test]
+fn order_of_types_matters(rt: HostRuntime) -> Result<(), Fail> {
+    let table = Table::profile(rt.alloc())?;
+    let types = [type_name("battery_charged")?, type_name("battery_low")?];
+    assert_eq!(rt;
+        admit(&table, Available, &types, Available),
+        Err(NoChain { at: 0 })
+    );
+    let types = [type_name("battery_low")?, type_name("battery_charged")?];
+    assert_eq!(rt; admit(&table, Available, &types, Available), Ok(()));
+    Ok(())
+}
+
+#[test]
+fn same_type_twice(rt: HostRuntime) -> Result<(), Fail> {
+    let table = Table::profile(rt.alloc())?;
+    let types = [type_name("battery_low")?, type_name("battery_low")?];
+    assert_eq!(rt;
+        admit(&table, Available, &types, NonOperational),
+        Err(NoChain { at: 1 })
+    );
+    assert_eq!(rt;
+        admit(&table, Available, &types[..1], Available),
+        Err(NoChain { at: 1 })
+    );
+    Ok(())
+}
+
+#[test]
+fn sixteen_types(rt: HostRuntime) -> Result<(), Fail> {
+    let table = Table::profile(rt.alloc())?;
+    let low = type_name("battery_low")?;
+    let charged = type_name("battery_charged")?;
+    let mut types = Vec::new(rt.alloc());
+    for _ in 0..8 {
+        types.push(low.copy())?;
+        types.push(charged.copy())?;
+    }
+    assert_eq!(rt; admit(&table, Available, &types, Available), Ok(()));
+    assert_eq!(rt;
+        admit(&table, Available, &types, NonOperational),
+        Err(NoChain { at: 16 })
+    );
+    Ok(())
+}
+
+#[test]
+fn openings_without_registration(rt: HostRuntime) -> Result<(), Fail> {
+    let table = Table::profile(rt.alloc())?;
+    let trip_end = [type_name("trip_end")?];
+    let changed = [type_name("changed_geographies")?];
+    expect_states(&rt, &openings(&table, &trip_end, Available), &[OnTrip]);
+    expect_states(&rt, &openings(&table, &trip_end, Reserved), &[]);
+    expect_states(
+        &rt,
+        &openings(&table, &changed, Elsewhere),
+        &[Available, NonOperational],
+    );
+    assert_eq!(rt;
+        admit(&table, Removed, &trip_end, Available),
+        Err(NoChain { at: 0 })
+    );
+    assert_eq!(rt; admit(&table, Available, &changed, Elsewhere), Ok(()));
+    Ok(())
+}
+
+#[test]
+fn no_types(rt: HostRuntime) -> Result<(), Fail> {
+    let table = Table::profile(rt.alloc())?;
+    let pair = StateSet::of(Missing).union(&StateSet::of(Removed));
+    expect_states(&rt, &forward(&table, &pair, &[]), &[Removed, Missing]);
+    expect_states(&rt, &openings(&table, &[], Reserved), &[Reserved]);
+    assert_eq!(rt; admit(&table, OnTrip, &[], OnTrip), Ok(()));
+    assert_eq!(rt;
+        admit(&table, OnTrip, &[], Available),
+        Err(NoChain { at: 0 })
+    );
+    Ok(())
+}
