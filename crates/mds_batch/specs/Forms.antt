@@ -1,0 +1,65 @@
+-- What the values of members stand for, where they have the form that is asked for.
+use Rattle.std.specs.Prelude.{ℕ, ℤ, pos, ◌-ℤ◌, int_le, ◌&&◌, Bool, List, [], ◌∷◌, length, nat_le, if◌then◌else◌, Option, Some, None, option_map, option_and_then, find, codes}
+use Rattle.std.specs.Str.{bytes_eq}
+use Rattle.uuid.specs.Text.{parsed}
+use Rattle.serde_json.specs.Data.{Data, Items, no_items, item}
+use Rattle.serde_json.specs.Find.{get, as_str, as_number, as_array, as_u64, as_i64}
+use Rattle.mds_table.specs.declared.state.State.{State}
+use Rattle.mds_table.specs.declared.state.TheConstants.State.{ALL}
+use Rattle.mds_table.specs.State.{name_of}
+use Rattle.mds_table.specs.TypeName.{is_type_name}
+use Rattle.mds_core.specs.declared.position.Position.{Position}
+
+-- the identifier that a value is: a text in a form of a UUID
+abbrev pub uuid_in : Data → Option (List ℕ)
+uuid_in value = option_and_then parsed (as_str value)
+
+-- the state of this name
+abbrev pub state_of_name : List ℕ → Option State
+state_of_name name = find (λ state. bytes_eq (name_of state) name) ALL
+
+-- the state that a value names
+abbrev pub state_in : Data → Option State
+state_in value = option_and_then state_of_name (as_str value)
+
+-- the type name that a value is
+abbrev pub type_in : Data → Option (List ℕ)
+type_in value = option_and_then (λ text. if is_type_name text then Some text else None) (as_str value)
+
+-- the values of a list, in order
+abbrev pub values : Items → List Data
+values no_items = []
+values (item value rest) = value ∷ values rest
+
+-- the type names that values are, if each of them is one
+abbrev pub all_types : List Data → Option (List (List ℕ))
+all_types [] = Some []
+all_types (value ∷ rest) = option_and_then (λ name. option_map (λ names. name ∷ names) (all_types rest)) (type_in value)
+
+-- 1 to 16 type names
+abbrev pub few_types : List Data → Option (List (List ℕ))
+few_types all = if nat_le 1 (length all) && nat_le (length all) 16 then all_types all else None
+
+-- the types that a value lists
+abbrev pub types_in : Data → Option (List (List ℕ))
+types_in value = option_and_then (λ items. few_types (values items)) (as_array value)
+
+-- the time that a value is: a whole number that each double next to it keeps apart
+abbrev pub time_in : Data → Option ℕ
+time_in value = option_and_then (λ time. if nat_le time 9007199254740991 then Some time else None) (option_and_then as_u64 (as_number value))
+
+-- the whole number that a member of a value is
+abbrev pub whole_in : List ℕ → Data → Option ℤ
+whole_in name value = option_and_then as_i64 (option_and_then as_number (get name value))
+
+-- no further from 0 than this
+abbrev pub is_within : ℕ → ℤ → Bool
+is_within most whole = int_le (pos 0 -ℤ pos most) whole && int_le whole (pos most)
+
+-- the place at a latitude and a longitude, where both are on the Earth, in ten-millionths of a degree
+abbrev pub place_at : ℤ → ℤ → Option Position
+place_at lat lng = if is_within 900000000 lat && is_within 1800000000 lng then Some (record { lat = lat; lng = lng }) else None
+
+-- the place that a value gives
+abbrev pub place_in : Data → Option Position
+place_in value = option_and_then (λ lat. option_and_then (λ lng. place_at lat lng) (whole_in (codes "lng") value)) (whole_in (codes "lat") value)

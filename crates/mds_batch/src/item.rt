@@ -1,0 +1,33 @@
+//! The items of a batch.
+
+use crate::Member;
+use mds_core::{Event, Key};
+
+/// What is wrong with an item: the first that holds, in this order, and of its members the first that is at fault.
+#[derive(Clone, Copy, Debug, PartialEq, Eq, Hash)]
+pub enum ItemFault {
+    /// The item isn't an object.
+    NotObject,
+    /// This member isn't there.
+    Missing(Member),
+    /// The value of this member hasn't the form that is asked for.
+    Bad(Member),
+}
+
+/// An item of a batch of registrations.
+#[derive(Clone, Copy, Debug, PartialEq, Eq, Hash)]
+pub enum VehicleItem {
+    /// The vehicle to register.
+    Vehicle(Key),
+    /// What is wrong with the item.
+    Fault(ItemFault),
+}
+
+/// An item of a batch of events. It holds no memory of its own.
+#[derive(Drop)]
+pub enum EventItem {
+    /// The event that is reported.
+    Event(Event),
+    /// What is wrong with the item.
+    Fault(ItemFault),
+}

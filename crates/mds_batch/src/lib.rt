@@ -1,0 +1,19 @@
+//! Batches of JSON (RFC 8259), read into items: registrations of vehicles, and events.
+//!
+//! A batch is a list of items; an object alone counts as a list of one. Each item is read by itself, so a faulty one
+//! leaves its neighbours as they are, and answers its first faulty member. The members have the names of the
+//! micromobility mode of the Mobility Data Specification (MDS) 2.0, but for `location_e7`, which is this project's own:
+//! a position in ten-millionths of a degree. Every other member is ignored.
+#![tactic(auto)]
+
+mod batch;
+mod form;
+mod item;
+mod member;
+mod read;
+#[cfg(test)]
+mod tests;
+
+pub use batch::{BatchFault, MAX_BYTES, MAX_ITEMS, read_events, read_vehicles};
+pub use item::{EventItem, ItemFault, VehicleItem};
+pub use member::Member;

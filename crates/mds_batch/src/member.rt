@@ -1,0 +1,39 @@
+//! The members of an item.
+ghost use Rattle.std.specs.Prelude.{◌≡◌};
+ghost use Rattle.mds_batch.specs.Member.{member_name};
+
+/// A member of an item, in the order in which faults are looked for.
+#[derive(Clone, Copy, Debug, PartialEq, Eq, Hash)]
+pub enum Member {
+    /// The provider of the vehicle: a UUID (RFC 9562) in one of its text forms.
+    ProviderId,
+    /// The device on the vehicle: a UUID.
+    DeviceId,
+    /// The identifier of the event: a UUID.
+    EventId,
+    /// The state that the event leads to: the name of one.
+    VehicleState,
+    /// The types of the event: a list of 1 to 16 type names.
+    EventTypes,
+    /// The time of the event: whole milliseconds since the Unix epoch.
+    Timestamp,
+    /// Where the vehicle was, if the event says so: an object with `lat` and `lng`, in ten-millionths of a degree.
+    LocationE7,
+}
+
+impl Member {
+    /// The name of the member, as an item has it.
+    pub fn name(self) -> &'static str
+        ensures { result.now ≡ member_name self }
+    {
+        match self {
+            Member::ProviderId => "provider_id",
+            Member::DeviceId => "device_id",
+            Member::EventId => "event_id",
+            Member::VehicleState => "vehicle_state",
+            Member::EventTypes => "event_types",
+            Member::Timestamp => "timestamp",
+            Member::LocationE7 => "location_e7",
+        }
+    }
+}
