@@ -1,5 +1,5 @@
 -- The states that pass a test, gone over in the order of their codes.
-use Rattle.std.proofs.Common.{◌≡◌, ◌↔◌, ℕ, zero, suc, ◌+◌, ◌<◌, ◌≤◌, Bool, true, false, IsTrue, List, [], ◌∷◌, ◌++◌, length, Contains, get_or, refl, sym, ◌∙◌, ap, subst, arith, lit<, length-append, below_more, inl, inr, ◌⊎◌}
+use Rattle.std.proofs.Common.{◌≡◌, ◌↔◌, ℕ, zero, suc, ◌+◌, ◌<◌, ◌≤◌, Bool, true, false, IsTrue, List, [], ◌∷◌, ◌++◌, length, Contains, get_or, refl, sym, ◌∙◌, ap, subst, arith, lit<, length-append, below_more, inl, inr}
 use Rattle.std.specs.List.{All}
 use Rattle.std.proofs.lemmas.List.Elements.{All-weaker, All-push, All-contains, Contains-push, Contains-push_cases, Contains-append_left}
 use Rattle.std.proofs.lemmas.List.Quantifiers.{all_pairs_push}

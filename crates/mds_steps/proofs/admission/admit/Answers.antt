@@ -1,5 +1,4 @@
-use Rattle.std.proofs.Common.{◌≡◌, ◌+◌, [], ◌∷◌, take}
-use Rattle.mds_table.specs.Chain.{Leads, IsStuckAt}
+use Rattle.std.proofs.Common.{◌+◌, [], ◌∷◌, take}
 use Rattle.mds_steps.specs.Reached.{AreReached}
 use Rattle.mds_steps.proofs.Sets.{reached_next, reached_all, passes_to_reached, leads_to_reached, stuck_at_type, stuck_at_end}
 use Rattle.mds_steps.proofs.admission.admit.Goals as goal

@@ -1,5 +1,4 @@
-use Rattle.std.proofs.Common.{◌≡◌}
-use Rattle.mds_steps.proofs.Sets.{reached_none, reached_next, reached_all, reached_never}
+use Rattle.mds_steps.proofs.Sets.{reached_next, reached_all, reached_never}
 use Rattle.mds_steps.proofs.reach.forward.Goals as goal
 
 pub returns-then-is_empty : goal.returns-then-is_empty

@@ -1,4 +1,4 @@
-use Rattle.std.proofs.Common.{◌≡◌, ◌≤◌, length, arith}
+use Rattle.std.proofs.Common.{◌≤◌, length, arith}
 use Rattle.mds_steps.proofs.Sets.{openings_next, openings_all, openings_never}
 use Rattle.mds_steps.proofs.reach.openings.Goals as goal
 

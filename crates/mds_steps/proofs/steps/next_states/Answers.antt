@@ -1,4 +1,4 @@
-use Rattle.std.proofs.Common.{◌≡◌, ◌↔◌, IsTrue, rules}
+use Rattle.std.proofs.Common.{◌↔◌, IsTrue, rules}
 use Rattle.mds_steps.specs.Step.{IsNext}
 use Rattle.mds_steps.proofs.steps.next_states.Goals as goal
 

@@ -1,4 +1,4 @@
-use Rattle.std.proofs.Common.{◌≡◌, ◌↔◌, IsTrue, rules}
+use Rattle.std.proofs.Common.{◌↔◌, IsTrue, rules}
 use Rattle.mds_steps.specs.Step.{IsPrevious}
 use Rattle.mds_steps.proofs.steps.previous_states.Goals as goal
 

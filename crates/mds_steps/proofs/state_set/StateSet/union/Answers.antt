@@ -1,4 +1,4 @@
-use Rattle.std.proofs.Common.{◌≡◌, ◌↔◌, ◌⊎◌, IsTrue, Contains, rules}
+use Rattle.std.proofs.Common.{◌↔◌, ◌⊎◌, IsTrue, Contains, rules}
 use Rattle.mds_steps.proofs.state_set.StateSet.union.Goals as goal
 
 pub returns : goal.returns

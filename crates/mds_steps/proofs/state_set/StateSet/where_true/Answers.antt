@@ -1,4 +1,4 @@
-use Rattle.std.proofs.Common.{◌≡◌, ◌<◌, arith, true, false}
+use Rattle.std.proofs.Common.{◌<◌, arith}
 use Rattle.mds_table.specs.State.{code_of}
 use Rattle.mds_steps.proofs.Told.{told_false, told_true, code_at, code_below}
 use Rattle.mds_steps.proofs.state_set.StateSet.where_true.Goals as goal
