@@ -1,5 +1,5 @@
 -- The values of a list, as the code has them and as definitions have them.
-use Rattle.std.proofs.Common.{◌≡◌, ℕ, ◌≤◌, List, [], ◌∷◌, length, map, Some, refl, sym, ◌∙◌, ap, arith}
+use Rattle.std.proofs.Common.{◌≡◌, ℕ, ◌≤◌, List, [], ◌∷◌, length, map, Some, refl, ◌∙◌, ap}
 use Rattle.std.proofs.lemmas.List.{length-map}
 use Rattle.serde_json.specs.Data.{Data}
 use Rattle.serde_json.specs.View.{view, items_of}

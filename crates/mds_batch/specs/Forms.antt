@@ -10,7 +10,7 @@ use Rattle.mds_table.specs.State.{name_of}
 use Rattle.mds_table.specs.TypeName.{is_type_name}
 use Rattle.mds_core.specs.declared.position.Position.{Position}
 
--- the identifier that a value is: a text in a form of a UUID
+-- the identifier that a value is: a text in one of the forms of a UUID
 abbrev pub uuid_in : Data → Option (List ℕ)
 uuid_in value = option_and_then parsed (as_str value)
 
@@ -44,7 +44,7 @@ few_types all = if nat_le 1 (length all) && nat_le (length all) 16 then all_type
 abbrev pub types_in : Data → Option (List (List ℕ))
 types_in value = option_and_then (λ items. few_types (values items)) (as_array value)
 
--- the time that a value is: a whole number that each double next to it keeps apart
+-- the time that a value is: a whole number of milliseconds that a double holds exactly, with each one below it
 abbrev pub time_in : Data → Option ℕ
 time_in value = option_and_then (λ time. if nat_le time 9007199254740991 then Some time else None) (option_and_then as_u64 (as_number value))
 

@@ -1,8 +1,7 @@
 -- What a value of a batch stands for: a vehicle's key, an event, or the first fault of its members.
-use Rattle.std.specs.Prelude.{ℕ, List, Option, Some, None, is_some, ok_or, option_map, option_and_then, if◌then◌else◌, Result, Ok, Err}
+use Rattle.std.specs.Prelude.{Option, Some, None, is_some, ok_or, option_map, if◌then◌else◌, Result, Ok, Err}
 use Rattle.serde_json.specs.Data.{Data}
 use Rattle.serde_json.specs.Find.{get, as_null, as_object}
-use Rattle.mds_table.specs.declared.state.State.{State}
 use Rattle.mds_core.specs.declared.key.Key.{Key}
 use Rattle.mds_core.specs.declared.position.Position.{Position}
 use Rattle.mds_core.specs.Reported.{Reported}

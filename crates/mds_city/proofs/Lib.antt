@@ -1,0 +1,4 @@
+-- Lemmas of this crate.
+pub mod DeviceLemmas
+pub mod WordsLemmas
+pub mod PageLemmas

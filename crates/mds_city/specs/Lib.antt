@@ -1,0 +1,6 @@
+-- Definitions that the contracts cite.
+pub mod Device
+pub mod Words
+pub mod Requests
+pub mod Report
+pub mod Text

@@ -1,0 +1,62 @@
+-- The lines that the program prints of a replay.
+use Rattle.std.specs.Prelude.{ℕ, ◌+◌, List, [], ◌∷◌, ◌++◌, codes, decimal}
+use Rattle.std.specs.List.{flat_map}
+use Rattle.uuid.specs.Text.{hyphenated_text, lower}
+use Rattle.mds_table.specs.State.{name_of}
+use Rattle.mds_core.specs.declared.reply.Refusal.{Refusal}
+use Rattle.mds_core.specs.declared.reply.Refusal.TheVariants.{AlreadyRegistered, Unregistered, Repeated, Late, NoChain}
+use Rattle.mds_batch.specs.declared.item.ItemFault.{ItemFault}
+use Rattle.mds_batch.specs.declared.item.ItemFault.TheVariants.{NotObject, Missing, Bad}
+use Rattle.mds_batch.specs.Member.{member_name}
+use Rattle.mds_city.specs.declared.report.Verdict.{Verdict}
+use Rattle.mds_city.specs.declared.report.Verdict.TheVariants.{Accepted, Refused, Fault}
+use Rattle.mds_city.specs.declared.report.VehicleEnd.{VehicleEnd}
+use Rattle.mds_city.specs.declared.report.Report.{Report}
+use Rattle.mds_city.specs.Device.{with_newline}
+
+-- why an event was refused
+abbrev pub refusal_text : Refusal → List ℕ
+refusal_text AlreadyRegistered = codes "already_registered"
+refusal_text Unregistered = codes "unregistered"
+refusal_text Repeated = codes "repeated"
+refusal_text (Late last) = codes "late " ++ decimal last
+refusal_text (NoChain held at) = codes "no_chain " ++ name_of held ++ codes " " ++ decimal at
+
+-- what is wrong with an item
+abbrev pub fault_text : ItemFault → List ℕ
+fault_text NotObject = codes "not_object"
+fault_text (Missing member) = codes "missing_param " ++ member_name member
+fault_text (Bad member) = codes "bad_param " ++ member_name member
+
+-- what is said of an item
+abbrev pub verdict_text : Verdict → List ℕ
+verdict_text (Accepted state) = codes "ok " ++ name_of state
+verdict_text (Refused refusal) = codes "refused " ++ refusal_text refusal
+verdict_text (Fault fault) = codes "fault " ++ fault_text fault
+
+-- the line of an item: its index, and what is said of it
+abbrev pub item_line : ℕ → Verdict → List ℕ
+item_line index verdict = decimal index ++ codes " " ++ verdict_text verdict
+
+-- the line of a vehicle: its key, the state that it holds, and how many of its events were accepted
+abbrev pub vehicle_line : VehicleEnd → List ℕ
+vehicle_line end =
+    codes "vehicle " ++ hyphenated_text lower end.key.provider ++ codes " " ++ hyphenated_text lower end.key.device ++ codes " "
+    ++ name_of end.standing.state ++ codes " " ++ decimal end.standing.events
+
+-- the last line
+abbrev pub total_line : ℕ → ℕ → List ℕ
+total_line accepted refused = codes "accepted " ++ decimal accepted ++ codes " refused " ++ decimal refused
+
+-- the lines of items, of which the first has this index
+abbrev pub item_lines : ℕ → List Verdict → List ℕ
+item_lines index [] = []
+item_lines index (verdict ∷ rest) = with_newline (item_line index verdict) ++ item_lines (index + 1) rest
+
+-- a line for each vehicle
+abbrev pub vehicle_lines : List VehicleEnd → List ℕ
+vehicle_lines ends = flat_map (λ end. with_newline (vehicle_line end)) ends
+
+-- all that is printed of a replay: a line an item, a line a vehicle, and the totals
+abbrev pub report_text : Report → List ℕ
+report_text report = item_lines 0 report.lines.items ++ vehicle_lines report.vehicles.items ++ with_newline (total_line report.accepted report.refused)

@@ -1,0 +1,48 @@
+-- What the words of the command line ask for.
+use Rattle.std.specs.Prelude.{◌≡◌, List, [], Option, Some, None, true, codes, option_map}
+use Rattle.clap.specs.Words.{App, Row, Rule, Text, first_of, new_app, new_rule, with_rule, with_subcommand}
+use Rattle.mds_city.specs.declared.words.Command.{Command}
+use Rattle.mds_city.specs.declared.words.Command.TheVariants.{Replay, Table}
+
+-- the positional word FILE, which must be there
+abbrev pub file_rule : Rule
+file_rule = record (new_rule (codes "FILE")) { required = true }
+
+-- the option `--table`, which takes one value
+abbrev pub table_rule : Rule
+table_rule = record (new_rule (codes "table")) { long = Some (codes "table"); value_names = 1 }
+
+-- the command `replay`, with its file and the option
+abbrev pub replay_app : App
+replay_app = with_rule (with_rule (new_app (codes "replay")) file_rule) table_rule
+
+-- the command `table`, with the option
+abbrev pub table_app : App
+table_app = with_rule (new_app (codes "table")) table_rule
+
+-- the program with no command yet, which must be given one
+abbrev pub bare_app : App
+bare_app = record { top = record (new_app (codes "mds_city")).top { subcommand_required = true }; subs = [] }
+
+-- the program with its commands
+abbrev pub program_app : App
+program_app = with_subcommand (with_subcommand bare_app replay_app.top) table_app.top
+
+-- the name of a command
+abbrev pub name_of : Command → Text
+name_of (Replay file table) = codes "replay"
+name_of (Table table) = codes "table"
+
+-- the values that were found are those of this command; it has no table where none was given
+abbrev pub HasValues : List Row → Command → Type 0
+HasValues values (Replay file table) = (first_of (codes "FILE") values ≡ Some file.now) × (first_of (codes "table") values ≡ option_map (λ path. path.now) table)
+HasValues values (Table table) = first_of (codes "table") values ≡ option_map (λ path. path.now) table
+
+-- a command's name and the values of its arguments are those of this command
+abbrev pub Asks : Option (Text × List Row) → Command → Type 0
+Asks None command = ⊥
+Asks (Some found) command = (found.0 ≡ name_of command) × HasValues found.1 command
+
+-- the command and the values that were found are those of no command
+abbrev pub AsksNothing : Option (Text × List Row) → Type 0
+AsksNothing found = (command : Command) → Asks found command → ⊥

@@ -1,0 +1,67 @@
+//! Printing a replay's report.
+ghost use Rattle.std.specs.Prelude.{◌++◌, string_bytes, OnOk, OnErr};
+ghost use Rattle.std.specs.Io.KnownBytes.{Appends};
+ghost use Rattle.mds_city.specs.Device.{AppendsFront, Passes};
+ghost use Rattle.mds_city.specs.Text.{item_lines, vehicle_lines, report_text};
+
+use crate::device::{WriteFault, add_line, put_out};
+use crate::report::{ItemLine, Report, TotalLine, VehicleEnd, Verdict};
+use std::alloc::Global;
+use std::io::Write;
+
+/// Prints the report: a line an item, a line a vehicle, and the totals.
+///
+/// At an error a front of its text went out: `Memory` where there was none to lay a line out, `Device` where the writer
+/// failed.
+pub fn print_report<W: Write>(
+    alloc: Global,
+    writer: &mut W,
+    report: &Report,
+) -> Result<(), WriteFault>
+    ensures ok { OnOk result (Appends (W.contents writer.old) (W.contents writer.new) (report_text report.now)) }
+    ensures err { OnErr result (AppendsFront (W.contents writer.old) (W.contents writer.new) (report_text report.now)) }
+{
+    let mut page = String::new(alloc);
+    add_items(writer, &mut page, &report.lines)?;
+    add_vehicles(writer, &mut page, &report.vehicles)?;
+    let total = TotalLine {
+        accepted: report.accepted,
+        refused: report.refused,
+    };
+    add_line(writer, &mut page, &total)?;
+    put_out(writer, &mut page)
+}
+
+/// Adds a line for each verdict to what the page has, and puts the page out as it fills.
+fn add_items<W: Write>(
+    writer: &mut W,
+    page: &mut String,
+    lines: &[Verdict],
+) -> Result<(), WriteFault>
+    ensures ok { OnOk result (Passes (W.contents writer.old) (W.contents writer.new) (string_bytes page.old ++ item_lines 0 lines.now) (string_bytes page.new)) }
+    ensures err { OnErr result (AppendsFront (W.contents writer.old) (W.contents writer.new) (string_bytes page.old ++ item_lines 0 lines.now)) }
+{
+    for (index, verdict) in lines.iter().enumerate() {
+        let line = ItemLine {
+            index,
+            verdict: *verdict,
+        };
+        add_line(writer, page, &line)?;
+    }
+    Ok(())
+}
+
+/// Adds a line for each vehicle to what the page has, and puts the page out as it fills.
+fn add_vehicles<W: Write>(
+    writer: &mut W,
+    page: &mut String,
+    ends: &[VehicleEnd],
+) -> Result<(), WriteFault>
+    ensures ok { OnOk result (Passes (W.contents writer.old) (W.contents writer.new) (string_bytes page.old ++ vehicle_lines ends.now) (string_bytes page.new)) }
+    ensures err { OnErr result (AppendsFront (W.contents writer.old) (W.contents writer.new) (string_bytes page.old ++ vehicle_lines ends.now)) }
+{
+    for end in ends {
+        add_line(writer, page, end)?;
+    }
+    Ok(())
+}
