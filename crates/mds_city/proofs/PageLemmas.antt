@@ -9,7 +9,7 @@ use Rattle.mds_city.specs.Device.{AppendsFront, Passes}
 pub passes_then : (a b c : Option (List ℕ)) (text left more rest : List ℕ) → Passes a b text left → Passes b c (left ++ more) rest → Passes a c (text ++ more) rest
 passes_then a b c text left more rest first second =
     let joined : text ++ more ≡ (first.0 ++ second.0) ++ rest =
-      ap (λ t. t ++ more) first.1 ∙ append_assoc first.0 left more ∙ ap (λ t. first.0 ++ t) second.1 ∙ sym (append_assoc first.0 second.0 rest) in
+    ap (λ t. t ++ more) first.1 ∙ append_assoc first.0 left more ∙ ap (λ t. first.0 ++ t) second.1 ∙ sym (append_assoc first.0 second.0 rest) in
     (first.0 ++ second.0, joined, Appends-trans a b c first.0 second.0 first.2 second.2)
 
 -- a text went out but for what was left, and of that and more a front
@@ -27,8 +27,8 @@ front_of_more a b text more front =
 pub passes_line : (a b c : Option (List ℕ)) (text page line rest next : List ℕ) → Passes a b text (page ++ (line ++ rest)) → Passes b c (page ++ line) next → Passes a c text (next ++ rest)
 passes_line a b c text page line rest next first second =
     let joined : text ≡ (first.0 ++ second.0) ++ (next ++ rest) =
-      first.1 ∙ ap (λ t. first.0 ++ t) (sym (append_assoc page line rest) ∙ ap (λ t. t ++ rest) second.1 ∙ append_assoc second.0 next rest)
-      ∙ sym (append_assoc first.0 second.0 (next ++ rest)) in
+    first.1 ∙ ap (λ t. first.0 ++ t) (sym (append_assoc page line rest) ∙ ap (λ t. t ++ rest) second.1 ∙ append_assoc second.0 next rest)
+    ∙ sym (append_assoc first.0 second.0 (next ++ rest)) in
     (first.0 ++ second.0, joined, Appends-trans a b c first.0 second.0 first.2 second.2)
 
 -- a text went out but for the page and a line before others; then a front of the page and the line did
@@ -48,5 +48,5 @@ next_item xs i x within is = next_item_or xs i x within ∙ ap (λ y. y ∷ drop
 pub passes_out : (a b c : Option (List ℕ)) (text left : List ℕ) → Passes a b text left → AppendsFront b c left → AppendsFront a c text
 passes_out a b c text left first second =
     let joined : text ≡ (first.0 ++ second.0) ++ second.1 =
-      first.1 ∙ ap (λ t. first.0 ++ t) second.2 ∙ sym (append_assoc first.0 second.0 second.1) in
+    first.1 ∙ ap (λ t. first.0 ++ t) second.2 ∙ sym (append_assoc first.0 second.0 second.1) in
     (first.0 ++ second.0, second.1, joined, Appends-trans a b c first.0 second.0 first.2 second.3)

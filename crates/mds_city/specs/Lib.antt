@@ -4,3 +4,6 @@ pub mod Words
 pub mod Requests
 pub mod Report
 pub mod Text
+pub mod Problem
+pub mod Source
+pub mod Command

@@ -1,7 +1,8 @@
 -- The lines that the program prints of a replay.
-use Rattle.std.specs.Prelude.{ℕ, ◌+◌, List, [], ◌∷◌, ◌++◌, codes, decimal}
+use Rattle.std.specs.Prelude.{ℕ, ◌+◌, List, [], ◌∷◌, ◌++◌, length, codes, decimal}
 use Rattle.std.specs.List.{flat_map}
 use Rattle.uuid.specs.Text.{hyphenated_text, lower}
+use Rattle.mds_table.specs.declared.row.Row.{Row}
 use Rattle.mds_table.specs.State.{name_of}
 use Rattle.mds_core.specs.declared.reply.Refusal.{Refusal}
 use Rattle.mds_core.specs.declared.reply.Refusal.TheVariants.{AlreadyRegistered, Unregistered, Repeated, Late, NoChain}
@@ -60,3 +61,19 @@ vehicle_lines ends = flat_map (λ end. with_newline (vehicle_line end)) ends
 -- all that is printed of a replay: a line an item, a line a vehicle, and the totals
 abbrev pub report_text : Report → List ℕ
 report_text report = item_lines 0 report.lines.items ++ vehicle_lines report.vehicles.items ++ with_newline (total_line report.accepted report.refused)
+
+-- the line of a row: its type, and the states that it leads from and to
+abbrev pub row_line : Row → List ℕ
+row_line row = row.kind ++ codes " " ++ name_of row.from ++ codes " " ++ name_of row.to
+
+-- a line for each row
+abbrev pub row_lines : List Row → List ℕ
+row_lines rows = flat_map (λ row. with_newline (row_line row)) rows
+
+-- the last line of a table
+abbrev pub count_line : ℕ → List ℕ
+count_line count = codes "rows " ++ decimal count
+
+-- all that is printed of a table: a line a row, in row order, and their number
+abbrev pub table_text : List Row → List ℕ
+table_text rows = row_lines rows ++ with_newline (count_line (length rows))

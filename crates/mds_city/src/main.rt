@@ -1,27 +1,28 @@
-//! Keeps the states of shared vehicles.
+//! Keeps the states of a city's shared vehicles: replays files of events, and prints tables of transitions.
 #![tactic(auto)]
 
+mod commands;
 mod device;
 mod print;
+mod problem;
 mod replay;
 mod report;
+mod rows;
+mod source;
 mod words;
 
-use crate::device::{ReadFault, WriteFault, add_line, put_out, read_front};
+use crate::commands::{replay_to, table_to};
+use crate::source::Source;
 use crate::words::{Command, parse_words};
-use std::alloc::Global;
-use std::io::{Read, Write};
+use clap::error::ErrorKind;
 use std::process::ExitCode;
 use std::{env, fs, io};
 
-/// The command was carried out, or help was asked for.
+/// All went well, or help was asked for.
 const DONE: u8 = 0;
 
 /// The words don't parse.
 const BAD_WORDS: u8 = 2;
-
-/// A file or a stream failed.
-const DEVICE: u8 = 3;
 
 /// Memory was refused.
 const NO_MEMORY: u8 = 4;
@@ -37,14 +38,12 @@ fn run(rt: &HostRuntime) -> u8 {
         Err(status) => return status,
     };
     match parse_words(rt.alloc(), words.as_slice()) {
-        Ok(Command::Replay { file, .. }) => length_of(rt, file),
-        Ok(Command::Table { .. }) => DONE,
+        Ok(command) => carry_out(rt, command),
         Err(error) => told(rt, &error),
     }
 }
 
-/// The words of the command line; at `Err` the exit status: 4 where there was no memory for them,
-/// and else 2.
+/// The words of the command line; at `Err` the exit status: 4 where there was no memory for them, and else 2.
 fn words_of(rt: &HostRuntime) -> Result<Vec<String>, u8> {
     match env::args(rt) {
         Ok(words) => words.collect(rt.alloc()).map_err(|_| NO_MEMORY),
@@ -55,38 +54,62 @@ fn words_of(rt: &HostRuntime) -> Result<Vec<String>, u8> {
     }
 }
 
-/// Prints why the words gave no command, and answers the exit status. Where the printing fails, the
-/// status stays.
+/// Prints why the words gave no command, and answers the exit status. Where the printing fails, the status stays.
 fn told(rt: &HostRuntime, error: &clap::Error) -> u8 {
-    if matches!(error.kind(), clap::error::ErrorKind::OutOfMemory) {
+    if matches!(error.kind(), ErrorKind::OutOfMemory) {
+        let _ = rt.eprintln("mds_city: out of memory");
         return NO_MEMORY;
     }
     let _ = error.print(rt);
     if error.use_stderr() { BAD_WORDS } else { DONE }
 }
 
-/// Prints the length of a file, a placeholder for its replay.
-fn length_of(rt: &HostRuntime, path: &str) -> u8 {
-    if path == "-" {
-        return length_to(rt.alloc(), Some(rt.stdin()), &mut rt.stdout());
+/// Carries out a command over the program's files and streams, and answers the exit status.
+fn carry_out(rt: &HostRuntime, command: Command<'_>) -> u8 {
+    match command {
+        Command::Replay { file: "-", table } => {
+            let source = Source {
+                path: "-",
+                reader: Some(rt.stdin()),
+            };
+            replay_to(
+                rt.alloc(),
+                opened(rt, table),
+                source,
+                &mut rt.stdout(),
+                &mut rt.stderr(),
+            )
+        }
+        Command::Replay { file, table } => {
+            let table = opened(rt, table);
+            replay_to(
+                rt.alloc(),
+                table,
+                open(rt, file),
+                &mut rt.stdout(),
+                &mut rt.stderr(),
+            )
+        }
+        Command::Table { table } => {
+            table_to(
+                rt.alloc(),
+                opened(rt, table),
+                &mut rt.stdout(),
+                &mut rt.stderr(),
+            )
+        }
     }
-    length_to(rt.alloc(), fs::open(rt, path).ok(), &mut rt.stdout())
 }
 
-/// Prints how many bytes `input` has, up to one more than the longest file has.
-fn length_to<R: Read + Drop, W: Write>(alloc: Global, input: Option<R>, out: &mut W) -> u8 {
-    let Some(mut reader) = input else {
-        return DEVICE;
-    };
-    let length = match read_front(alloc, &mut reader) {
-        Ok(bytes) => bytes.len(),
-        Err(ReadFault::Memory) => return NO_MEMORY,
-        Err(ReadFault::Device) => return DEVICE,
-    };
-    let mut page = String::new(alloc);
-    match add_line(out, &mut page, &length).and_then(|()| put_out(out, &mut page)) {
-        Ok(()) => DONE,
-        Err(WriteFault::Memory) => NO_MEMORY,
-        Err(WriteFault::Device) => DEVICE,
+/// The file of this path, if one is named.
+fn opened<'a>(rt: &HostRuntime, path: Option<&'a str>) -> Option<Source<'a, fs::File>> {
+    path.map(|path| open(rt, path))
+}
+
+/// The file of this path.
+fn open<'a>(rt: &HostRuntime, path: &'a str) -> Source<'a, fs::File> {
+    Source {
+        path,
+        reader: fs::open(rt, path).ok(),
     }
 }

@@ -2,10 +2,12 @@
 ghost use Rattle.std.specs.Prelude.{◌++◌, string_bytes, OnOk, OnErr};
 ghost use Rattle.std.specs.Io.KnownBytes.{Appends};
 ghost use Rattle.mds_city.specs.Device.{AppendsFront, Passes};
-ghost use Rattle.mds_city.specs.Text.{item_lines, vehicle_lines, report_text};
+ghost use Rattle.mds_city.specs.Text.{item_lines, vehicle_lines, report_text, row_lines, table_text};
 
 use crate::device::{WriteFault, add_line, put_out};
 use crate::report::{ItemLine, Report, TotalLine, VehicleEnd, Verdict};
+use crate::rows::{CountLine, RowLine};
+use mds_table::Row;
 use std::alloc::Global;
 use std::io::Write;
 
@@ -62,6 +64,32 @@ fn add_vehicles<W: Write>(
 {
     for end in ends {
         add_line(writer, page, end)?;
+    }
+    Ok(())
+}
+
+/// Prints the rows of a table: a line a row, and their number.
+///
+/// At an error a front of the text went out, as in [`print_report`].
+pub fn print_table<W: Write>(alloc: Global, writer: &mut W, rows: &[Row]) -> Result<(), WriteFault>
+    ensures ok { OnOk result (Appends (W.contents writer.old) (W.contents writer.new) (table_text rows.now)) }
+    ensures err { OnErr result (AppendsFront (W.contents writer.old) (W.contents writer.new) (table_text rows.now)) }
+{
+    let mut page = String::new(alloc);
+    add_rows(writer, &mut page, rows)?;
+    let count = CountLine { count: rows.len() };
+    add_line(writer, &mut page, &count)?;
+    put_out(writer, &mut page)
+}
+
+/// Adds a line for each row to what the page has, and puts the page out as it fills.
+fn add_rows<W: Write>(writer: &mut W, page: &mut String, rows: &[Row]) -> Result<(), WriteFault>
+    ensures ok { OnOk result (Passes (W.contents writer.old) (W.contents writer.new) (string_bytes page.old ++ row_lines rows.now) (string_bytes page.new)) }
+    ensures err { OnErr result (AppendsFront (W.contents writer.old) (W.contents writer.new) (string_bytes page.old ++ row_lines rows.now)) }
+{
+    for row in rows {
+        let line = RowLine { row };
+        add_line(writer, page, &line)?;
     }
     Ok(())
 }

@@ -126,7 +126,11 @@ fn verdict_of(event: &Event, outcome: Outcome) -> Verdict
 }
 
 /// Where the vehicles end that the requests register.
-fn ends_of(alloc: Global, fleet: &Fleet, requests: &[Request]) -> Result<Vec<VehicleEnd>, AllocError>
+fn ends_of(
+    alloc: Global,
+    fleet: &Fleet,
+    requests: &[Request],
+) -> Result<Vec<VehicleEnd>, AllocError>
     ensures { IfOk result (λ ends. ends.items ≡ map (end_of fleet.now.history) (filter_map registered_by requests.now)) }
 {
     let mut ends = Vec::new(alloc);

@@ -1,3 +1,10 @@
 pub mod Tested
 pub mod Rows
+pub mod RowOrder
 pub mod ByPlaces
+pub mod Ascending
+pub mod Values
+pub mod Marks
+pub mod Adding
+pub mod OneTable
+pub mod OneAnswer

@@ -5,3 +5,5 @@ pub mod Row
 pub mod Profile
 pub mod Chain
 pub mod Printed
+pub mod TableFile
+pub mod Entry

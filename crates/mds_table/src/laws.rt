@@ -1,9 +1,25 @@
 //! What holds of the definitions alone.
 ghost use Rattle.mds_table.specs.Chain.{ChainsGoByPlaces};
+ghost use Rattle.mds_table.specs.TableFile.{FilesHaveOneTable, TableFilesHaveNoFault, FilesHaveOneFault};
 
 /// A chain, which contracts define step by step, is a list of one more state than the event has types, which begins
 /// with the state held, ends with the state reported, and has a row of the table for each of its steps, of the type at
 /// that place.
 pub fn chains_go_by_places()
     ensures { ChainsGoByPlaces }
+{}
+
+/// A table file, which contracts define as a relation between bytes and rows, stands for one list of rows.
+pub fn files_have_one_table()
+    ensures { FilesHaveOneTable }
+{}
+
+/// A table file has no fault, want of memory aside.
+pub fn table_files_have_no_fault()
+    ensures { TableFilesHaveNoFault }
+{}
+
+/// A file has one first fault, want of memory aside.
+pub fn files_have_one_fault()
+    ensures { FilesHaveOneFault }
 {}

@@ -2,14 +2,19 @@
 //!
 //! A table is a set of rows, each a state, an event type and the state that it leads to. States and event types are
 //! named after the micromobility mode of the Mobility Data Specification (MDS) 2.0, section "Vehicle States" and
-//! "Vehicle Events"; which rows the profile has is this project's own choice.
+//! "Vehicle Events"; which rows the profile has is this project's own choice. A table is the profile's, or is read from
+//! a table file, whose form is this project's own as well.
 #![tactic(auto)]
 
+mod entry;
 pub mod laws;
 mod profile;
 mod row;
 mod state;
 mod table;
+mod table_file;
+#[cfg(test)]
+mod table_file_tests;
 #[cfg(test)]
 mod tests;
 mod type_name;
@@ -17,4 +22,5 @@ mod type_name;
 pub use row::Row;
 pub use state::State;
 pub use table::Table;
+pub use table_file::TableFault;
 pub use type_name::{NameFault, TypeName};

@@ -1,6 +1,11 @@
-//! Rows of a table.
+//! Rows of a table, and sorted lists of them.
+ghost use Rattle.std.specs.Prelude.{◌≡◌, ◌↔◌, IsTrue, OnOk, true, Contains};
+ghost use Rattle.mds_table.specs.Row.{row_of, row_cmp, in_order};
+ghost use Rattle.mds_table.specs.Entry.{Adds};
 
 use crate::{State, TypeName};
+use std::alloc::AllocError;
+use std::cmp::Ordering;
 
 /// A row of a table: an event of this type may lead from the one state to the other.
 #[derive(Debug, Drop)]
@@ -11,4 +16,50 @@ pub struct Row {
     pub kind: TypeName,
     /// The state after it.
     pub to: State,
+}
+
+impl Row {
+    /// The same row again.
+    pub fn copy(&self) -> Row
+        ensures { result ≡ self.now }
+    {
+        Row {
+            from: self.from,
+            kind: self.kind.copy(),
+            to: self.to,
+        }
+    }
+}
+
+/// How the row stands to the one of these parts: by type, then by the state before, then by the state after.
+fn compare(row: &Row, from: State, kind: &TypeName, to: State) -> Ordering
+    ensures { result ≡ row_cmp row.now (row_of from kind.now to) }
+{
+    row.kind
+        .as_str()
+        .cmp(kind.as_str())
+        .then(row.from.code().cmp(&from.code()))
+        .then(row.to.code().cmp(&to.code()))
+}
+
+/// Whether the row of these parts is one of the rows.
+pub(crate) fn has_row_of(rows: &[Row], from: State, kind: &TypeName, to: State) -> bool
+    requires { in_order rows.now ≡ true }
+    ensures { IsTrue result ↔ Contains rows.now (row_of from kind.now to) }
+{
+    rows.binary_search_by(|row| compare(row, from, kind, to))
+        .is_ok()
+}
+
+/// Adds the row where it isn't there yet.
+pub(crate) fn add_row(rows: &mut Vec<Row>, row: Row) -> Result<(), AllocError>
+    requires { in_order rows.old.items ≡ true }
+    ensures order { OnOk result (in_order rows.new.items ≡ true) }
+    ensures rows { OnOk result (Adds rows.old.items rows.new.items (λ other. other ≡ row)) }
+{
+    let found = rows.binary_search_by(|other| compare(other, row.from, &row.kind, row.to));
+    if let Err(at) = found {
+        rows.insert(at, row)?;
+    }
+    Ok(())
 }

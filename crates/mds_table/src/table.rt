@@ -1,10 +1,11 @@
 //! Tables of allowed transitions.
-ghost use Rattle.std.specs.Prelude.{◌≡◌, ◌↔◌, IsTrue, IfOk, Contains};
-ghost use Rattle.std.specs.List.{list_any};
-ghost use Rattle.mds_table.specs.Row.{row_of, same_row};
+ghost use Rattle.std.specs.Prelude.{◌≡◌, ◌↔◌, true, IsTrue, IfOk, IfErr, Contains, length};
+ghost use Rattle.mds_table.specs.Row.{row_of, in_order};
 ghost use Rattle.mds_table.specs.Profile.{profile_rows};
+ghost use Rattle.mds_table.specs.TableFile.{HasTable, HasFault};
 
-use crate::{Row, State, TypeName, profile};
+use crate::row::has_row_of;
+use crate::{Row, State, TableFault, TypeName, profile, table_file};
 use std::alloc::{AllocError, Global};
 use std::marker::Model;
 
@@ -41,21 +42,63 @@ impl Table {
         })
     }
 
+    /// The table of a table file: a JSON object with a member `rows`, a list of entries
+    /// `{"from":[..],"type":"..","to":[..]}`. `from` and `to` are a list of at least one state name, or a single one;
+    /// `type` is a type name. Other members are ignored. An entry stands for all pairs of its states; a row that is
+    /// written twice counts once.
+    ///
+    /// # Errors
+    ///
+    /// The first fault of the file, in the order of [`TableFault`]; `Memory` where there is no memory to read it.
+    pub fn from_json(alloc: Global, text: &[u8]) -> Result<Table, TableFault>
+        ensures table { IfOk result (λ table. HasTable text.now table) }
+        ensures fault { IfErr result (λ fault. HasFault text.now fault) }
+    {
+        Ok(Table {
+            rows: table_file::rows_in_file(alloc, text)?,
+        })
+    }
+
     /// Whether the table has the row by which an event of this type leads from the one state to the other.
     pub fn has_row(&self, from: State, kind: &TypeName, to: State) -> bool
         ensures { IsTrue result ↔ Contains self.now (row_of from kind.now to) }
     {
         has_row_of(&self.rows, from, kind, to)
     }
-}
 
-/// Whether one of the rows leads by this type from the one state to the other.
-fn has_row_of(rows: &[Row], from: State, kind: &TypeName, to: State) -> bool
-    ensures { result ≡ list_any (same_row (row_of from kind.now to)) rows.now }
-{
-    rows.iter().any(|row| {
-        from.code() == row.from.code()
-            && to.code() == row.to.code()
-            && kind.as_str() == row.kind.as_str()
-    })
+    /// The rows of the table, each once, in ascending order of type (by bytes), from code and to code.
+    ///
+    /// # Errors
+    ///
+    /// `AllocError` where there is no memory for them.
+    pub fn rows(&self, alloc: Global) -> Result<Vec<Row>, AllocError>
+        ensures rows { IfOk result (λ rows. rows.items ≡ self.now) }
+        ensures order { IfOk result (λ rows. in_order rows.items ≡ true) }
+    {
+        let mut rows = Vec::with_capacity(alloc, self.row_count())?;
+        for row in &self.rows {
+            rows.push(row.copy())?;
+        }
+        Ok(rows)
+    }
+
+    /// The number of rows.
+    pub fn row_count(&self) -> usize
+        ensures { result ≡ length self.now }
+    {
+        self.rows.len()
+    }
+
+    /// The same table again.
+    ///
+    /// # Errors
+    ///
+    /// `AllocError` where there is no memory for its rows.
+    pub fn copy(&self, alloc: Global) -> Result<Table, AllocError>
+        ensures { IfOk result (λ table. table ≡ self.now) }
+    {
+        Ok(Table {
+            rows: self.rows(alloc)?,
+        })
+    }
 }

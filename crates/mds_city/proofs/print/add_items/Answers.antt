@@ -17,9 +17,9 @@ returns-in_err-add_line-clause-err g c =
     let left = next_item_or c.args.lines.now at (Accepted Removed) c.loop-index-test.true in
     let P : List Verdict → Type 0 = λ xs. Passes (contents c.args.writer.now) (contents c.loop-index.writer) text (page ++ item_lines at xs) in
     let front : AppendsFront (contents c.args.writer.now) (contents c.add_line.new.writer) text =
-      front_of_line (contents c.args.writer.now) (contents c.loop-index.writer) (contents c.add_line.new.writer) text page
-      (with_newline (item_line at verdict)) (item_lines (at + 1) (drop (at + 1) c.args.lines.now))
-      (subst P left c.loop-index.invariant) c.in_err-add_line.ensures.err in
+    front_of_line (contents c.args.writer.now) (contents c.loop-index.writer) (contents c.add_line.new.writer) text page
+    (with_newline (item_line at verdict)) (item_lines (at + 1) (drop (at + 1) c.args.lines.now))
+    (subst P left c.loop-index.invariant) c.in_err-add_line.ensures.err in
     search rules
 
 pub loop-index-preserved : goal.loop-index-preserved

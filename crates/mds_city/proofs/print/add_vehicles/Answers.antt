@@ -14,9 +14,9 @@ returns-in_err-add_line-clause-err g c =
     let left = next_item c.args.ends.now c.loop-end.end-index end c.loop-end-test.true c.end-item.is in
     let P : List VehicleEnd → Type 0 = λ xs. Passes (contents c.args.writer.now) (contents c.loop-end.writer) text (page ++ vehicle_lines xs) in
     let front : AppendsFront (contents c.args.writer.now) (contents c.add_line.new.writer) text =
-      front_of_line (contents c.args.writer.now) (contents c.loop-end.writer) (contents c.add_line.new.writer) text page
-      (with_newline (vehicle_line end)) (vehicle_lines (drop (c.loop-end.end-index + 1) c.args.ends.now))
-      (subst P left c.loop-end.invariant) c.in_err-add_line.ensures.err in
+    front_of_line (contents c.args.writer.now) (contents c.loop-end.writer) (contents c.add_line.new.writer) text page
+    (with_newline (vehicle_line end)) (vehicle_lines (drop (c.loop-end.end-index + 1) c.args.ends.now))
+    (subst P left c.loop-end.invariant) c.in_err-add_line.ensures.err in
     search rules
 
 pub loop-end-preserved : goal.loop-end-preserved

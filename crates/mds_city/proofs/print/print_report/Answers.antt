@@ -13,9 +13,9 @@ returns-in_err-add_items-clause-err g c =
     let ends = vehicle_lines report.vehicles.items in
     let total = with_newline (total_line report.accepted report.refused) in
     let first : AppendsFront (contents c.args.writer.now) (contents c.add_items.new.writer) items =
-      rw (c.new-page.ensures.bytes, c.deref.ensures.value) at c.in_err-add_items.ensures.err in
+    rw (c.new-page.ensures.bytes, c.deref.ensures.value) at c.in_err-add_items.ensures.err in
     let front : AppendsFront (contents c.args.writer.now) (contents c.add_items.new.writer) (items ++ ends ++ total) =
-      front_of_more _ _ (items ++ ends) total (front_of_more _ _ items ends first) in
+    front_of_more _ _ (items ++ ends) total (front_of_more _ _ items ends first) in
     search rules
 
 pub returns-in_err-add_vehicles-clause-err : goal.returns-in_err-add_vehicles-clause-err
@@ -27,11 +27,11 @@ returns-in_err-add_vehicles-clause-err g c =
     let total = with_newline (total_line report.accepted report.refused) in
     let page = string_bytes c.add_items.new.page in
     let first : Passes (contents c.args.writer.now) (contents c.add_items.new.writer) items page =
-      rw (c.new-page.ensures.bytes, c.deref.ensures.value) at c.in_ok-add_items.ensures.ok in
+    rw (c.new-page.ensures.bytes, c.deref.ensures.value) at c.in_ok-add_items.ensures.ok in
     let second : AppendsFront (contents c.add_items.new.writer) (contents c.add_vehicles.new.writer) (page ++ ends) =
-      rw c.deref-2.ensures.value at c.in_err-add_vehicles.ensures.err in
+    rw c.deref-2.ensures.value at c.in_err-add_vehicles.ensures.err in
     let front : AppendsFront (contents c.args.writer.now) (contents c.add_vehicles.new.writer) (items ++ ends ++ total) =
-      front_of_more _ _ (items ++ ends) total (passes_front _ _ _ items page ends first second) in
+    front_of_more _ _ (items ++ ends) total (passes_front _ _ _ items page ends first second) in
     search rules
 
 pub returns-in_err-add_line-clause-err : goal.returns-in_err-add_line-clause-err
@@ -43,12 +43,12 @@ returns-in_err-add_line-clause-err g c =
     let total = with_newline (total_line report.accepted report.refused) in
     let page = string_bytes c.add_items.new.page in
     let first : Passes (contents c.args.writer.now) (contents c.add_items.new.writer) items page =
-      rw (c.new-page.ensures.bytes, c.deref.ensures.value) at c.in_ok-add_items.ensures.ok in
+    rw (c.new-page.ensures.bytes, c.deref.ensures.value) at c.in_ok-add_items.ensures.ok in
     let second : Passes (contents c.add_items.new.writer) (contents c.add_vehicles.new.writer) (page ++ ends) (string_bytes c.add_vehicles.new.page) =
-      rw c.deref-2.ensures.value at c.in_ok-add_vehicles.ensures.ok in
+    rw c.deref-2.ensures.value at c.in_ok-add_vehicles.ensures.ok in
     let both = passes_then _ _ _ items page ends (string_bytes c.add_vehicles.new.page) first second in
     let front : AppendsFront (contents c.args.writer.now) (contents c.add_line.new.writer) (items ++ ends ++ total) =
-      passes_front _ _ _ (items ++ ends) (string_bytes c.add_vehicles.new.page) total both c.in_err-add_line.ensures.err in
+    passes_front _ _ _ (items ++ ends) (string_bytes c.add_vehicles.new.page) total both c.in_err-add_line.ensures.err in
     search rules
 
 pub returns-clause-err : goal.returns-clause-err
@@ -60,9 +60,9 @@ returns-clause-err g c =
     let total = with_newline (total_line report.accepted report.refused) in
     let page = string_bytes c.add_items.new.page in
     let first : Passes (contents c.args.writer.now) (contents c.add_items.new.writer) items page =
-      rw (c.new-page.ensures.bytes, c.deref.ensures.value) at c.in_ok-add_items.ensures.ok in
+    rw (c.new-page.ensures.bytes, c.deref.ensures.value) at c.in_ok-add_items.ensures.ok in
     let second : Passes (contents c.add_items.new.writer) (contents c.add_vehicles.new.writer) (page ++ ends) (string_bytes c.add_vehicles.new.page) =
-      rw c.deref-2.ensures.value at c.in_ok-add_vehicles.ensures.ok in
+    rw c.deref-2.ensures.value at c.in_ok-add_vehicles.ensures.ok in
     let both = passes_then _ _ _ items page ends (string_bytes c.add_vehicles.new.page) first second in
     let all = passes_then _ _ _ (items ++ ends) (string_bytes c.add_vehicles.new.page) total (string_bytes c.add_line.new.page) both c.in_ok-add_line.ensures.ok in
     on_err_weaker c.put_out.result

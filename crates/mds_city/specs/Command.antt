@@ -1,0 +1,76 @@
+-- What the commands do.
+use Rattle.std.specs.Prelude.{◌≡◌, ◌⊎◌, ◌==◌, ℕ, List, Option, if◌then◌else◌}
+use Rattle.std.specs.Io.KnownBytes.{Appends, Keeps}
+use Rattle.mds_table.specs.declared.row.Row.{Row}
+use Rattle.mds_batch.specs.declared.item.EventItem.{EventItem}
+use Rattle.mds_city.specs.declared.report.Report.{Report}
+use Rattle.mds_city.specs.declared.source.Source.{Source}
+use Rattle.mds_city.specs.declared.problem.Problem.{Problem}
+use Rattle.mds_city.specs.declared.problem.Problem.TheVariants.{CannotRead, NotATable, NotABatch, Output, Memory}
+use Rattle.mds_city.specs.Device.{AppendsFront}
+use Rattle.mds_city.specs.Problem.{status_of, Tells}
+use Rattle.mds_city.specs.Report.{IsReport}
+use Rattle.mds_city.specs.Source.{HasTableIn, ExplainsTable, HasItemsIn, ExplainsFile}
+use Rattle.mds_city.specs.Text.{report_text, table_text}
+
+-- of a replay: the known bytes of a table file's reader, the table file if one is given, and the same of the file of events
+module _ {T R : Type 0} (table_bytes : T → Option (List ℕ)) (table : Option (Source T)) (file_bytes : R → Option (List ℕ)) (file : Source R) where
+  -- the report of a replay of the file's items over the table
+  abbrev pub HasReport : Report → Type 0
+  HasReport report = (rows : List Row) × (items : List EventItem) × HasTableIn table_bytes table rows × HasItemsIn file_bytes file items × IsReport rows items report
+
+  -- the report's text went out; the status is 0 where each item was accepted, else 1
+  abbrev pub Replayed : ℕ → Option (List ℕ) → Option (List ℕ) → Type 0
+  Replayed status old new = (report : Report) × HasReport report × Appends old new (report_text report) × (status ≡ (if report.refused == 0 then 0 else 1))
+
+  -- the problem's cause lies in the file that it names, if it names one
+  abbrev pub ExplainsReplay : Problem → Type 0
+  ExplainsReplay (CannotRead path) = ExplainsTable table_bytes table (CannotRead path) ⊎ ExplainsFile file_bytes file (CannotRead path)
+  ExplainsReplay (NotATable fault) = ExplainsTable table_bytes table (NotATable fault)
+  ExplainsReplay (NotABatch fault) = ExplainsFile file_bytes file (NotABatch fault)
+  ExplainsReplay Output = Unit {0}
+  ExplainsReplay Memory = Unit {0}
+
+  -- nothing went out, or a front of the report's text
+  abbrev pub PrintsFront : Option (List ℕ) → Option (List ℕ) → Type 0
+  PrintsFront old new = Keeps old new ⊎ ((report : Report) × HasReport report × AppendsFront old new (report_text report))
+
+  -- what went out before a problem: nothing where a file was at fault
+  abbrev pub WentOut : Problem → Option (List ℕ) → Option (List ℕ) → Type 0
+  WentOut (CannotRead path) old new = Keeps old new
+  WentOut (NotATable fault) old new = Keeps old new
+  WentOut (NotABatch fault) old new = Keeps old new
+  WentOut Output old new = PrintsFront old new
+  WentOut Memory old new = PrintsFront old new
+
+  -- a problem has this status, is explained, and was told
+  abbrev pub Told : ℕ → Option (List ℕ) → Option (List ℕ) → Option (List ℕ) → Option (List ℕ) → Type 0
+  Told status old new faults_old faults_new =
+      (problem : Problem) × (status ≡ status_of problem) × ExplainsReplay problem × WentOut problem old new × Tells faults_old faults_new problem
+
+-- of a print of a table: the known bytes of its file's reader, and the file if one is given
+module _ {T : Type 0} (table_bytes : T → Option (List ℕ)) (table : Option (Source T)) where
+  -- the table's text went out
+  abbrev pub Tabled : Option (List ℕ) → Option (List ℕ) → Type 0
+  Tabled old new = (rows : List Row) × HasTableIn table_bytes table rows × Appends old new (table_text rows)
+
+  -- the problem's cause lies in the file, if it is a fault of a file
+  abbrev pub ExplainsPrint : Problem → Type 0
+  ExplainsPrint (CannotRead path) = ExplainsTable table_bytes table (CannotRead path)
+  ExplainsPrint (NotATable fault) = ExplainsTable table_bytes table (NotATable fault)
+  ExplainsPrint (NotABatch fault) = ⊥
+  ExplainsPrint Output = Unit {0}
+  ExplainsPrint Memory = Unit {0}
+
+  -- what went out before a problem: nothing where the file was at fault, else a front of the table's text
+  abbrev pub TableWentOut : Problem → Option (List ℕ) → Option (List ℕ) → Type 0
+  TableWentOut (CannotRead path) old new = Keeps old new
+  TableWentOut (NotATable fault) old new = Keeps old new
+  TableWentOut (NotABatch fault) old new = Keeps old new
+  TableWentOut Output old new = Keeps old new ⊎ ((rows : List Row) × HasTableIn table_bytes table rows × AppendsFront old new (table_text rows))
+  TableWentOut Memory old new = Keeps old new ⊎ ((rows : List Row) × HasTableIn table_bytes table rows × AppendsFront old new (table_text rows))
+
+  -- a problem has this status, is explained, and was told
+  abbrev pub TableTold : ℕ → Option (List ℕ) → Option (List ℕ) → Option (List ℕ) → Option (List ℕ) → Type 0
+  TableTold status old new faults_old faults_new =
+      (problem : Problem) × (status ≡ status_of problem) × ExplainsPrint problem × TableWentOut problem old new × Tells faults_old faults_new problem

@@ -1,0 +1,59 @@
+-- What the files that a command reads have, and why they can't be used.
+use Rattle.std.specs.Prelude.{◌≡◌, ◌≢◌, ℕ, List, Option, Some, None}
+use Rattle.mds_table.specs.declared.row.Row.{Row}
+use Rattle.mds_table.specs.Profile.{profile_rows}
+use Rattle.mds_table.specs.TableFile.{HasTable, HasFault as HasTableFault}
+use Rattle.mds_batch.specs.declared.item.EventItem.{EventItem}
+use Rattle.mds_batch.specs.Items.{event_item}
+use Rattle.mds_batch.specs.Batch.{HasItems, HasFault as HasBatchFault}
+use Rattle.mds_city.specs.declared.source.Source.{Source}
+use Rattle.mds_city.specs.declared.problem.Problem.{Problem}
+use Rattle.mds_city.specs.declared.problem.Problem.TheVariants.{CannotRead, NotATable, NotABatch, Output, Memory}
+use Rattle.mds_city.specs.Device.{HasFront}
+
+-- the file was opened, and its reader had left these bytes, or these are the first 4194305 of them; where it isn't known
+-- what the reader had left, this says only that it was opened
+abbrev pub HasBytes : {R : Type 0} → (R → Option (List ℕ)) → Source R → List ℕ → Type 0
+HasBytes {R} remaining source bytes = (reader : R) × (source.reader ≡ Some reader) × HasFront (remaining reader) bytes
+
+-- the file can't be read, or there was no memory for it
+abbrev pub IsReadProblem : {R : Type 0} → Source R → Problem → Type 0
+IsReadProblem source (CannotRead path) = path.now ≡ source.path.now
+IsReadProblem source Memory = Unit {0}
+IsReadProblem source (NotATable fault) = ⊥
+IsReadProblem source (NotABatch fault) = ⊥
+IsReadProblem source Output = ⊥
+
+-- the rows are those of the table file
+abbrev pub HasTableOf : {R : Type 0} → (R → Option (List ℕ)) → Source R → List Row → Type 0
+HasTableOf remaining source rows = (bytes : List ℕ) × HasBytes remaining source bytes × HasTable bytes rows
+
+-- why a table file has no table: it can't be read, is no table file, or there was no memory
+abbrev pub ExplainsTableFile : {R : Type 0} → (R → Option (List ℕ)) → Source R → Problem → Type 0
+ExplainsTableFile remaining source (NotATable fault) = (bytes : List ℕ) × HasBytes remaining source bytes × HasTableFault bytes fault
+ExplainsTableFile remaining source (CannotRead path) = path.now ≡ source.path.now
+ExplainsTableFile remaining source Memory = Unit {0}
+ExplainsTableFile remaining source (NotABatch fault) = ⊥
+ExplainsTableFile remaining source Output = ⊥
+
+-- the rows are those of the table file, or of the profile where none is given
+abbrev pub HasTableIn : {R : Type 0} → (R → Option (List ℕ)) → Option (Source R) → List Row → Type 0
+HasTableIn remaining None rows = rows ≡ profile_rows
+HasTableIn remaining (Some source) rows = HasTableOf remaining source rows
+
+-- why there is no table: where no file is given, only for want of memory
+abbrev pub ExplainsTable : {R : Type 0} → (R → Option (List ℕ)) → Option (Source R) → Problem → Type 0
+ExplainsTable remaining None problem = problem ≡ Memory
+ExplainsTable remaining (Some source) problem = ExplainsTableFile remaining source problem
+
+-- the items are those of the file
+abbrev pub HasItemsIn : {R : Type 0} → (R → Option (List ℕ)) → Source R → List EventItem → Type 0
+HasItemsIn remaining source items = (bytes : List ℕ) × HasBytes remaining source bytes × HasItems event_item bytes items
+
+-- why there are no items: the file can't be read, is no batch, or there was no memory
+abbrev pub ExplainsFile : {R : Type 0} → (R → Option (List ℕ)) → Source R → Problem → Type 0
+ExplainsFile remaining source (NotABatch fault) = (bytes : List ℕ) × HasBytes remaining source bytes × HasBatchFault bytes fault
+ExplainsFile remaining source (CannotRead path) = path.now ≡ source.path.now
+ExplainsFile remaining source Memory = Unit {0}
+ExplainsFile remaining source (NotATable fault) = ⊥
+ExplainsFile remaining source Output = ⊥

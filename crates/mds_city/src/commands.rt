@@ -1,0 +1,152 @@
+//! What the commands do, over any readers and writers.
+ghost use Rattle.std.specs.Prelude.{◌≡◌, ◌≢◌, ◌<◌, ◌≤◌, IfOk, IfErr, OnOk};
+ghost use Rattle.std.specs.Io.KnownBytes.{Appends, Keeps};
+ghost use Rattle.mds_city.specs.declared.report.Report.{Report};
+ghost use Rattle.mds_city.specs.Text.{report_text};
+ghost use Rattle.mds_city.specs.Source.{HasTableIn};
+ghost use Rattle.mds_city.specs.Command.{HasReport, ExplainsReplay, WentOut, Replayed, Told, Tabled, ExplainsPrint, TableWentOut, TableTold};
+
+use crate::device::WriteFault;
+use crate::print::{print_report, print_table};
+use crate::problem::{Problem, tell};
+use crate::replay::replay;
+use crate::report::Report;
+use crate::source::{Source, items_in, table_in};
+use mds_table::Row;
+use std::alloc::Global;
+use std::io::{Read, Write};
+
+/// Every item was accepted.
+const ACCEPTED: u8 = 0;
+
+/// An item was not.
+const REFUSED: u8 = 1;
+
+/// Replays a file of events over a table, the profile's where none is given, and prints a line for each item, a line for
+/// each vehicle, and the totals. It answers the status that the program ends with: 0 where each item was accepted, 1
+/// where one was not, and else the one of the problem, which is told to `faults` in one line: 3 for a file that can't be
+/// read, is no table or no batch, or an output that fails, 4 for want of memory.
+pub fn replay_to<T: Read + Drop, R: Read + Drop, W: Write, E: Write>(
+    alloc: Global,
+    table: Option<Source<'_, T>>,
+    file: Source<'_, R>,
+    out: &mut W,
+    faults: &mut E,
+) -> u8
+    ensures ran { result < 2 → Replayed T.remaining table.entry R.remaining file.entry result
+        (W.contents out.old) (W.contents out.new) × Keeps (E.contents faults.old) (E.contents faults.new) }
+    ensures told { 2 ≤ result → Told T.remaining table.entry R.remaining file.entry result
+        (W.contents out.old) (W.contents out.new) (E.contents faults.old) (E.contents faults.new) }
+{
+    match replay_into(alloc, table, file, out) {
+        Ok(0) => ACCEPTED,
+        Ok(_) => REFUSED,
+        Err(problem) => tell(alloc, faults, problem),
+    }
+}
+
+/// Replays the file's items over the table and prints the report; it answers how many items were not accepted.
+fn replay_into<'a, T: Read + Drop, R: Read + Drop, W: Write>(
+    alloc: Global,
+    table: Option<Source<'a, T>>,
+    file: Source<'a, R>,
+    out: &mut W,
+) -> Result<usize, Problem<'a>>
+    ensures ok { IfOk result (λ refused. (report : Report) × HasReport T.remaining table.entry R.remaining file.entry report
+        × Appends (W.contents out.old) (W.contents out.new) (report_text report) × (refused ≡ report.refused)) }
+    ensures err { IfErr result (λ problem. ExplainsReplay T.remaining table.entry R.remaining file.entry problem
+        × WentOut T.remaining table.entry R.remaining file.entry problem (W.contents out.old) (W.contents out.new)) }
+{
+    let report = match report_on(alloc, table, file) {
+        Ok(report) => report,
+        Err(problem) => return Err(problem),
+    };
+    match print_report(alloc, out, &report) {
+        Ok(()) => Ok(report.refused),
+        Err(WriteFault::Memory) => Err(Problem::Memory),
+        Err(WriteFault::Device) => Err(Problem::Output),
+    }
+}
+
+/// The report of a replay of the file's items over the table.
+fn report_on<'a, T: Read + Drop, R: Read + Drop>(
+    alloc: Global,
+    table: Option<Source<'a, T>>,
+    file: Source<'a, R>,
+) -> Result<Report, Problem<'a>>
+    ensures ok { IfOk result (HasReport T.remaining table.entry R.remaining file.entry) }
+    ensures err { IfErr result (λ problem. ExplainsReplay T.remaining table.entry R.remaining file.entry problem
+        × (problem ≢ Problem.Output)) }
+{
+    let table = match table_in(alloc, table) {
+        Ok(table) => table,
+        Err(problem) => return Err(problem),
+    };
+    let items = match items_in(alloc, file) {
+        Ok(items) => items,
+        Err(problem) => return Err(problem),
+    };
+    match replay(alloc, table, &items) {
+        Ok(report) => Ok(report),
+        Err(_) => Err(Problem::Memory),
+    }
+}
+
+/// Prints a table, the profile's where no file is given: a line for each row, in row order, and their number. It answers
+/// the status that the program ends with: 0, or the one of the problem, which is told to `faults` in one line: 3 for a
+/// file that can't be read or is no table, or an output that fails, 4 for want of memory.
+pub fn table_to<T: Read + Drop, W: Write, E: Write>(
+    alloc: Global,
+    table: Option<Source<'_, T>>,
+    out: &mut W,
+    faults: &mut E,
+) -> u8
+    ensures ran { result < 2 → (result ≡ 0) × Tabled T.remaining table.entry (W.contents out.old) (W.contents out.new)
+        × Keeps (E.contents faults.old) (E.contents faults.new) }
+    ensures told { 2 ≤ result → TableTold T.remaining table.entry result
+        (W.contents out.old) (W.contents out.new) (E.contents faults.old) (E.contents faults.new) }
+{
+    match table_into(alloc, table, out) {
+        Ok(()) => ACCEPTED,
+        Err(problem) => tell(alloc, faults, problem),
+    }
+}
+
+/// Prints the table.
+fn table_into<'a, T: Read + Drop, W: Write>(
+    alloc: Global,
+    table: Option<Source<'a, T>>,
+    out: &mut W,
+) -> Result<(), Problem<'a>>
+    ensures ok { OnOk result (Tabled T.remaining table.entry (W.contents out.old) (W.contents out.new)) }
+    ensures err { IfErr result (λ problem. ExplainsPrint T.remaining table.entry problem
+        × TableWentOut T.remaining table.entry problem (W.contents out.old) (W.contents out.new)) }
+{
+    let rows = match rows_on(alloc, table) {
+        Ok(rows) => rows,
+        Err(problem) => return Err(problem),
+    };
+    match print_table(alloc, out, &rows) {
+        Ok(()) => Ok(()),
+        Err(WriteFault::Memory) => Err(Problem::Memory),
+        Err(WriteFault::Device) => Err(Problem::Output),
+    }
+}
+
+/// The rows of the table, in row order.
+fn rows_on<'a, T: Read + Drop>(
+    alloc: Global,
+    table: Option<Source<'a, T>>,
+) -> Result<Vec<Row>, Problem<'a>>
+    ensures ok { IfOk result (λ rows. HasTableIn T.remaining table.entry rows.items) }
+    ensures err { IfErr result (λ problem. ExplainsPrint T.remaining table.entry problem × (problem ≢ Problem.Output)) }
+{
+    let table = match table_in(alloc, table) {
+        Ok(table) => table,
+        Err(problem) => return Err(problem),
+    };
+    match table.rows(alloc) {
+        Ok(rows) => Ok(rows),
+        Err(_) => Err(Problem::Memory),
+    }
+}

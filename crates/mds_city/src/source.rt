@@ -1,0 +1,87 @@
+//! Files that a command reads.
+ghost use Rattle.std.specs.Prelude.{IfOk, IfErr};
+ghost use Rattle.mds_city.specs.Source.{HasBytes, IsReadProblem, HasTableOf, HasTableIn, ExplainsTableFile, ExplainsTable, HasItemsIn, ExplainsFile};
+
+use crate::device::{ReadFault, read_front};
+use crate::problem::Problem;
+use mds_batch::{BatchFault, EventItem, read_events};
+use mds_table::{Table, TableFault};
+use std::alloc::Global;
+use std::io::Read;
+
+/// A file that a command reads.
+#[derive(Drop)]
+pub struct Source<'a, R> {
+    /// Its path, as the word was written.
+    pub path: &'a str,
+    /// What reads it, or `None` where it could not be opened.
+    pub reader: Option<R>,
+}
+
+/// The bytes of the file, or its first 4194305.
+fn bytes_in<'a, R: Read + Drop>(
+    alloc: Global,
+    source: Source<'a, R>,
+) -> Result<Vec<u8>, Problem<'a>>
+    ensures ok { IfOk result (λ bytes. HasBytes R.remaining source.entry bytes.items) }
+    ensures err { IfErr result (IsReadProblem source.entry) }
+{
+    let path = source.path;
+    let Some(mut reader) = source.reader else {
+        return Err(Problem::CannotRead(path));
+    };
+    match read_front(alloc, &mut reader) {
+        Ok(bytes) => Ok(bytes),
+        Err(ReadFault::Memory) => Err(Problem::Memory),
+        Err(ReadFault::Device) => Err(Problem::CannotRead(path)),
+    }
+}
+
+/// The table of a table file, or the profile's where no file is given.
+pub fn table_in<'a, T: Read + Drop>(
+    alloc: Global,
+    source: Option<Source<'a, T>>,
+) -> Result<Table, Problem<'a>>
+    ensures ok { IfOk result (HasTableIn T.remaining source.entry) }
+    ensures err { IfErr result (ExplainsTable T.remaining source.entry) }
+{
+    match source {
+        Some(source) => table_of_file(alloc, source),
+        None => match Table::profile(alloc) {
+            Ok(table) => Ok(table),
+            Err(_) => Err(Problem::Memory),
+        },
+    }
+}
+
+/// The table of a table file.
+fn table_of_file<'a, T: Read + Drop>(
+    alloc: Global,
+    source: Source<'a, T>,
+) -> Result<Table, Problem<'a>>
+    ensures ok { IfOk result (HasTableOf T.remaining source.entry) }
+    ensures err { IfErr result (ExplainsTableFile T.remaining source.entry) }
+{
+    let bytes = bytes_in(alloc, source)?;
+    match Table::from_json(alloc, &bytes) {
+        Ok(table) => Ok(table),
+        Err(TableFault::Memory) => Err(Problem::Memory),
+        Err(fault) => Err(Problem::NotATable(fault)),
+    }
+}
+
+/// The items of a file of events.
+pub fn items_in<'a, R: Read + Drop>(
+    alloc: Global,
+    source: Source<'a, R>,
+) -> Result<Vec<EventItem>, Problem<'a>>
+    ensures ok { IfOk result (λ items. HasItemsIn R.remaining source.entry items.items) }
+    ensures err { IfErr result (ExplainsFile R.remaining source.entry) }
+{
+    let bytes = bytes_in(alloc, source)?;
+    match read_events(alloc, &bytes) {
+        Ok(items) => Ok(items),
+        Err(BatchFault::Memory) => Err(Problem::Memory),
+        Err(fault) => Err(Problem::NotABatch(fault)),
+    }
+}

@@ -1,0 +1,175 @@
+-- The table file: the rows that it stands for, and its first fault.
+use Rattle.std.specs.Prelude.{◌≡◌, ◌⊎◌, ℕ, ◌+◌, ◌<◌, ◌≤◌, ◌&&◌, List, [], ◌∷◌, ◌++◌, length, take, codes, Bool, true, Option, Some, None, option_map, option_and_then, IsSomeAnd, IsUtf8, All, Contains, slice_get}
+use Rattle.std.specs.declared.cmp.Ordering.{Ordering}
+use Rattle.std.specs.Ordering.{nat_cmp, is_lt}
+use Rattle.std.specs.Fmt.{decimal}
+use Rattle.std.specs.Cmp.Lexicographic.{slice_cmp}
+use Rattle.serde_json.specs.Data.{Data, null, boolean, number, string, array, object, Items, no_items, item}
+use Rattle.serde_json.specs.Read.{read}
+use Rattle.serde_json.specs.Find.{get, as_array}
+use Rattle.mds_table.specs.declared.state.State.{State}
+use Rattle.mds_table.specs.declared.row.Row.{Row}
+use Rattle.mds_table.specs.declared.table_file.TableFault.{TableFault}
+use Rattle.mds_table.specs.declared.table_file.TableFault.TheVariants.{Memory, TooLong, NotJson, NotRows, BadRow, TooManyRows, TooManyTypes, Empty}
+use Rattle.mds_table.specs.State.{name_of}
+use Rattle.mds_table.specs.TypeName.{IsTypeName}
+use Rattle.mds_table.specs.Row.{in_order}
+
+-- the most bytes of a file
+abbrev pub max_bytes : ℕ
+max_bytes = 4194304
+
+-- the most rows of a table
+abbrev pub max_rows : ℕ
+max_rows = 4096
+
+-- the most types of a table
+abbrev pub max_types : ℕ
+max_types = 64
+
+-- the items of a JSON list
+abbrev pub items_in : Items → List Data
+items_in no_items = []
+items_in (item d ds) = d ∷ items_in ds
+
+-- what a value lists: the items of a list, or else itself alone
+abbrev pub listed : Data → List Data
+listed (array ds) = items_in ds
+listed null = null ∷ []
+listed (boolean b) = boolean b ∷ []
+listed (number n) = number n ∷ []
+listed (string s) = string s ∷ []
+listed (object ms) = object ms ∷ []
+
+-- a text that is the name of a state
+abbrev pub IsStateName : Data → Type 0
+IsStateName d = (state : State) × (d ≡ string (name_of state))
+
+-- a list of at least one state name, or a single one
+pub record ListsStates (d : Data) : Type 0 where
+  pub some : 1 ≤ length (listed d)
+  pub names : All IsStateName (listed d)
+
+-- the state is one of those listed
+abbrev pub Lists : State → Data → Type 0
+Lists state d = Contains (listed d) (string (name_of state))
+
+-- a text that is a type name
+abbrev pub IsType : Data → Type 0
+IsType d = (name : List ℕ) × (d ≡ string name) × IsTypeName name
+
+-- an entry of the right form: it has states in `from` and in `to`, and a type in `type`
+pub record IsRowEntry (entry : Data) : Type 0 where
+  pub from : IsSomeAnd (get (codes "from") entry) ListsStates
+  pub kind : IsSomeAnd (get (codes "type") entry) IsType
+  pub to : IsSomeAnd (get (codes "to") entry) ListsStates
+
+-- the entry stands for the row: it lists the row's two states, and has its type
+pub record StandsFor (entry : Data) (row : Row) : Type 0 where
+  pub from : IsSomeAnd (get (codes "from") entry) (Lists row.from)
+  pub kind : get (codes "type") entry ≡ Some (string row.kind)
+  pub to : IsSomeAnd (get (codes "to") entry) (Lists row.to)
+
+-- some entry stands for the row
+abbrev pub AnyStandsFor : List Data → Row → Type 0
+AnyStandsFor entries row = (entry : Data) × Contains entries entry × StandsFor entry row
+
+-- the rows that entries stand for, each once, in row order
+pub record AreRowsOf (entries : List Data) (rows : List Row) : Type 0 where
+  pub order : in_order rows ≡ true
+  pub none_else : (row : Row) → Contains rows row → AnyStandsFor entries row
+  pub all : (row : Row) → AnyStandsFor entries row → Contains rows row
+
+-- each stands before the next one, so each stands once
+abbrev pub ascends : {X : Type 0} → (X → X → Ordering) → List X → Bool
+ascends cmp [] = true
+ascends cmp (x ∷ []) = true
+ascends cmp (x ∷ next ∷ rest) = is_lt (cmp x next) && ascends cmp (next ∷ rest)
+
+-- the types of rows, each once, in the order of their bytes
+pub record AreTypesOf (rows : List Row) (kinds : List (List ℕ)) : Type 0 where
+  pub order : ascends (slice_cmp nat_cmp) kinds ≡ true
+  pub none_else : (kind : List ℕ) → Contains kinds kind → (row : Row) × Contains rows row × (row.kind ≡ kind)
+  pub all : (row : Row) → Contains rows row → Contains kinds row.kind
+
+-- entries without a fault, with their rows and the types of these
+pub record AreGood (entries : List Data) (rows : List Row) (kinds : List (List ℕ)) : Type 0 where
+  pub forms : All IsRowEntry entries
+  pub exactly : AreRowsOf entries rows
+  pub few_rows : length rows ≤ max_rows
+  pub types : AreTypesOf rows kinds
+  pub few_kinds : length kinds ≤ max_types
+
+-- the first entries, up to a place, have no fault
+abbrev pub AreGoodBefore : List Data → ℕ → Type 0
+AreGoodBefore entries at = (rows : List Row) × (kinds : List (List ℕ)) × AreGood (take at entries) rows kinds
+
+-- the entry at this place is the first with a fault, and is not of the right form
+pub record IsBadAt (entries : List Data) (at : ℕ) : Type 0 where
+  pub before : AreGoodBefore entries at
+  pub bad : IsSomeAnd (slice_get entries at) (λ entry. IsRowEntry entry → ⊥)
+
+-- the entry at this place is the first with a fault: with it there are more rows than a table may have
+pub record HasTooManyRowsAt (entries : List Data) (at : ℕ) : Type 0 where
+  pub before : AreGoodBefore entries at
+  pub form : IsSomeAnd (slice_get entries at) IsRowEntry
+  pub many : (rows : List Row) × AreRowsOf (take (at + 1) entries) rows × (max_rows < length rows)
+
+-- the entry at this place is the first with a fault: with it there are more types than a table may have
+pub record HasTooManyTypesAt (entries : List Data) (at : ℕ) : Type 0 where
+  pub before : AreGoodBefore entries at
+  pub form : IsSomeAnd (slice_get entries at) IsRowEntry
+  pub many : (rows : List Row) × (kinds : List (List ℕ)) × AreRowsOf (take (at + 1) entries) rows × (length rows ≤ max_rows)
+      × AreTypesOf rows kinds × (max_types < length kinds)
+
+-- the value that the bytes are, in UTF-8 and JSON
+abbrev pub IsTextOf : List ℕ → Data → Type 0
+IsTextOf bytes d = IsUtf8 bytes × (read bytes ≡ Some d)
+
+-- the entries of a file: its member `rows`, if it is an object with such a list
+abbrev pub entries_in : Data → Option (List Data)
+entries_in d = option_map items_in (option_and_then as_array (get (codes "rows") d))
+
+-- the bytes are not too long, and a text with entries of which this holds
+abbrev pub HasEntries : List ℕ → (List Data → Type 0) → Type 0
+HasEntries bytes P = (length bytes ≤ max_bytes) × (d : Data) × IsTextOf bytes d × IsSomeAnd (entries_in d) P
+
+-- the bytes are a table file of these rows: it has an entry, and each entry is without a fault
+abbrev pub HasTable : List ℕ → List Row → Type 0
+HasTable bytes rows = HasEntries bytes (λ entries. (1 ≤ length entries) × (kinds : List (List ℕ)) × AreGood entries rows kinds)
+
+-- The first fault of a file: those of the file as a whole, then those of its entries, entry by entry. Memory may be
+-- wanting whatever the file has.
+abbrev pub HasFault : List ℕ → TableFault → Type 0
+HasFault bytes Memory = Unit {0}
+HasFault bytes TooLong = max_bytes < length bytes
+HasFault bytes NotJson = (length bytes ≤ max_bytes) × ((d : Data) → IsTextOf bytes d → ⊥)
+HasFault bytes NotRows = (length bytes ≤ max_bytes) × (d : Data) × IsTextOf bytes d × (entries_in d ≡ None)
+HasFault bytes (BadRow at) = HasEntries bytes (λ entries. IsBadAt entries at)
+HasFault bytes TooManyRows = HasEntries bytes (λ entries. (at : ℕ) × HasTooManyRowsAt entries at)
+HasFault bytes TooManyTypes = HasEntries bytes (λ entries. (at : ℕ) × HasTooManyTypesAt entries at)
+HasFault bytes Empty = HasEntries bytes (λ entries. entries ≡ [])
+
+-- the word for a fault
+abbrev pub fault_text : TableFault → List ℕ
+fault_text Memory = codes "out of memory"
+fault_text TooLong = codes "too_long"
+fault_text NotJson = codes "not_json"
+fault_text NotRows = codes "not_rows"
+fault_text (BadRow at) = codes "bad_row " ++ decimal at
+fault_text TooManyRows = codes "too_many_rows"
+fault_text TooManyTypes = codes "too_many_types"
+fault_text Empty = codes "empty"
+
+-- the rows of a table file are determined by its bytes
+abbrev pub FilesHaveOneTable : Type 0
+FilesHaveOneTable = (bytes : List ℕ) (rows others : List Row) → HasTable bytes rows → HasTable bytes others → rows ≡ others
+
+-- and a table file has no fault, want of memory aside
+abbrev pub TableFilesHaveNoFault : Type 0
+TableFilesHaveNoFault = (bytes : List ℕ) (rows : List Row) (fault : TableFault) → HasTable bytes rows → HasFault bytes fault → fault ≡ Memory
+
+-- and a file has one first fault, want of memory aside
+abbrev pub FilesHaveOneFault : Type 0
+FilesHaveOneFault = (bytes : List ℕ) (fault other : TableFault) → HasFault bytes fault → HasFault bytes other
+    → (fault ≡ Memory) ⊎ ((other ≡ Memory) ⊎ (fault ≡ other))

@@ -1,0 +1,204 @@
+//! Table files: JSON texts that stand for the rows of a table.
+//!
+//! A file is an object with a member `rows`, a list of entries `{"from":[..],"type":"..","to":[..]}`. `from` and `to`
+//! are a list of at least one state name, or a single one; `type` is a type name. Other members are ignored. An entry
+//! stands for all pairs of its states; a row that is written twice counts once.
+ghost use Rattle.std.specs.Prelude.{◌≡◌, ◌≤◌, ℕ, List, length, map, option_map, true, Some, IfOk, IfErr, OnOk, Contains};
+ghost use Rattle.serde_json.specs.View.{view};
+ghost use Rattle.mds_table.specs.Row.{in_order};
+ghost use Rattle.mds_table.specs.TableFile.{max_bytes, ascends, IsTextOf, entries_in, AreGood, HasTable, HasFault, fault_text};
+ghost use Rattle.mds_table.specs.Entry.{HasRow, IsRowTo, Adds, HasFaultIn};
+ghost use Rattle.std.specs.Ordering.{nat_cmp};
+ghost use Rattle.std.specs.Cmp.Lexicographic.{slice_cmp};
+
+use crate::entry::Entry;
+use crate::row::add_row;
+use crate::{Row, State, TypeName};
+use serde_json::Value;
+use std::alloc::{AllocError, Global};
+use std::fmt;
+
+/// The most bytes of a file.
+const MAX_BYTES: usize = 4194304;
+
+/// The most rows of a table.
+const MAX_ROWS: usize = 4096;
+
+/// The most types of a table.
+const MAX_TYPES: usize = 64;
+
+/// Why a text is no table file. All but the first are looked for in this order, those of the entries entry by entry.
+#[derive(Clone, Copy, Debug, PartialEq, Eq, Hash)]
+pub enum TableFault {
+    /// There is no memory to read it.
+    Memory,
+    /// It has more than 4194304 bytes.
+    TooLong,
+    /// It isn't UTF-8, or isn't JSON of at most 127 levels.
+    NotJson,
+    /// It isn't an object with a list `rows`.
+    NotRows,
+    /// The entry at this place isn't an object, or one of its three members is absent or not of its form.
+    BadRow(usize),
+    /// With this entry there are more than 4096 rows.
+    TooManyRows,
+    /// With this entry there are more than 64 types.
+    TooManyTypes,
+    /// The list `rows` is empty.
+    Empty,
+}
+
+impl From<AllocError> for TableFault {
+    ghost use Rattle.std.specs.Prelude.{◌≡◌};
+    ghost use Rattle.mds_table.specs.declared.table_file.TableFault.TheVariants.{Memory};
+
+    ghost from_gives = { λ _ fault. fault ≡ Memory };
+
+    fn from(_refused: AllocError) -> TableFault {
+        TableFault::Memory
+    }
+}
+
+impl fmt::Display for TableFault {
+    ghost output = { λ fault. Some (fault_text fault) };
+
+    fn fmt<W: fmt::Write>(&self, f: &mut fmt::Formatter<W>) -> fmt::Result {
+        match self {
+            TableFault::Memory => f.write_str("out of memory"),
+            TableFault::TooLong => f.write_str("too_long"),
+            TableFault::NotJson => f.write_str("not_json"),
+            TableFault::NotRows => f.write_str("not_rows"),
+            TableFault::BadRow(at) => write!(f, "bad_row {at}"),
+            TableFault::TooManyRows => f.write_str("too_many_rows"),
+            TableFault::TooManyTypes => f.write_str("too_many_types"),
+            TableFault::Empty => f.write_str("empty"),
+        }
+    }
+}
+
+/// The rows that the file stands for, in row order.
+pub(crate) fn rows_in_file(alloc: Global, text: &[u8]) -> Result<Vec<Row>, TableFault>
+    ensures rows { IfOk result (λ rows. HasTable text.now rows.items) }
+    ensures fault { IfErr result (λ fault. HasFault text.now fault) }
+{
+    if text.len() > MAX_BYTES {
+        return Err(TableFault::TooLong);
+    }
+    let value = value_in(alloc, text)?;
+    let Some(entries) = entries_of(&value) else {
+        return Err(TableFault::NotRows);
+    };
+    if entries.is_empty() {
+        return Err(TableFault::Empty);
+    }
+    rows_of_entries(alloc, entries)
+}
+
+/// The JSON value that the text is.
+fn value_in(alloc: Global, text: &[u8]) -> Result<Value, TableFault>
+    requires { length text.now ≤ max_bytes }
+    ensures value { IfOk result (λ value. IsTextOf text.now (view value)) }
+    ensures fault { IfErr result (λ fault. HasFault text.now fault) }
+{
+    match Value::from_slice(alloc, text) {
+        Ok(value) => Ok(value),
+        Err(error) if error.is_memory() => Err(TableFault::Memory),
+        Err(_) => Err(TableFault::NotJson),
+    }
+}
+
+/// The entries of a file, or `None` where it isn't an object with a list `rows`.
+fn entries_of(file: &Value) -> Option<&[Value]>
+    ensures { option_map (λ entries. map view entries.now) result ≡ entries_in (view file.now) }
+{
+    Some(file.get("rows")?.as_array()?.as_slice())
+}
+
+/// The rows that the entries stand for, in row order.
+fn rows_of_entries(alloc: Global, entries: &[Value]) -> Result<Vec<Row>, TableFault>
+    ensures rows { IfOk result (λ rows. (kinds : List (List ℕ)) × AreGood (map view entries.now) rows.items kinds) }
+    ensures fault { IfErr result (λ fault. HasFaultIn (map view entries.now) fault) }
+{
+    let mut rows = Vec::new(alloc);
+    let mut kinds = Vec::new(alloc);
+    for (at, value) in entries.iter().enumerate() {
+        let Some(entry) = Entry::of_value(value) else {
+            return Err(TableFault::BadRow(at));
+        };
+        add_rows(&mut rows, &entry)?;
+        if rows.len() > MAX_ROWS {
+            return Err(TableFault::TooManyRows);
+        }
+        add_kind(&mut kinds, entry.kind)?;
+        if kinds.len() > MAX_TYPES {
+            return Err(TableFault::TooManyTypes);
+        }
+    }
+    Ok(rows)
+}
+
+/// Adds the type where it isn't there yet.
+fn add_kind(kinds: &mut Vec<TypeName>, kind: TypeName) -> Result<(), AllocError>
+    requires { ascends (slice_cmp nat_cmp) kinds.old.items ≡ true }
+    ensures order { OnOk result (ascends (slice_cmp nat_cmp) kinds.new.items ≡ true) }
+    ensures kinds { OnOk result (Adds kinds.old.items kinds.new.items (λ other. other ≡ kind)) }
+{
+    let found = kinds.binary_search_by(|other| other.as_str().cmp(kind.as_str()));
+    if let Err(at) = found {
+        kinds.insert(at, kind)?;
+    }
+    Ok(())
+}
+
+/// Adds the rows of the entry that aren't there yet.
+fn add_rows(rows: &mut Vec<Row>, entry: &Entry) -> Result<(), AllocError>
+    requires { in_order rows.old.items ≡ true }
+    ensures order { OnOk result (in_order rows.new.items ≡ true) }
+    ensures rows { OnOk result (Adds rows.old.items rows.new.items (HasRow entry.now)) }
+{
+    add_rows_from_each(rows, &State::ALL, entry)
+}
+
+/// Adds the rows of the entry that lead from one of these states.
+fn add_rows_from_each(
+    rows: &mut Vec<Row>,
+    states: &[State],
+    entry: &Entry,
+) -> Result<(), AllocError>
+    requires { in_order rows.old.items ≡ true }
+    ensures order { OnOk result (in_order rows.new.items ≡ true) }
+    ensures rows { OnOk result (Adds rows.old.items rows.new.items (λ row. Contains states.now row.from × HasRow entry.now row)) }
+{
+    for from in states {
+        if entry.from.has(*from) {
+            add_rows_from(rows, *from, entry, &State::ALL)?;
+        }
+    }
+    Ok(())
+}
+
+/// Adds the rows of the entry's type from one state to each of these that the entry has.
+fn add_rows_from(
+    rows: &mut Vec<Row>,
+    from: State,
+    entry: &Entry,
+    states: &[State],
+) -> Result<(), AllocError>
+    requires { in_order rows.old.items ≡ true }
+    ensures order { OnOk result (in_order rows.new.items ≡ true) }
+    ensures rows { OnOk result (Adds rows.old.items rows.new.items (IsRowTo from entry.now states.now)) }
+{
+    for to in states {
+        if entry.to.has(*to) {
+            add_row(
+                rows,
+                Row {
+                    from,
+                    kind: entry.kind.copy(),
+                    to: *to,
+                },
+            )?;
+        }
+    }
+    Ok(())
+}
