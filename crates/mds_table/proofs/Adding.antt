@@ -1,6 +1,6 @@
 -- Lists that grow by the rows of a table file.
-use Rattle.std.proofs.Common.{◌≡◌, ℕ, suc, zero, ◌<◌, ◌≤◌, ◌+◌, List, [], ◌∷◌, ◌++◌, length, take, get_or, slice_get, Option, Some, None, Bool, true, false, codes, refl, sym, ◌∙◌, ap, subst, inl, inr, ⊎_elim, ◌⊎◌, arith}
-use Rattle.std.specs.List.{All, Contains}
+use Rattle.std.proofs.Common.{◌≡◌, ℕ, List, [], ◌∷◌, ◌++◌, Option, Some, None, true, false, codes, refl, sym, ◌∙◌, ap, subst, inl, inr, ⊎_elim, ◌⊎◌, arith}
+use Rattle.std.specs.List.{Contains}
 use Rattle.std.specs.Option.{IsSomeAnd}
 use Rattle.std.specs.Ordering.{nat_cmp}
 use Rattle.std.specs.Cmp.Lexicographic.{slice_cmp}
@@ -11,9 +11,8 @@ use Rattle.mds_table.specs.declared.state.State.{State}
 use Rattle.mds_table.specs.declared.state.State.TheVariants.{Removed, Available, NonOperational, Reserved, OnTrip, Elsewhere, NonContactable, Missing}
 use Rattle.mds_table.specs.declared.row.Row.{Row}
 use Rattle.mds_table.specs.declared.entry.Entry.{Entry}
-use Rattle.mds_table.specs.State.{name_of}
 use Rattle.mds_table.specs.Row.{row_of, in_order}
-use Rattle.mds_table.specs.TableFile.{listed, Lists, ListsStates, IsType, IsRowEntry, StandsFor, AnyStandsFor, AreRowsOf, AreTypesOf, ascends}
+use Rattle.mds_table.specs.TableFile.{listed, Lists, ListsStates, IsType, IsRowEntry, StandsFor, AreRowsOf, AreTypesOf, ascends}
 use Rattle.mds_table.specs.Entry.{is_marked, HasRow, IsEntryOf, IsRowTo, Adds}
 
 -- what is added in two steps

@@ -1,9 +1,9 @@
 -- A table file has no fault, and a file with a fault has one first fault.
-use Rattle.std.proofs.Common.{◌≡◌, ℕ, suc, zero, ◌+◌, ◌<◌, ◌≤◌, List, [], ◌∷◌, length, take, get_or, slice_get, true, Option, Some, None, refl, sym, ◌∙◌, ap, subst, ◌⊎◌, inl, inr, ⊎_elim, arith}
+use Rattle.std.proofs.Common.{◌≡◌, ℕ, suc, zero, ◌+◌, ◌<◌, ◌≤◌, List, [], ◌∷◌, length, take, slice_get, true, Option, Some, None, refl, sym, ◌∙◌, ap, subst, ◌⊎◌, inl, inr, ⊎_elim, arith}
 use Rattle.std.specs.List.{Contains, All}
 use Rattle.std.specs.Option.{IsSomeAnd}
 use Rattle.std.specs.declared.cmp.Ordering.{Ordering}
-use Rattle.std.specs.declared.cmp.Ordering.TheVariants.{Less, Equal, Greater}
+use Rattle.std.specs.declared.cmp.Ordering.TheVariants.{Less, Greater}
 use Rattle.std.specs.Ordering.{ordering_reverse}
 use Rattle.std.specs.Cmp.{IsTotalOrder}
 use Rattle.std.proofs.lemmas.Bool.{cases_order}
@@ -14,8 +14,7 @@ use Rattle.serde_json.specs.Data.{Data}
 use Rattle.mds_table.specs.declared.row.Row.{Row}
 use Rattle.mds_table.specs.declared.table_file.TableFault.{TableFault}
 use Rattle.mds_table.specs.declared.table_file.TableFault.TheVariants.{Memory, TooLong, NotJson, NotRows, BadRow, TooManyRows, TooManyTypes, Empty}
-use Rattle.mds_table.specs.Row.{row_cmp}
-use Rattle.mds_table.specs.TableFile.{ascends, IsRowEntry, AnyStandsFor, AreRowsOf, AreTypesOf, AreGood, AreGoodBefore, IsBadAt, HasTooManyRowsAt, HasTooManyTypesAt, HasTable, HasFault, HasEntries, IsTextOf, entries_in, max_rows, max_types}
+use Rattle.mds_table.specs.TableFile.{ascends, IsRowEntry, AnyStandsFor, AreRowsOf, AreTypesOf, AreGood, AreGoodBefore, IsBadAt, HasTooManyRowsAt, HasTooManyTypesAt, HasTable, HasFault, HasEntries, IsTextOf, entries_in}
 use Rattle.mds_table.proofs.RowOrder.{row_cmp_total, in_order-ascends}
 use Rattle.mds_table.proofs.Ascending.{Contains-tail, head_or_tail}
 use Rattle.mds_table.proofs.OneTable.{before_all, not_itself, rest_ascends, both_hold}

@@ -1,5 +1,5 @@
 -- A table file has one table.
-use Rattle.std.proofs.Common.{◌≡◌, ℕ, suc, zero, ◌<◌, ◌≤◌, ◌&&◌, List, [], ◌∷◌, length, Bool, true, Option, Some, None, refl, sym, ◌∙◌, ap, subst, ◌⊎◌, ⊎_elim, arith}
+use Rattle.std.proofs.Common.{◌≡◌, ℕ, suc, zero, ◌≤◌, List, [], ◌∷◌, length, true, Option, Some, None, refl, sym, ◌∙◌, ap, subst, ⊎_elim, arith}
 use Rattle.std.specs.List.{Contains}
 use Rattle.std.specs.Option.{IsSomeAnd}
 use Rattle.std.specs.declared.cmp.Ordering.{Ordering}
@@ -10,7 +10,6 @@ use Rattle.std.proofs.lemmas.Cmp.{tied_itself}
 use Rattle.std.proofs.lemmas.Bool.{and_parts}
 use Rattle.serde_json.specs.Data.{Data}
 use Rattle.mds_table.specs.declared.row.Row.{Row}
-use Rattle.mds_table.specs.Row.{row_cmp}
 use Rattle.mds_table.specs.TableFile.{ascends, AreRowsOf, AreGood, HasTable, entries_in}
 use Rattle.mds_table.proofs.RowOrder.{row_cmp_total, in_order-ascends}
 use Rattle.mds_table.proofs.Ascending.{Contains-tail, head_or_tail, lt_is_Less}

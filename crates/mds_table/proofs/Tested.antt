@@ -1,5 +1,5 @@
 -- A test that holds of each item, and the first item that fails it.
-use Rattle.std.proofs.Common.{◌≡◌, ℕ, suc, cond, ◌&&◌, ◌+◌, List, [], ◌∷◌, length, Bool, true, false, not, nat_lt, Option, Some, None, is_some, position, refl, arith, ◌∙◌, sym, ap}
+use Rattle.std.proofs.Common.{◌≡◌, ℕ, suc, cond, ◌&&◌, ◌+◌, List, [], ◌∷◌, length, Bool, true, false, not, nat_lt, Some, None, is_some, position, refl, arith, ◌∙◌, sym, ap}
 use Rattle.std.specs.List.{list_all, position_or_len}
 use Rattle.std.proofs.lemmas.Bool.Decides.{nat_tests}
 

@@ -1,5 +1,5 @@
 -- An entry of a table file as the code keeps it, and lists that grow.
-use Rattle.std.specs.Prelude.{◌≡◌, ◌⊎◌, ℕ, List, Bool, true, false, slice_index_or, All, Contains}
+use Rattle.std.specs.Prelude.{◌≡◌, ◌⊎◌, ℕ, List, Bool, true, false, slice_index_or, Contains}
 use Rattle.serde_json.specs.Data.{Data, string}
 use Rattle.mds_table.specs.declared.state.State.{State}
 use Rattle.mds_table.specs.declared.row.Row.{Row}

@@ -1,8 +1,7 @@
-use Rattle.std.proofs.Common.{◌≡◌, ◌++◌, ◌∷◌, [], take, get_or, sym, ◌∙◌, ap, true}
+use Rattle.std.proofs.Common.{take, get_or, sym, ◌∙◌, ap}
 use Rattle.std.proofs.lemmas.List.{take_more}
 use Rattle.mds_table.specs.declared.state.State.TheVariants.{Removed}
 use Rattle.mds_table.specs.Row.{row_of}
-use Rattle.mds_table.specs.Entry.{Adds, IsRowTo}
 use Rattle.mds_table.proofs.Adding.{row_to_added, row_to_passed}
 use Rattle.mds_table.proofs.table_file.add_rows_from.Goals as goal
 use Rattle.mds_table.proofs.table_file.add_rows_from.Goals.{then-has+in_ok-add_row, else-has}

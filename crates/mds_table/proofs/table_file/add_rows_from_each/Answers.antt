@@ -1,4 +1,4 @@
-use Rattle.std.proofs.Common.{◌≡◌, take, get_or, sym, ◌∙◌, ap, subst}
+use Rattle.std.proofs.Common.{take, get_or, sym, ◌∙◌, subst}
 use Rattle.std.proofs.lemmas.List.{take_more, take_all}
 use Rattle.mds_table.specs.declared.state.State.TheVariants.{Removed}
 use Rattle.mds_table.specs.Entry.{Adds}

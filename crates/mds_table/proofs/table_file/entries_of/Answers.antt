@@ -1,8 +1,5 @@
-use Rattle.std.proofs.Common.{◌≡◌, Some, map, sym, ◌∙◌, ap, option_map}
-use Rattle.std.specs.Option.{option_and_then}
-use Rattle.serde_json.specs.Find.{as_array}
-use Rattle.serde_json.specs.View.{view, items_of}
-use Rattle.mds_table.specs.TableFile.{items_in}
+use Rattle.std.proofs.Common.{Some, map, sym, ap}
+use Rattle.serde_json.specs.View.{view}
 use Rattle.mds_table.proofs.Values.{items_in-items_of}
 use Rattle.mds_table.proofs.table_file.entries_of.Goals as goal
 

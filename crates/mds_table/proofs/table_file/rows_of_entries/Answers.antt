@@ -1,7 +1,7 @@
-use Rattle.std.proofs.Common.{◌≡◌, ◌<◌, ◌+◌, ◌++◌, ◌∷◌, [], length, take, get_or, map, sym, ◌∙◌, ap, subst, rules, arith}
+use Rattle.std.proofs.Common.{take, map, rules}
 use Rattle.std.proofs.lemmas.List.Elements.{All-push}
 use Rattle.serde_json.specs.View.{view}
-use Rattle.mds_table.specs.TableFile.{IsRowEntry, AreRowsOf, AreTypesOf, AreGood}
+use Rattle.mds_table.specs.TableFile.{IsRowEntry}
 use Rattle.mds_table.proofs.Values.{taken_more, value_at}
 use Rattle.mds_table.proofs.Adding.{rows_more, types_more, some_row}
 use Rattle.mds_table.proofs.table_file.rows_of_entries.Goals as goal
