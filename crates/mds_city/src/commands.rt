@@ -150,3 +150,8 @@ fn rows_on<'a, T: Read + Drop>(
         Err(_) => Err(Problem::Memory),
     }
 }
+
+#[cfg(test)]
+mod failing;
+#[cfg(test)]
+mod tests;

@@ -35,6 +35,7 @@ fn main(rt: HostRuntime) -> ExitCode {
 fn run(rt: &HostRuntime) -> u8 {
     let words = match words_of(rt) {
         Ok(words) => words,
+        Err(NO_MEMORY) => return out_of_memory(rt),
         Err(status) => return status,
     };
     match parse_words(rt.alloc(), words.as_slice()) {
@@ -57,11 +58,16 @@ fn words_of(rt: &HostRuntime) -> Result<Vec<String>, u8> {
 /// Prints why the words gave no command, and answers the exit status. Where the printing fails, the status stays.
 fn told(rt: &HostRuntime, error: &clap::Error) -> u8 {
     if matches!(error.kind(), ErrorKind::OutOfMemory) {
-        let _ = rt.eprintln("mds_city: out of memory");
-        return NO_MEMORY;
+        return out_of_memory(rt);
     }
     let _ = error.print(rt);
     if error.use_stderr() { BAD_WORDS } else { DONE }
+}
+
+/// Says that memory was refused, and answers the exit status.
+fn out_of_memory(rt: &HostRuntime) -> u8 {
+    let _ = rt.eprintln("mds_city: out of memory");
+    NO_MEMORY
 }
 
 /// Carries out a command over the program's files and streams, and answers the exit status.

@@ -1,5 +1,5 @@
 -- The answer to a request after a history of accepted requests.
-use Rattle.std.specs.Prelude.{◌≡◌, ◌≢◌, ℕ, ◌<◌, ◌≤◌, ◌++◌, ◌∷◌, List, [], length, Some, Bool, true, false}
+use Rattle.std.specs.Prelude.{◌≡◌, ◌≢◌, ℕ, ◌<◌, ◌++◌, ◌∷◌, List, [], length, Some, Bool, true, false}
 use Rattle.mds_table.specs.declared.state.State.{State}
 use Rattle.mds_table.specs.declared.row.Row.{Row}
 use Rattle.mds_table.specs.Chain.{Leads, IsStuckAt}
@@ -38,21 +38,10 @@ Gives rows requests (Report event) Done = IsOpen requests event × Leads rows (h
 -- no other outcome comes
 Gives rows requests request outcome = ⊥
 
--- the same, but that an event of more than one type may be refused at any of its types, though rows lead
-abbrev pub WeaklyGives : List Row → List Request → Request → Outcome → Type 0
-WeaklyGives rows requests (Report event) (Refused (NoChain state at)) =
-    IsOpen requests event × (state ≡ held requests) × (at ≤ length event.types) × (length event.types ≡ 1 → HasNoChain rows state event at)
-WeaklyGives rows requests request outcome = Gives rows requests request outcome
-
 -- the reply to a request after a history of accepted requests
 pub record Answers (rows : List Row) (history : List Request) (request : Request) (reply : Reply) : Type 0 where
   pub place : reply.place ≡ length history
   pub outcome : Gives rows (own history (key_of request)) request reply.outcome
-
--- the same, weakly
-pub record WeaklyAnswers (rows : List Row) (history : List Request) (request : Request) (reply : Reply) : Type 0 where
-  pub place : reply.place ≡ length history
-  pub outcome : WeaklyGives rows (own history (key_of request)) request reply.outcome
 
 -- the history after an outcome
 abbrev pub next : List Request → Request → Outcome → List Request

@@ -2,7 +2,7 @@
 //!
 //! A table is a set of rows, each a state, an event type and the state that it leads to. States and event types are
 //! named after the micromobility mode of the Mobility Data Specification (MDS) 2.0, section "Vehicle States" and
-//! "Vehicle Events"; which rows the profile has is this project's own choice. A table is the profile's, or is read from
+//! "Event Types"; which rows the profile has is this project's own choice. A table is the profile's, or is read from
 //! a table file, whose form is this project's own as well.
 #![tactic(auto)]
 

@@ -19,7 +19,11 @@ returns-in-Err-clause-told g c _ =
     let failed = c.in-Err.ensures.err in
     elim c.tell.ensures [
       | inl told ↦ (c.in-Err.problem, told.0, failed.0, failed.1, told.1)
-      | inr told ↦ (Memory, told.0, tt,
+      | inr told ↦ (
+        Memory,
+        told.0,
+        tt,
         out_before g.T.Read.remaining c.args.table c.in-Err.problem (g.W.Write.contents c.args.out.now) (g.W.Write.contents c.table_into.new.out) failed.1,
-        told.1)
+        told.1,
+      )
     ]

@@ -11,7 +11,7 @@ returns-in_err-add_rows-clause-err g c =
     let rows = row_lines c.args.rows.now in
     let count = with_newline (count_line (length c.args.rows.now)) in
     let first : AppendsFront (contents c.args.writer.now) (contents c.add_rows.new.writer) rows =
-      rw c.new-page.ensures.bytes at c.in_err-add_rows.ensures.err in
+    rw c.new-page.ensures.bytes at c.in_err-add_rows.ensures.err in
     let front : AppendsFront (contents c.args.writer.now) (contents c.add_rows.new.writer) (rows ++ count) = front_of_more _ _ rows count first in
     search rules
 
@@ -22,9 +22,9 @@ returns-in_err-add_line-clause-err g c =
     let count = with_newline (count_line (length c.args.rows.now)) in
     let page = string_bytes c.add_rows.new.page in
     let first : Passes (contents c.args.writer.now) (contents c.add_rows.new.writer) rows page =
-      rw c.new-page.ensures.bytes at c.in_ok-add_rows.ensures.ok in
+    rw c.new-page.ensures.bytes at c.in_ok-add_rows.ensures.ok in
     let front : AppendsFront (contents c.args.writer.now) (contents c.add_line.new.writer) (rows ++ count) =
-      passes_front _ _ _ rows page count first c.in_err-add_line.ensures.err in
+    passes_front _ _ _ rows page count first c.in_err-add_line.ensures.err in
     search rules
 
 pub returns-clause-err : goal.returns-clause-err
@@ -34,7 +34,7 @@ returns-clause-err g c =
     let count = with_newline (count_line (length c.args.rows.now)) in
     let page = string_bytes c.add_rows.new.page in
     let first : Passes (contents c.args.writer.now) (contents c.add_rows.new.writer) rows page =
-      rw c.new-page.ensures.bytes at c.in_ok-add_rows.ensures.ok in
+    rw c.new-page.ensures.bytes at c.in_ok-add_rows.ensures.ok in
     let all = passes_then _ _ _ rows page count (string_bytes c.add_line.new.page) first c.in_ok-add_line.ensures.ok in
     on_err_weaker c.put_out.result
     (passes_out (contents c.args.writer.now) (contents c.add_line.new.writer) (contents c.put_out.new.writer) (rows ++ count) (string_bytes c.add_line.new.page) all)
