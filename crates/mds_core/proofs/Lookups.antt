@@ -1,11 +1,11 @@
 -- What is looked up in a history is what the requests about a vehicle say.
-use Rattle.std.proofs.Common.{◌≡◌, ℕ, ◌&&◌, ◌||◌, List, [], ◌∷◌, length, Bool, true, false, cond, refl, sym, ◌∙◌, ap, filter}
+use Rattle.std.proofs.Common.{◌≡◌, ℕ, ◌&&◌, ◌||◌, List, [], ◌∷◌, Bool, true, false, cond, refl, sym, ◌∙◌, ap}
 use Rattle.std.specs.List.{list_any}
 use Rattle.std.specs.Str.{bytes_eq}
 use Rattle.mds_core.specs.declared.key.Key.{Key}
 use Rattle.mds_core.specs.declared.request.Request.{Request}
 use Rattle.mds_core.specs.declared.request.Request.TheVariants.{Register, Report, Look}
-use Rattle.mds_core.specs.History.{own, same_key, key_of, has_event, reports}
+use Rattle.mds_core.specs.History.{own, same_key, has_event}
 use Rattle.mds_core.specs.Lookup.{reports_event}
 
 -- the event of a vehicle is found in the whole history

@@ -1,6 +1,6 @@
 -- What holds of whole runs.
-use Rattle.std.proofs.Common.{◌≡◌, ◌≢◌, List, [], ◌∷◌, ◌++◌, Option, Some, None, Bool, true, false, refl, sym, ◌∙◌, ap, subst}
-use Rattle.std.specs.List.{last_or, filter_map}
+use Rattle.std.proofs.Common.{◌≡◌, List, [], ◌∷◌, ◌++◌, Option, Some, None, refl, sym, ◌∙◌, ap, subst}
+use Rattle.std.specs.List.{last_or}
 use Rattle.std.specs.Option.{option_map_or}
 use Rattle.std.proofs.lemmas.List.Elements.{filter_map-append}
 use Rattle.mds_table.specs.declared.state.State.TheVariants.{Removed}
@@ -12,11 +12,11 @@ use Rattle.mds_core.specs.declared.reply.Outcome.{Outcome}
 use Rattle.mds_core.specs.declared.reply.Outcome.TheVariants.{Done, Seen, Refused}
 use Rattle.mds_core.specs.declared.reply.Reply.{Reply}
 use Rattle.mds_core.specs.Reported.{Reported}
-use Rattle.mds_core.specs.History.{own, key_of, same_key, held, report_of, reports, last_report}
-use Rattle.mds_core.specs.Answer.{Answers, Gives, next}
+use Rattle.mds_core.specs.History.{own, key_of, held, report_of, reports, last_report}
+use Rattle.mds_core.specs.Answer.{Gives, next}
 use Rattle.mds_core.specs.Run.{IsRun}
 use Rattle.mds_core.specs.Lawful.{IsLawful}
-use Rattle.mds_core.specs.Headline.{IsAcceptable, IsJudged, IsStep, AreSteps}
+use Rattle.mds_core.specs.Headline.{IsJudged, IsStep, AreSteps}
 use Rattle.mds_core.proofs.Outcomes.{answer_one, outcome_one}
 use Rattle.mds_core.proofs.Histories.{lawful_next, own-next_other, own-push_same, same_key_refl}
 

@@ -1,15 +1,11 @@
 -- What holds of the answers, the histories and the runs.
-use Rattle.std.specs.Prelude.{◌≡◌, ◌⊎◌, ◌↔◌, ◌++◌, ◌∷◌, List, [], Bool, false}
+use Rattle.std.specs.Prelude.{◌≡◌, ◌⊎◌, ◌++◌, List, [], false}
 use Rattle.mds_table.specs.declared.row.Row.{Row}
-use Rattle.mds_table.specs.Chain.{Leads}
 use Rattle.mds_core.specs.declared.key.Key.{Key}
 use Rattle.mds_core.specs.declared.request.Request.{Request}
-use Rattle.mds_core.specs.declared.request.Request.TheVariants.{Register, Report, Look}
-use Rattle.mds_core.specs.declared.reply.Outcome.TheVariants.{Done}
 use Rattle.mds_core.specs.declared.reply.Reply.{Reply}
-use Rattle.mds_core.specs.Reported.{Reported}
-use Rattle.mds_core.specs.History.{key_of, own, same_key, held}
-use Rattle.mds_core.specs.Answer.{Answers, IsOpen, next}
+use Rattle.mds_core.specs.History.{key_of, own, same_key}
+use Rattle.mds_core.specs.Answer.{Answers, next}
 use Rattle.mds_core.specs.Run.{IsRun}
 use Rattle.mds_core.specs.Lawful.{IsLawful}
 use Rattle.mds_core.specs.Headline.{AreSteps}

@@ -1,6 +1,5 @@
-use Rattle.std.proofs.Common.{◌≡◌, List, [], drop, refl, arith}
+use Rattle.std.proofs.Common.{◌≡◌, [], drop, refl, arith}
 use Rattle.std.proofs.lemmas.List.{append-nil, drop_all}
-use Rattle.mds_core.specs.declared.request.Request.{Request}
 use Rattle.mds_core.specs.Run.{IsRun}
 use Rattle.mds_core.proofs.RunLaws.{steps_of_run}
 use Rattle.mds_core.proofs.runs.run.Goals as goal
