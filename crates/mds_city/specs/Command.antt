@@ -23,25 +23,29 @@ module _ {T R : Type 0} (table_bytes : T → Option (List ℕ)) (table : Option 
   abbrev pub Replayed : ℕ → Option (List ℕ) → Option (List ℕ) → Type 0
   Replayed status old new = (report : Report) × HasReport report × Appends old new (report_text report) × (status ≡ (if report.refused == 0 then 0 else 1))
 
-  -- the problem's cause lies in the file that it names, if it names one
+  -- the table was had, and then the problem is one of the file of events
+  abbrev pub ExplainsEvents : Problem → Type 0
+  ExplainsEvents problem = (rows : List Row) × HasTableIn table_bytes table rows × ExplainsFile file_bytes file problem
+
+  -- the problem's cause lies in the file that it names, if it names one; the table file is looked at first
   abbrev pub ExplainsReplay : Problem → Type 0
-  ExplainsReplay (CannotRead path) = ExplainsTable table_bytes table (CannotRead path) ⊎ ExplainsFile file_bytes file (CannotRead path)
+  ExplainsReplay (CannotRead path) = ExplainsTable table_bytes table (CannotRead path) ⊎ ExplainsEvents (CannotRead path)
   ExplainsReplay (NotATable fault) = ExplainsTable table_bytes table (NotATable fault)
-  ExplainsReplay (NotABatch fault) = ExplainsFile file_bytes file (NotABatch fault)
+  ExplainsReplay (NotABatch fault) = ExplainsEvents (NotABatch fault)
   ExplainsReplay Output = Unit {0}
   ExplainsReplay Memory = Unit {0}
 
-  -- nothing went out, or a front of the report's text
+  -- a front of the report's text went out
   abbrev pub PrintsFront : Option (List ℕ) → Option (List ℕ) → Type 0
-  PrintsFront old new = Keeps old new ⊎ ((report : Report) × HasReport report × AppendsFront old new (report_text report))
+  PrintsFront old new = (report : Report) × HasReport report × AppendsFront old new (report_text report)
 
-  -- what went out before a problem: nothing where a file was at fault
+  -- what went out before a problem: nothing where a file was at fault, a front of the report where the output was
   abbrev pub WentOut : Problem → Option (List ℕ) → Option (List ℕ) → Type 0
   WentOut (CannotRead path) old new = Keeps old new
   WentOut (NotATable fault) old new = Keeps old new
   WentOut (NotABatch fault) old new = Keeps old new
   WentOut Output old new = PrintsFront old new
-  WentOut Memory old new = PrintsFront old new
+  WentOut Memory old new = Keeps old new ⊎ PrintsFront old new
 
   -- a problem has this status, is explained, and was told
   abbrev pub Told : ℕ → Option (List ℕ) → Option (List ℕ) → Option (List ℕ) → Option (List ℕ) → Type 0
@@ -67,7 +71,7 @@ module _ {T : Type 0} (table_bytes : T → Option (List ℕ)) (table : Option (S
   TableWentOut (CannotRead path) old new = Keeps old new
   TableWentOut (NotATable fault) old new = Keeps old new
   TableWentOut (NotABatch fault) old new = Keeps old new
-  TableWentOut Output old new = Keeps old new ⊎ ((rows : List Row) × HasTableIn table_bytes table rows × AppendsFront old new (table_text rows))
+  TableWentOut Output old new = (rows : List Row) × HasTableIn table_bytes table rows × AppendsFront old new (table_text rows)
   TableWentOut Memory old new = Keeps old new ⊎ ((rows : List Row) × HasTableIn table_bytes table rows × AppendsFront old new (table_text rows))
 
   -- a problem has this status, is explained, and was told

@@ -3,6 +3,8 @@ use Rattle.std.specs.Prelude.{◌≡◌, ◌≢◌, ℕ, List, Option, Some, Non
 use Rattle.mds_table.specs.declared.row.Row.{Row}
 use Rattle.mds_table.specs.Profile.{profile_rows}
 use Rattle.mds_table.specs.TableFile.{HasTable, HasFault as HasTableFault}
+use Rattle.mds_table.specs.declared.table_file.TableFault.TheVariants as table
+use Rattle.mds_batch.specs.declared.batch.BatchFault.TheVariants as batch
 use Rattle.mds_batch.specs.declared.item.EventItem.{EventItem}
 use Rattle.mds_batch.specs.Items.{event_item}
 use Rattle.mds_batch.specs.Batch.{HasItems, HasFault as HasBatchFault}
@@ -30,7 +32,7 @@ HasTableOf remaining source rows = (bytes : List ℕ) × HasBytes remaining sour
 
 -- why a table file has no table: it can't be read, is no table file, or there was no memory
 abbrev pub ExplainsTableFile : {R : Type 0} → (R → Option (List ℕ)) → Source R → Problem → Type 0
-ExplainsTableFile remaining source (NotATable fault) = (bytes : List ℕ) × HasBytes remaining source bytes × HasTableFault bytes fault
+ExplainsTableFile remaining source (NotATable fault) = (fault ≢ table.Memory) × (bytes : List ℕ) × HasBytes remaining source bytes × HasTableFault bytes fault
 ExplainsTableFile remaining source (CannotRead path) = path.now ≡ source.path.now
 ExplainsTableFile remaining source Memory = Unit {0}
 ExplainsTableFile remaining source (NotABatch fault) = ⊥
@@ -52,7 +54,7 @@ HasItemsIn remaining source items = (bytes : List ℕ) × HasBytes remaining sou
 
 -- why there are no items: the file can't be read, is no batch, or there was no memory
 abbrev pub ExplainsFile : {R : Type 0} → (R → Option (List ℕ)) → Source R → Problem → Type 0
-ExplainsFile remaining source (NotABatch fault) = (bytes : List ℕ) × HasBytes remaining source bytes × HasBatchFault bytes fault
+ExplainsFile remaining source (NotABatch fault) = (fault ≢ batch.Memory) × (bytes : List ℕ) × HasBytes remaining source bytes × HasBatchFault bytes fault
 ExplainsFile remaining source (CannotRead path) = path.now ≡ source.path.now
 ExplainsFile remaining source Memory = Unit {0}
 ExplainsFile remaining source (NotATable fault) = ⊥

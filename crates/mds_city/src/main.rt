@@ -36,7 +36,10 @@ fn run(rt: &HostRuntime) -> u8 {
     let words = match words_of(rt) {
         Ok(words) => words,
         Err(NO_MEMORY) => return out_of_memory(rt),
-        Err(status) => return status,
+        Err(status) => {
+            let _ = rt.eprintln("error: the words of the command line aren't text");
+            return status;
+        }
     };
     match parse_words(rt.alloc(), words.as_slice()) {
         Ok(command) => carry_out(rt, command),

@@ -19,7 +19,7 @@ line kind from to = record { kind = kind; from = from; to = to }
 abbrev pub rows_of_line : Line → List Row
 rows_of_line l = flat_map (λ from. map (λ to. row_of from l.kind to) l.to) l.from
 
--- the states of a vehicle that stands unhired on the street
+-- the states of a vehicle that is deployed and in no rider's hands
 abbrev pub parked : List State
 parked = Available ∷ NonOperational ∷ Elsewhere ∷ NonContactable ∷ Missing ∷ []
 

@@ -19,7 +19,7 @@ struct Line {
     to: &'static [State],
 }
 
-/// The states of a vehicle that stands unhired on the street.
+/// The states of a vehicle that is deployed and in no rider's hands.
 const PARKED: &[State] = &[
     Available,
     NonOperational,

@@ -47,7 +47,7 @@ impl State {
         self as u8
     }
 
-    /// The name of the state, as MDS writes it.
+    /// The name of the state, in lower case.
     pub fn name(self) -> &'static str
         ensures { result.now ≡ name_of self }
     {

@@ -8,4 +8,4 @@ pub returns-in-Err-Memory-clause-err : goal.returns-in-Err-Memory-clause-err
 returns-in-Err-Memory-clause-err g c = (tt, inr (c.in-Ok.report, c.in-Ok.ensures.ok, c.in-Err-Memory.ensures.err))
 
 pub returns-clause-err : goal.returns-clause-err
-returns-clause-err g c = (tt, inr (c.in-Ok.report, c.in-Ok.ensures.ok, c.in-Err-Device.ensures.err))
+returns-clause-err g c = (tt, (c.in-Ok.report, c.in-Ok.ensures.ok, c.in-Err-Device.ensures.err))

@@ -4,16 +4,16 @@ use Rattle.std.proofs.lemmas.Bool.Decides.{nat_tests}
 use Rattle.mds_city.specs.declared.source.Source.{Source}
 use Rattle.mds_city.specs.declared.problem.Problem.{Problem}
 use Rattle.mds_city.specs.declared.problem.Problem.TheVariants.{CannotRead, NotATable, NotABatch, Output, Memory}
-use Rattle.mds_city.specs.Command.{PrintsFront, WentOut}
+use Rattle.mds_city.specs.Command.{WentOut}
 use Rattle.mds_city.proofs.commands.replay_to.Goals as goal
 
 -- whatever the problem, nothing went out before it, or a front of the report's text
 out_before : {T R : Type 0} (table_bytes : T → Option (List ℕ)) (table : Option (Source T)) (file_bytes : R → Option (List ℕ)) (file : Source R)
-    (problem : Problem) (old new : Option (List ℕ)) → WentOut table_bytes table file_bytes file problem old new → PrintsFront table_bytes table file_bytes file old new
+    (problem : Problem) (old new : Option (List ℕ)) → WentOut table_bytes table file_bytes file problem old new → WentOut table_bytes table file_bytes file Memory old new
 out_before table_bytes table file_bytes file (CannotRead path) old new out = inl out
 out_before table_bytes table file_bytes file (NotATable fault) old new out = inl out
 out_before table_bytes table file_bytes file (NotABatch fault) old new out = inl out
-out_before table_bytes table file_bytes file Output old new out = out
+out_before table_bytes table file_bytes file Output old new out = inr out
 out_before table_bytes table file_bytes file Memory old new out = out
 
 pub returns-in-Ok-eq0-clause-ran : goal.returns-in-Ok-eq0-clause-ran

@@ -5,4 +5,4 @@ pub returns-in-Err-Memory-clause-err : goal.returns-in-Err-Memory-clause-err
 returns-in-Err-Memory-clause-err g c = (tt, inr (c.in-Ok.rows.items, c.in-Ok.ensures.ok, rw c.deref.ensures.value at c.in-Err-Memory.ensures.err))
 
 pub returns-clause-err : goal.returns-clause-err
-returns-clause-err g c = (tt, inr (c.in-Ok.rows.items, c.in-Ok.ensures.ok, rw c.deref.ensures.value at c.in-Err-Device.ensures.err))
+returns-clause-err g c = (tt, (c.in-Ok.rows.items, c.in-Ok.ensures.ok, rw c.deref.ensures.value at c.in-Err-Device.ensures.err))

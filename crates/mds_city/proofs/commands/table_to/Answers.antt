@@ -11,7 +11,7 @@ out_before : {T : Type 0} (table_bytes : T → Option (List ℕ)) (table : Optio
 out_before table_bytes table (CannotRead path) old new out = inl out
 out_before table_bytes table (NotATable fault) old new out = inl out
 out_before table_bytes table (NotABatch fault) old new out = inl out
-out_before table_bytes table Output old new out = out
+out_before table_bytes table Output old new out = inr out
 out_before table_bytes table Memory old new out = out
 
 pub returns-in-Err-clause-told : goal.returns-in-Err-clause-told
