@@ -1,42 +1,41 @@
 -- What the bytes of a batch are: items, or the first fault of the whole.
-use Rattle.std.specs.Prelude.{◌≡◌, ℕ, ◌<◌, ◌≤◌, List, [], ◌∷◌, length, map, Option, Some, None, option_map, IsUtf8}
+use Rattle.std.specs.Prelude.{◌≡◌, ℕ, ◌<◌, ◌≤◌, List, [], ◌∷◌, length, map, Option, Some, None, option_map}
 use Rattle.std.specs.Option.{option_or}
 use Rattle.serde_json.specs.Data.{Data}
 use Rattle.serde_json.specs.Find.{as_array, as_object}
-use Rattle.serde_json.specs.Read.{read}
 use Rattle.mds_batch.specs.declared.batch.BatchFault.{BatchFault}
 use Rattle.mds_batch.specs.declared.batch.BatchFault.TheVariants.{Memory, TooLong, NotJson, NotList, TooMany}
-use Rattle.mds_batch.specs.Forms.{values}
-
--- the bytes are a text of JSON, which stands for this value
-abbrev pub IsTextOf : Data → List ℕ → Type 0
-IsTextOf value bytes = IsUtf8 bytes × (read bytes ≡ Some value)
+use Rattle.mds_table.specs.Json.{max_bytes, items_in, IsTextOf}
 
 -- the values that a batch lists: those of a list, or an object alone
 abbrev pub listed : Data → Option (List Data)
-listed value = option_or (option_map values (as_array value)) (option_map (λ members. value ∷ []) (as_object value))
+listed value = option_or (option_map items_in (as_array value)) (option_map (λ members. value ∷ []) (as_object value))
 
 -- the bytes are few enough, and the text of a value
 abbrev pub IsShortTextOf : Data → List ℕ → Type 0
-IsShortTextOf value bytes = (length bytes ≤ 4194304) × IsTextOf value bytes
+IsShortTextOf value bytes = (length bytes ≤ max_bytes) × IsTextOf bytes value
+
+-- the most items of a batch
+abbrev pub max_items : ℕ
+max_items = 10000
 
 -- the bytes list values, of which there are few enough, and the items are what these stand for, one by one
 abbrev pub HasItems : {A : Type 0} → (Data → A) → List ℕ → List A → Type 0
 HasItems item_of bytes items =
-    (value : Data) × (all : List Data) × IsShortTextOf value bytes × (listed value ≡ Some all) × (length all ≤ 10000) × (items ≡ map item_of all)
+    (value : Data) × (all : List Data) × IsShortTextOf value bytes × (listed value ≡ Some all) × (length all ≤ max_items) × (items ≡ map item_of all)
 
 -- what is wrong with a value that is no batch: it is neither a list nor an object, or it lists too many
 abbrev pub IsListFault : Data → BatchFault → Type 0
 IsListFault value NotList = listed value ≡ None
-IsListFault value TooMany = (all : List Data) × (listed value ≡ Some all) × (10000 < length all)
+IsListFault value TooMany = (all : List Data) × (listed value ≡ Some all) × (max_items < length all)
 IsListFault value Memory = ⊥
 IsListFault value TooLong = ⊥
 IsListFault value NotJson = ⊥
 
 -- the first fault: too many bytes, no text of JSON, or a fault of the list; want of memory says nothing of the bytes
 abbrev pub HasFault : List ℕ → BatchFault → Type 0
-HasFault bytes TooLong = 4194304 < length bytes
-HasFault bytes NotJson = (length bytes ≤ 4194304) × ((value : Data) → IsTextOf value bytes → ⊥)
+HasFault bytes TooLong = max_bytes < length bytes
+HasFault bytes NotJson = (length bytes ≤ max_bytes) × ((value : Data) → IsTextOf bytes value → ⊥)
 HasFault bytes NotList = (value : Data) × IsShortTextOf value bytes × IsListFault value NotList
 HasFault bytes TooMany = (value : Data) × IsShortTextOf value bytes × IsListFault value TooMany
 HasFault bytes Memory = Unit {0}

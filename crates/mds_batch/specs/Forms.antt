@@ -2,12 +2,15 @@
 use Rattle.std.specs.Prelude.{ℕ, ℤ, pos, ◌-ℤ◌, int_le, ◌&&◌, Bool, List, [], ◌∷◌, length, nat_le, if◌then◌else◌, Option, Some, None, option_map, option_and_then, find, codes}
 use Rattle.std.specs.Str.{bytes_eq}
 use Rattle.uuid.specs.Text.{parsed}
-use Rattle.serde_json.specs.Data.{Data, Items, no_items, item}
+use Rattle.serde_json.specs.Data.{Data}
 use Rattle.serde_json.specs.Find.{get, as_str, as_number, as_array, as_u64, as_i64}
 use Rattle.mds_table.specs.declared.state.State.{State}
 use Rattle.mds_table.specs.declared.state.TheConstants.State.{ALL}
 use Rattle.mds_table.specs.State.{name_of}
+use Rattle.mds_table.specs.Json.{items_in}
 use Rattle.mds_table.specs.TypeName.{is_type_name}
+use Rattle.mds_core.specs.Reported.{max_types, max_time}
+use Rattle.mds_core.specs.Position.{max_latitude, max_longitude}
 use Rattle.mds_core.specs.declared.position.Position.{Position}
 
 -- the identifier that a value is: a text in one of the forms of a UUID
@@ -26,11 +29,6 @@ state_in value = option_and_then state_of_name (as_str value)
 abbrev pub type_in : Data → Option (List ℕ)
 type_in value = option_and_then (λ text. if is_type_name text then Some text else None) (as_str value)
 
--- the values of a list, in order
-abbrev pub values : Items → List Data
-values no_items = []
-values (item value rest) = value ∷ values rest
-
 -- the type names that values are, if each of them is one
 abbrev pub all_types : List Data → Option (List (List ℕ))
 all_types [] = Some []
@@ -38,15 +36,15 @@ all_types (value ∷ rest) = option_and_then (λ name. option_map (λ names. nam
 
 -- 1 to 16 type names
 abbrev pub few_types : List Data → Option (List (List ℕ))
-few_types all = if nat_le 1 (length all) && nat_le (length all) 16 then all_types all else None
+few_types all = if nat_le 1 (length all) && nat_le (length all) max_types then all_types all else None
 
 -- the types that a value lists
 abbrev pub types_in : Data → Option (List (List ℕ))
-types_in value = option_and_then (λ items. few_types (values items)) (as_array value)
+types_in value = option_and_then (λ items. few_types (items_in items)) (as_array value)
 
 -- the time that a value is: a whole number of milliseconds that a double holds exactly, with each one below it
 abbrev pub time_in : Data → Option ℕ
-time_in value = option_and_then (λ time. if nat_le time 9007199254740991 then Some time else None) (option_and_then as_u64 (as_number value))
+time_in value = option_and_then (λ time. if nat_le time max_time then Some time else None) (option_and_then as_u64 (as_number value))
 
 -- the whole number that a member of a value is
 abbrev pub whole_in : List ℕ → Data → Option ℤ
@@ -58,7 +56,7 @@ is_within most whole = int_le (pos 0 -ℤ pos most) whole && int_le whole (pos m
 
 -- the place at a latitude and a longitude, where both are on the Earth, in ten-millionths of a degree
 abbrev pub place_at : ℤ → ℤ → Option Position
-place_at lat lng = if is_within 900000000 lat && is_within 1800000000 lng then Some (record { lat = lat; lng = lng }) else None
+place_at lat lng = if is_within max_latitude lat && is_within max_longitude lng then Some (record { lat = lat; lng = lng }) else None
 
 -- the place that a value gives
 abbrev pub place_in : Data → Option Position

@@ -2,16 +2,14 @@
 ghost use Rattle.std.specs.Prelude.{◌≡◌, ◌≤◌, length, map, Some, option_map, IfOk, IfErr};
 ghost use Rattle.serde_json.specs.View.{view};
 ghost use Rattle.mds_batch.specs.Items.{vehicle_item, event_item};
-ghost use Rattle.mds_batch.specs.Batch.{listed, IsShortTextOf, HasItems, IsListFault, HasFault};
+ghost use Rattle.mds_batch.specs.Batch.{max_items, listed, IsShortTextOf, HasItems, IsListFault, HasFault};
 
 use crate::read::{event_item_of, vehicle_item_of};
 use crate::{EventItem, VehicleItem};
+use mds_table::MAX_BYTES;
 use serde_json::Value;
 use std::alloc::{AllocError, Global};
 use std::slice;
-
-/// The most bytes that a batch has.
-pub const MAX_BYTES: usize = 4_194_304;
 
 /// The most items that a batch has.
 pub const MAX_ITEMS: usize = 10_000;
@@ -89,7 +87,7 @@ fn value_of(alloc: Global, bytes: &[u8]) -> Result<Value, BatchFault>
 
 /// The values that a batch lists, of which there are few enough.
 fn listed_values(value: &Value) -> Result<&[Value], BatchFault>
-    ensures values { IfOk result (λ values. (listed (view value.now) ≡ Some (map view values.now)) × (length values.now ≤ 10000)) }
+    ensures values { IfOk result (λ values. (listed (view value.now) ≡ Some (map view values.now)) × (length values.now ≤ max_items)) }
     ensures fault { IfErr result (IsListFault (view value.now)) }
 {
     let values = listed_of(value).ok_or(BatchFault::NotList)?;

@@ -14,6 +14,6 @@ mod read;
 #[cfg(test)]
 mod tests;
 
-pub use batch::{BatchFault, MAX_BYTES, MAX_ITEMS, read_events, read_vehicles};
+pub use batch::{BatchFault, MAX_ITEMS, read_events, read_vehicles};
 pub use item::{EventItem, ItemFault, VehicleItem};
 pub use member::Member;

@@ -2,3 +2,4 @@
 pub mod DeviceLemmas
 pub mod WordsLemmas
 pub mod PageLemmas
+pub mod MentionLemmas

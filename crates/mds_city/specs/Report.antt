@@ -1,9 +1,8 @@
 -- What a replay comes to: a verdict on each item, and where each vehicle ends.
-use Rattle.std.specs.Prelude.{◌≡◌, ◌+◌, List, [], ◌∷◌, length, Bool, true, false, count_by, map}
+use Rattle.std.specs.Prelude.{◌≡◌, ◌+◌, List, [], ◌∷◌, length, drop, Bool, true, false, count_by, map}
 use Rattle.mds_table.specs.declared.row.Row.{Row}
 use Rattle.mds_core.specs.declared.key.Key.{Key}
 use Rattle.mds_core.specs.declared.request.Request.{Request}
-use Rattle.mds_core.specs.declared.request.Request.TheVariants.{Register, Report as Reports, Look}
 use Rattle.mds_core.specs.declared.reply.Outcome.{Outcome}
 use Rattle.mds_core.specs.declared.reply.Outcome.TheVariants.{Done, Seen, Refused as RefusedBy}
 use Rattle.mds_core.specs.declared.reply.Refusal.TheVariants.{Unregistered}
@@ -17,15 +16,7 @@ use Rattle.mds_city.specs.declared.report.Verdict.{Verdict}
 use Rattle.mds_city.specs.declared.report.Verdict.TheVariants.{Accepted, Refused, Fault}
 use Rattle.mds_city.specs.declared.report.VehicleEnd.{VehicleEnd}
 use Rattle.mds_city.specs.declared.report.Report.{Report}
-use Rattle.mds_city.specs.Requests.{requests_of, vehicles_of}
-
--- the outcomes of the events that are reported, in order
-abbrev pub outcomes : List Request → List Reply → List Outcome
-outcomes [] replies = []
-outcomes (request ∷ requests) [] = []
-outcomes (Reports event ∷ requests) (reply ∷ replies) = reply.outcome ∷ outcomes requests replies
-outcomes (Register key ∷ requests) (reply ∷ replies) = outcomes requests replies
-outcomes (Look key ∷ requests) (reply ∷ replies) = outcomes requests replies
+use Rattle.mds_city.specs.Requests.{events_of, vehicles_of, requests_of}
 
 -- the verdict on an event by its outcome: accepted with the state that it reports, or refused
 abbrev pub verdict_on : Reported → Outcome → Verdict
@@ -34,12 +25,12 @@ verdict_on event (RefusedBy refusal) = Refused refusal
 -- no event is answered as a look is
 verdict_on event (Seen standing) = Refused Unregistered
 
--- a verdict on each item: on an event by its outcome, on a faulty item by its fault
-abbrev pub verdicts : List EventItem → List Outcome → List Verdict
-verdicts [] rest = []
-verdicts (Faulty fault ∷ items) rest = Fault fault ∷ verdicts items rest
+-- a verdict on each item: on an event by the reply to its report, on a faulty item by its fault
+abbrev pub verdicts : List EventItem → List Reply → List Verdict
+verdicts [] replies = []
+verdicts (Faulty fault ∷ items) replies = Fault fault ∷ verdicts items replies
 verdicts (Event event ∷ items) [] = []
-verdicts (Event event ∷ items) (outcome ∷ rest) = verdict_on event outcome ∷ verdicts items rest
+verdicts (Event event ∷ items) (reply ∷ replies) = verdict_on event reply.outcome ∷ verdicts items replies
 
 -- a verdict accepts
 abbrev pub accepts : Verdict → Bool
@@ -51,13 +42,17 @@ accepts (Fault fault) = false
 abbrev pub end_of : List Request → Key → VehicleEnd
 end_of history key = record { key = key; standing = standing_of (own history key) }
 
+-- the replies to the reports, which stand behind those to the registrations
+abbrev pub replies_to_reports : List Reported → List Reply → List Reply
+replies_to_reports events replies = drop (length (vehicles_of events)) replies
+
 -- the report of a replay of items over a table: the machine's run over their requests gives the verdicts, its history the
 -- ends of the vehicles, in order of first mention
 pub record IsReport (rows : List Row) (items : List EventItem) (report : Report) : Type 0 where
   pub replies : List Reply
   pub history : List Request
-  pub run : IsRun rows [] (requests_of items) replies history
-  pub lines : report.lines.items ≡ verdicts items (outcomes (requests_of items) replies)
-  pub vehicles : report.vehicles.items ≡ map (end_of history) (vehicles_of items)
+  pub run : IsRun rows [] (requests_of (events_of items)) replies history
+  pub lines : report.lines.items ≡ verdicts items (replies_to_reports (events_of items) replies)
+  pub vehicles : report.vehicles.items ≡ map (end_of history) (vehicles_of (events_of items))
   pub accepted : report.accepted ≡ count_by accepts report.lines.items
   pub refused : report.accepted + report.refused ≡ length report.lines.items

@@ -1,30 +1,28 @@
 -- The requests that a replay makes of the items of a file.
-use Rattle.std.specs.Prelude.{List, [], ◌∷◌, ◌++◌, if◌then◌else◌, Option, Some, None}
-use Rattle.std.specs.List.{list_any, filter_map}
+use Rattle.std.specs.Prelude.{List, [], ◌∷◌, ◌++◌, map, filter, not, Option, Some, None}
+use Rattle.std.specs.List.{filter_map}
 use Rattle.mds_core.specs.declared.key.Key.{Key}
 use Rattle.mds_core.specs.declared.request.Request.{Request}
-use Rattle.mds_core.specs.declared.request.Request.TheVariants.{Register, Report, Look}
+use Rattle.mds_core.specs.declared.request.Request.TheVariants.{Register, Report}
+use Rattle.mds_core.specs.Reported.{Reported}
 use Rattle.mds_core.specs.History.{same_key}
 use Rattle.mds_batch.specs.declared.item.EventItem.{EventItem}
 use Rattle.mds_batch.specs.declared.item.EventItem.TheVariants.{Event, Fault}
 
--- each event is reported, in order, and its vehicle registered before its first mention; a faulty item asks for nothing
-abbrev pub requests_from : List Key → List EventItem → List Request
-requests_from mentioned [] = []
-requests_from mentioned (Fault fault ∷ items) = requests_from mentioned items
-requests_from mentioned (Event event ∷ items) =
-    if list_any (same_key event.key) mentioned then Report event ∷ requests_from mentioned items
-    else Register event.key ∷ Report event ∷ requests_from (mentioned ++ event.key ∷ []) items
+-- the event that an item reports, if it isn't faulty
+abbrev pub event_of : EventItem → Option Reported
+event_of (Event event) = Some event
+event_of (Fault fault) = None
 
-abbrev pub requests_of : List EventItem → List Request
-requests_of items = requests_from [] items
+-- the events that items report, in their order
+abbrev pub events_of : List EventItem → List Reported
+events_of items = filter_map event_of items
 
--- the vehicle that a request registers
-abbrev pub registered_by : Request → Option Key
-registered_by (Register key) = Some key
-registered_by (Report event) = None
-registered_by (Look key) = None
+-- the vehicles that events mention, each once, in the order of their first mention
+abbrev pub vehicles_of : List Reported → List Key
+vehicles_of [] = []
+vehicles_of (event ∷ events) = event.key ∷ filter (λ key. not (same_key key event.key)) (vehicles_of events)
 
--- the vehicles that the items mention, in the order of their first mention
-abbrev pub vehicles_of : List EventItem → List Key
-vehicles_of items = filter_map registered_by (requests_of items)
+-- each vehicle is registered, and then each event reported; a faulty item asks for nothing
+abbrev pub requests_of : List Reported → List Request
+requests_of events = map Register (vehicles_of events) ++ map Report events

@@ -3,6 +3,7 @@ ghost use Rattle.std.specs.Prelude.{◌≡◌, ◌+◌, ◌-◌, ◌*◌, ◌<�
 ghost use Rattle.std.specs.Io.KnownBytes.{Appends, Consumes, Keeps};
 ghost use Rattle.mds_city.specs.Device.{AppendsFront, ConsumesUpTo, HasFront, Passes, Reads, ReadsMore, with_newline};
 
+use mds_table::MAX_BYTES;
 use std::alloc::Global;
 use std::fmt::{Display, Write as _};
 use std::io::{ErrorKind, Read, Write};
@@ -10,9 +11,6 @@ use std::io::{ErrorKind, Read, Write};
 /// The number of calls of `read` for a file, and of `write` for a page, at most. Interrupted calls
 /// count too.
 pub const MAX_CALLS: u32 = 5_000_000;
-
-/// The length in bytes of the longest file that is taken.
-pub const MAX_BYTES: usize = 4_194_304;
 
 /// How many bytes of a file are read at most: one more than is taken, so that a longer file is seen
 /// to be too long.

@@ -1,6 +1,8 @@
 //! Keeps the states of a city's shared vehicles: replays files of events, and prints tables of transitions.
 #![tactic(auto)]
 
+ghost use Rattle.std.specs.Prelude.{◌≡◌, ◌⊎◌, IfErr, option_map};
+
 mod commands;
 mod device;
 mod print;
@@ -48,7 +50,9 @@ fn run(rt: &HostRuntime) -> u8 {
 }
 
 /// The words of the command line; at `Err` the exit status: 4 where there was no memory for them, and else 2.
-fn words_of(rt: &HostRuntime) -> Result<Vec<String>, u8> {
+fn words_of(rt: &HostRuntime) -> Result<Vec<String>, u8>
+    ensures { IfErr result (λ status. (status ≡ 2) ⊎ (status ≡ 4)) }
+{
     match env::args(rt) {
         Ok(words) => words.collect(rt.alloc()).map_err(|_| NO_MEMORY),
         Err(error) => Err(match error.kind() {
@@ -59,7 +63,9 @@ fn words_of(rt: &HostRuntime) -> Result<Vec<String>, u8> {
 }
 
 /// Prints why the words gave no command, and answers the exit status. Where the printing fails, the status stays.
-fn told(rt: &HostRuntime, error: &clap::Error) -> u8 {
+fn told(rt: &HostRuntime, error: &clap::Error) -> u8
+    ensures { (result ≡ 0) ⊎ ((result ≡ 2) ⊎ (result ≡ 4)) }
+{
     if matches!(error.kind(), ErrorKind::OutOfMemory) {
         return out_of_memory(rt);
     }
@@ -68,7 +74,9 @@ fn told(rt: &HostRuntime, error: &clap::Error) -> u8 {
 }
 
 /// Says that memory was refused, and answers the exit status.
-fn out_of_memory(rt: &HostRuntime) -> u8 {
+fn out_of_memory(rt: &HostRuntime) -> u8
+    ensures { result ≡ 4 }
+{
     let _ = rt.eprintln("mds_city: out of memory");
     NO_MEMORY
 }
@@ -111,12 +119,16 @@ fn carry_out(rt: &HostRuntime, command: Command<'_>) -> u8 {
 }
 
 /// The file of this path, if one is named.
-fn opened<'a>(rt: &HostRuntime, path: Option<&'a str>) -> Option<Source<'a, fs::File>> {
+fn opened<'a>(rt: &HostRuntime, path: Option<&'a str>) -> Option<Source<'a, fs::File>>
+    ensures { option_map (λ source. source.path.now) result ≡ option_map (λ path. path.now) path.entry }
+{
     path.map(|path| open(rt, path))
 }
 
 /// The file of this path.
-fn open<'a>(rt: &HostRuntime, path: &'a str) -> Source<'a, fs::File> {
+fn open<'a>(rt: &HostRuntime, path: &'a str) -> Source<'a, fs::File>
+    ensures { result.path.now ≡ path.now }
+{
     Source {
         path,
         reader: fs::open(rt, path).ok(),

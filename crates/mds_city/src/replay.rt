@@ -1,9 +1,9 @@
 //! The replay of a file's items by the machine.
-ghost use Rattle.std.specs.Prelude.{◌≡◌, map, count_by, IfOk};
-ghost use Rattle.std.specs.List.{list_any, filter_map};
+ghost use Rattle.std.specs.Prelude.{◌≡◌, ◌++◌, map, count_by, IfOk, OnOk};
+ghost use Rattle.std.specs.List.{list_any};
 ghost use Rattle.mds_core.specs.History.{same_key};
-ghost use Rattle.mds_city.specs.Requests.{requests_of, registered_by};
-ghost use Rattle.mds_city.specs.Report.{IsReport, verdicts, verdict_on, outcomes, end_of, accepts};
+ghost use Rattle.mds_city.specs.Requests.{events_of, vehicles_of};
+ghost use Rattle.mds_city.specs.Report.{IsReport, verdicts, verdict_on, end_of, accepts};
 
 use crate::report::{Report, VehicleEnd, Verdict};
 use mds_batch::EventItem;
@@ -11,8 +11,8 @@ use mds_core::{Event, Fleet, Key, Outcome, Refusal, Reply, Request, Standing, ru
 use mds_table::{State, Table};
 use std::alloc::{AllocError, Global};
 
-/// Replays the items over a table: a vehicle is registered before its first mention, each event is reported in its
-/// place, and a faulty item is passed over.
+/// Replays the items over a table: each vehicle that they mention is registered, then each event is reported, and a
+/// faulty item is passed over.
 ///
 /// # Errors
 ///
@@ -20,11 +20,12 @@ use std::alloc::{AllocError, Global};
 pub fn replay(alloc: Global, table: Table, items: &[EventItem]) -> Result<Report, AllocError>
     ensures { IfOk result (IsReport table items.now) }
 {
-    let requests = requests_for(alloc, items)?;
+    let mentioned = vehicles_in(alloc, items)?;
+    let requests = requests_for(alloc, &mentioned, items)?;
     let (fleet, replies) = run(alloc, table, &requests)?;
-    let outcomes = outcomes_of(alloc, &requests, &replies)?;
-    let lines = verdicts_on(alloc, items, &outcomes)?;
-    let vehicles = ends_of(alloc, &fleet, &requests)?;
+    let (_, reported) = replies.split_at(mentioned.len());
+    let lines = verdicts_on(alloc, items, reported)?;
+    let vehicles = ends_of(alloc, &fleet, &mentioned)?;
     let accepted = count_accepted(&lines);
     let refused = lines.len() - accepted;
     Ok(Report {
@@ -35,22 +36,19 @@ pub fn replay(alloc: Global, table: Table, items: &[EventItem]) -> Result<Report
     })
 }
 
-/// The requests that the items ask for.
-fn requests_for(alloc: Global, items: &[EventItem]) -> Result<Vec<Request>, AllocError>
-    ensures { IfOk result (λ requests. requests.items ≡ requests_of items.now) }
+/// The vehicles that the items mention, each once, in the order of their first mention.
+fn vehicles_in(alloc: Global, items: &[EventItem]) -> Result<Vec<Key>, AllocError>
+    ensures { IfOk result (λ vehicles. vehicles.items ≡ vehicles_of (events_of items.now)) }
 {
-    let mut requests = Vec::with_capacity(alloc, items.len())?;
-    let mut mentioned = Vec::new(alloc);
+    let mut vehicles = Vec::new(alloc);
     for item in items {
         if let EventItem::Event(event) = item {
-            if !is_mentioned(&mentioned, event.key()) {
-                mentioned.push(*event.key())?;
-                requests.push(Request::Register(*event.key()))?;
+            if !is_mentioned(&vehicles, event.key()) {
+                vehicles.push(*event.key())?;
             }
-            requests.push(Request::Report(event.copy()))?;
         }
     }
-    Ok(requests)
+    Ok(vehicles)
 }
 
 /// Whether the vehicle is among those mentioned so far.
@@ -67,46 +65,63 @@ fn is_same(key: &Key, other: &Key) -> bool
     key == other
 }
 
-/// The outcomes of the events among the requests.
-fn outcomes_of(
+/// The registrations of the vehicles, and then the reports of the items' events.
+fn requests_for(
     alloc: Global,
-    requests: &[Request],
-    replies: &[Reply],
-) -> Result<Vec<Outcome>, AllocError>
-    ensures { IfOk result (λ found. found.items ≡ outcomes requests.now replies.now) }
+    vehicles: &[Key],
+    items: &[EventItem],
+) -> Result<Vec<Request>, AllocError>
+    ensures { IfOk result (λ requests. requests.items ≡ map Request.Register vehicles.now ++ map Request.Report (events_of items.now)) }
 {
-    let mut found = Vec::with_capacity(alloc, requests.len())?;
-    let mut rest = replies;
-    for request in requests {
-        let Some((reply, later)) = rest.split_first() else {
-            return Ok(found);
-        };
-        if let Request::Report(_) = request {
-            found.push(reply.outcome)?;
-        }
-        rest = later;
-    }
-    Ok(found)
+    let mut requests = registrations_of(alloc, vehicles)?;
+    add_reports(&mut requests, items)?;
+    Ok(requests)
 }
 
-/// A verdict on each item, of whose events these are the outcomes.
+/// The registrations of the vehicles.
+fn registrations_of(alloc: Global, vehicles: &[Key]) -> Result<Vec<Request>, AllocError>
+    ensures { IfOk result (λ requests. requests.items ≡ map Request.Register vehicles.now) }
+{
+    vehicles.iter().map(registration_of).collect(alloc)
+}
+
+/// The registration of the vehicle.
+fn registration_of(vehicle: &Key) -> Request
+    ensures { result ≡ Request.Register vehicle.now }
+{
+    Request::Register(*vehicle)
+}
+
+/// Adds the reports of the items' events.
+fn add_reports(requests: &mut Vec<Request>, items: &[EventItem]) -> Result<(), AllocError>
+    ensures { OnOk result (requests.new.items ≡ requests.old.items ++ map Request.Report (events_of items.now)) }
+{
+    for item in items {
+        if let EventItem::Event(event) = item {
+            requests.push(Request::Report(event.copy()))?;
+        }
+    }
+    Ok(())
+}
+
+/// A verdict on each item, to the reports of whose events these are the replies.
 fn verdicts_on(
     alloc: Global,
     items: &[EventItem],
-    outcomes: &[Outcome],
+    replies: &[Reply],
 ) -> Result<Vec<Verdict>, AllocError>
-    ensures { IfOk result (λ lines. lines.items ≡ verdicts items.now outcomes.now) }
+    ensures { IfOk result (λ lines. lines.items ≡ verdicts items.now replies.now) }
 {
     let mut lines = Vec::with_capacity(alloc, items.len())?;
-    let mut rest = outcomes;
+    let mut rest = replies;
     for item in items {
         match item {
             EventItem::Fault(fault) => lines.push(Verdict::Fault(*fault))?,
             EventItem::Event(event) => {
-                let Some((outcome, later)) = rest.split_first() else {
+                let Some((reply, later)) = rest.split_first() else {
                     return Ok(lines);
                 };
-                lines.push(verdict_of(event, *outcome))?;
+                lines.push(verdict_of(event, reply.outcome))?;
                 rest = later;
             }
         }
@@ -125,19 +140,13 @@ fn verdict_of(event: &Event, outcome: Outcome) -> Verdict
     }
 }
 
-/// Where the vehicles end that the requests register.
-fn ends_of(
-    alloc: Global,
-    fleet: &Fleet,
-    requests: &[Request],
-) -> Result<Vec<VehicleEnd>, AllocError>
-    ensures { IfOk result (λ ends. ends.items ≡ map (end_of fleet.now.history) (filter_map registered_by requests.now)) }
+/// Where the vehicles end.
+fn ends_of(alloc: Global, fleet: &Fleet, vehicles: &[Key]) -> Result<Vec<VehicleEnd>, AllocError>
+    ensures { IfOk result (λ ends. ends.items ≡ map (end_of fleet.now.history) vehicles.now) }
 {
-    let mut ends = Vec::new(alloc);
-    for request in requests {
-        if let Request::Register(key) = request {
-            ends.push(end_in(fleet, key))?;
-        }
+    let mut ends = Vec::with_capacity(alloc, vehicles.len())?;
+    for vehicle in vehicles {
+        ends.push(end_in(fleet, vehicle))?;
     }
     Ok(ends)
 }

@@ -1,6 +1,7 @@
 -- Own lists, and how lawful histories grow.
-use Rattle.std.proofs.Common.{◌≡◌, ◌⊎◌, inl, inr, List, [], ◌∷◌, ◌++◌, Bool, true, false, cond, ◌&&◌, refl, sym, ◌∙◌, ap, subst}
+use Rattle.std.proofs.Common.{◌≡◌, ◌⊎◌, inl, inr, List, [], ◌∷◌, ◌++◌, Bool, true, false, cond, refl, sym, ◌∙◌, ap, subst}
 use Rattle.std.specs.Str.{bytes_eq}
+use Rattle.std.proofs.lemmas.Bool.{and_parts}
 use Rattle.std.proofs.lemmas.Slice.Eq.{bytes_eq-Decides}
 use Rattle.std.proofs.lemmas.List.{append-nil}
 use Rattle.std.proofs.lemmas.List.Elements.{filter-append}
@@ -17,16 +18,10 @@ use Rattle.mds_core.specs.History.{own, key_of, same_key, held}
 use Rattle.mds_core.specs.Answer.{IsOpen, Gives, next}
 use Rattle.mds_core.specs.Lawful.{IsCareer, IsLawfulOf, IsLawful}
 
--- a conjunction holds only where both sides do
-both : (a b : Bool) → (a && b) ≡ true → (a ≡ true) × (b ≡ true)
-both true true is = (refl, refl)
-both true false is = cc
-both false b is = cc
-
 -- keys that are the same are equal
 pub same_key_is : (a b : Key) → same_key a b ≡ true → a ≡ b
 same_key_is a b same =
-    let parts = both (bytes_eq a.provider b.provider) (bytes_eq a.device b.device) same in
+    let parts = and_parts (bytes_eq a.provider b.provider) (bytes_eq a.device b.device) same in
     let provider = (bytes_eq-Decides a.provider b.provider).0 parts.0 in
     let device = (bytes_eq-Decides a.device b.device).0 parts.1 in
     λ i. record { provider = provider i; device = device i }

@@ -1,5 +1,5 @@
 -- What holds of whole runs.
-use Rattle.std.proofs.Common.{◌≡◌, List, [], ◌∷◌, ◌++◌, Option, Some, None, refl, sym, ◌∙◌, ap, subst}
+use Rattle.std.proofs.Common.{◌≡◌, suc, List, [], ◌∷◌, ◌++◌, length, Option, Some, None, refl, sym, ◌∙◌, ap, subst}
 use Rattle.std.specs.List.{last_or}
 use Rattle.std.specs.Option.{option_map_or}
 use Rattle.std.proofs.lemmas.List.Elements.{filter_map-append}
@@ -101,3 +101,11 @@ steps_of_run rows old (request ∷ requests) (reply ∷ replies) new run =
     (is_step rows old request reply.outcome run.0.outcome, steps_of_run rows (next old request reply.outcome) requests replies new run.1)
 steps_of_run rows old [] (reply ∷ replies) new run = absurd run
 steps_of_run rows old (request ∷ requests) [] new run = absurd run
+
+-- a run has a reply to each request
+pub run_length : (rows : List Row) (old requests : List Request) (replies : List Reply) (new : List Request) → IsRun rows old requests replies new
+    → length replies ≡ length requests
+run_length rows old [] [] new is = refl
+run_length rows old [] (reply ∷ replies) new is = absurd is
+run_length rows old (request ∷ requests) [] new is = absurd is
+run_length rows old (request ∷ requests) (reply ∷ replies) new is = ap suc (run_length rows (next old request reply.outcome) requests replies new is.1)

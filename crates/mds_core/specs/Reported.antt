@@ -13,8 +13,16 @@ pub record Reported : Type 0 where
   pub time : ℕ
   pub position : Option Position
 
--- 1 to 16 types, and a time that a double can hold exactly
+-- the most types of an event
+abbrev pub max_types : ℕ
+max_types = 16
+
+-- the latest time: a double holds it exactly, with each whole number below it
+abbrev pub max_time : ℕ
+max_time = 9007199254740991
+
+-- 1 to 16 types, and a time in the range
 pub record MayBeReported (types : List (List ℕ)) (time : ℕ) : Type 0 where
   pub some : 1 ≤ length types
-  pub few : length types ≤ 16
-  pub in_range : time ≤ 9007199254740991
+  pub few : length types ≤ max_types
+  pub in_range : time ≤ max_time

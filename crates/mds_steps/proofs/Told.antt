@@ -1,24 +1,13 @@
 -- The states that pass a test, gone over in the order of their codes.
-use Rattle.std.proofs.Common.{◌≡◌, ◌↔◌, ℕ, zero, suc, ◌+◌, ◌<◌, ◌≤◌, Bool, true, false, IsTrue, List, [], ◌∷◌, ◌++◌, length, Contains, get_or, refl, sym, ◌∙◌, ap, subst, arith, lit<, length-append, below_more, inl, inr}
+use Rattle.std.proofs.Common.{◌≡◌, ◌↔◌, ℕ, zero, suc, ◌+◌, ◌<◌, ◌≤◌, Bool, true, false, IsTrue, List, [], ◌∷◌, ◌++◌, length, Contains, get_or, refl, sym, ◌∙◌, ap, subst, arith, length-append, below_more, inl, inr}
 use Rattle.std.specs.List.{All}
 use Rattle.std.proofs.lemmas.List.Elements.{All-weaker, All-push, All-contains, Contains-push, Contains-push_cases, Contains-append_left}
 use Rattle.std.proofs.lemmas.List.Quantifiers.{all_pairs_push}
 use Rattle.std.proofs.lemmas.List.Elements.{All-get_or}
 use Rattle.mds_table.specs.declared.state.State.{State}
-use Rattle.mds_table.specs.declared.state.State.TheVariants.{Removed, Available, NonOperational, Reserved, OnTrip, Elsewhere, NonContactable, Missing}
 use Rattle.mds_table.specs.State.{code_of}
 use Rattle.mds_table.proofs.Rows.{code_of_injective}
 use Rattle.mds_steps.specs.StateSet.{all_states, AreInCodeOrder}
-
-pub code_below : (state : State) → code_of state < 8
-code_below Removed = lit< tt
-code_below Available = lit< tt
-code_below NonOperational = lit< tt
-code_below Reserved = lit< tt
-code_below OnTrip = lit< tt
-code_below Elsewhere = lit< tt
-code_below NonContactable = lit< tt
-code_below Missing = lit< tt
 
 -- a state's code is its place among all states
 pub code_at : (i : ℕ) (d : State) → i < 8 → code_of (get_or all_states i d) ≡ i

@@ -11,8 +11,8 @@ use Rattle.mds_table.specs.declared.state.State.{State}
 use Rattle.mds_table.specs.declared.state.State.TheVariants.{Removed, Available, NonOperational, Reserved, OnTrip, Elsewhere, NonContactable, Missing}
 use Rattle.mds_table.specs.declared.row.Row.{Row}
 use Rattle.mds_table.specs.declared.entry.Entry.{Entry}
-use Rattle.mds_table.specs.Row.{row_of, in_order}
-use Rattle.mds_table.specs.TableFile.{listed, Lists, ListsStates, IsType, IsRowEntry, StandsFor, AreRowsOf, AreTypesOf, ascends}
+use Rattle.mds_table.specs.Row.{row_of, ascends, in_order}
+use Rattle.mds_table.specs.TableFile.{listed, Lists, ListsStates, IsType, IsRowEntry, StandsFor, AreRowsOf, AreTypesOf}
 use Rattle.mds_table.specs.Entry.{is_marked, HasRow, IsEntryOf, IsRowTo, Adds}
 
 -- what is added in two steps

@@ -11,7 +11,7 @@ use Rattle.std.specs.Cmp.{IsTotalOrder}
 use Rattle.std.proofs.lemmas.Cmp.{tied_itself}
 use Rattle.std.proofs.lemmas.Bool.{cases_lt, and_parts}
 use Rattle.std.proofs.lemmas.List.Sorted.{searchable_from_sorted, IsPermutation-insert, IsPermutation-sym, Contains-permutation}
-use Rattle.mds_table.specs.TableFile.{ascends}
+use Rattle.mds_table.specs.Row.{ascends}
 use Rattle.mds_table.specs.Entry.{Adds}
 
 pub Contains-tail : {X : Type 0} (y x : X) (xs : List X) → Contains xs y → Contains (x ∷ xs) y

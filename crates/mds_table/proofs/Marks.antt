@@ -1,5 +1,5 @@
 -- Marks of states, by their names.
-use Rattle.std.proofs.Common.{◌≡◌, ℕ, ◌<◌, ◌==◌, List, [], ◌∷◌, ◌++◌, length, true, cond, slice_index, Some, refl, ap, sym, ◌∙◌, subst, ⊎_elim, arith}
+use Rattle.std.proofs.Common.{◌≡◌, ℕ, ◌==◌, List, [], ◌∷◌, ◌++◌, length, true, cond, slice_index, Some, refl, ap, sym, ◌∙◌, subst, ⊎_elim}
 use Rattle.std.specs.List.{Contains}
 use Rattle.std.proofs.lemmas.Bool.{cases_eq}
 use Rattle.std.proofs.lemmas.List.Elements.{Contains-append_left, Contains-push, Contains-push_cases}
@@ -57,13 +57,3 @@ marked_more values state old new here_marked kept so_far = record {
       (λ here. subst (λ s. is_marked new s ≡ true) (named_data state other here) here_marked)
       (Contains-push_cases values (string (name_of state)) (string (name_of other)) found);
 }
-
-pub code_below : (state : State) → code_of state < 8
-code_below Removed = omega arith
-code_below Available = omega arith
-code_below NonOperational = omega arith
-code_below Reserved = omega arith
-code_below OnTrip = omega arith
-code_below Elsewhere = omega arith
-code_below NonContactable = omega arith
-code_below Missing = omega arith

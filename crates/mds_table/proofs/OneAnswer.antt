@@ -14,8 +14,10 @@ use Rattle.serde_json.specs.Data.{Data}
 use Rattle.mds_table.specs.declared.row.Row.{Row}
 use Rattle.mds_table.specs.declared.table_file.TableFault.{TableFault}
 use Rattle.mds_table.specs.declared.table_file.TableFault.TheVariants.{Memory, TooLong, NotJson, NotRows, BadRow, TooManyRows, TooManyTypes, Empty}
-use Rattle.mds_table.specs.TableFile.{ascends, IsRowEntry, AnyStandsFor, AreRowsOf, AreTypesOf, AreGood, AreGoodBefore, IsBadAt, HasTooManyRowsAt, HasTooManyTypesAt, HasTable, HasFault, HasEntries, IsTextOf, entries_in}
-use Rattle.mds_table.proofs.RowOrder.{row_cmp_total, in_order-ascends}
+use Rattle.mds_table.specs.Row.{ascends}
+use Rattle.mds_table.specs.Json.{IsTextOf}
+use Rattle.mds_table.specs.TableFile.{IsRowEntry, AnyStandsFor, AreRowsOf, AreTypesOf, AreGood, AreGoodBefore, IsBadAt, HasTooManyRowsAt, HasTooManyTypesAt, HasTable, HasFault, HasEntries, entries_in}
+use Rattle.mds_table.proofs.RowOrder.{row_cmp_total}
 use Rattle.mds_table.proofs.Ascending.{Contains-tail, head_or_tail}
 use Rattle.mds_table.proofs.OneTable.{before_all, not_itself, rest_ascends, both_hold}
 
@@ -63,7 +65,7 @@ rows_within : (entries : List Data) (m n : ℕ) (few many : List Row) → m ≤ 
 rows_within entries m n few many within is are row there = are.all row (still_stands entries m n within row (is.none_else row there))
 
 fewer_rows : (few many : List Row) {m n : List Data} → AreRowsOf m few → AreRowsOf n many → ((row : Row) → Contains few row → Contains many row) → length few ≤ length many
-fewer_rows few many is are to = subset_length row_cmp_total few many (sym (in_order-ascends few) ∙ is.order) (sym (in_order-ascends many) ∙ are.order) to
+fewer_rows few many is are to = subset_length row_cmp_total few many is.order are.order to
 
 fewer_types : (few many : List Row) (kinds others : List (List ℕ)) → AreTypesOf few kinds → AreTypesOf many others → ((row : Row) → Contains few row → Contains many row)
     → length kinds ≤ length others

@@ -10,8 +10,9 @@ use Rattle.std.proofs.lemmas.Cmp.{tied_itself}
 use Rattle.std.proofs.lemmas.Bool.{and_parts}
 use Rattle.serde_json.specs.Data.{Data}
 use Rattle.mds_table.specs.declared.row.Row.{Row}
-use Rattle.mds_table.specs.TableFile.{ascends, AreRowsOf, AreGood, HasTable, entries_in}
-use Rattle.mds_table.proofs.RowOrder.{row_cmp_total, in_order-ascends}
+use Rattle.mds_table.specs.Row.{ascends}
+use Rattle.mds_table.specs.TableFile.{AreRowsOf, AreGood, HasTable, entries_in}
+use Rattle.mds_table.proofs.RowOrder.{row_cmp_total}
 use Rattle.mds_table.proofs.Ascending.{Contains-tail, head_or_tail, lt_is_Less}
 
 -- the first stands before every other
@@ -63,7 +64,7 @@ same_members {X} {cmp} o (x ∷ xs) (y ∷ ys) up vp to from =
 
 same_rows : (entries : List Data) (rows others : List Row) → AreRowsOf entries rows → AreRowsOf entries others → rows ≡ others
 same_rows entries rows others is are =
-    same_members row_cmp_total rows others (sym (in_order-ascends rows) ∙ is.order) (sym (in_order-ascends others) ∙ are.order)
+    same_members row_cmp_total rows others is.order are.order
     (λ row there. are.all row (is.none_else row there)) (λ row there. is.all row (are.none_else row there))
 
 pub both_hold : {T : Type 0} {P Q : T → Type 0} (o : Option T) → IsSomeAnd o P → IsSomeAnd o Q → (x : T) × P x × Q x

@@ -1,8 +1,8 @@
 -- The order of rows.
-use Rattle.std.proofs.Common.{◌≡◌, ℕ, List, [], ◌∷◌, ◌&&◌, ap, refl, ◌∙◌, sym}
+use Rattle.std.proofs.Common.{◌≡◌, ℕ, List, ap, refl, ◌∙◌, sym}
 use Rattle.std.specs.declared.cmp.Ordering.{Ordering}
 use Rattle.std.specs.declared.cmp.Ordering.TheVariants.{Less, Equal, Greater}
-use Rattle.std.specs.Ordering.{nat_cmp, is_lt, is_eq, ordering_then}
+use Rattle.std.specs.Ordering.{nat_cmp, is_eq, ordering_then}
 use Rattle.std.specs.Cmp.{IsTotalOrder}
 use Rattle.std.specs.Cmp.Lexicographic.{slice_cmp}
 use Rattle.std.proofs.lemmas.Cmp.{then_total, on_total, nat_cmp_total, nat_list_cmp_total, ranked}
@@ -10,8 +10,7 @@ use Rattle.std.proofs.lemmas.Map.Text.{is_eq-slice_cmp}
 use Rattle.std.proofs.lemmas.Slice.Eq.{bytes_eq-Decides}
 use Rattle.mds_table.specs.declared.row.Row.{Row}
 use Rattle.mds_table.specs.State.{code_of}
-use Rattle.mds_table.specs.Row.{row_of, row_cmp, in_order}
-use Rattle.mds_table.specs.TableFile.{ascends}
+use Rattle.mds_table.specs.Row.{row_of, row_cmp}
 use Rattle.mds_table.proofs.Rows.{code_of_injective}
 
 pub row_cmp_total : IsTotalOrder row_cmp
@@ -44,9 +43,3 @@ same_row_by_cmp a b tied =
     let from : a.from ≡ b.from = code_of_injective a.from b.from (same_code (code_of a.from) (code_of b.from) (nat_cmp (code_of a.from) (code_of b.from)) refl states.0) in
     let to : a.to ≡ b.to = code_of_injective a.to b.to (same_code (code_of a.to) (code_of b.to) (nat_cmp (code_of a.to) (code_of b.to)) refl states.1) in
     λ i. row_of (from i) (kind i) (to i)
-
--- rows stand in order where each stands before the next one
-pub in_order-ascends : (rows : List Row) → in_order rows ≡ ascends row_cmp rows
-in_order-ascends [] = refl
-in_order-ascends (row ∷ []) = refl
-in_order-ascends (row ∷ next ∷ rest) = ap (λ b. is_lt (row_cmp row next) && b) (in_order-ascends (next ∷ rest))

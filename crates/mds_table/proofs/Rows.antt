@@ -1,6 +1,6 @@
 -- When two rows are the same.
-use Rattle.std.proofs.Common.{◌≡◌, ℕ, ◌==◌, ◌&&◌, List, Bool, true, false, cond, refl, sym, ◌∙◌, ap}
-use Rattle.std.proofs.lemmas.Bool.{eqb-true, eq-eqb}
+use Rattle.std.proofs.Common.{◌≡◌, ℕ, ◌<◌, ◌==◌, ◌&&◌, List, true, cond, lit<, refl, sym, ◌∙◌, ap}
+use Rattle.std.proofs.lemmas.Bool.{and_parts, eqb-true, eq-eqb}
 use Rattle.std.specs.List.{list_any, Contains}
 use Rattle.std.specs.Str.{bytes_eq}
 use Rattle.std.proofs.lemmas.Slice.Eq.{bytes_eq-Decides}
@@ -32,16 +32,21 @@ of_code-code_of Missing = refl
 pub code_of_injective : (a b : State) → code_of a ≡ code_of b → a ≡ b
 code_of_injective a b same = sym (of_code-code_of a) ∙ ap of_code same ∙ of_code-code_of b
 
--- a conjunction holds only where both sides do
-both : (a b : Bool) → (a && b) ≡ true → (a ≡ true) × (b ≡ true)
-both true true is = (refl, refl)
-both true false is = cc
-both false b is = cc
+-- there are eight codes
+pub code_below : (state : State) → code_of state < 8
+code_below Removed = lit< tt
+code_below Available = lit< tt
+code_below NonOperational = lit< tt
+code_below Reserved = lit< tt
+code_below OnTrip = lit< tt
+code_below Elsewhere = lit< tt
+code_below NonContactable = lit< tt
+code_below Missing = lit< tt
 
 pub same_row_is : (a b : Row) → same_row a b ≡ true → a ≡ b
 same_row_is a b same =
-    let parts = both ((code_of a.from == code_of b.from) && (code_of a.to == code_of b.to)) (bytes_eq a.kind b.kind) same in
-    let states = both (code_of a.from == code_of b.from) (code_of a.to == code_of b.to) parts.0 in
+    let parts = and_parts ((code_of a.from == code_of b.from) && (code_of a.to == code_of b.to)) (bytes_eq a.kind b.kind) same in
+    let states = and_parts (code_of a.from == code_of b.from) (code_of a.to == code_of b.to) parts.0 in
     let from : a.from ≡ b.from = code_of_injective a.from b.from (eqb-true (code_of a.from) (code_of b.from) states.0) in
     let to : a.to ≡ b.to = code_of_injective a.to b.to (eqb-true (code_of a.to) (code_of b.to) states.1) in
     let kind : a.kind ≡ b.kind = (bytes_eq-Decides a.kind b.kind).0 parts.1 in

@@ -6,7 +6,8 @@ use Rattle.serde_json.specs.Data.{Data, null, boolean, number, string, array, ob
 use Rattle.serde_json.specs.Find.{as_array}
 use Rattle.serde_json.specs.View.{view, items_of, items_view}
 use Rattle.serde_json.specs.declared.value.Value.{Value}
-use Rattle.mds_table.specs.TableFile.{items_in, listed, IsStateName, ListsStates}
+use Rattle.mds_table.specs.Json.{items_in}
+use Rattle.mds_table.specs.TableFile.{listed, IsStateName, ListsStates}
 
 pub items_in-items_of : (ds : List Data) → items_in (items_of ds) ≡ ds
 items_in-items_of [] = refl

@@ -5,5 +5,6 @@ pub mod Row
 pub mod Profile
 pub mod Chain
 pub mod Printed
+pub mod Json
 pub mod TableFile
 pub mod Entry

@@ -22,8 +22,12 @@ row_cmp a b =
     ordering_then (slice_cmp nat_cmp a.kind b.kind)
     (ordering_then (nat_cmp (code_of a.from) (code_of b.from)) (nat_cmp (code_of a.to) (code_of b.to)))
 
--- the rows of a table: each stands before the next one, so each stands once
+-- each stands before the next one, so each stands once
+abbrev pub ascends : {X : Type 0} → (X → X → Ordering) → List X → Bool
+ascends cmp [] = true
+ascends cmp (x ∷ []) = true
+ascends cmp (x ∷ next ∷ rest) = is_lt (cmp x next) && ascends cmp (next ∷ rest)
+
+-- the rows of a table: in row order, each once
 abbrev pub in_order : List Row → Bool
-in_order [] = true
-in_order (row ∷ []) = true
-in_order (row ∷ next ∷ rest) = is_lt (row_cmp row next) && in_order (next ∷ rest)
+in_order rows = ascends row_cmp rows

@@ -1,11 +1,9 @@
 -- The table file: the rows that it stands for, and its first fault.
-use Rattle.std.specs.Prelude.{◌≡◌, ◌⊎◌, ℕ, ◌+◌, ◌<◌, ◌≤◌, ◌&&◌, List, [], ◌∷◌, ◌++◌, length, take, codes, Bool, true, Option, Some, None, option_map, option_and_then, IsSomeAnd, IsUtf8, All, Contains, slice_get}
-use Rattle.std.specs.declared.cmp.Ordering.{Ordering}
-use Rattle.std.specs.Ordering.{nat_cmp, is_lt}
+use Rattle.std.specs.Prelude.{◌≡◌, ◌⊎◌, ℕ, ◌+◌, ◌<◌, ◌≤◌, List, [], ◌∷◌, ◌++◌, length, take, codes, true, Option, Some, None, option_map, option_and_then, IsSomeAnd, All, Contains, slice_get}
+use Rattle.std.specs.Ordering.{nat_cmp}
 use Rattle.std.specs.Fmt.{decimal}
 use Rattle.std.specs.Cmp.Lexicographic.{slice_cmp}
-use Rattle.serde_json.specs.Data.{Data, null, boolean, number, string, array, object, Items, no_items, item}
-use Rattle.serde_json.specs.Read.{read}
+use Rattle.serde_json.specs.Data.{Data, null, boolean, number, string, array, object}
 use Rattle.serde_json.specs.Find.{get, as_array}
 use Rattle.mds_table.specs.declared.state.State.{State}
 use Rattle.mds_table.specs.declared.row.Row.{Row}
@@ -13,11 +11,8 @@ use Rattle.mds_table.specs.declared.table_file.TableFault.{TableFault}
 use Rattle.mds_table.specs.declared.table_file.TableFault.TheVariants.{Memory, TooLong, NotJson, NotRows, BadRow, TooManyRows, TooManyTypes, Empty}
 use Rattle.mds_table.specs.State.{name_of}
 use Rattle.mds_table.specs.TypeName.{IsTypeName}
-use Rattle.mds_table.specs.Row.{in_order}
-
--- the most bytes of a file
-abbrev pub max_bytes : ℕ
-max_bytes = 4194304
+use Rattle.mds_table.specs.Row.{ascends, in_order}
+use Rattle.mds_table.specs.Json.{max_bytes, items_in, IsTextOf}
 
 -- the most rows of a table
 abbrev pub max_rows : ℕ
@@ -26,11 +21,6 @@ max_rows = 4096
 -- the most types of a table
 abbrev pub max_types : ℕ
 max_types = 64
-
--- the items of a JSON list
-abbrev pub items_in : Items → List Data
-items_in no_items = []
-items_in (item d ds) = d ∷ items_in ds
 
 -- what a value lists: the items of a list, or else itself alone
 abbrev pub listed : Data → List Data
@@ -80,12 +70,6 @@ pub record AreRowsOf (entries : List Data) (rows : List Row) : Type 0 where
   pub none_else : (row : Row) → Contains rows row → AnyStandsFor entries row
   pub all : (row : Row) → AnyStandsFor entries row → Contains rows row
 
--- each stands before the next one, so each stands once
-abbrev pub ascends : {X : Type 0} → (X → X → Ordering) → List X → Bool
-ascends cmp [] = true
-ascends cmp (x ∷ []) = true
-ascends cmp (x ∷ next ∷ rest) = is_lt (cmp x next) && ascends cmp (next ∷ rest)
-
 -- the types of rows, each once, in the order of their bytes
 pub record AreTypesOf (rows : List Row) (kinds : List (List ℕ)) : Type 0 where
   pub order : ascends (slice_cmp nat_cmp) kinds ≡ true
@@ -121,10 +105,6 @@ pub record HasTooManyTypesAt (entries : List Data) (at : ℕ) : Type 0 where
   pub form : IsSomeAnd (slice_get entries at) IsRowEntry
   pub many : (rows : List Row) × (kinds : List (List ℕ)) × AreRowsOf (take (at + 1) entries) rows × (length rows ≤ max_rows)
       × AreTypesOf rows kinds × (max_types < length kinds)
-
--- the value that the bytes are, in UTF-8 and JSON
-abbrev pub IsTextOf : List ℕ → Data → Type 0
-IsTextOf bytes d = IsUtf8 bytes × (read bytes ≡ Some d)
 
 -- the entries of a file: its member `rows`, if it is an object with such a list
 abbrev pub entries_in : Data → Option (List Data)

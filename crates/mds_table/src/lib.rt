@@ -22,5 +22,5 @@ mod type_name;
 pub use row::Row;
 pub use state::State;
 pub use table::Table;
-pub use table_file::TableFault;
+pub use table_file::{MAX_BYTES, TableFault};
 pub use type_name::{NameFault, TypeName};

@@ -5,8 +5,9 @@
 //! stands for all pairs of its states; a row that is written twice counts once.
 ghost use Rattle.std.specs.Prelude.{◌≡◌, ◌≤◌, ℕ, List, length, map, option_map, true, Some, IfOk, IfErr, OnOk, Contains};
 ghost use Rattle.serde_json.specs.View.{view};
-ghost use Rattle.mds_table.specs.Row.{in_order};
-ghost use Rattle.mds_table.specs.TableFile.{max_bytes, ascends, IsTextOf, entries_in, AreGood, HasTable, HasFault, fault_text};
+ghost use Rattle.mds_table.specs.Row.{ascends, in_order};
+ghost use Rattle.mds_table.specs.Json.{max_bytes, IsTextOf};
+ghost use Rattle.mds_table.specs.TableFile.{entries_in, AreGood, HasTable, HasFault, fault_text};
 ghost use Rattle.mds_table.specs.Entry.{HasRow, IsRowTo, Adds, HasFaultIn};
 ghost use Rattle.std.specs.Ordering.{nat_cmp};
 ghost use Rattle.std.specs.Cmp.Lexicographic.{slice_cmp};
@@ -18,8 +19,8 @@ use serde_json::Value;
 use std::alloc::{AllocError, Global};
 use std::fmt;
 
-/// The most bytes of a file.
-const MAX_BYTES: usize = 4194304;
+/// The most bytes of a text of JSON that is read: of a table file, and of a batch.
+pub const MAX_BYTES: usize = 4_194_304;
 
 /// The most rows of a table.
 const MAX_ROWS: usize = 4096;
@@ -32,7 +33,7 @@ const MAX_TYPES: usize = 64;
 pub enum TableFault {
     /// There is no memory to read it.
     Memory,
-    /// It has more than 4194304 bytes.
+    /// It has more than [`MAX_BYTES`] bytes.
     TooLong,
     /// It isn't UTF-8, or isn't JSON of at most 127 levels.
     NotJson,

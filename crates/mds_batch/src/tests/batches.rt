@@ -3,10 +3,10 @@ use super::{
     DEVICE, EVENT, PROVIDER, event_and, event_of, event_with, list_of, repeated, uuid, vehicle_of,
 };
 use crate::{
-    BatchFault, EventItem, ItemFault, MAX_BYTES, MAX_ITEMS, Member, VehicleItem, read_events,
-    read_vehicles,
+    BatchFault, EventItem, ItemFault, MAX_ITEMS, Member, VehicleItem, read_events, read_vehicles,
 };
 use mds_core::Key;
+use mds_table::MAX_BYTES;
 use std::alloc::Global;
 use std::test::Fail;
 

@@ -1,4 +1,4 @@
-use Rattle.std.proofs.Common.{rules, ◌++◌, [], List, string_bytes}
+use Rattle.std.proofs.Common.{rules, ◌++◌, string_bytes}
 use Rattle.std.proofs.lemmas.Result.{on_err_weaker}
 use Rattle.mds_city.specs.Device.{AppendsFront, Passes, with_newline}
 use Rattle.mds_city.specs.Text.{item_lines, vehicle_lines, total_line}

@@ -4,7 +4,7 @@ use Rattle.std.specs.Ordering.{nat_cmp}
 use Rattle.std.specs.Cmp.Lexicographic.{slice_cmp}
 use Rattle.std.proofs.lemmas.Fn.{always_returns_same}
 use Rattle.std.proofs.lemmas.Cmp.{nat_list_cmp_total}
-use Rattle.mds_table.specs.TableFile.{ascends}
+use Rattle.mds_table.specs.Row.{ascends}
 use Rattle.mds_table.proofs.RowOrder.{same_name}
 use Rattle.mds_table.proofs.Ascending.{searched, insert_adds, nothing_added}
 use Rattle.mds_table.proofs.table_file.add_kind.Goals as goal

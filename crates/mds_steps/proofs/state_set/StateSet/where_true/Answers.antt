@@ -1,6 +1,7 @@
 use Rattle.std.proofs.Common.{◌<◌, arith}
 use Rattle.mds_table.specs.State.{code_of}
-use Rattle.mds_steps.proofs.Told.{told_false, told_true, code_at, code_below}
+use Rattle.mds_table.proofs.Rows.{code_below}
+use Rattle.mds_steps.proofs.Told.{told_false, told_true, code_at}
 use Rattle.mds_steps.proofs.state_set.StateSet.where_true.Goals as goal
 use Rattle.mds_steps.proofs.state_set.StateSet.where_true.Goals.{then-test, else-test}
 
