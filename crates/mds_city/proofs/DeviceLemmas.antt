@@ -5,7 +5,7 @@ use Rattle.std.proofs.lemmas.Bool.{cases_lt}
 use Rattle.std.proofs.lemmas.List.{take_min}
 use Rattle.std.specs.Io.KnownBytes.{Appends, Consumes, IsAtEnd}
 use Rattle.std.proofs.KnownBytes.{Appends-trans, Consumes-trans}
-use Rattle.std.specs.Prelude.{Option}
+use Rattle.std.specs.Prelude.{Option, Result, Ok, Err, OnOk, IfErr}
 use Rattle.mds_city.specs.Device.{AppendsFront, ConsumesUpTo, HasFront, front_of}
 
 -- what went out first, and then the front of the slice that was left, is a longer front
@@ -18,6 +18,12 @@ appends_next a b c text n m p q =
 -- the first n bytes are a front
 pub front_of_sent : (a b : Option (List ℕ)) (text : List ℕ) (n : ℕ) → Appends a b (take n text) → AppendsFront a b text
 front_of_sent a b text n p = (take n text, drop n text, sym (take-append-drop n text), p)
+
+-- all the bytes went out, or the first of them
+pub front_either : (result : Result (Unit {0}) ℕ) (a b : Option (List ℕ)) (text : List ℕ) → OnOk result (Appends a b text)
+    → IfErr result (λ sent. (sent < length text) × Appends a b (take sent text)) → AppendsFront a b text
+front_either (Ok done) a b text all some = (text, [], sym (append-nil text), all)
+front_either (Err sent) a b text all some = front_of_sent a b text sent some.1
 
 -- one read after others
 pub reads_next : (a b c : Option (List ℕ)) (held more grown : List ℕ) → Consumes a b held → grown ≡ held ++ more → Consumes b c more → Consumes a c grown

@@ -57,10 +57,7 @@ fn replay_into<'a, T: Read + Drop, R: Read + Drop, W: Write>(
     ensures err { IfErr result (λ problem. ExplainsReplay T.remaining table.entry R.remaining file.entry problem
         × WentOut T.remaining table.entry R.remaining file.entry problem (W.contents out.old) (W.contents out.new)) }
 {
-    let report = match report_on(alloc, table, file) {
-        Ok(report) => report,
-        Err(problem) => return Err(problem),
-    };
+    let report = report_on(alloc, table, file)?;
     match print_report(alloc, out, &report) {
         Ok(()) => Ok(report.refused),
         Err(WriteFault::Memory) => Err(Problem::Memory),
@@ -78,14 +75,8 @@ fn report_on<'a, T: Read + Drop, R: Read + Drop>(
     ensures err { IfErr result (λ problem. ExplainsReplay T.remaining table.entry R.remaining file.entry problem
         × (problem ≢ Problem.Output)) }
 {
-    let table = match table_in(alloc, table) {
-        Ok(table) => table,
-        Err(problem) => return Err(problem),
-    };
-    let items = match items_in(alloc, file) {
-        Ok(items) => items,
-        Err(problem) => return Err(problem),
-    };
+    let table = table_in(alloc, table)?;
+    let items = items_in(alloc, file)?;
     match replay(alloc, table, &items) {
         Ok(report) => Ok(report),
         Err(_) => Err(Problem::Memory),
@@ -122,10 +113,7 @@ fn table_into<'a, T: Read + Drop, W: Write>(
     ensures err { IfErr result (λ problem. ExplainsPrint T.remaining table.entry problem
         × TableWentOut T.remaining table.entry problem (W.contents out.old) (W.contents out.new)) }
 {
-    let rows = match rows_on(alloc, table) {
-        Ok(rows) => rows,
-        Err(problem) => return Err(problem),
-    };
+    let rows = rows_on(alloc, table)?;
     match print_table(alloc, out, &rows) {
         Ok(()) => Ok(()),
         Err(WriteFault::Memory) => Err(Problem::Memory),
@@ -141,10 +129,7 @@ fn rows_on<'a, T: Read + Drop>(
     ensures ok { IfOk result (λ rows. HasTableIn T.remaining table.entry rows.items) }
     ensures err { IfErr result (λ problem. ExplainsPrint T.remaining table.entry problem × (problem ≢ Problem.Output)) }
 {
-    let table = match table_in(alloc, table) {
-        Ok(table) => table,
-        Err(problem) => return Err(problem),
-    };
+    let table = table_in(alloc, table)?;
     match table.rows(alloc) {
         Ok(rows) => Ok(rows),
         Err(_) => Err(Problem::Memory),
@@ -153,5 +138,7 @@ fn rows_on<'a, T: Read + Drop>(
 
 #[cfg(test)]
 mod failing;
+#[cfg(test)]
+mod refused;
 #[cfg(test)]
 mod tests;

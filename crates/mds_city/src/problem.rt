@@ -95,8 +95,5 @@ pub fn tell<E: Write>(alloc: Global, faults: &mut E, problem: Problem<'_>) -> u8
 fn put_some<W: Write>(writer: &mut W, bytes: &[u8])
     ensures { AppendsFront (W.contents writer.old) (W.contents writer.new) bytes.now }
 {
-    match write_all_of(writer, bytes) {
-        Ok(()) => {}
-        Err(_) => {}
-    }
+    let _ = write_all_of(writer, bytes);
 }

@@ -1,6 +1,7 @@
 //! What no clause says: the worked rows, and that each call can succeed.
 mod events;
 mod fleets;
+mod growths;
 mod several_types;
 
 use crate::{Event, Fleet, Key, Outcome, Position, Refusal, Reply, Request, Standing};

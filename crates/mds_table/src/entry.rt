@@ -36,8 +36,11 @@ impl States {
 /// An entry: it stands for all pairs of a state of `from` and a state of `to`.
 #[derive(Drop)]
 pub(crate) struct Entry {
+    /// The type of its rows.
     pub kind: TypeName,
+    /// The states that they lead from.
     pub from: States,
+    /// The states that they lead to.
     pub to: States,
 }
 

@@ -1,5 +1,5 @@
 //! What no clause says: values from outside, and that each call can succeed.
-use crate::{NameFault, State, Table, TypeName};
+use crate::{NameFault, State, Table, TableFault, TypeName};
 use std::test::Fail;
 
 /// Every type of the profile.
@@ -134,5 +134,35 @@ fn profile_rows_lead_as_printed(rt: HostRuntime) -> Result<(), Fail> {
     for (text, from, to, there) in expected {
         assert_eq!(rt; table.has_row(from, &type_name(text)?, to), there, "{text}");
     }
+    Ok(())
+}
+
+/// Two entries, of four rows and of one.
+const FIVE_ROWS: &[u8] = br#"{"rows":[
+{"from":["removed","available"],"type":"wake","to":["available","on_trip"]},
+{"from":"on_trip","type":"rest","to":"removed"}]}"#;
+
+/// Each call that takes memory, made again where its growth is refused (by `tests/refused-growths`).
+#[test]
+fn call_succeeds_after_a_refused_growth(rt: HostRuntime) -> Result<(), Fail> {
+    let alloc = rt.alloc();
+    let profile = match Table::profile(alloc) {
+        Ok(table) => table,
+        Err(_) => Table::profile(alloc)?,
+    };
+    let copy = match profile.copy(alloc) {
+        Ok(table) => table,
+        Err(_) => profile.copy(alloc)?,
+    };
+    let rows = match copy.rows(alloc) {
+        Ok(rows) => rows,
+        Err(_) => copy.rows(alloc)?,
+    };
+    assert_eq!(rt; rows.len(), 74);
+    let read = match Table::from_json(alloc, FIVE_ROWS) {
+        Err(TableFault::Memory) => Table::from_json(alloc, FIVE_ROWS)?,
+        other => other?,
+    };
+    assert_eq!(rt; read.row_count(), 5);
     Ok(())
 }

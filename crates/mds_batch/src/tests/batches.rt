@@ -214,3 +214,31 @@ fn full_batch(rt: HostRuntime) -> Result<(), Fail> {
     assert!(rt; all);
     Ok(())
 }
+
+/// An event of two types with a position, and an item that is at fault.
+const TWO_ITEMS: &[u8] = br#"[
+{"provider_id":"00000000-0000-4000-8000-000000000001","device_id":"00000000-0000-4000-8000-00000000000a",
+"event_id":"00000000-0000-4000-8000-0000000000e1","vehicle_state":"on_trip",
+"event_types":["provider_drop_off","trip_start"],"timestamp":1000,"location_e7":{"lat":525200000,"lng":134050000}},
+{"provider_id":"00000000-0000-4000-8000-000000000001"}]"#;
+
+/// Each call, made again where its growth is refused (by `tests/refused-growths`).
+#[test]
+fn call_succeeds_after_a_refused_growth(rt: HostRuntime) -> Result<(), Fail> {
+    let alloc = rt.alloc();
+    let vehicles = match read_vehicles(alloc, TWO_ITEMS) {
+        Err(BatchFault::Memory) => read_vehicles(alloc, TWO_ITEMS)?,
+        other => other?,
+    };
+    assert_eq!(rt; vehicles.len(), 2);
+    assert!(rt; matches!(vehicles[0], VehicleItem::Vehicle(_)));
+    let missing = VehicleItem::Fault(ItemFault::Missing(Member::DeviceId));
+    assert_eq!(rt; vehicles[1], missing);
+    let events = match read_events(alloc, TWO_ITEMS) {
+        Err(BatchFault::Memory) => read_events(alloc, TWO_ITEMS)?,
+        other => other?,
+    };
+    assert_eq!(rt; events.len(), 2);
+    assert!(rt; matches!(&events[0], EventItem::Event(_)));
+    Ok(())
+}

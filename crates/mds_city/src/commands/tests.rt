@@ -6,7 +6,7 @@ use std::alloc::Global;
 use std::test::Fail;
 
 /// The five-event run, and the lines that it prints.
-const FIVE_EVENTS: &str = r#"[
+pub const FIVE_EVENTS: &str = r#"[
 {"provider_id":"00000000-0000-4000-8000-000000000001","device_id":"00000000-0000-4000-8000-00000000000a","event_id":"00000000-0000-4000-8000-0000000000e1","vehicle_state":"available","event_types":["provider_drop_off"],"timestamp":1000},
 {"provider_id":"00000000-0000-4000-8000-000000000001","device_id":"00000000-0000-4000-8000-00000000000a","event_id":"00000000-0000-4000-8000-0000000000e2","vehicle_state":"on_trip","event_types":["trip_start"],"timestamp":2000},
 {"provider_id":"00000000-0000-4000-8000-000000000001","device_id":"00000000-0000-4000-8000-00000000000b","event_id":"00000000-0000-4000-8000-0000000000e1","vehicle_state":"available","event_types":["agency_drop_off"],"timestamp":1500},
@@ -14,7 +14,7 @@ const FIVE_EVENTS: &str = r#"[
 {"provider_id":"00000000-0000-4000-8000-000000000001","device_id":"00000000-0000-4000-8000-00000000000a","event_id":"00000000-0000-4000-8000-0000000000e4","vehicle_state":"available","event_types":["trip_end"],"timestamp":1999}
 ]"#;
 
-const FIVE_LINES: &str = "0 ok available
+pub const FIVE_LINES: &str = "0 ok available
 1 ok on_trip
 2 ok available
 3 refused no_chain on_trip 0
@@ -25,7 +25,7 @@ accepted 3 refused 2
 ";
 
 /// A table of one row.
-const ONE_ROW: &str = r#"{"rows":[{"from":"removed","type":"wake","to":"available"}]}"#;
+pub const ONE_ROW: &str = r#"{"rows":[{"from":"removed","type":"wake","to":"available"}]}"#;
 
 /// What a command came to: its status, its output and its faults.
 #[derive(Debug, PartialEq, Drop)]
@@ -44,7 +44,7 @@ fn expected(alloc: Global, status: u8, out: &str, faults: &str) -> Result<Came, 
 }
 
 /// A file of this text.
-fn file<'a>(path: &'a str, text: &'a str) -> Source<'a, &'a [u8]> {
+pub fn file<'a>(path: &'a str, text: &'a str) -> Source<'a, &'a [u8]> {
     Source {
         path,
         reader: Some(text.as_bytes()),

@@ -1,7 +1,7 @@
-use Rattle.mds_city.proofs.DeviceLemmas.{front_of_sent}
+use Rattle.mds_city.proofs.DeviceLemmas.{front_either}
 use Rattle.mds_city.proofs.problem.put_some.Goals as goal
 
-pub returns-in-Err : goal.returns-in-Err
-returns-in-Err g c =
-    front_of_sent (g.W.Write.contents c.args.writer.now) (g.W.Write.contents c.write_all_of.new.writer) c.args.bytes.now c.in-Err.field-0
-    c.in-Err.ensures.err.1
+pub returns : goal.returns
+returns g c =
+    front_either c.write_all_of.result (g.W.Write.contents c.args.writer.now) (g.W.Write.contents c.write_all_of.new.writer) c.args.bytes.now
+    c.write_all_of.ensures.ok c.write_all_of.ensures.err

@@ -1,0 +1,110 @@
+//! Each command, carried out again where a growth is refused (by `tests/refused-growths`).
+use super::tests::{FIVE_EVENTS, FIVE_LINES, ONE_ROW, file};
+use super::{replay_to, table_to};
+use crate::source::Source;
+use std::alloc::Global;
+use std::io;
+use std::io::{ErrorKind, Write};
+use std::test::Fail;
+
+/// A writer that takes this text alone, and no memory.
+#[derive(Drop)]
+struct Expects<'a> {
+    rest: &'a [u8],
+}
+
+impl Write for Expects<'_> {
+    fn write(&mut self, buf: &[u8]) -> io::Result<usize> {
+        match self.rest.strip_prefix(buf) {
+            Some(rest) => {
+                self.rest = rest;
+                Ok(buf.len())
+            }
+            None => Err(io::Error::from(ErrorKind::Other)),
+        }
+    }
+
+    fn flush(&mut self) -> io::Result<()> {
+        Ok(())
+    }
+}
+
+/// What a command came to.
+#[derive(Clone, Copy, Debug, PartialEq)]
+struct Came {
+    status: u8,
+    /// The whole text went out.
+    printed: bool,
+    /// The want of memory was told.
+    told: bool,
+}
+
+/// The want of memory, and nothing else, was told.
+fn is_refused(came: Came) -> bool {
+    came.status == 4 && came.told
+}
+
+fn replayed(alloc: Global) -> Came {
+    let mut out = Expects {
+        rest: FIVE_LINES.as_bytes(),
+    };
+    let mut faults = Expects {
+        rest: b"mds_city: out of memory\n",
+    };
+    let table: Option<Source<'_, &[u8]>> = None;
+    let status = replay_to(alloc, table, file("F", FIVE_EVENTS), &mut out, &mut faults);
+    Came {
+        status,
+        printed: out.rest.is_empty(),
+        told: faults.rest.is_empty(),
+    }
+}
+
+fn tabled(alloc: Global) -> Came {
+    let mut out = Expects {
+        rest: b"wake removed available\nrows 1\n",
+    };
+    let mut faults = Expects {
+        rest: b"mds_city: out of memory\n",
+    };
+    let status = table_to(alloc, Some(file("T", ONE_ROW)), &mut out, &mut faults);
+    Came {
+        status,
+        printed: out.rest.is_empty(),
+        told: faults.rest.is_empty(),
+    }
+}
+
+#[test]
+fn replay_succeeds_after_a_refused_growth(rt: HostRuntime) -> Result<(), Fail> {
+    let first = replayed(rt.alloc());
+    let came = if is_refused(first) {
+        replayed(rt.alloc())
+    } else {
+        first
+    };
+    let whole = Came {
+        status: 1,
+        printed: true,
+        told: false,
+    };
+    assert_eq!(rt; came, whole);
+    Ok(())
+}
+
+#[test]
+fn table_succeeds_after_a_refused_growth(rt: HostRuntime) -> Result<(), Fail> {
+    let first = tabled(rt.alloc());
+    let came = if is_refused(first) {
+        tabled(rt.alloc())
+    } else {
+        first
+    };
+    let whole = Came {
+        status: 0,
+        printed: true,
+        told: false,
+    };
+    assert_eq!(rt; came, whole);
+    Ok(())
+}
