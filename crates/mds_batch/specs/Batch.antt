@@ -1,5 +1,5 @@
 -- What the bytes of a batch are: items, or the first fault of the whole.
-use Rattle.std.specs.Prelude.{◌≡◌, ℕ, ◌<◌, ◌≤◌, List, [], ◌∷◌, length, map, Option, Some, None, option_map}
+use Rattle.std.specs.Prelude.{◌≡◌, codes, ℕ, ◌<◌, ◌≤◌, List, [], ◌∷◌, length, map, Option, Some, None, option_map}
 use Rattle.std.specs.Option.{option_or}
 use Rattle.serde_json.specs.Data.{Data}
 use Rattle.serde_json.specs.Find.{as_array, as_object}
@@ -39,3 +39,11 @@ HasFault bytes NotJson = (length bytes ≤ max_bytes) × ((value : Data) → IsT
 HasFault bytes NotList = (value : Data) × IsShortTextOf value bytes × IsListFault value NotList
 HasFault bytes TooMany = (value : Data) × IsShortTextOf value bytes × IsListFault value TooMany
 HasFault bytes Memory = Unit {0}
+
+-- the word for a fault
+abbrev pub fault_text : BatchFault → List ℕ
+fault_text Memory = codes "out of memory"
+fault_text TooLong = codes "too_long"
+fault_text NotJson = codes "not_json"
+fault_text NotList = codes "not_list"
+fault_text TooMany = codes "too_many"

@@ -9,7 +9,7 @@ use Rattle.mds_table.specs.declared.state.TheConstants.State.{ALL}
 use Rattle.mds_table.specs.State.{name_of}
 use Rattle.mds_table.specs.Json.{items_in}
 use Rattle.mds_table.specs.TypeName.{is_type_name}
-use Rattle.mds_core.specs.Reported.{max_types, max_time}
+use Rattle.mds_core.specs.Reported.{max_event_types, max_time}
 use Rattle.mds_core.specs.Position.{max_latitude, max_longitude}
 use Rattle.mds_core.specs.declared.position.Position.{Position}
 
@@ -36,13 +36,13 @@ all_types (value ∷ rest) = option_and_then (λ name. option_map (λ names. nam
 
 -- 1 to 16 type names
 abbrev pub few_types : List Data → Option (List (List ℕ))
-few_types all = if nat_le 1 (length all) && nat_le (length all) max_types then all_types all else None
+few_types all = if nat_le 1 (length all) && nat_le (length all) max_event_types then all_types all else None
 
 -- the types that a value lists
 abbrev pub types_in : Data → Option (List (List ℕ))
 types_in value = option_and_then (λ items. few_types (items_in items)) (as_array value)
 
--- the time that a value is: a whole number of milliseconds that a double holds exactly, with each one below it
+-- the time that a value is: a whole number of milliseconds, not past the latest
 abbrev pub time_in : Data → Option ℕ
 time_in value = option_and_then (λ time. if nat_le time max_time then Some time else None) (option_and_then as_u64 (as_number value))
 

@@ -2,14 +2,14 @@
 ghost use Rattle.std.specs.Prelude.{◌≡◌, ◌≤◌, length, map, Some, option_map, IfOk, IfErr};
 ghost use Rattle.serde_json.specs.View.{view};
 ghost use Rattle.mds_batch.specs.Items.{vehicle_item, event_item};
-ghost use Rattle.mds_batch.specs.Batch.{max_items, listed, IsShortTextOf, HasItems, IsListFault, HasFault};
+ghost use Rattle.mds_batch.specs.Batch.{max_items, listed, IsShortTextOf, HasItems, IsListFault, HasFault, fault_text};
 
 use crate::read::{event_item_of, vehicle_item_of};
 use crate::{EventItem, VehicleItem};
 use mds_table::MAX_BYTES;
 use serde_json::Value;
 use std::alloc::{AllocError, Global};
-use std::slice;
+use std::{fmt, slice};
 
 /// The most items that a batch has.
 pub const MAX_ITEMS: usize = 10_000;
@@ -27,6 +27,20 @@ pub enum BatchFault {
     NotList,
     /// There are more than [`MAX_ITEMS`] items.
     TooMany,
+}
+
+impl fmt::Display for BatchFault {
+    ghost output = { λ fault. Some (fault_text fault) };
+
+    fn fmt<W: fmt::Write>(&self, f: &mut fmt::Formatter<W>) -> fmt::Result {
+        f.write_str(match self {
+            BatchFault::Memory => "out of memory",
+            BatchFault::TooLong => "too_long",
+            BatchFault::NotJson => "not_json",
+            BatchFault::NotList => "not_list",
+            BatchFault::TooMany => "too_many",
+        })
+    }
 }
 
 impl From<AllocError> for BatchFault {

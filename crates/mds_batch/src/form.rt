@@ -1,6 +1,7 @@
 //! The forms that the values of members have.
 ghost use Rattle.std.specs.Prelude.{◌≡◌, ◌≤◌, length, map, option_map, IfSome};
 ghost use Rattle.serde_json.specs.View.{view};
+ghost use Rattle.mds_core.specs.Reported.{max_event_types, max_time};
 ghost use Rattle.mds_batch.specs.Forms.{uuid_in, state_in, type_in, all_types, few_types, types_in, time_in, whole_in, place_in};
 
 use arrayvec::ArrayVec;
@@ -18,12 +19,13 @@ pub(crate) struct Types {
 
 impl Model for Types {
     ghost use Rattle.std.specs.Prelude.{ℕ, ◌≤◌, List, length};
+    ghost use Rattle.mds_core.specs.Reported.{max_event_types};
 
     ghost Value = { List (List ℕ) };
 
     ghost view = { λ types. types.kinds.items };
 
-    ghost invariant = { λ types. (1 ≤ length types.kinds.items) × (length types.kinds.items ≤ 16) };
+    ghost invariant = { λ types. (1 ≤ length types.kinds.items) × (length types.kinds.items ≤ max_event_types) };
 }
 
 impl Types {
@@ -31,7 +33,7 @@ impl Types {
     pub(crate) fn as_slice(&self) -> &[TypeName]
         ensures types { result.now ≡ self.now }
         ensures some { 1 ≤ length result.now }
-        ensures few { length result.now ≤ 16 }
+        ensures few { length result.now ≤ max_event_types }
     {
         self.kinds.as_slice()
     }
@@ -60,7 +62,7 @@ fn type_of(value: &Value) -> Option<TypeName>
 
 /// The type names that the values are, if each is one.
 fn all_types_of(values: &[Value]) -> Option<ArrayVec<TypeName, MAX_TYPES>>
-    requires { length values.now ≤ 16 }
+    requires { length values.now ≤ max_event_types }
     ensures types { option_map (λ kinds. kinds.items) result ≡ all_types (map view values.now) }
     ensures count { IfSome result (λ kinds. length kinds.items ≡ length values.now) }
 {
@@ -96,7 +98,7 @@ pub(crate) fn types_of(value: &Value) -> Option<Types>
 /// The time that the value is: a whole number of milliseconds, at most [`MAX_TIME`].
 pub(crate) fn time_of(value: &Value) -> Option<u64>
     ensures time { result ≡ time_in (view value.now) }
-    ensures in_range { IfSome result (λ time. time ≤ 9007199254740991) }
+    ensures in_range { IfSome result (λ time. time ≤ max_time) }
 {
     let time = value.as_u64()?;
     if time > MAX_TIME {

@@ -3,6 +3,7 @@ ghost use Rattle.std.specs.Prelude.{◌≡◌, ◌≤◌, Some, None, IfOk, IfEr
 ghost use Rattle.serde_json.specs.View.{view};
 ghost use Rattle.serde_json.specs.Find.{get};
 ghost use Rattle.mds_batch.specs.declared.item.ItemFault.TheVariants.{Missing};
+ghost use Rattle.mds_core.specs.Reported.{max_time};
 ghost use Rattle.mds_batch.specs.Member.{member_name};
 ghost use Rattle.mds_batch.specs.Forms.{uuid_in, state_in, types_in, time_in};
 ghost use Rattle.mds_batch.specs.Items.{required, position_in, key_in, event_in, vehicle_item, event_item};
@@ -100,7 +101,7 @@ fn types_member(value: &Value) -> Result<Types, ItemFault>
 /// The time of the event.
 fn time_member(value: &Value) -> Result<u64, ItemFault>
     ensures time { result ≡ required Member.Timestamp time_in (view value.now) }
-    ensures in_range { IfOk result (λ time. time ≤ 9007199254740991) }
+    ensures in_range { IfOk result (λ time. time ≤ max_time) }
 {
     let member = Member::Timestamp;
     time_of(required_member(value, member)?).ok_or(ItemFault::Bad(member))

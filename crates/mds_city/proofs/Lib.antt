@@ -3,3 +3,4 @@ pub mod DeviceLemmas
 pub mod WordsLemmas
 pub mod PageLemmas
 pub mod MentionLemmas
+pub mod ErrorLemmas

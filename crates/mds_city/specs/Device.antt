@@ -1,6 +1,7 @@
 -- What reads and writes in a bounded number of calls do to the bytes that are known.
-use Rattle.std.specs.Prelude.{◌≡◌, ℕ, ◌<◌, ◌≤◌, Bool, List, [], ◌∷◌, ◌++◌, length, take, Option, IfSome, MatchBool}
+use Rattle.std.specs.Prelude.{◌≡◌, ℕ, ◌+◌, ◌<◌, ◌≤◌, Bool, List, [], ◌∷◌, ◌++◌, length, take, Option, IfSome, MatchBool}
 use Rattle.std.specs.Io.KnownBytes.{Appends, Consumes, IsAtEnd}
+use Rattle.mds_table.specs.Json.{max_bytes}
 use Rattle.mds_city.specs.declared.device.Step.{Step}
 use Rattle.mds_city.specs.declared.device.Step.TheVariants.{Got, End, Again, Failed}
 
@@ -8,9 +9,13 @@ use Rattle.mds_city.specs.declared.device.Step.TheVariants.{Got, End, Again, Fai
 abbrev pub with_newline : List ℕ → List ℕ
 with_newline text = text ++ 10 ∷ []
 
--- all that a file has, or its first 4194305 bytes
+-- how many bytes of a file are read at most: one more than are taken, so that a longer file is seen to be too long
+abbrev pub max_read : ℕ
+max_read = max_bytes + 1
+
+-- all that a file has, or the first of its bytes
 unfoldable pub front_of : List ℕ → List ℕ
-front_of file = take 4194305 file
+front_of file = take max_read file
 
 -- where it is known what the reader had left, the bytes are the front of that
 abbrev pub HasFront : Option (List ℕ) → List ℕ → Type 0
@@ -29,8 +34,8 @@ Reads Failed old new room = Consumes old new []
 
 -- the bytes held grew by what the reader lost; reading is done at the limit or at the reader's end, and else below the limit
 abbrev pub ReadsMore : Bool → Option (List ℕ) → Option (List ℕ) → List ℕ → List ℕ → Type 0
-ReadsMore is_done old new held grown = (more : List ℕ) × (grown ≡ held ++ more) × Consumes old new more × (length grown ≤ 4194305)
-    × MatchBool is_done (length grown < 4194305 → IsAtEnd new) (length grown < 4194305)
+ReadsMore is_done old new held grown = (more : List ℕ) × (grown ≡ held ++ more) × Consumes old new more × (length grown ≤ max_read)
+    × MatchBool is_done (length grown < max_read → IsAtEnd new) (length grown < max_read)
 
 -- a front of the text went to the writer
 abbrev pub AppendsFront : Option (List ℕ) → Option (List ℕ) → List ℕ → Type 0

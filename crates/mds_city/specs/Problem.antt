@@ -1,27 +1,25 @@
 -- Why a command could not be carried out, and what is said of it.
 use Rattle.std.specs.Prelude.{ℕ, List, ◌++◌, codes, Option}
-use Rattle.mds_table.specs.TableFile.{fault_text}
-use Rattle.mds_batch.specs.declared.batch.BatchFault.{BatchFault}
-use Rattle.mds_batch.specs.declared.batch.BatchFault.TheVariants as batch
+use Rattle.mds_table.specs.TableFile as table
+use Rattle.mds_batch.specs.Batch as batch
+use Rattle.mds_city.specs.declared.device.WriteFault.{WriteFault}
+use Rattle.mds_city.specs.declared.device.WriteFault.TheVariants as write
 use Rattle.mds_city.specs.declared.problem.Problem.{Problem}
 use Rattle.mds_city.specs.declared.problem.Problem.TheVariants.{CannotRead, NotATable, NotABatch, Output, Memory}
 use Rattle.mds_city.specs.Device.{AppendsFront, with_newline}
 
--- the word for the fault of a batch
-abbrev pub batch_fault_text : BatchFault → List ℕ
-batch_fault_text batch.Memory = codes "out of memory"
-batch_fault_text batch.TooLong = codes "too_long"
-batch_fault_text batch.NotJson = codes "not_json"
-batch_fault_text batch.NotList = codes "not_list"
-batch_fault_text batch.TooMany = codes "too_many"
-
 -- what is said of a problem
 abbrev pub problem_text : Problem → List ℕ
 problem_text (CannotRead path) = codes "mds_city: cannot read " ++ path.now
-problem_text (NotATable fault) = codes "mds_city: not a table: " ++ fault_text fault
-problem_text (NotABatch fault) = codes "mds_city: not a batch: " ++ batch_fault_text fault
+problem_text (NotATable fault) = codes "mds_city: not a table: " ++ table.fault_text fault
+problem_text (NotABatch fault) = codes "mds_city: not a batch: " ++ batch.fault_text fault
 problem_text Output = codes "mds_city: output"
 problem_text Memory = codes "mds_city: out of memory"
+
+-- the problem where a text could not be written
+abbrev pub written_problem : WriteFault → Problem
+written_problem write.Memory = Memory
+written_problem write.Device = Output
 
 -- the status that the program ends with
 abbrev pub status_of : Problem → ℕ

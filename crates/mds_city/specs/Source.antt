@@ -18,7 +18,7 @@ use Rattle.mds_city.specs.Device.{HasFront}
 abbrev pub HasBytes : {R : Type 0} → (R → Option (List ℕ)) → Source R → List ℕ → Type 0
 HasBytes {R} remaining source bytes = (reader : R) × (source.reader ≡ Some reader) × HasFront (remaining reader) bytes
 
--- the file can't be read, or there was no memory for it
+-- the path told is the file's, or there was no memory for it
 abbrev pub IsReadProblem : {R : Type 0} → Source R → Problem → Type 0
 IsReadProblem source (CannotRead path) = path.now ≡ source.path.now
 IsReadProblem source Memory = Unit {0}
@@ -30,7 +30,7 @@ IsReadProblem source Output = ⊥
 abbrev pub HasTableOf : {R : Type 0} → (R → Option (List ℕ)) → Source R → List Row → Type 0
 HasTableOf remaining source rows = (bytes : List ℕ) × HasBytes remaining source bytes × HasTable bytes rows
 
--- why a table file has no table: it can't be read, is no table file, or there was no memory
+-- why a table file has no table: it has this fault, its path is told as one that can't be read, or there was no memory
 abbrev pub ExplainsTableFile : {R : Type 0} → (R → Option (List ℕ)) → Source R → Problem → Type 0
 ExplainsTableFile remaining source (NotATable fault) = (fault ≢ table.Memory) × (bytes : List ℕ) × HasBytes remaining source bytes × HasTableFault bytes fault
 ExplainsTableFile remaining source (CannotRead path) = path.now ≡ source.path.now
@@ -52,7 +52,7 @@ ExplainsTable remaining (Some source) problem = ExplainsTableFile remaining sour
 abbrev pub HasItemsIn : {R : Type 0} → (R → Option (List ℕ)) → Source R → List EventItem → Type 0
 HasItemsIn remaining source items = (bytes : List ℕ) × HasBytes remaining source bytes × HasItems event_item bytes items
 
--- why there are no items: the file can't be read, is no batch, or there was no memory
+-- why there are no items: the file has this fault, its path is told as one that can't be read, or there was no memory
 abbrev pub ExplainsFile : {R : Type 0} → (R → Option (List ℕ)) → Source R → Problem → Type 0
 ExplainsFile remaining source (NotABatch fault) = (fault ≢ batch.Memory) × (bytes : List ℕ) × HasBytes remaining source bytes × HasBatchFault bytes fault
 ExplainsFile remaining source (CannotRead path) = path.now ≡ source.path.now

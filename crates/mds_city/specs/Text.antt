@@ -1,4 +1,4 @@
--- The lines that the program prints of a replay.
+-- The lines that the program prints of a replay and of a table.
 use Rattle.std.specs.Prelude.{ℕ, ◌+◌, List, [], ◌∷◌, ◌++◌, length, codes, decimal}
 use Rattle.std.specs.List.{flat_map}
 use Rattle.uuid.specs.Text.{hyphenated_text, lower}
@@ -24,16 +24,16 @@ refusal_text (Late last) = codes "late " ++ decimal last
 refusal_text (NoChain held at) = codes "no_chain " ++ name_of held ++ codes " " ++ decimal at
 
 -- what is wrong with an item
-abbrev pub fault_text : ItemFault → List ℕ
-fault_text NotObject = codes "not_object"
-fault_text (Missing member) = codes "missing_param " ++ member_name member
-fault_text (Bad member) = codes "bad_param " ++ member_name member
+abbrev pub item_fault_text : ItemFault → List ℕ
+item_fault_text NotObject = codes "not_object"
+item_fault_text (Missing member) = codes "missing_param " ++ member_name member
+item_fault_text (Bad member) = codes "bad_param " ++ member_name member
 
 -- what is said of an item
 abbrev pub verdict_text : Verdict → List ℕ
 verdict_text (Accepted state) = codes "ok " ++ name_of state
 verdict_text (Refused refusal) = codes "refused " ++ refusal_text refusal
-verdict_text (Fault fault) = codes "fault " ++ fault_text fault
+verdict_text (Fault fault) = codes "fault " ++ item_fault_text fault
 
 -- the line of an item: its index, and what is said of it
 abbrev pub item_line : ℕ → Verdict → List ℕ

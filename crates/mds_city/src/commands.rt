@@ -6,7 +6,6 @@ ghost use Rattle.mds_city.specs.Text.{report_text};
 ghost use Rattle.mds_city.specs.Source.{HasTableIn};
 ghost use Rattle.mds_city.specs.Command.{HasReport, ExplainsReplay, WentOut, Replayed, Told, Tabled, ExplainsPrint, TableWentOut, TableTold};
 
-use crate::device::WriteFault;
 use crate::print::{print_report, print_table};
 use crate::problem::{Problem, tell};
 use crate::replay::replay;
@@ -58,11 +57,8 @@ fn replay_into<'a, T: Read + Drop, R: Read + Drop, W: Write>(
         × WentOut T.remaining table.entry R.remaining file.entry problem (W.contents out.old) (W.contents out.new)) }
 {
     let report = report_on(alloc, table, file)?;
-    match print_report(alloc, out, &report) {
-        Ok(()) => Ok(report.refused),
-        Err(WriteFault::Memory) => Err(Problem::Memory),
-        Err(WriteFault::Device) => Err(Problem::Output),
-    }
+    print_report(alloc, out, &report)?;
+    Ok(report.refused)
 }
 
 /// The report of a replay of the file's items over the table.
@@ -77,10 +73,7 @@ fn report_on<'a, T: Read + Drop, R: Read + Drop>(
 {
     let table = table_in(alloc, table)?;
     let items = items_in(alloc, file)?;
-    match replay(alloc, table, &items) {
-        Ok(report) => Ok(report),
-        Err(_) => Err(Problem::Memory),
-    }
+    Ok(replay(alloc, table, &items)?)
 }
 
 /// Prints a table, the profile's where no file is given: a line for each row, in row order, and their number. It answers
@@ -114,11 +107,8 @@ fn table_into<'a, T: Read + Drop, W: Write>(
         × TableWentOut T.remaining table.entry problem (W.contents out.old) (W.contents out.new)) }
 {
     let rows = rows_on(alloc, table)?;
-    match print_table(alloc, out, &rows) {
-        Ok(()) => Ok(()),
-        Err(WriteFault::Memory) => Err(Problem::Memory),
-        Err(WriteFault::Device) => Err(Problem::Output),
-    }
+    print_table(alloc, out, &rows)?;
+    Ok(())
 }
 
 /// The rows of the table, in row order.
@@ -130,10 +120,7 @@ fn rows_on<'a, T: Read + Drop>(
     ensures err { IfErr result (λ problem. ExplainsPrint T.remaining table.entry problem × (problem ≢ Problem.Output)) }
 {
     let table = table_in(alloc, table)?;
-    match table.rows(alloc) {
-        Ok(rows) => Ok(rows),
-        Err(_) => Err(Problem::Memory),
-    }
+    Ok(table.rows(alloc)?)
 }
 
 #[cfg(test)]

@@ -1,7 +1,8 @@
 //! Keeps the states of a city's shared vehicles: replays files of events, and prints tables of transitions.
 #![tactic(auto)]
 
-ghost use Rattle.std.specs.Prelude.{◌≡◌, ◌⊎◌, IfErr, option_map};
+ghost use Rattle.std.specs.Prelude.{◌≡◌, ◌≢◌, ◌⊎◌, IfErr, option_map};
+ghost use Rattle.clap.specs.Words.{kind_of};
 
 mod commands;
 mod device;
@@ -25,6 +26,9 @@ const DONE: u8 = 0;
 
 /// The words don't parse.
 const BAD_WORDS: u8 = 2;
+
+/// Standard output failed.
+const NO_OUTPUT: u8 = 3;
 
 /// Memory was refused.
 const NO_MEMORY: u8 = 4;
@@ -62,15 +66,26 @@ fn words_of(rt: &HostRuntime) -> Result<Vec<String>, u8>
     }
 }
 
-/// Prints why the words gave no command, and answers the exit status. Where the printing fails, the status stays.
+/// Prints why the words gave no command, or the help that was asked for, and answers the exit status. Where standard error
+/// fails the status stays; where standard output does, it is that of a failed output.
 fn told(rt: &HostRuntime, error: &clap::Error) -> u8
-    ensures { (result ≡ 0) ⊎ ((result ≡ 2) ⊎ (result ≡ 4)) }
+    ensures memory { kind_of error.now ≡ ErrorKind.OutOfMemory → result ≡ 4 }
+    ensures help { kind_of error.now ≡ ErrorKind.DisplayHelp → (result ≡ 0) ⊎ (result ≡ 3) }
+    ensures mistake { kind_of error.now ≢ ErrorKind.OutOfMemory → kind_of error.now ≢ ErrorKind.DisplayHelp
+        → kind_of error.now ≢ ErrorKind.DisplayVersion → result ≡ 2 }
 {
     if matches!(error.kind(), ErrorKind::OutOfMemory) {
         return out_of_memory(rt);
     }
-    let _ = error.print(rt);
-    if error.use_stderr() { BAD_WORDS } else { DONE }
+    let printed = error.print(rt);
+    if error.use_stderr() {
+        return BAD_WORDS;
+    }
+    if printed.is_err() {
+        let _ = rt.eprintln("mds_city: output");
+        return NO_OUTPUT;
+    }
+    DONE
 }
 
 /// Says that memory was refused, and answers the exit status.
@@ -91,18 +106,18 @@ fn carry_out(rt: &HostRuntime, command: Command<'_>) -> u8 {
             };
             replay_to(
                 rt.alloc(),
-                opened(rt, table),
+                source_if_named(rt, table),
                 source,
                 &mut rt.stdout(),
                 &mut rt.stderr(),
             )
         }
         Command::Replay { file, table } => {
-            let table = opened(rt, table);
+            let table = source_if_named(rt, table);
             replay_to(
                 rt.alloc(),
                 table,
-                open(rt, file),
+                source_of(rt, file),
                 &mut rt.stdout(),
                 &mut rt.stderr(),
             )
@@ -110,7 +125,7 @@ fn carry_out(rt: &HostRuntime, command: Command<'_>) -> u8 {
         Command::Table { table } => {
             table_to(
                 rt.alloc(),
-                opened(rt, table),
+                source_if_named(rt, table),
                 &mut rt.stdout(),
                 &mut rt.stderr(),
             )
@@ -119,14 +134,14 @@ fn carry_out(rt: &HostRuntime, command: Command<'_>) -> u8 {
 }
 
 /// The file of this path, if one is named.
-fn opened<'a>(rt: &HostRuntime, path: Option<&'a str>) -> Option<Source<'a, fs::File>>
+fn source_if_named<'a>(rt: &HostRuntime, path: Option<&'a str>) -> Option<Source<'a, fs::File>>
     ensures { option_map (λ source. source.path.now) result ≡ option_map (λ path. path.now) path.entry }
 {
-    path.map(|path| open(rt, path))
+    path.map(|path| source_of(rt, path))
 }
 
 /// The file of this path.
-fn open<'a>(rt: &HostRuntime, path: &'a str) -> Source<'a, fs::File>
+fn source_of<'a>(rt: &HostRuntime, path: &'a str) -> Source<'a, fs::File>
     ensures { result.path.now ≡ path.now }
 {
     Source {

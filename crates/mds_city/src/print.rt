@@ -1,4 +1,4 @@
-//! Printing a replay's report.
+//! Printing a replay's report, and a table.
 ghost use Rattle.std.specs.Prelude.{◌++◌, string_bytes, OnOk, OnErr};
 ghost use Rattle.std.specs.Io.KnownBytes.{Appends};
 ghost use Rattle.mds_city.specs.Device.{AppendsFront, Passes};

@@ -1,12 +1,12 @@
 //! Why a command could not be carried out.
 ghost use Rattle.std.specs.Prelude.{◌≡◌, ◌⊎◌, Some};
 ghost use Rattle.mds_city.specs.Device.{AppendsFront};
-ghost use Rattle.mds_city.specs.Problem.{batch_fault_text, problem_text, status_of, Tells};
+ghost use Rattle.mds_city.specs.Problem.{problem_text, status_of, Tells};
 
-use crate::device::write_all_of;
+use crate::device::{WriteFault, write_all_of};
 use mds_batch::BatchFault;
 use mds_table::TableFault;
-use std::alloc::Global;
+use std::alloc::{AllocError, Global};
 use std::fmt;
 use std::fmt::Write as _;
 use std::io::Write;
@@ -41,21 +41,26 @@ impl Problem<'_> {
     }
 }
 
-/// The fault of a batch, as it is printed.
-#[derive(Clone, Copy)]
-struct BatchFaultText(BatchFault);
+impl From<AllocError> for Problem<'_> {
+    ghost use Rattle.mds_city.specs.declared.problem.Problem.TheVariants.{Memory};
 
-impl fmt::Display for BatchFaultText {
-    ghost output = { λ text. Some (batch_fault_text text.0) };
+    ghost from_gives = { λ _ problem. problem ≡ Memory };
 
-    fn fmt<W: fmt::Write>(&self, f: &mut fmt::Formatter<W>) -> fmt::Result {
-        f.write_str(match self.0 {
-            BatchFault::Memory => "out of memory",
-            BatchFault::TooLong => "too_long",
-            BatchFault::NotJson => "not_json",
-            BatchFault::NotList => "not_list",
-            BatchFault::TooMany => "too_many",
-        })
+    fn from(_refused: AllocError) -> Self {
+        Problem::Memory
+    }
+}
+
+impl From<WriteFault> for Problem<'_> {
+    ghost use Rattle.mds_city.specs.Problem.{written_problem};
+
+    ghost from_gives = { λ fault problem. problem ≡ written_problem fault };
+
+    fn from(fault: WriteFault) -> Self {
+        match fault {
+            WriteFault::Memory => Problem::Memory,
+            WriteFault::Device => Problem::Output,
+        }
     }
 }
 
@@ -66,10 +71,7 @@ impl fmt::Display for Problem<'_> {
         match self {
             Problem::CannotRead(path) => write!(f, "mds_city: cannot read {path}"),
             Problem::NotATable(fault) => write!(f, "mds_city: not a table: {fault}"),
-            Problem::NotABatch(fault) => {
-                let text = BatchFaultText(*fault);
-                write!(f, "mds_city: not a batch: {text}")
-            }
+            Problem::NotABatch(fault) => write!(f, "mds_city: not a batch: {fault}"),
             Problem::Output => write!(f, "mds_city: output"),
             Problem::Memory => write!(f, "mds_city: out of memory"),
         }

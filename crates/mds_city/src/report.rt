@@ -1,6 +1,6 @@
 //! What a replay comes to, and the lines that are printed of it.
 ghost use Rattle.std.specs.Prelude.{◌≡◌, Some};
-ghost use Rattle.mds_city.specs.Text.{refusal_text, fault_text, verdict_text, item_line, vehicle_line, total_line};
+ghost use Rattle.mds_city.specs.Text.{refusal_text, item_fault_text, verdict_text, item_line, vehicle_line, total_line};
 
 use mds_batch::ItemFault;
 use mds_core::{Key, Refusal, Standing};
@@ -74,7 +74,7 @@ impl fmt::Display for RefusalText {
 struct FaultText(ItemFault);
 
 impl fmt::Display for FaultText {
-    ghost output = { λ text. Some (fault_text text.0) };
+    ghost output = { λ text. Some (item_fault_text text.0) };
 
     fn fmt<W: fmt::Write>(&self, f: &mut fmt::Formatter<W>) -> fmt::Result {
         match self.0 {

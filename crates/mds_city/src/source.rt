@@ -47,10 +47,7 @@ pub fn table_in<'a, T: Read + Drop>(
 {
     match source {
         Some(source) => table_of_file(alloc, source),
-        None => match Table::profile(alloc) {
-            Ok(table) => Ok(table),
-            Err(_) => Err(Problem::Memory),
-        },
+        None => Ok(Table::profile(alloc)?),
     }
 }
 

@@ -1,11 +1,11 @@
 -- What is wrong with an event's types and time.
 use Rattle.std.specs.Prelude.{◌≡◌, ℕ, ◌<◌, ◌≤◌, List, [], length}
-use Rattle.mds_core.specs.Reported.{max_types, max_time}
+use Rattle.mds_core.specs.Reported.{max_event_types, max_time}
 use Rattle.mds_core.specs.declared.event.EventFault.{EventFault}
 use Rattle.mds_core.specs.declared.event.EventFault.TheVariants.{NoTypes, TooManyTypes, BadTime}
 
 -- the first fault: no type, more than 16 types, or a time past the range
 abbrev pub FaultOf : List (List ℕ) → ℕ → EventFault → Type 0
 FaultOf types time NoTypes = types ≡ []
-FaultOf types time TooManyTypes = max_types < length types
-FaultOf types time BadTime = (1 ≤ length types) × (length types ≤ max_types) × (max_time < time)
+FaultOf types time TooManyTypes = max_event_types < length types
+FaultOf types time BadTime = (1 ≤ length types) × (length types ≤ max_event_types) × (max_time < time)

@@ -14,15 +14,15 @@ pub record Reported : Type 0 where
   pub position : Option Position
 
 -- the most types of an event
-abbrev pub max_types : ℕ
-max_types = 16
+abbrev pub max_event_types : ℕ
+max_event_types = 16
 
--- the latest time: a double holds it exactly, with each whole number below it
+-- the latest time: up to it no two whole numbers are the same double
 abbrev pub max_time : ℕ
 max_time = 9007199254740991
 
 -- 1 to 16 types, and a time in the range
 pub record MayBeReported (types : List (List ℕ)) (time : ℕ) : Type 0 where
   pub some : 1 ≤ length types
-  pub few : length types ≤ max_types
+  pub few : length types ≤ max_event_types
   pub in_range : time ≤ max_time

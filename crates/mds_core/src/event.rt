@@ -1,6 +1,6 @@
 //! Events, as providers report them.
 ghost use Rattle.std.specs.Prelude.{◌≡◌, ◌↔◌, ◌≤◌, length, IsOk, IfOk, IfErr};
-ghost use Rattle.mds_core.specs.Reported.{MayBeReported};
+ghost use Rattle.mds_core.specs.Reported.{max_event_types, max_time, MayBeReported};
 ghost use Rattle.mds_core.specs.EventFault.{FaultOf};
 
 use crate::{Key, Position};
@@ -12,7 +12,7 @@ use uuid::Uuid;
 /// The most types that an event carries.
 pub const MAX_TYPES: usize = 16;
 
-/// The latest time of an event: the greatest number below which each whole number is a double.
+/// The latest time of an event, 2 to the power 53 less 1: up to it no two whole numbers are the same double.
 pub const MAX_TIME: u64 = 9_007_199_254_740_991;
 
 /// An event, as a provider reports it (MDS 2.0, "Events"). It holds no memory of its own.
@@ -109,7 +109,7 @@ impl Event {
     pub fn types(&self) -> &[TypeName]
         ensures types { result.now ≡ self.now.types }
         ensures some { 1 ≤ length result.now }
-        ensures few { length result.now ≤ 16 }
+        ensures few { length result.now ≤ max_event_types }
     {
         self.types.as_slice()
     }
@@ -117,7 +117,7 @@ impl Event {
     /// The time of the event, in milliseconds since the Unix epoch, at most [`MAX_TIME`].
     pub fn time(&self) -> u64
         ensures time { result ≡ self.now.time }
-        ensures in_range { result ≤ 9007199254740991 }
+        ensures in_range { result ≤ max_time }
     {
         self.time
     }
@@ -146,7 +146,7 @@ impl Event {
 
 /// The same types again.
 fn copy_types(types: &[TypeName]) -> ArrayVec<TypeName, MAX_TYPES>
-    requires { length types.now ≤ 16 }
+    requires { length types.now ≤ max_event_types }
     ensures { result.items ≡ types.now }
 {
     let mut copies = ArrayVec::new();

@@ -13,7 +13,7 @@ use uuid::Uuid;
 /// The provider of every vehicle here.
 pub const PROVIDER: &str = "00000000-0000-4000-8000-000000000001";
 
-/// Three vehicles.
+/// Two vehicles.
 pub const A: &str = "00000000-0000-4000-8000-00000000000a";
 
 pub const B: &str = "00000000-0000-4000-8000-00000000000b";

@@ -19,8 +19,8 @@ abbrev pub max_rows : ℕ
 max_rows = 4096
 
 -- the most types of a table
-abbrev pub max_types : ℕ
-max_types = 64
+abbrev pub max_table_types : ℕ
+max_table_types = 64
 
 -- what a value lists: the items of a list, or else itself alone
 abbrev pub listed : Data → List Data
@@ -82,7 +82,7 @@ pub record AreGood (entries : List Data) (rows : List Row) (kinds : List (List �
   pub exactly : AreRowsOf entries rows
   pub few_rows : length rows ≤ max_rows
   pub types : AreTypesOf rows kinds
-  pub few_kinds : length kinds ≤ max_types
+  pub few_kinds : length kinds ≤ max_table_types
 
 -- the first entries, up to a place, have no fault
 abbrev pub AreGoodBefore : List Data → ℕ → Type 0
@@ -104,7 +104,7 @@ pub record HasTooManyTypesAt (entries : List Data) (at : ℕ) : Type 0 where
   pub before : AreGoodBefore entries at
   pub form : IsSomeAnd (slice_get entries at) IsRowEntry
   pub many : (rows : List Row) × (kinds : List (List ℕ)) × AreRowsOf (take (at + 1) entries) rows × (length rows ≤ max_rows)
-      × AreTypesOf rows kinds × (max_types < length kinds)
+      × AreTypesOf rows kinds × (max_table_types < length kinds)
 
 -- the entries of a file: its member `rows`, if it is an object with such a list
 abbrev pub entries_in : Data → Option (List Data)

@@ -81,7 +81,7 @@ impl TypeName {
 impl Default for TypeName {
     ghost is_default = { λ name. name ≡ codes "unspecified" };
 
-    /// The name `unspecified`.
+    /// The name `unspecified`, as in MDS; slots of a list that hold no name yet are filled with it.
     fn default() -> TypeName {
         let mut name = ArrayString::new();
         name.push_str("unspecified");

@@ -43,6 +43,20 @@ fn broken_batches(rt: HostRuntime) {
 }
 
 #[test]
+fn faults_have_texts(rt: HostRuntime) -> Result<(), Fail> {
+    let expected = [
+        (BatchFault::TooLong, "too_long"),
+        (BatchFault::NotJson, "not_json"),
+        (BatchFault::NotList, "not_list"),
+        (BatchFault::TooMany, "too_many"),
+    ];
+    for (fault, text) in expected {
+        assert_eq!(rt; fault.to_string(rt.alloc())?.as_str(), text);
+    }
+    Ok(())
+}
+
+#[test]
 fn empty_batches(rt: HostRuntime) -> Result<(), Fail> {
     assert_eq!(rt; read_vehicles(rt.alloc(), b"[]")?.len(), 0);
     assert_eq!(rt; read_events(rt.alloc(), b"[]")?.len(), 0);

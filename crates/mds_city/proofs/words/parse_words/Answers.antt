@@ -1,14 +1,27 @@
-use Rattle.std.proofs.Common.{◌≡◌, ◌∙◌, ap, sym, subst, map, Result, Ok, Err, IfErr}
-use Rattle.std.specs.Prelude.{IsErrAnd}
-use Rattle.clap.specs.Words.{App, takes}
+use Rattle.std.proofs.Common.{◌≡◌, ◌∙◌, [], true, inl, ap, refl, subst, map}
+use Rattle.clap.specs.Words.{App, HasKind, fault_of, is_simple_and_free, takes}
+use Rattle.mds_city.specs.Words.{program_app}
+use Rattle.mds_city.proofs.ErrorLemmas.{passed_on}
 use Rattle.mds_city.proofs.words.parse_words.Goals as goal
 
--- the error that was passed on is the one that came
-passed_on : {T E : Type 0} (r : Result T E) (e : E) (P : E → Type 0) → IsErrAnd r (λ y. y ≡ e) → P e → IfErr r P
-passed_on (Ok x) e P same p = tt
-passed_on (Err y) e P same p = subst P (sym same) p
+-- `clap` says of such a program which faults it finds
+is_simple : is_simple_and_free program_app ≡ true
+is_simple = refl
 
 pub returns-in_err-matches-clause-err : goal.returns-in_err-matches-clause-err
 returns-in_err-matches-clause-err g c =
     passed_on _ _ _ c.from_residual-in_err-matches.ensures.1
     (λ taken asked. c.in_err-matches.ensures.passes (ap (λ (a : App). takes a (map g.S.AsStr.text c.args.words.now)) c.in_ok-form.ensures ∙ taken))
+
+pub returns-in_err-matches-clause-kind : goal.returns-in_err-matches-clause-kind
+returns-in_err-matches-clause-kind g c =
+    let words = map g.S.AsStr.text c.args.words.now in
+    let found = c.in_err-matches.ensures.kinds (ap is_simple_and_free c.in_ok-form.ensures ∙ is_simple) in
+    passed_on _ _ _ c.from_residual-in_err-matches.ensures.1
+    (inl (subst (λ (a : App). HasKind (fault_of a words) c.in_err-matches.field-0.0) c.in_ok-form.ensures found))
+
+pub returns-in-Some-clause-taken : goal.returns-in-Some-clause-taken
+returns-in-Some-clause-taken g c =
+    let words = map g.S.AsStr.text c.args.words.now in
+    let found = c.in_ok-matches.ensures.kinds (ap is_simple_and_free c.in_ok-form.ensures ∙ is_simple) in
+    subst (λ (a : App). fault_of a words ≡ []) c.in_ok-form.ensures found
