@@ -1,9 +1,11 @@
-/* Refuses one growth of memory: the one of the number in REFUSE, counted from 1. Loaded before the C library by
-   tests/refused-growths; no part of the program. */
+/* Refuses one growth of memory: the one of the number in REFUSE, counted from 1, and makes the file REFUSED then. Loaded
+   before the C library by tests/refused-growths; no part of the program. */
 #define _GNU_SOURCE
 #include <dlfcn.h>
 #include <errno.h>
+#include <fcntl.h>
 #include <stdlib.h>
+#include <unistd.h>
 
 static int is_refused(void)
 {
@@ -13,6 +15,10 @@ static int is_refused(void)
         left = number ? atol(number) : 0;
     }
     if (left > 0 && --left == 0) {
+        const char *mark = getenv("REFUSED");
+        int made = mark ? open(mark, O_CREAT | O_WRONLY, 0600) : -1;
+        if (made >= 0)
+            close(made);
         errno = ENOMEM;
         return 1;
     }
