@@ -6,7 +6,7 @@ pub mod Position
 pub mod Reported
 pub mod EventFault
 pub mod History
-pub mod Lookup
+pub mod Known
 pub mod Answer
 pub mod Run
 pub mod Lawful

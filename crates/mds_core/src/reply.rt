@@ -1,5 +1,10 @@
 //! What the machine replies.
-use crate::Position;
+ghost use Rattle.std.specs.Prelude.{◌≡◌, ◌<◌, ◌++◌, ◌∷◌, [], List, None, length};
+ghost use Rattle.mds_core.specs.declared.request.Request.{Request as Asked};
+ghost use Rattle.mds_core.specs.declared.request.Request.TheVariants.{Report};
+ghost use Rattle.mds_core.specs.History.{reports, standing_of};
+
+use crate::{Event, Position};
 use mds_table::State;
 
 /// Where a registered vehicle stands.
@@ -13,6 +18,33 @@ pub struct Standing {
     pub last: Option<u64>,
     /// The position of the last of them that carried one.
     pub position: Option<Position>,
+}
+
+impl Standing {
+    /// Where a vehicle stands that was registered and has no event yet.
+    pub fn registered() -> Standing
+        ensures { result ≡ record { state = State.Removed; events = 0; last = None; position = None } }
+    {
+        Standing {
+            state: State::Removed,
+            events: 0,
+            last: None,
+            position: None,
+        }
+    }
+
+    /// Where the vehicle stands after one more event: where an event carries no position, the last one stays.
+    pub fn after(&self, event: &Event) -> Standing
+        ensures { (requests : List Asked) → self.now ≡ standing_of requests → length (reports requests) < usize.MAX
+            → result ≡ standing_of (requests ++ Report event.now ∷ []) }
+    {
+        Standing {
+            state: event.state(),
+            events: self.events.saturating_add(1),
+            last: Some(event.time()),
+            position: event.position().or(self.position),
+        }
+    }
 }
 
 /// What became of a request.
