@@ -7,6 +7,7 @@ pub mod Reported
 pub mod EventFault
 pub mod History
 pub mod Known
+pub mod Refusal
 pub mod Answer
 pub mod Run
 pub mod Lawful

@@ -12,7 +12,7 @@ use std::marker::Model;
 
 /// The plain machine over one table. It keeps its history of accepted requests alone, and looks everything up in it:
 /// this is the program of the definitions, and the measure of faster ones.
-#[derive(Drop)]
+#[derive(Debug, Drop)]
 pub struct Fleet {
     table: Table,
     history: Vec<Request>,

@@ -1,11 +1,14 @@
 //! What the machine replies.
-ghost use Rattle.std.specs.Prelude.{◌≡◌, ◌<◌, ◌++◌, ◌∷◌, [], List, None, length};
+ghost use Rattle.std.specs.Prelude.{◌≡◌, ◌<◌, ◌++◌, ◌∷◌, [], List, Some, None, length};
 ghost use Rattle.mds_core.specs.declared.request.Request.{Request as Asked};
 ghost use Rattle.mds_core.specs.declared.request.Request.TheVariants.{Report};
 ghost use Rattle.mds_core.specs.History.{reports, standing_of};
+ghost use Rattle.mds_core.specs.Refusal.{refusal_text};
 
 use crate::{Event, Position};
 use mds_table::State;
+use std::error::Error;
+use std::fmt;
 
 /// Where a registered vehicle stands.
 #[derive(Clone, Copy, Debug, PartialEq, Eq, Hash)]
@@ -80,6 +83,22 @@ pub enum Refusal {
         at: usize,
     },
 }
+
+impl fmt::Display for Refusal {
+    ghost output = { λ refusal. Some (refusal_text refusal) };
+
+    fn fmt<W: fmt::Write>(&self, f: &mut fmt::Formatter<W>) -> fmt::Result {
+        match self {
+            Refusal::AlreadyRegistered => f.write_str("already_registered"),
+            Refusal::Unregistered => f.write_str("unregistered"),
+            Refusal::Repeated => f.write_str("repeated"),
+            Refusal::Late { last } => write!(f, "late {last}"),
+            Refusal::NoChain { held, at } => write!(f, "no_chain {held} {at}"),
+        }
+    }
+}
+
+impl Error for Refusal {}
 
 /// A reply of the machine.
 #[derive(Clone, Copy, Debug, PartialEq, Eq, Hash)]
