@@ -76,12 +76,6 @@ standing_of-push_none requests request none = standing_of-same (requests ++ requ
       nothing : (report : Option Reported) → report ≡ None → reports requests ++ filter_map (λ r. r) (report ∷ []) ≡ reports requests
       nothing report is = rw (is, append-nil) refl
 
--- a request that reports an event is its report
-pub report_is : (request : Request) (event : Reported) → report_of request ≡ Some event → request ≡ Report event
-report_is (Register key) event is = cc
-report_is (Report other) event is = cc
-report_is (Look key) event is = cc
-
 -- a vehicle with one request more is registered
 pub standing_if-push : (requests : List Request) (request : Request) → standing_if (requests ++ request ∷ []) ≡ Some (standing_of (requests ++ request ∷ []))
 standing_if-push [] request = refl
