@@ -1,5 +1,5 @@
 -- What the bytes of a batch are: items, or the first fault of the whole.
-use Rattle.std.specs.Prelude.{◌≡◌, codes, ℕ, ◌<◌, ◌≤◌, List, [], ◌∷◌, length, map, Option, Some, None, option_map}
+use Rattle.std.specs.Prelude.{◌≡◌, codes, ℕ, ◌<◌, ◌≤◌, List, [], ◌∷◌, length, slice_get, Option, Some, None, option_map}
 use Rattle.std.specs.Option.{option_or}
 use Rattle.serde_json.specs.Data.{Data}
 use Rattle.serde_json.specs.Find.{as_array, as_object}
@@ -19,10 +19,15 @@ IsShortTextOf value bytes = (length bytes ≤ max_bytes) × IsTextOf bytes value
 abbrev pub max_items : ℕ
 max_items = 10000
 
--- the bytes list values, of which there are few enough, and the items are what these stand for, one by one
-abbrev pub HasItems : {A : Type 0} → (Data → A) → List ℕ → List A → Type 0
-HasItems item_of bytes items =
-    (value : Data) × (all : List Data) × IsShortTextOf value bytes × (listed value ≡ Some all) × (length all ≤ max_items) × (items ≡ map item_of all)
+-- each item is what the value at its place stands for
+pub record AreItemsOf {A : Type 0} (IsItemOf : Data → A → Type 0) (values : List Data) (items : List A) : Type 0 where
+  pub count : length items ≡ length values
+  pub each : (place : ℕ) (value : Data) (item : A) → slice_get values place ≡ Some value → slice_get items place ≡ Some item → IsItemOf value item
+
+-- the bytes list values, of which there are few enough, and the items are what these stand for, each in its place
+abbrev pub HasItems : {A : Type 0} → (Data → A → Type 0) → List ℕ → List A → Type 0
+HasItems IsItemOf bytes items =
+    (value : Data) × (all : List Data) × IsShortTextOf value bytes × (listed value ≡ Some all) × (length all ≤ max_items) × AreItemsOf IsItemOf all items
 
 -- what is wrong with a value that is no batch: it is neither a list nor an object, or it lists too many
 abbrev pub IsListFault : Data → BatchFault → Type 0
