@@ -3,17 +3,15 @@ use Rattle.std.specs.Prelude.{◌≡◌, codes, ℕ, ◌<◌, ◌≤◌, List, [
 use Rattle.std.specs.Option.{option_or}
 use Rattle.serde_json.specs.Data.{Data}
 use Rattle.serde_json.specs.Find.{as_array, as_object}
+use Rattle.mds_table.specs.declared.json.TextFault.{TextFault}
+use Rattle.mds_table.specs.declared.json.TextFault.TheVariants as text
+use Rattle.mds_table.specs.Json.{items_in, IsShortTextOf, HasTextFault}
 use Rattle.mds_batch.specs.declared.batch.BatchFault.{BatchFault}
 use Rattle.mds_batch.specs.declared.batch.BatchFault.TheVariants.{Memory, TooLong, NotJson, NotList, TooMany}
-use Rattle.mds_table.specs.Json.{max_bytes, items_in, IsTextOf}
 
 -- the values that a batch lists: those of a list, or an object alone
 abbrev pub listed : Data → Option (List Data)
 listed value = option_or (option_map items_in (as_array value)) (option_map (λ members. value ∷ []) (as_object value))
-
--- the bytes are few enough, and the text of a value
-abbrev pub IsShortTextOf : Data → List ℕ → Type 0
-IsShortTextOf value bytes = (length bytes ≤ max_bytes) × IsTextOf bytes value
 
 -- the most items of a batch
 abbrev pub max_items : ℕ
@@ -39,11 +37,17 @@ IsListFault value NotJson = ⊥
 
 -- the first fault: too many bytes, no text of JSON, or a fault of the list; want of memory says nothing of the bytes
 abbrev pub HasFault : List ℕ → BatchFault → Type 0
-HasFault bytes TooLong = max_bytes < length bytes
-HasFault bytes NotJson = (length bytes ≤ max_bytes) × ((value : Data) → IsTextOf bytes value → ⊥)
+HasFault bytes TooLong = HasTextFault bytes text.TooLong
+HasFault bytes NotJson = HasTextFault bytes text.NotJson
 HasFault bytes NotList = (value : Data) × IsShortTextOf value bytes × IsListFault value NotList
 HasFault bytes TooMany = (value : Data) × IsShortTextOf value bytes × IsListFault value TooMany
 HasFault bytes Memory = Unit {0}
+
+-- the fault of a batch whose bytes are no text
+abbrev pub of_text : TextFault → BatchFault
+of_text text.Memory = Memory
+of_text text.TooLong = TooLong
+of_text text.NotJson = NotJson
 
 -- the word for a fault
 abbrev pub fault_text : BatchFault → List ℕ

@@ -2,11 +2,12 @@
 ghost use Rattle.std.specs.Prelude.{◌≡◌, ◌≤◌, length, map, Some, option_map, IfOk, IfErr};
 ghost use Rattle.serde_json.specs.View.{view};
 ghost use Rattle.mds_batch.specs.Items.{IsVehicleItem, IsEventItem};
-ghost use Rattle.mds_batch.specs.Batch.{max_items, listed, IsShortTextOf, AreItemsOf, HasItems, IsListFault, HasFault, fault_text};
+ghost use Rattle.mds_batch.specs.Batch.{max_items, listed, AreItemsOf, HasItems, IsListFault, HasFault, fault_text};
 
 use crate::read::{event_item_of, vehicle_item_of};
 use crate::{EventItem, VehicleItem};
 use mds_table::MAX_BYTES;
+use mds_table::json::{TextFault, value_of};
 use serde_json::Value;
 use std::alloc::{AllocError, Global};
 use std::{fmt, slice};
@@ -40,6 +41,20 @@ impl fmt::Display for BatchFault {
             BatchFault::NotList => "not_list",
             BatchFault::TooMany => "too_many",
         })
+    }
+}
+
+impl From<TextFault> for BatchFault {
+    ghost use Rattle.mds_batch.specs.Batch.{of_text};
+
+    ghost from_gives = { λ text fault. fault ≡ of_text text };
+
+    fn from(fault: TextFault) -> BatchFault {
+        match fault {
+            TextFault::Memory => BatchFault::Memory,
+            TextFault::TooLong => BatchFault::TooLong,
+            TextFault::NotJson => BatchFault::NotJson,
+        }
     }
 }
 
@@ -82,21 +97,6 @@ pub fn read_events(alloc: Global, bytes: &[u8]) -> Result<Vec<EventItem>, BatchF
     let value = value_of(alloc, bytes)?;
     let values = listed_values(&value)?;
     Ok(event_items_of(alloc, values)?)
-}
-
-/// The value that a short text of JSON stands for.
-fn value_of(alloc: Global, bytes: &[u8]) -> Result<Value, BatchFault>
-    ensures value { IfOk result (λ value. IsShortTextOf (view value) bytes.now) }
-    ensures fault { IfErr result (HasFault bytes.now) }
-{
-    if bytes.len() > MAX_BYTES {
-        return Err(BatchFault::TooLong);
-    }
-    match Value::from_slice(alloc, bytes) {
-        Ok(value) => Ok(value),
-        Err(error) if error.is_memory() => Err(BatchFault::Memory),
-        Err(_) => Err(BatchFault::NotJson),
-    }
 }
 
 /// The values that a batch lists, of which there are few enough.

@@ -2,11 +2,12 @@
 ghost use Rattle.std.specs.Prelude.{◌≡◌, ◌≤◌, [], length, map, Some, None, IfSome, IfNone, OnSome};
 ghost use Rattle.serde_json.specs.View.{view};
 ghost use Rattle.mds_core.specs.Reported.{max_event_types, max_time};
-ghost use Rattle.mds_batch.specs.Forms.{uuid_in, state_in, type_in, all_types, few_types, types_in, time_in, whole_in, place_in};
+ghost use Rattle.mds_batch.specs.Forms.{uuid_in, all_types, few_types, types_in, time_in, whole_in, place_in};
 
 use arrayvec::ArrayVec;
 use mds_core::{MAX_TIME, MAX_TYPES, Position};
-use mds_table::{State, TypeName};
+use mds_table::TypeName;
+use mds_table::json::type_name_of;
 use serde_json::Value;
 use uuid::Uuid;
 
@@ -15,20 +16,6 @@ pub(crate) fn uuid_of(value: &Value) -> Option<Uuid>
     ensures { result ≡ uuid_in (view value.now) }
 {
     Uuid::try_parse(value.as_str()?).ok()
-}
-
-/// The state that the value names.
-pub(crate) fn state_of(value: &Value) -> Option<State>
-    ensures { result ≡ state_in (view value.now) }
-{
-    State::of_name(value.as_str()?)
-}
-
-/// The type name that the value is.
-fn type_of(value: &Value) -> Option<TypeName>
-    ensures { result ≡ type_in (view value.now) }
-{
-    TypeName::new(value.as_str()?).ok()
 }
 
 /// Adds the type names that the values are, if each is one; where one isn't, those before it may have been added.
@@ -40,7 +27,7 @@ fn push_all_types(values: &[Value], types: &mut ArrayVec<TypeName, MAX_TYPES>) -
     ensures none { IfNone result (all_types (map view values.now) ≡ None) }
 {
     for value in values {
-        types.push(type_of(value)?);
+        types.push(type_name_of(value)?);
     }
     Some(())
 }

@@ -5,13 +5,15 @@ ghost use Rattle.serde_json.specs.Find.{get};
 ghost use Rattle.mds_batch.specs.declared.item.ItemFault.TheVariants.{Missing};
 ghost use Rattle.mds_core.specs.Reported.{max_event_types, max_time};
 ghost use Rattle.mds_batch.specs.Member.{member_name};
-ghost use Rattle.mds_batch.specs.Forms.{uuid_in, state_in, types_in, time_in};
+ghost use Rattle.mds_table.specs.Json.{state_in};
+ghost use Rattle.mds_batch.specs.Forms.{uuid_in, types_in, time_in};
 ghost use Rattle.mds_batch.specs.Items.{member_in, position_in, fault_at, fault_of, vehicle_members, event_members, IsKeyOf, IsEventOf, IsVehicleItem, IsEventItem};
 
-use crate::form::{fill_types, position_of, state_of, time_of, uuid_of};
+use crate::form::{fill_types, position_of, time_of, uuid_of};
 use crate::{EventItem, ItemFault, Member, VehicleItem};
 use arrayvec::ArrayVec;
 use mds_core::{Event, Key, MAX_TYPES, Position};
+use mds_table::json::state_of;
 use mds_table::{State, TypeName};
 use serde_json::Value;
 use uuid::Uuid;
