@@ -1,28 +1,31 @@
 -- What the bytes of a batch are: items, or the first fault of the whole.
-use Rattle.std.specs.Prelude.{◌≡◌, codes, ℕ, ◌<◌, ◌≤◌, List, [], ◌∷◌, length, map, Option, Some, None, option_map}
+use Rattle.std.specs.Prelude.{◌≡◌, codes, ℕ, ◌<◌, ◌≤◌, List, [], ◌∷◌, length, slice_get, Option, Some, None, option_map}
 use Rattle.std.specs.Option.{option_or}
 use Rattle.serde_json.specs.Data.{Data}
 use Rattle.serde_json.specs.Find.{as_array, as_object}
+use Rattle.mds_table.specs.declared.json.TextFault.{TextFault}
+use Rattle.mds_table.specs.declared.json.TextFault.TheVariants as text
+use Rattle.mds_table.specs.Json.{items_in, IsShortTextOf, HasTextFault}
 use Rattle.mds_batch.specs.declared.batch.BatchFault.{BatchFault}
 use Rattle.mds_batch.specs.declared.batch.BatchFault.TheVariants.{Memory, TooLong, NotJson, NotList, TooMany}
-use Rattle.mds_table.specs.Json.{max_bytes, items_in, IsTextOf}
 
 -- the values that a batch lists: those of a list, or an object alone
 abbrev pub listed : Data → Option (List Data)
 listed value = option_or (option_map items_in (as_array value)) (option_map (λ members. value ∷ []) (as_object value))
 
--- the bytes are few enough, and the text of a value
-abbrev pub IsShortTextOf : Data → List ℕ → Type 0
-IsShortTextOf value bytes = (length bytes ≤ max_bytes) × IsTextOf bytes value
-
 -- the most items of a batch
 abbrev pub max_items : ℕ
 max_items = 10000
 
--- the bytes list values, of which there are few enough, and the items are what these stand for, one by one
-abbrev pub HasItems : {A : Type 0} → (Data → A) → List ℕ → List A → Type 0
-HasItems item_of bytes items =
-    (value : Data) × (all : List Data) × IsShortTextOf value bytes × (listed value ≡ Some all) × (length all ≤ max_items) × (items ≡ map item_of all)
+-- each item is what the value at its place stands for
+pub record AreItemsOf {A : Type 0} (IsItemOf : Data → A → Type 0) (values : List Data) (items : List A) : Type 0 where
+  pub count : length items ≡ length values
+  pub each : (place : ℕ) (value : Data) (item : A) → slice_get values place ≡ Some value → slice_get items place ≡ Some item → IsItemOf value item
+
+-- the bytes list values, of which there are few enough, and the items are what these stand for, each in its place
+abbrev pub HasItems : {A : Type 0} → (Data → A → Type 0) → List ℕ → List A → Type 0
+HasItems IsItemOf bytes items =
+    (value : Data) × (all : List Data) × IsShortTextOf value bytes × (listed value ≡ Some all) × (length all ≤ max_items) × AreItemsOf IsItemOf all items
 
 -- what is wrong with a value that is no batch: it is neither a list nor an object, or it lists too many
 abbrev pub IsListFault : Data → BatchFault → Type 0
@@ -34,11 +37,17 @@ IsListFault value NotJson = ⊥
 
 -- the first fault: too many bytes, no text of JSON, or a fault of the list; want of memory says nothing of the bytes
 abbrev pub HasFault : List ℕ → BatchFault → Type 0
-HasFault bytes TooLong = max_bytes < length bytes
-HasFault bytes NotJson = (length bytes ≤ max_bytes) × ((value : Data) → IsTextOf bytes value → ⊥)
+HasFault bytes TooLong = HasTextFault bytes text.TooLong
+HasFault bytes NotJson = HasTextFault bytes text.NotJson
 HasFault bytes NotList = (value : Data) × IsShortTextOf value bytes × IsListFault value NotList
 HasFault bytes TooMany = (value : Data) × IsShortTextOf value bytes × IsListFault value TooMany
 HasFault bytes Memory = Unit {0}
+
+-- the fault of a batch whose bytes are no text
+abbrev pub of_text : TextFault → BatchFault
+of_text text.Memory = Memory
+of_text text.TooLong = TooLong
+of_text text.NotJson = NotJson
 
 -- the word for a fault
 abbrev pub fault_text : BatchFault → List ℕ

@@ -1,14 +1,9 @@
 -- What the values of members stand for, where they have the form that is asked for.
-use Rattle.std.specs.Prelude.{ℕ, ℤ, pos, ◌-ℤ◌, int_le, ◌&&◌, Bool, List, [], ◌∷◌, length, nat_le, if◌then◌else◌, Option, Some, None, option_map, option_and_then, find, codes}
-use Rattle.std.specs.Str.{bytes_eq}
+use Rattle.std.specs.Prelude.{ℕ, ℤ, pos, ◌-ℤ◌, int_le, ◌&&◌, Bool, List, [], ◌∷◌, length, nat_le, if◌then◌else◌, Option, Some, None, option_map, option_and_then, codes}
 use Rattle.uuid.specs.Text.{parsed}
 use Rattle.serde_json.specs.Data.{Data}
 use Rattle.serde_json.specs.Find.{get, as_str, as_number, as_array, as_u64, as_i64}
-use Rattle.mds_table.specs.declared.state.State.{State}
-use Rattle.mds_table.specs.declared.state.TheConstants.State.{ALL}
-use Rattle.mds_table.specs.State.{name_of}
-use Rattle.mds_table.specs.Json.{items_in}
-use Rattle.mds_table.specs.TypeName.{is_type_name}
+use Rattle.mds_table.specs.Json.{items_in, type_name_in}
 use Rattle.mds_core.specs.Reported.{max_event_types, max_time}
 use Rattle.mds_core.specs.Position.{max_latitude, max_longitude}
 use Rattle.mds_core.specs.declared.position.Position.{Position}
@@ -17,22 +12,10 @@ use Rattle.mds_core.specs.declared.position.Position.{Position}
 abbrev pub uuid_in : Data → Option (List ℕ)
 uuid_in value = option_and_then parsed (as_str value)
 
--- the state of this name
-abbrev pub state_of_name : List ℕ → Option State
-state_of_name name = find (λ state. bytes_eq (name_of state) name) ALL
-
--- the state that a value names
-abbrev pub state_in : Data → Option State
-state_in value = option_and_then state_of_name (as_str value)
-
--- the type name that a value is
-abbrev pub type_in : Data → Option (List ℕ)
-type_in value = option_and_then (λ text. if is_type_name text then Some text else None) (as_str value)
-
 -- the type names that values are, if each of them is one
 abbrev pub all_types : List Data → Option (List (List ℕ))
 all_types [] = Some []
-all_types (value ∷ rest) = option_and_then (λ name. option_map (λ names. name ∷ names) (all_types rest)) (type_in value)
+all_types (value ∷ rest) = option_and_then (λ name. option_map (λ names. name ∷ names) (all_types rest)) (type_name_in value)
 
 -- 1 to 16 type names
 abbrev pub few_types : List Data → Option (List (List ℕ))

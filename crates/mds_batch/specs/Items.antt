@@ -1,7 +1,8 @@
--- What a value of a batch stands for: a vehicle's key, an event, or the first fault of its members.
-use Rattle.std.specs.Prelude.{Option, Some, None, is_some, ok_or, option_map, if◌then◌else◌, Result, Ok, Err}
+-- What a value of a batch stands for: a vehicle's key, an event, or what is wrong with it.
+use Rattle.std.specs.Prelude.{◌≡◌, List, [], ◌∷◌, ◌++◌, Bool, Option, Some, None, is_some, is_none, option_map, option_and_then, find, if◌then◌else◌}
 use Rattle.serde_json.specs.Data.{Data}
 use Rattle.serde_json.specs.Find.{get, as_null, as_object}
+use Rattle.mds_table.specs.Json.{state_in}
 use Rattle.mds_core.specs.declared.key.Key.{Key}
 use Rattle.mds_core.specs.declared.position.Position.{Position}
 use Rattle.mds_core.specs.Reported.{Reported}
@@ -14,62 +15,67 @@ use Rattle.mds_batch.specs.declared.item.VehicleItem.TheVariants as vehicle
 use Rattle.mds_batch.specs.declared.item.EventItem.{EventItem}
 use Rattle.mds_batch.specs.declared.item.EventItem.TheVariants as event
 use Rattle.mds_batch.specs.Member.{member_name}
-use Rattle.mds_batch.specs.Forms.{uuid_in, state_in, types_in, time_in, place_in}
+use Rattle.mds_batch.specs.Forms.{uuid_in, types_in, time_in, place_in}
 
--- the second step, if the first found no fault
-infixl 10 ◌>>=◌
-abbrev pub ◌>>=◌ : {A B : Type 0} → Result A ItemFault → (A → Result B ItemFault) → Result B ItemFault
-Ok found >>= next = next found
-Err fault >>= next = Err fault
-
--- a member that has to be there and to have this form
-abbrev pub required : {A : Type 0} → Member → (Data → Option A) → Data → Result A ItemFault
-required member form value = ok_or (get (member_name member) value) (Missing member) >>= λ found. ok_or (form found) (Bad member)
+-- what a member stands for, where it is there and has this form
+abbrev pub member_in : {A : Type 0} → Member → (Data → Option A) → Data → Option A
+member_in member form value = option_and_then form (get (member_name member) value)
 
 -- the position that the value of a member gives: none where it is null
-abbrev pub position_or_null : Data → Result (Option Position) ItemFault
-position_or_null value = if is_some (as_null value) then Ok None else ok_or (option_map Some (place_in value)) (Bad LocationE7)
+abbrev pub position_or_null : Data → Option (Option Position)
+position_or_null value = if is_some (as_null value) then Some None else option_map Some (place_in value)
 
 -- the position of an event: none where the member isn't there
-abbrev pub position_in : Data → Result (Option Position) ItemFault
-position_in value = found (get (member_name LocationE7) value) where
-  found : Option Data → Result (Option Position) ItemFault
-  found None = Ok None
-  found (Some location) = position_or_null location
+abbrev pub position_in : Data → Option (Option Position)
+position_in value = if is_some (get (member_name LocationE7) value) then member_in LocationE7 position_or_null value else Some None
 
 -- the vehicle that a value is about
-unfoldable pub key_in : Data → Result Key ItemFault
-key_in value = do
-  provider ← required ProviderId uuid_in value
-  device ← required DeviceId uuid_in value
-  Ok (record { provider = provider; device = device })
+pub record IsKeyOf (value : Data) (key : Key) : Type 0 where
+  pub provider : member_in ProviderId uuid_in value ≡ Some key.provider
+  pub device : member_in DeviceId uuid_in value ≡ Some key.device
 
 -- the event that a value reports
-unfoldable pub event_in : Data → Result Reported ItemFault
-event_in value = do
-  provider ← required ProviderId uuid_in value
-  device ← required DeviceId uuid_in value
-  id ← required EventId uuid_in value
-  state ← required VehicleState state_in value
-  types ← required EventTypes types_in value
-  time ← required Timestamp time_in value
-  position ← position_in value
-  Ok (record { key = record { provider = provider; device = device }; id = id; state = state; types = types; time = time; position = position })
+pub record IsEventOf (value : Data) (event : Reported) : Type 0 where
+  pub provider : member_in ProviderId uuid_in value ≡ Some event.key.provider
+  pub device : member_in DeviceId uuid_in value ≡ Some event.key.device
+  pub id : member_in EventId uuid_in value ≡ Some event.id
+  pub state : member_in VehicleState state_in value ≡ Some event.state
+  pub types : member_in EventTypes types_in value ≡ Some event.types
+  pub time : member_in Timestamp time_in value ≡ Some event.time
+  pub position : position_in value ≡ Some event.position
 
--- what was read, or the fault
-abbrev vehicle_or_fault : Result Key ItemFault → VehicleItem
-vehicle_or_fault (Ok key) = vehicle.Vehicle key
-vehicle_or_fault (Err fault) = vehicle.Fault fault
+-- the members of a registration, in the order in which faults are looked for
+abbrev pub vehicle_members : List Member
+vehicle_members = ProviderId ∷ DeviceId ∷ []
 
--- the same of an event
-abbrev event_or_fault : Result Reported ItemFault → EventItem
-event_or_fault (Ok reported) = event.Event reported
-event_or_fault (Err fault) = event.Fault fault
+-- the members of an event, in that order
+abbrev pub event_members : List Member
+event_members = vehicle_members ++ EventId ∷ VehicleState ∷ EventTypes ∷ Timestamp ∷ LocationE7 ∷ []
+
+-- a member of a value is not as it should be
+abbrev pub is_faulty : Data → Member → Bool
+is_faulty value ProviderId = is_none (member_in ProviderId uuid_in value)
+is_faulty value DeviceId = is_none (member_in DeviceId uuid_in value)
+is_faulty value EventId = is_none (member_in EventId uuid_in value)
+is_faulty value VehicleState = is_none (member_in VehicleState state_in value)
+is_faulty value EventTypes = is_none (member_in EventTypes types_in value)
+is_faulty value Timestamp = is_none (member_in Timestamp time_in value)
+is_faulty value LocationE7 = is_none (position_in value)
+
+-- what is wrong with a faulty member: it is bad where it is there, and else missing
+abbrev pub fault_at : Data → Member → ItemFault
+fault_at value member = if is_some (get (member_name member) value) then Bad member else Missing member
+
+-- what is wrong with a value, if anything is: it is no object, or the first faulty one of the members asked for
+abbrev pub fault_of : List Member → Data → Option ItemFault
+fault_of asked value = if is_some (as_object value) then option_map (fault_at value) (find (is_faulty value) asked) else Some NotObject
 
 -- the vehicle or the fault that a value of a batch is
-abbrev pub vehicle_item : Data → VehicleItem
-vehicle_item value = if is_some (as_object value) then vehicle_or_fault (key_in value) else vehicle.Fault NotObject
+unfoldable pub IsVehicleItem : Data → VehicleItem → Type 0
+IsVehicleItem value (vehicle.Vehicle key) = IsKeyOf value key
+IsVehicleItem value (vehicle.Fault fault) = fault_of vehicle_members value ≡ Some fault
 
 -- the event or the fault that a value of a batch is
-abbrev pub event_item : Data → EventItem
-event_item value = if is_some (as_object value) then event_or_fault (event_in value) else event.Fault NotObject
+unfoldable pub IsEventItem : Data → EventItem → Type 0
+IsEventItem value (event.Event reported) = IsEventOf value reported
+IsEventItem value (event.Fault fault) = fault_of event_members value ≡ Some fault

@@ -1,12 +1,13 @@
 //! Batches, read into items.
 ghost use Rattle.std.specs.Prelude.{◌≡◌, ◌≤◌, length, map, Some, option_map, IfOk, IfErr};
 ghost use Rattle.serde_json.specs.View.{view};
-ghost use Rattle.mds_batch.specs.Items.{vehicle_item, event_item};
-ghost use Rattle.mds_batch.specs.Batch.{max_items, listed, IsShortTextOf, HasItems, IsListFault, HasFault, fault_text};
+ghost use Rattle.mds_batch.specs.Items.{IsVehicleItem, IsEventItem};
+ghost use Rattle.mds_batch.specs.Batch.{max_items, listed, AreItemsOf, HasItems, IsListFault, HasFault, fault_text};
 
 use crate::read::{event_item_of, vehicle_item_of};
 use crate::{EventItem, VehicleItem};
 use mds_table::MAX_BYTES;
+use mds_table::json::{TextFault, value_of};
 use serde_json::Value;
 use std::alloc::{AllocError, Global};
 use std::{fmt, slice};
@@ -43,6 +44,20 @@ impl fmt::Display for BatchFault {
     }
 }
 
+impl From<TextFault> for BatchFault {
+    ghost use Rattle.mds_batch.specs.Batch.{of_text};
+
+    ghost from_gives = { λ text fault. fault ≡ of_text text };
+
+    fn from(fault: TextFault) -> BatchFault {
+        match fault {
+            TextFault::Memory => BatchFault::Memory,
+            TextFault::TooLong => BatchFault::TooLong,
+            TextFault::NotJson => BatchFault::NotJson,
+        }
+    }
+}
+
 impl From<AllocError> for BatchFault {
     ghost use Rattle.mds_batch.specs.declared.batch.BatchFault.TheVariants.{Memory};
 
@@ -61,7 +76,7 @@ impl From<AllocError> for BatchFault {
 /// The first fault of the whole, in the order of [`BatchFault`]; [`BatchFault::Memory`] comes as soon as a growth is
 /// refused, and then says nothing of the bytes.
 pub fn read_vehicles(alloc: Global, bytes: &[u8]) -> Result<Vec<VehicleItem>, BatchFault>
-    ensures items { IfOk result (λ items. HasItems vehicle_item bytes.now items.items) }
+    ensures items { IfOk result (λ items. HasItems IsVehicleItem bytes.now items.items) }
     ensures fault { IfErr result (HasFault bytes.now) }
 {
     let value = value_of(alloc, bytes)?;
@@ -76,27 +91,12 @@ pub fn read_vehicles(alloc: Global, bytes: &[u8]) -> Result<Vec<VehicleItem>, Ba
 ///
 /// As those of [`read_vehicles`].
 pub fn read_events(alloc: Global, bytes: &[u8]) -> Result<Vec<EventItem>, BatchFault>
-    ensures items { IfOk result (λ items. HasItems event_item bytes.now items.items) }
+    ensures items { IfOk result (λ items. HasItems IsEventItem bytes.now items.items) }
     ensures fault { IfErr result (HasFault bytes.now) }
 {
     let value = value_of(alloc, bytes)?;
     let values = listed_values(&value)?;
     Ok(event_items_of(alloc, values)?)
-}
-
-/// The value that a short text of JSON stands for.
-fn value_of(alloc: Global, bytes: &[u8]) -> Result<Value, BatchFault>
-    ensures value { IfOk result (λ value. IsShortTextOf (view value) bytes.now) }
-    ensures fault { IfErr result (HasFault bytes.now) }
-{
-    if bytes.len() > MAX_BYTES {
-        return Err(BatchFault::TooLong);
-    }
-    match Value::from_slice(alloc, bytes) {
-        Ok(value) => Ok(value),
-        Err(error) if error.is_memory() => Err(BatchFault::Memory),
-        Err(_) => Err(BatchFault::NotJson),
-    }
 }
 
 /// The values that a batch lists, of which there are few enough.
@@ -127,14 +127,14 @@ fn listed_of(value: &Value) -> Option<&[Value]>
 
 /// The vehicles and faults that the values are, one by one.
 fn vehicle_items_of(alloc: Global, values: &[Value]) -> Result<Vec<VehicleItem>, AllocError>
-    ensures { IfOk result (λ items. items.items ≡ map (λ value. vehicle_item (view value)) values.now) }
+    ensures { IfOk result (λ items. AreItemsOf IsVehicleItem (map view values.now) items.items) }
 {
     values.iter().map(vehicle_item_of).collect(alloc)
 }
 
 /// The events and faults that the values are, one by one.
 fn event_items_of(alloc: Global, values: &[Value]) -> Result<Vec<EventItem>, AllocError>
-    ensures { IfOk result (λ items. items.items ≡ map (λ value. event_item (view value)) values.now) }
+    ensures { IfOk result (λ items. AreItemsOf IsEventItem (map view values.now) items.items) }
 {
     values.iter().map(event_item_of).collect(alloc)
 }

@@ -1,43 +1,15 @@
 //! The forms that the values of members have.
-ghost use Rattle.std.specs.Prelude.{◌≡◌, ◌≤◌, length, map, option_map, IfSome};
+ghost use Rattle.std.specs.Prelude.{◌≡◌, ◌≤◌, [], length, map, Some, None, IfSome, IfNone, OnSome};
 ghost use Rattle.serde_json.specs.View.{view};
 ghost use Rattle.mds_core.specs.Reported.{max_event_types, max_time};
-ghost use Rattle.mds_batch.specs.Forms.{uuid_in, state_in, type_in, all_types, few_types, types_in, time_in, whole_in, place_in};
+ghost use Rattle.mds_batch.specs.Forms.{uuid_in, all_types, few_types, types_in, time_in, whole_in, place_in};
 
 use arrayvec::ArrayVec;
 use mds_core::{MAX_TIME, MAX_TYPES, Position};
-use mds_table::{State, TypeName};
+use mds_table::TypeName;
+use mds_table::json::type_name_of;
 use serde_json::Value;
-use std::marker::Model;
 use uuid::Uuid;
-
-/// The types of an event: 1 to 16. They hold no memory of their own.
-#[derive(Drop)]
-pub(crate) struct Types {
-    kinds: ArrayVec<TypeName, MAX_TYPES>,
-}
-
-impl Model for Types {
-    ghost use Rattle.std.specs.Prelude.{ℕ, ◌≤◌, List, length};
-    ghost use Rattle.mds_core.specs.Reported.{max_event_types};
-
-    ghost Value = { List (List ℕ) };
-
-    ghost view = { λ types. types.kinds.items };
-
-    ghost invariant = { λ types. (1 ≤ length types.kinds.items) × (length types.kinds.items ≤ max_event_types) };
-}
-
-impl Types {
-    /// The types, in their order.
-    pub(crate) fn as_slice(&self) -> &[TypeName]
-        ensures types { result.now ≡ self.now }
-        ensures some { 1 ≤ length result.now }
-        ensures few { length result.now ≤ max_event_types }
-    {
-        self.kinds.as_slice()
-    }
-}
 
 /// The identifier that the value is: a text in one of the forms of a UUID.
 pub(crate) fn uuid_of(value: &Value) -> Option<Uuid>
@@ -46,36 +18,27 @@ pub(crate) fn uuid_of(value: &Value) -> Option<Uuid>
     Uuid::try_parse(value.as_str()?).ok()
 }
 
-/// The state that the value names.
-pub(crate) fn state_of(value: &Value) -> Option<State>
-    ensures { result ≡ state_in (view value.now) }
+/// Adds the type names that the values are, if each is one; where one isn't, those before it may have been added.
+fn push_all_types(values: &[Value], types: &mut ArrayVec<TypeName, MAX_TYPES>) -> Option<()>
+    requires empty { types.old.items ≡ [] }
+    requires room { length values.now ≤ max_event_types }
+    ensures types { OnSome result (all_types (map view values.now) ≡ Some types.new.items) }
+    ensures count { OnSome result (length types.new.items ≡ length values.now) }
+    ensures none { IfNone result (all_types (map view values.now) ≡ None) }
 {
-    State::of_name(value.as_str()?)
-}
-
-/// The type name that the value is.
-fn type_of(value: &Value) -> Option<TypeName>
-    ensures { result ≡ type_in (view value.now) }
-{
-    TypeName::new(value.as_str()?).ok()
-}
-
-/// The type names that the values are, if each is one.
-fn all_types_of(values: &[Value]) -> Option<ArrayVec<TypeName, MAX_TYPES>>
-    requires { length values.now ≤ max_event_types }
-    ensures types { option_map (λ kinds. kinds.items) result ≡ all_types (map view values.now) }
-    ensures count { IfSome result (λ kinds. length kinds.items ≡ length values.now) }
-{
-    let mut kinds = ArrayVec::new();
     for value in values {
-        kinds.push(type_of(value)?);
+        types.push(type_name_of(value)?);
     }
-    Some(kinds)
+    Some(())
 }
 
-/// The types that the values are: 1 to 16 type names.
-fn few_types_of(values: &[Value]) -> Option<Types>
-    ensures { result ≡ few_types (map view values.now) }
+/// Fills an empty list with the types that the values are: 1 to 16 type names.
+fn fill_few_types(values: &[Value], types: &mut ArrayVec<TypeName, MAX_TYPES>) -> Option<()>
+    requires { types.old.items ≡ [] }
+    ensures types { OnSome result (few_types (map view values.now) ≡ Some types.new.items) }
+    ensures some { OnSome result (1 ≤ length types.new.items) }
+    ensures few { OnSome result (length types.new.items ≤ max_event_types) }
+    ensures none { IfNone result (few_types (map view values.now) ≡ None) }
 {
     if values.is_empty() {
         return None;
@@ -83,16 +46,19 @@ fn few_types_of(values: &[Value]) -> Option<Types>
     if values.len() > MAX_TYPES {
         return None;
     }
-    let kinds = all_types_of(values)?;
-    Some(Types { kinds })
+    push_all_types(values, types)
 }
 
-/// The types that the value lists.
+/// Fills an empty list with the types that the value lists, if it lists 1 to 16.
 #[tactic(auto, using(crate::proofs::Listed::values_items_of))]
-pub(crate) fn types_of(value: &Value) -> Option<Types>
-    ensures { result ≡ types_in (view value.now) }
+pub(crate) fn fill_types(value: &Value, types: &mut ArrayVec<TypeName, MAX_TYPES>) -> Option<()>
+    requires { types.old.items ≡ [] }
+    ensures types { OnSome result (types_in (view value.now) ≡ Some types.new.items) }
+    ensures some { OnSome result (1 ≤ length types.new.items) }
+    ensures few { OnSome result (length types.new.items ≤ max_event_types) }
+    ensures none { IfNone result (types_in (view value.now) ≡ None) }
 {
-    few_types_of(value.as_array()?)
+    fill_few_types(value.as_array()?, types)
 }
 
 /// The time that the value is: a whole number of milliseconds, at most [`MAX_TIME`].

@@ -1,27 +1,28 @@
 //! Values, read into items.
-ghost use Rattle.std.specs.Prelude.{◌≡◌, ◌≤◌, Some, None, IfOk, IfErr};
+ghost use Rattle.std.specs.Prelude.{◌≡◌, ◌≤◌, [], length, Some, None, IfOk, IfErr, OnOk};
 ghost use Rattle.serde_json.specs.View.{view};
 ghost use Rattle.serde_json.specs.Find.{get};
 ghost use Rattle.mds_batch.specs.declared.item.ItemFault.TheVariants.{Missing};
-ghost use Rattle.mds_core.specs.Reported.{max_time};
+ghost use Rattle.mds_core.specs.Reported.{max_event_types, max_time};
 ghost use Rattle.mds_batch.specs.Member.{member_name};
-ghost use Rattle.mds_batch.specs.Forms.{uuid_in, state_in, types_in, time_in};
-ghost use Rattle.mds_batch.specs.Items.{required, position_in, key_in, event_in, vehicle_item, event_item};
+ghost use Rattle.mds_table.specs.Json.{state_in};
+ghost use Rattle.mds_batch.specs.Forms.{uuid_in, types_in, time_in};
+ghost use Rattle.mds_batch.specs.Items.{member_in, position_in, fault_at, fault_of, vehicle_members, event_members, IsKeyOf, IsEventOf, IsVehicleItem, IsEventItem};
 
-use crate::form::{Types, position_of, state_of, time_of, types_of, uuid_of};
+use crate::form::{fill_types, position_of, time_of, uuid_of};
 use crate::{EventItem, ItemFault, Member, VehicleItem};
-use mds_core::{Event, Key, Position};
-use mds_table::State;
+use arrayvec::ArrayVec;
+use mds_core::{Event, Key, MAX_TYPES, Position};
+use mds_table::json::state_of;
+use mds_table::{State, TypeName};
 use serde_json::Value;
 use uuid::Uuid;
 
 /// The vehicle or the fault that the value is.
+#[tactic(auto, unfolding(crate::specs::Items::IsVehicleItem))]
 pub(crate) fn vehicle_item_of(value: &Value) -> VehicleItem
-    ensures { result ≡ vehicle_item (view value.now) }
+    ensures { IsVehicleItem (view value.now) result }
 {
-    if !value.is_object() {
-        return VehicleItem::Fault(ItemFault::NotObject);
-    }
     match key_of(value) {
         Ok(key) => VehicleItem::Vehicle(key),
         Err(fault) => VehicleItem::Fault(fault),
@@ -29,12 +30,10 @@ pub(crate) fn vehicle_item_of(value: &Value) -> VehicleItem
 }
 
 /// The event or the fault that the value is.
+#[tactic(auto, unfolding(crate::specs::Items::IsEventItem))]
 pub(crate) fn event_item_of(value: &Value) -> EventItem
-    ensures { result ≡ event_item (view value.now) }
+    ensures { IsEventItem (view value.now) result }
 {
-    if !value.is_object() {
-        return EventItem::Fault(ItemFault::NotObject);
-    }
     match event_of(value) {
         Ok(event) => EventItem::Event(event),
         Err(fault) => EventItem::Fault(fault),
@@ -42,28 +41,30 @@ pub(crate) fn event_item_of(value: &Value) -> EventItem
 }
 
 /// The vehicle that the members name.
-#[tactic(auto, unfolding(crate::specs::Items::key_in))]
 fn key_of(value: &Value) -> Result<Key, ItemFault>
-    ensures { result ≡ key_in (view value.now) }
+    ensures key { IfOk result (IsKeyOf (view value.now)) }
+    ensures fault { IfErr result (λ fault. fault_of vehicle_members (view value.now) ≡ Some fault) }
 {
+    if !value.is_object() {
+        return Err(ItemFault::NotObject);
+    }
     let provider = uuid_member(value, Member::ProviderId)?;
     let device = uuid_member(value, Member::DeviceId)?;
     Ok(Key { provider, device })
 }
 
 /// The event that the members report.
-#[tactic(auto, unfolding(crate::specs::Items::event_in))]
 fn event_of(value: &Value) -> Result<Event, ItemFault>
-    ensures { result ≡ event_in (view value.now) }
+    ensures event { IfOk result (IsEventOf (view value.now)) }
+    ensures fault { IfErr result (λ fault. fault_of event_members (view value.now) ≡ Some fault) }
 {
-    let provider = uuid_member(value, Member::ProviderId)?;
-    let device = uuid_member(value, Member::DeviceId)?;
+    let key = key_of(value)?;
     let id = uuid_member(value, Member::EventId)?;
     let state = state_member(value)?;
-    let types = types_member(value)?;
+    let mut types = ArrayVec::new();
+    fill_types_member(value, &mut types)?;
     let time = time_member(value)?;
     let position = position_member(value)?;
-    let key = Key { provider, device };
     Ok(Event::new(key, id, state, types.as_slice(), time, position).unwrap())
 }
 
@@ -77,31 +78,41 @@ fn required_member(value: &Value, member: Member) -> Result<&Value, ItemFault>
 
 /// The identifier that the member is.
 fn uuid_member(value: &Value, member: Member) -> Result<Uuid, ItemFault>
-    ensures { result ≡ required member uuid_in (view value.now) }
+    ensures id { IfOk result (λ id. member_in member uuid_in (view value.now) ≡ Some id) }
+    ensures fault { IfErr result (λ fault. (member_in member uuid_in (view value.now) ≡ None) × (fault ≡ fault_at (view value.now) member)) }
 {
     uuid_of(required_member(value, member)?).ok_or(ItemFault::Bad(member))
 }
 
 /// The state that the event leads to.
 fn state_member(value: &Value) -> Result<State, ItemFault>
-    ensures { result ≡ required Member.VehicleState state_in (view value.now) }
+    ensures state { IfOk result (λ state. member_in Member.VehicleState state_in (view value.now) ≡ Some state) }
+    ensures fault { IfErr result (λ fault. (member_in Member.VehicleState state_in (view value.now) ≡ None) × (fault ≡ fault_at (view value.now) Member.VehicleState)) }
 {
     let member = Member::VehicleState;
     state_of(required_member(value, member)?).ok_or(ItemFault::Bad(member))
 }
 
-/// The types of the event.
-fn types_member(value: &Value) -> Result<Types, ItemFault>
-    ensures { result ≡ required Member.EventTypes types_in (view value.now) }
+/// Fills an empty list with the types of the event.
+fn fill_types_member(
+    value: &Value,
+    types: &mut ArrayVec<TypeName, MAX_TYPES>,
+) -> Result<(), ItemFault>
+    requires { types.old.items ≡ [] }
+    ensures types { OnOk result (member_in Member.EventTypes types_in (view value.now) ≡ Some types.new.items) }
+    ensures some { OnOk result (1 ≤ length types.new.items) }
+    ensures few { OnOk result (length types.new.items ≤ max_event_types) }
+    ensures fault { IfErr result (λ fault. (member_in Member.EventTypes types_in (view value.now) ≡ None) × (fault ≡ fault_at (view value.now) Member.EventTypes)) }
 {
     let member = Member::EventTypes;
-    types_of(required_member(value, member)?).ok_or(ItemFault::Bad(member))
+    fill_types(required_member(value, member)?, types).ok_or(ItemFault::Bad(member))
 }
 
 /// The time of the event.
 fn time_member(value: &Value) -> Result<u64, ItemFault>
-    ensures time { result ≡ required Member.Timestamp time_in (view value.now) }
+    ensures time { IfOk result (λ time. member_in Member.Timestamp time_in (view value.now) ≡ Some time) }
     ensures in_range { IfOk result (λ time. time ≤ max_time) }
+    ensures fault { IfErr result (λ fault. (member_in Member.Timestamp time_in (view value.now) ≡ None) × (fault ≡ fault_at (view value.now) Member.Timestamp)) }
 {
     let member = Member::Timestamp;
     time_of(required_member(value, member)?).ok_or(ItemFault::Bad(member))
@@ -109,7 +120,8 @@ fn time_member(value: &Value) -> Result<u64, ItemFault>
 
 /// The position of the event: none where the member isn't there or is null.
 fn position_member(value: &Value) -> Result<Option<Position>, ItemFault>
-    ensures { result ≡ position_in (view value.now) }
+    ensures position { IfOk result (λ position. position_in (view value.now) ≡ Some position) }
+    ensures fault { IfErr result (λ fault. (position_in (view value.now) ≡ None) × (fault ≡ fault_at (view value.now) Member.LocationE7)) }
 {
     let member = Member::LocationE7;
     match value.get(member.name()) {

@@ -1,17 +1,19 @@
 -- Lists that grow by the rows of a table file.
-use Rattle.std.proofs.Common.{◌≡◌, ℕ, List, [], ◌∷◌, ◌++◌, Option, Some, None, true, false, codes, refl, sym, ◌∙◌, ap, subst, inl, inr, ⊎_elim, ◌⊎◌, arith}
+use Rattle.std.proofs.Common.{◌≡◌, ℕ, List, [], ◌∷◌, ◌++◌, Option, Some, None, IsSome, option_and_then, get_or, true, false, codes, refl, sym, ◌∙◌, ap, subst, inl, inr, ⊎_elim, ◌⊎◌, arith}
 use Rattle.std.specs.List.{Contains}
 use Rattle.std.specs.Option.{IsSomeAnd}
 use Rattle.std.specs.Ordering.{nat_cmp}
 use Rattle.std.specs.Cmp.Lexicographic.{slice_cmp}
-use Rattle.std.proofs.lemmas.List.Elements.{Contains-append_left, Contains-push, Contains-push_cases, Contains-get_or}
-use Rattle.serde_json.specs.Data.{Data, null, string}
+use Rattle.std.proofs.lemmas.List.Elements.{Contains-append_left, Contains-push, Contains-push_cases}
+use Rattle.std.proofs.lemmas.List.{get_or-map, length-map}
+use Rattle.serde_json.specs.Data.{Data, null}
 use Rattle.serde_json.specs.Find.{get}
 use Rattle.mds_table.specs.declared.state.State.{State}
 use Rattle.mds_table.specs.declared.state.State.TheVariants.{Removed, Available, NonOperational, Reserved, OnTrip, Elsewhere, NonContactable, Missing}
 use Rattle.mds_table.specs.declared.row.Row.{Row}
 use Rattle.mds_table.specs.declared.entry.Entry.{Entry}
 use Rattle.mds_table.specs.Row.{row_of, ascends, in_order}
+use Rattle.mds_table.specs.Json.{state_in, type_name_in}
 use Rattle.mds_table.specs.TableFile.{listed, Lists, ListsStates, IsType, IsRowEntry, StandsFor, AreRowsOf, AreTypesOf}
 use Rattle.mds_table.specs.Entry.{is_marked, HasRow, IsEntryOf, IsRowTo, Adds}
 
@@ -129,18 +131,24 @@ types_more entry some types rows order added = record {
       (rows.none_else row there);
 }
 
+-- what is named
+named : {X : Type 0} (o : Option X) → IsSome o → (x : X) × (o ≡ Some x)
+named (Some x) some = (x, refl)
+named None some = cc
+
 -- a list of states has one
 some_state : (d : Data) → ListsStates d → (state : State) × Lists state d
 some_state d lists =
-    let first = lists.names 0 null lists.some in
-    (first.0, subst (Contains (listed d)) first.1 (Contains-get_or (listed d) 0 null lists.some))
+    let first = named (state_in (get_or (listed d) 0 null)) (lists.names 0 null lists.some) in
+    (first.0, (0, rw length-map lists.some, get_or-map state_in (listed d) 0 null (Some first.0) lists.some ∙ first.1))
 
 some_row_of : (from kind to : Option Data) → IsSomeAnd from ListsStates → IsSomeAnd kind IsType → IsSomeAnd to ListsStates
-    → (row : Row) × IsSomeAnd from (Lists row.from) × (kind ≡ Some (string row.kind)) × IsSomeAnd to (Lists row.to)
+    → (row : Row) × IsSomeAnd from (Lists row.from) × (option_and_then type_name_in kind ≡ Some row.kind) × IsSomeAnd to (Lists row.to)
 some_row_of (Some from) (Some kind) (Some to) leaves types arrives =
     let first = some_state from leaves in
+    let name = named (type_name_in kind) types in
     let last = some_state to arrives in
-    (row_of first.0 types.0 last.0, first.1, ap Some types.1, last.1)
+    (row_of first.0 name.0 last.0, first.1, name.1, last.1)
 some_row_of None kind to leaves types arrives = absurd leaves
 some_row_of (Some from) None to leaves types arrives = absurd types
 some_row_of (Some from) (Some kind) None leaves types arrives = absurd arrives

@@ -3,6 +3,7 @@ pub mod Rows
 pub mod RowOrder
 pub mod ByPlaces
 pub mod Ascending
+pub mod Named
 pub mod Values
 pub mod Marks
 pub mod Adding

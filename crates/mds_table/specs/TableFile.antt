@@ -1,5 +1,5 @@
 -- The table file: the rows that it stands for, and its first fault.
-use Rattle.std.specs.Prelude.{◌≡◌, ◌⊎◌, ℕ, ◌+◌, ◌<◌, ◌≤◌, List, [], ◌∷◌, ◌++◌, length, take, codes, true, Option, Some, None, option_map, option_and_then, IsSomeAnd, All, Contains, slice_get}
+use Rattle.std.specs.Prelude.{◌≡◌, ◌⊎◌, ℕ, ◌+◌, ◌<◌, ◌≤◌, List, [], ◌∷◌, ◌++◌, length, take, codes, true, Option, Some, None, option_map, option_and_then, IsSome, IsSomeAnd, All, Contains, map, slice_get}
 use Rattle.std.specs.Ordering.{nat_cmp}
 use Rattle.std.specs.Fmt.{decimal}
 use Rattle.std.specs.Cmp.Lexicographic.{slice_cmp}
@@ -7,12 +7,12 @@ use Rattle.serde_json.specs.Data.{Data, null, boolean, number, string, array, ob
 use Rattle.serde_json.specs.Find.{get, as_array}
 use Rattle.mds_table.specs.declared.state.State.{State}
 use Rattle.mds_table.specs.declared.row.Row.{Row}
+use Rattle.mds_table.specs.declared.json.TextFault.{TextFault}
+use Rattle.mds_table.specs.declared.json.TextFault.TheVariants as text
 use Rattle.mds_table.specs.declared.table_file.TableFault.{TableFault}
 use Rattle.mds_table.specs.declared.table_file.TableFault.TheVariants.{Memory, TooLong, NotJson, NotRows, BadRow, TooManyRows, TooManyTypes, Empty}
-use Rattle.mds_table.specs.State.{name_of}
-use Rattle.mds_table.specs.TypeName.{IsTypeName}
 use Rattle.mds_table.specs.Row.{ascends, in_order}
-use Rattle.mds_table.specs.Json.{max_bytes, items_in, IsTextOf}
+use Rattle.mds_table.specs.Json.{max_bytes, items_in, IsTextOf, state_in, type_name_in}
 
 -- the most rows of a table
 abbrev pub max_rows : ℕ
@@ -33,7 +33,7 @@ listed (object ms) = object ms ∷ []
 
 -- a text that is the name of a state
 abbrev pub IsStateName : Data → Type 0
-IsStateName d = (state : State) × (d ≡ string (name_of state))
+IsStateName d = IsSome (state_in d)
 
 -- a list of at least one state name, or a single one
 pub record ListsStates (d : Data) : Type 0 where
@@ -42,11 +42,11 @@ pub record ListsStates (d : Data) : Type 0 where
 
 -- the state is one of those listed
 abbrev pub Lists : State → Data → Type 0
-Lists state d = Contains (listed d) (string (name_of state))
+Lists state d = Contains (map state_in (listed d)) (Some state)
 
 -- a text that is a type name
 abbrev pub IsType : Data → Type 0
-IsType d = (name : List ℕ) × (d ≡ string name) × IsTypeName name
+IsType d = IsSome (type_name_in d)
 
 -- an entry of the right form: it has states in `from` and in `to`, and a type in `type`
 pub record IsRowEntry (entry : Data) : Type 0 where
@@ -57,7 +57,7 @@ pub record IsRowEntry (entry : Data) : Type 0 where
 -- the entry stands for the row: it lists the row's two states, and has its type
 pub record StandsFor (entry : Data) (row : Row) : Type 0 where
   pub from : IsSomeAnd (get (codes "from") entry) (Lists row.from)
-  pub kind : get (codes "type") entry ≡ Some (string row.kind)
+  pub kind : option_and_then type_name_in (get (codes "type") entry) ≡ Some row.kind
   pub to : IsSomeAnd (get (codes "to") entry) (Lists row.to)
 
 -- some entry stands for the row
@@ -129,6 +129,12 @@ HasFault bytes (BadRow at) = HasEntries bytes (λ entries. IsBadAt entries at)
 HasFault bytes TooManyRows = HasEntries bytes (λ entries. (at : ℕ) × HasTooManyRowsAt entries at)
 HasFault bytes TooManyTypes = HasEntries bytes (λ entries. (at : ℕ) × HasTooManyTypesAt entries at)
 HasFault bytes Empty = HasEntries bytes (λ entries. entries ≡ [])
+
+-- the fault of a file whose text has this one
+abbrev pub of_text : TextFault → TableFault
+of_text text.Memory = Memory
+of_text text.TooLong = TooLong
+of_text text.NotJson = NotJson
 
 -- the word for a fault
 abbrev pub fault_text : TableFault → List ℕ

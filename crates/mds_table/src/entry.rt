@@ -1,11 +1,11 @@
 //! The entries of a table file.
 ghost use Rattle.std.specs.Prelude.{◌≡◌, ◌≢◌, map, IfSome, IfNone, All, true};
-ghost use Rattle.serde_json.specs.Data.{string};
 ghost use Rattle.serde_json.specs.View.{view};
-ghost use Rattle.mds_table.specs.State.{code_of, name_of};
-ghost use Rattle.mds_table.specs.TableFile.{listed, IsStateName, ListsStates, IsType, IsRowEntry};
+ghost use Rattle.mds_table.specs.State.{code_of};
+ghost use Rattle.mds_table.specs.TableFile.{listed, IsStateName, ListsStates, IsRowEntry};
 ghost use Rattle.mds_table.specs.Entry.{is_marked, AreMarked, IsEntryOf};
 
+use crate::json::{state_of, type_name_of};
 use crate::{State, TypeName};
 use serde_json::Value;
 use std::slice;
@@ -52,26 +52,10 @@ impl Entry {
         ensures none { IfNone result (IsRowEntry (view value.now) → ⊥) }
     {
         let from = states_in(value.get("from")?)?;
-        let kind = type_in(value.get("type")?)?;
+        let kind = type_name_of(value.get("type")?)?;
         let to = states_in(value.get("to")?)?;
         Some(Entry { kind, from, to })
     }
-}
-
-/// The type that the value names.
-fn type_in(value: &Value) -> Option<TypeName>
-    ensures name { IfSome result (λ name. view value.now ≡ string name) }
-    ensures none { IfNone result (IsType (view value.now) → ⊥) }
-{
-    TypeName::new(value.as_str()?).ok()
-}
-
-/// The state that the value names.
-fn state_in(value: &Value) -> Option<State>
-    ensures name { IfSome result (λ state. view value.now ≡ string (name_of state)) }
-    ensures none { IfNone result (IsStateName (view value.now) → ⊥) }
-{
-    State::of_name(value.as_str()?)
 }
 
 /// The states that the value lists: those of a list of at least one, or a single one.
@@ -105,7 +89,7 @@ fn states_among(values: &[Value]) -> Option<States>
 {
     let mut states = States::default();
     for value in values {
-        states.mark(state_in(value)?);
+        states.mark(state_of(value)?);
     }
     Some(states)
 }

@@ -7,6 +7,7 @@
 #![tactic(auto)]
 
 mod entry;
+pub mod json;
 pub mod laws;
 mod profile;
 mod row;
@@ -19,8 +20,9 @@ mod table_file_tests;
 mod tests;
 mod type_name;
 
+pub use json::MAX_BYTES;
 pub use row::Row;
 pub use state::State;
 pub use table::Table;
-pub use table_file::{MAX_BYTES, TableFault};
+pub use table_file::TableFault;
 pub use type_name::{NameFault, TypeName};

@@ -6,21 +6,18 @@
 ghost use Rattle.std.specs.Prelude.{◌≡◌, ◌≤◌, ℕ, List, length, map, option_map, true, Some, IfOk, IfErr, OnOk, Contains};
 ghost use Rattle.serde_json.specs.View.{view};
 ghost use Rattle.mds_table.specs.Row.{ascends, in_order};
-ghost use Rattle.mds_table.specs.Json.{max_bytes, IsTextOf};
 ghost use Rattle.mds_table.specs.TableFile.{entries_in, AreGood, HasTable, HasFault, fault_text};
 ghost use Rattle.mds_table.specs.Entry.{HasRow, IsRowTo, Adds, HasFaultIn};
 ghost use Rattle.std.specs.Ordering.{nat_cmp};
 ghost use Rattle.std.specs.Cmp.Lexicographic.{slice_cmp};
 
 use crate::entry::Entry;
+use crate::json::{TextFault, value_of};
 use crate::row::add_row;
 use crate::{Row, State, TypeName};
 use serde_json::Value;
 use std::alloc::{AllocError, Global};
 use std::fmt;
-
-/// The most bytes of a text of JSON that is read: of a table file, and of a batch.
-pub const MAX_BYTES: usize = 4_194_304;
 
 /// The most rows of a table.
 const MAX_ROWS: usize = 4096;
@@ -33,7 +30,7 @@ const MAX_TYPES: usize = 64;
 pub enum TableFault {
     /// There is no memory to read it.
     Memory,
-    /// It has more than [`MAX_BYTES`] bytes.
+    /// It has more than [`crate::MAX_BYTES`] bytes.
     TooLong,
     /// It isn't UTF-8, or isn't JSON of at most 127 levels.
     NotJson,
@@ -60,6 +57,21 @@ impl From<AllocError> for TableFault {
     }
 }
 
+impl From<TextFault> for TableFault {
+    ghost use Rattle.std.specs.Prelude.{◌≡◌};
+    ghost use Rattle.mds_table.specs.TableFile.{of_text};
+
+    ghost from_gives = { λ text fault. fault ≡ of_text text };
+
+    fn from(fault: TextFault) -> TableFault {
+        match fault {
+            TextFault::Memory => TableFault::Memory,
+            TextFault::TooLong => TableFault::TooLong,
+            TextFault::NotJson => TableFault::NotJson,
+        }
+    }
+}
+
 impl fmt::Display for TableFault {
     ghost output = { λ fault. Some (fault_text fault) };
 
@@ -82,10 +94,7 @@ pub(crate) fn rows_in_file(alloc: Global, text: &[u8]) -> Result<Vec<Row>, Table
     ensures rows { IfOk result (λ rows. HasTable text.now rows.items) }
     ensures fault { IfErr result (λ fault. HasFault text.now fault) }
 {
-    if text.len() > MAX_BYTES {
-        return Err(TableFault::TooLong);
-    }
-    let value = value_in(alloc, text)?;
+    let value = value_of(alloc, text)?;
     let Some(entries) = entries_of(&value) else {
         return Err(TableFault::NotRows);
     };
@@ -93,19 +102,6 @@ pub(crate) fn rows_in_file(alloc: Global, text: &[u8]) -> Result<Vec<Row>, Table
         return Err(TableFault::Empty);
     }
     rows_of_entries(alloc, entries)
-}
-
-/// The JSON value that the text is.
-fn value_in(alloc: Global, text: &[u8]) -> Result<Value, TableFault>
-    requires { length text.now ≤ max_bytes }
-    ensures value { IfOk result (λ value. IsTextOf text.now (view value)) }
-    ensures fault { IfErr result (λ fault. HasFault text.now fault) }
-{
-    match Value::from_slice(alloc, text) {
-        Ok(value) => Ok(value),
-        Err(error) if error.is_memory() => Err(TableFault::Memory),
-        Err(_) => Err(TableFault::NotJson),
-    }
 }
 
 /// The entries of a file, or `None` where it isn't an object with a list `rows`.

@@ -1,7 +1,0 @@
-use Rattle.mds_batch.specs.Items.{vehicle_item}
-use Rattle.mds_batch.proofs.Listed.{has_items}
-use Rattle.mds_batch.proofs.batch.read_vehicles.Goals as goal
-
-pub returns-clause-items : goal.returns-clause-items
-returns-clause-items c =
-    has_items vehicle_item _ _ _ _ c.in_ok-value.ensures.value c.in_ok-values.ensures.values.0 c.in_ok-values.ensures.values.1 c.in_ok-vehicle_items_of.ensures
