@@ -2,7 +2,11 @@
 use Rattle.std.specs.Prelude.{◌≡◌, ℕ, ◌<◌, List, ◌++◌, length, take, codes, Option, OnOk, IfErr}
 use Rattle.std.specs.Io.KnownBytes.{Appends}
 use Rattle.mds_table.specs.TableFile as table
+use Rattle.mds_table.specs.declared.table_file.TableFault.{TableFault}
+use Rattle.mds_table.specs.declared.table_file.TableFault.TheVariants as table_fault
 use Rattle.mds_batch.specs.Batch as batch
+use Rattle.mds_batch.specs.declared.batch.BatchFault.{BatchFault}
+use Rattle.mds_batch.specs.declared.batch.BatchFault.TheVariants as batch_fault
 use Rattle.mds_city.specs.declared.device.WriteFault.{WriteFault}
 use Rattle.mds_city.specs.declared.device.WriteFault.TheVariants as write
 use Rattle.mds_city.specs.declared.problem.Telling.{Telling}
@@ -19,6 +23,16 @@ problem_text (NotATable fault) = codes "mds_city: not a table: " ++ table.fault_
 problem_text (NotABatch fault) = codes "mds_city: not a batch: " ++ batch.fault_text fault
 problem_text Output = codes "mds_city: output"
 problem_text Memory = codes "mds_city: out of memory"
+
+-- the problem where the bytes of a table file have this fault
+abbrev pub table_problem : TableFault → Problem
+table_problem table_fault.Memory = Memory
+table_problem fault = NotATable fault
+
+-- the problem where the bytes of a file of items have this fault
+abbrev pub batch_problem : BatchFault → Problem
+batch_problem batch_fault.Memory = Memory
+batch_problem fault = NotABatch fault
 
 -- the problem where a text could not be written
 abbrev pub written_problem : WriteFault → Problem

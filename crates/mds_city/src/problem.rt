@@ -51,6 +51,34 @@ impl From<AllocError> for Problem<'_> {
     }
 }
 
+/// What the bytes of a table file have wrong; `CannotRead` is never made of it.
+impl From<TableFault> for Problem<'_> {
+    ghost use Rattle.mds_city.specs.Problem.{table_problem};
+
+    ghost from_gives = { λ fault problem. problem ≡ table_problem fault };
+
+    fn from(fault: TableFault) -> Self {
+        match fault {
+            TableFault::Memory => Problem::Memory,
+            fault => Problem::NotATable(fault),
+        }
+    }
+}
+
+/// What the bytes of a file of items have wrong; `CannotRead` is never made of it.
+impl From<BatchFault> for Problem<'_> {
+    ghost use Rattle.mds_city.specs.Problem.{batch_problem};
+
+    ghost from_gives = { λ fault problem. problem ≡ batch_problem fault };
+
+    fn from(fault: BatchFault) -> Self {
+        match fault {
+            BatchFault::Memory => Problem::Memory,
+            fault => Problem::NotABatch(fault),
+        }
+    }
+}
+
 impl From<WriteFault> for Problem<'_> {
     ghost use Rattle.mds_city.specs.Problem.{written_problem};
 
@@ -114,3 +142,6 @@ fn tell_whole<E: Write>(alloc: Global, faults: &mut E, problem: Problem<'_>) -> 
         },
     }
 }
+
+#[cfg(test)]
+mod tests;
