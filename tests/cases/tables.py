@@ -134,11 +134,11 @@ FAULTS = [
     (table_file(MOST_TYPES + [BAD, ONE_MORE]), "bad_row 64"),
 ]
 
+TWICE, LISTED = '["removed", "removed"]', '["available"]'
 NEAR = [(kind, "missing", "missing") for kind in ("b", "a_", "a", "_", "9", "0a", "aa")]
 TABLES = [
     ("one row", ONE_ROW, [WAKE]),
-    ("a row twice in an entry", table_file([("x", "available available", "on_trip")]), [("x", "available", "on_trip")]),
-    ("an entry twice", table_file([WAKE, WAKE]), [WAKE]),
+    ("a row three times", f'{{"rows": [{entry(from_=TWICE)}, {entry(to=LISTED)}]}}', [WAKE]),
     ("the profile's rows, the last first", table_file(PROFILE[::-1]), PROFILE),
     ("most rows, the last first", table_file(MOST_ROWS[::-1]), MOST_ROWS),
     ("most rows, some twice", table_file(MOST_ROWS + MOST_ROWS[:2]), MOST_ROWS),
