@@ -45,7 +45,7 @@ def commands():
 
 def help_asked_for():
     """Help, which goes to standard output."""
-    for words in ("--help", "-h", "help", "help replay", "help table"):
+    for words in ("--help", "-h", "help", "help help", "help replay", "help table"):
         yield Case(words, out=SOME)
     for words in ("replay --help", "replay -h", "table --help", "table -h", "replay events.json --help"):
         yield Case(words, out=SOME)
@@ -72,11 +72,13 @@ WRONG = [
     ["table", "replay"],
     ["table", "--bogus"],
     ["table", "--tab", "table.json"],
+    ["table", "--table", "-x"],
     ["table", "-t", "table.json"],
     ["table", "--table"],
     ["table", "--table", "table.json", "more"],
     ["table", "--table", "table.json", "--table", "table.json"],
     ["replay"],
+    ["replay", "--"],
     ["replay", "events.json", "more"],
     ["replay", "events.json", "--bogus"],
     ["replay", "events.json", "--table"],
@@ -136,6 +138,7 @@ def paths():
             yield told(words, cannot_read(path), files=here)
     for stdin in ("/", CLOSED):
         yield told("replay -", cannot_read("-"), stdin=stdin)
+        yield told("replay - --table ./-", cannot_read("-"), files=here, stdin=stdin)
     for words in ("table --table -", "table --table=-", "table --table folder/../-"):
         yield Case(words, out=ONE_ROW_PRINTED, files=here, given="{}")
     for words in ("table --table -", "replay - --table -"):
