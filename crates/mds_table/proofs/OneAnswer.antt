@@ -17,7 +17,7 @@ use Rattle.mds_table.specs.declared.table_file.TableFault.TheVariants.{Memory, T
 use Rattle.mds_table.specs.Row.{ascends}
 use Rattle.mds_table.specs.Json.{IsTextOf}
 use Rattle.mds_table.specs.TableFile.{IsRowEntry, AnyStandsFor, AreRowsOf, AreTypesOf, AreGood, AreGoodBefore, IsBadAt, HasTooManyRowsAt, HasTooManyTypesAt, HasTable, HasFault, HasEntries, entries_in}
-use Rattle.mds_table.proofs.RowOrder.{row_cmp_total}
+use Rattle.mds_table.specs.RowLaws.{row_cmp_total}
 use Rattle.mds_table.proofs.Ascending.{Contains-tail, head_or_tail}
 use Rattle.mds_table.proofs.OneTable.{before_all, not_itself, rest_ascends, both_hold}
 

@@ -12,7 +12,7 @@ use Rattle.serde_json.specs.Data.{Data}
 use Rattle.mds_table.specs.declared.row.Row.{Row}
 use Rattle.mds_table.specs.Row.{ascends}
 use Rattle.mds_table.specs.TableFile.{AreRowsOf, AreGood, HasTable, entries_in}
-use Rattle.mds_table.proofs.RowOrder.{row_cmp_total}
+use Rattle.mds_table.specs.RowLaws.{row_cmp_total}
 use Rattle.mds_table.proofs.Ascending.{Contains-tail, head_or_tail, lt_is_Less}
 
 -- the first stands before every other

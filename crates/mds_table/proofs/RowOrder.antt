@@ -1,22 +1,16 @@
--- The order of rows.
+-- Rows that are no different are one row.
 use Rattle.std.proofs.Common.{◌≡◌, ℕ, List, ap, refl, ◌∙◌, sym}
 use Rattle.std.specs.declared.cmp.Ordering.{Ordering}
 use Rattle.std.specs.declared.cmp.Ordering.TheVariants.{Less, Equal, Greater}
 use Rattle.std.specs.Ordering.{nat_cmp, is_eq, ordering_then}
-use Rattle.std.specs.Cmp.{IsTotalOrder}
 use Rattle.std.specs.Cmp.Lexicographic.{slice_cmp}
-use Rattle.std.proofs.lemmas.Cmp.{then_total, on_total, nat_cmp_total, nat_list_cmp_total, ranked}
+use Rattle.std.proofs.lemmas.Cmp.{ranked}
 use Rattle.std.proofs.lemmas.Map.Text.{is_eq-slice_cmp}
 use Rattle.std.proofs.lemmas.Slice.Eq.{bytes_eq-Decides}
 use Rattle.mds_table.specs.declared.row.Row.{Row}
 use Rattle.mds_table.specs.State.{code_of}
 use Rattle.mds_table.specs.Row.{row_of, row_cmp}
 use Rattle.mds_table.proofs.Rows.{code_of_injective}
-
-pub row_cmp_total : IsTotalOrder row_cmp
-row_cmp_total =
-    then_total (on_total (λ row. row.kind) nat_list_cmp_total)
-    (then_total (on_total (λ row. code_of row.from) nat_cmp_total) (on_total (λ row. code_of row.to) nat_cmp_total))
 
 -- names that are no different are one name
 pub same_name : (a b : List ℕ) → slice_cmp nat_cmp a b ≡ Equal → a ≡ b

@@ -2,6 +2,7 @@ pub mod State
 pub mod TypeName
 pub mod NameFault
 pub mod Row
+pub mod RowLaws
 pub mod Profile
 pub mod Chain
 pub mod Printed

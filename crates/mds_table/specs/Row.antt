@@ -1,9 +1,8 @@
 -- Rows of a table, and their order.
-use Rattle.std.specs.Prelude.{ℕ, List, [], ◌∷◌, ◌&&◌, ◌==◌, Bool, true}
+use Rattle.std.specs.Prelude.{ℕ, List, [], ◌∷◌, ◌&&◌, ◌==◌, Bool, true, nat_eq}
 use Rattle.std.specs.declared.cmp.Ordering.{Ordering}
 use Rattle.std.specs.Ordering.{nat_cmp, is_lt, ordering_then}
-use Rattle.std.specs.Str.{bytes_eq}
-use Rattle.std.specs.Cmp.Lexicographic.{slice_cmp}
+use Rattle.std.specs.Cmp.Lexicographic.{pointwise, slice_cmp}
 use Rattle.mds_table.specs.declared.state.State.{State}
 use Rattle.mds_table.specs.declared.row.Row.{Row}
 use Rattle.mds_table.specs.State.{code_of}
@@ -12,9 +11,9 @@ use Rattle.mds_table.specs.State.{code_of}
 abbrev pub row_of : State → List ℕ → State → Row
 row_of from kind to = record { from = from; kind = kind; to = to }
 
--- the same row
+-- the same row: the type's bytes and the two states are the same
 abbrev pub same_row : Row → Row → Bool
-same_row a b = ((code_of a.from == code_of b.from) && (code_of a.to == code_of b.to)) && bytes_eq a.kind b.kind
+same_row a b = pointwise nat_eq a.kind b.kind && ((code_of a.from == code_of b.from) && (code_of a.to == code_of b.to))
 
 -- rows stand by type, byte by byte, then by the state they lead from, then by the state they lead to
 abbrev pub row_cmp : Row → Row → Ordering

@@ -13,7 +13,7 @@ use std::slice;
 /// A set of states: which of them are marked, by code.
 #[derive(Clone, Copy, Default)]
 pub(crate) struct States {
-    marks: [bool; 8],
+    marks: [bool; State::COUNT],
 }
 
 impl States {

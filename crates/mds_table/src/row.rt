@@ -1,13 +1,21 @@
 //! Rows of a table, and sorted lists of them.
-ghost use Rattle.std.specs.Prelude.{◌≡◌, ◌↔◌, IsTrue, OnOk, true, Contains};
-ghost use Rattle.mds_table.specs.Row.{row_of, row_cmp, in_order};
+ghost use Rattle.std.specs.Prelude.{◌≡◌, ◌↔◌, ◌++◌, IsTrue, OnOk, Some, true, Contains, refl};
+ghost use Rattle.std.specs.Cmp.{po, partial_equiv_from_equiv};
+ghost use Rattle.std.specs.Cmp.Rules.{hashing};
+ghost use Rattle.std.specs.Hash as fed;
+ghost use Rattle.std.proofs.Common.{rules};
+ghost use Rattle.mds_table.specs.State.{code_of};
+ghost use Rattle.mds_table.specs.Row.{row_of, row_cmp, same_row, in_order};
+ghost use Rattle.mds_table.specs.RowLaws.{row_cmp_total, same_row_equiv, same_row_ties};
 ghost use Rattle.mds_table.specs.Entry.{Adds};
 
 use crate::{State, TypeName};
 use std::alloc::AllocError;
 use std::cmp::Ordering;
+use std::hash::{Hash, Hasher};
 
-/// A row of a table: an event of this type may lead from the one state to the other.
+/// A row of a table: an event of this type may lead from the one state to the other. Rows stand in the order of a table:
+/// by type, then by the state before, then by the state after.
 #[derive(Debug, Drop)]
 pub struct Row {
     /// The state before the event.
@@ -31,13 +39,62 @@ impl Row {
     }
 }
 
+impl PartialEq for Row {
+    ghost eq = { same_row };
+
+    ghost laws = { partial_equiv_from_equiv same_row_equiv };
+
+    fn eq(&self, other: &Row) -> bool {
+        self.cmp(other).is_eq()
+    }
+}
+
+impl Eq for Row {
+    ghost laws = { same_row_equiv };
+}
+
+impl PartialOrd for Row {
+    ghost partial_cmp = { λ a b. Some (row_cmp a b) };
+
+    ghost laws = { po row_cmp_total same_row_ties };
+
+    fn partial_cmp(&self, other: &Row) -> Option<Ordering> {
+        Some(self.cmp(other))
+    }
+}
+
+impl Ord for Row {
+    ghost cmp = { row_cmp };
+
+    ghost total = { row_cmp_total };
+
+    ghost matches_partial_cmp = { λ _ _. refl };
+
+    ghost matches_eq = { same_row_ties };
+
+    fn cmp(&self, other: &Row) -> Ordering {
+        compare(self, other.from, &other.kind, other.to)
+    }
+}
+
+impl Hash for Row {
+    ghost hash_input = { λ row. fed.slice fed.u8 row.kind ++ fed.u8 (code_of row.from) ++ fed.u8 (code_of row.to) };
+
+    ghost respects_eq = { Prim.search (hashing, rules) };
+
+    fn hash<H: Hasher>(&self, state: &mut H) {
+        self.kind.hash(state);
+        self.from.code().hash(state);
+        self.to.code().hash(state);
+    }
+}
+
 /// How the row stands to the one of these parts: by type, then by the state before, then by the state after.
 fn compare(row: &Row, from: State, kind: &TypeName, to: State) -> Ordering
     ensures { result ≡ row_cmp row.now (row_of from kind.now to) }
 {
     row.kind
-        .as_str()
-        .cmp(kind.as_str())
+        .cmp(kind)
         .then(row.from.code().cmp(&from.code()))
         .then(row.to.code().cmp(&to.code()))
 }

@@ -27,8 +27,11 @@ pub enum State {
 }
 
 impl State {
+    /// The number of states.
+    pub const COUNT: usize = 8;
+
     /// Every state, in the order of codes.
-    pub const ALL: [State; 8] = [
+    pub const ALL: [State; State::COUNT] = [
         State::Removed,
         State::Available,
         State::NonOperational,

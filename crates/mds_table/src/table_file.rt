@@ -17,6 +17,7 @@ use crate::row::add_row;
 use crate::{Row, State, TypeName};
 use serde_json::Value;
 use std::alloc::{AllocError, Global};
+use std::error::Error;
 use std::fmt;
 
 /// The most rows of a table.
@@ -45,6 +46,8 @@ pub enum TableFault {
     /// The list `rows` is empty.
     Empty,
 }
+
+impl Error for TableFault {}
 
 impl From<AllocError> for TableFault {
     ghost use Rattle.std.specs.Prelude.{◌≡◌};
@@ -140,7 +143,7 @@ fn add_kind(kinds: &mut Vec<TypeName>, kind: TypeName) -> Result<(), AllocError>
     ensures order { OnOk result (ascends (slice_cmp nat_cmp) kinds.new.items ≡ true) }
     ensures kinds { OnOk result (Adds kinds.old.items kinds.new.items (λ other. other ≡ kind)) }
 {
-    let found = kinds.binary_search_by(|other| other.as_str().cmp(kind.as_str()));
+    let found = kinds.binary_search(&kind);
     if let Err(at) = found {
         kinds.insert(at, kind)?;
     }

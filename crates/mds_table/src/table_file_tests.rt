@@ -1,5 +1,5 @@
 //! Table files: rows and faults by worked texts.
-use crate::{Row, State, Table, TableFault, TypeName};
+use crate::{State, Table, TableFault, TypeName};
 use std::alloc::Global;
 use std::test::Fail;
 
@@ -55,14 +55,6 @@ fn has_rows(alloc: Global, table: &Table, expected: &[(State, &str, State)]) -> 
                 row.from == *from && row.kind.as_str() == *kind && row.to == *to
             }),
     )
-}
-
-/// Whether the rows are the same, one by one.
-fn same_rows(these: &[Row], those: &[Row]) -> bool {
-    these.len() == those.len()
-        && these.iter().zip(those.iter()).all(|(one, other)| {
-            one.from == other.from && one.kind.as_str() == other.kind.as_str() && one.to == other.to
-        })
 }
 
 #[test]
@@ -308,7 +300,7 @@ fn profile_lists_its_rows_and_is_copied(rt: HostRuntime) -> Result<(), Fail> {
     assert_eq!(rt; first.kind.as_str(), "agency_drop_off");
     assert_eq!(rt; first.to, State::Available);
     let copy = profile.copy(alloc)?;
-    assert!(rt; same_rows(&rows, &copy.rows(alloc)?));
+    assert!(rt; rows == copy.rows(alloc)?);
     Ok(())
 }
 

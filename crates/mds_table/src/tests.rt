@@ -1,5 +1,6 @@
 //! What no clause says: values from outside, and that each call can succeed.
-use crate::{NameFault, State, Table, TableFault, TypeName};
+use crate::json::{TextFault, state_of, type_name_of, value_of};
+use crate::{NameFault, Row, State, Table, TableFault, TypeName};
 use std::test::Fail;
 
 /// Every type of the profile.
@@ -74,6 +75,40 @@ fn type_name_faults(rt: HostRuntime) -> Result<(), Fail> {
     assert_eq!(rt; longest.len(), 32);
     assert_eq!(rt; type_name(longest)?.as_str(), longest);
     assert_eq!(rt; type_name("a")?.copy().as_str(), "a");
+    assert_eq!(rt; type_name("a_1")?.as_bytes(), b"a_1".as_slice());
+    Ok(())
+}
+
+#[test]
+fn type_names_and_rows_are_compared(rt: HostRuntime) -> Result<(), Fail> {
+    let (start, end) = (type_name("trip_start")?, type_name("trip_end")?);
+    assert!(rt; start == start.copy());
+    assert!(rt; end < start);
+    assert!(rt; type_name("trip")? < end);
+    let row = |from, kind: &TypeName, to| Row {
+        from,
+        kind: kind.copy(),
+        to,
+    };
+    let ended = row(State::OnTrip, &end, State::Available);
+    assert!(rt; ended == ended.copy());
+    assert!(rt; ended < row(State::Removed, &start, State::Removed));
+    assert!(rt; ended < row(State::Elsewhere, &end, State::Removed));
+    assert!(rt; ended < row(State::OnTrip, &end, State::Missing));
+    Ok(())
+}
+
+#[test]
+fn values_name_states_and_types(rt: HostRuntime) -> Result<(), Fail> {
+    let value = value_of(rt.alloc(), br#"["on_trip","Trip",["on_trip"]]"#)?;
+    let values = value.as_array().map(Vec::as_slice).unwrap_or(&[]);
+    let states = [Some(State::OnTrip), None, None];
+    for (value, state) in values.iter().zip(states) {
+        assert_eq!(rt; state_of(value), state);
+        assert_eq!(rt; type_name_of(value).is_some(), state.is_some());
+    }
+    assert_eq!(rt; values.len(), 3);
+    assert_eq!(rt; value_of(rt.alloc(), b"[").err(), Some(TextFault::NotJson));
     Ok(())
 }
 
@@ -85,6 +120,8 @@ fn text_is_the_name(rt: HostRuntime) -> Result<(), Fail> {
     let kind = type_name("trip_end")?.to_string(alloc)?;
     assert_eq!(rt; kind.as_str(), "trip_end");
     assert_eq!(rt; TypeName::default().as_str(), "unspecified");
+    let fault = NameFault::BadByte(4).to_string(alloc)?;
+    assert_eq!(rt; fault.as_str(), "bad_byte 4");
     Ok(())
 }
 

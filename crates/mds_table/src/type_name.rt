@@ -1,30 +1,41 @@
 //! The names of event types.
-ghost use Rattle.std.specs.Prelude.{◌≡◌, ◌↔◌, Some, IsOk, IfOk, IfErr, not, position, codes};
+ghost use Rattle.std.specs.Prelude.{◌≡◌, ◌↔◌, Some, IsOk, IfOk, IfErr, not, position, codes, nat_eq, refl};
+ghost use Rattle.std.specs.Ordering.{nat_cmp};
+ghost use Rattle.std.specs.Cmp.{partial_equiv_from_equiv};
+ghost use Rattle.std.specs.Cmp.Lexicographic.{pointwise, slice_cmp, nat_list_eq_equiv, nat_list_cmp_total, texts_po, texts_ties};
+ghost use Rattle.std.specs.Cmp.Rules.{hashing};
+ghost use Rattle.std.specs.Hash as fed;
+ghost use Rattle.std.proofs.Common.{rules};
 ghost use Rattle.mds_table.specs.TypeName.{may_stand, IsTypeName};
-ghost use Rattle.mds_table.specs.NameFault.{FaultOf};
+ghost use Rattle.mds_table.specs.NameFault.{FaultOf, name_fault_text};
 
-use arrayvec::ArrayString;
-use std::fmt;
+use std::cmp::Ordering;
+use std::error::Error;
+use std::hash::{Hash, Hasher};
 use std::marker::Model;
+use std::{fmt, str};
 
 /// The most bytes that a type name has.
 pub const MAX_NAME_BYTES: usize = 32;
 
-/// The name of an event type: 1 to 32 bytes of `a` to `z`, `0` to `9` and `_`. It holds no memory of its own.
+/// The name of an event type: 1 to 32 bytes of `a` to `z`, `0` to `9` and `_`. It holds no memory of its own, and takes
+/// 33 bytes.
 #[derive(Debug, Drop)]
 pub struct TypeName {
-    text: ArrayString<MAX_NAME_BYTES>,
+    /// The bytes of the name, then zeros.
+    bytes: [u8; MAX_NAME_BYTES],
+    length: u8,
 }
 
 impl Model for TypeName {
-    ghost use Rattle.std.specs.Prelude.{List, ℕ};
+    ghost use Rattle.std.specs.Prelude.{List, ℕ, ◌≤◌, take};
     ghost use Rattle.mds_table.specs.TypeName.{IsTypeName};
 
     ghost Value = { List ℕ };
 
-    ghost view = { λ name. name.text.bytes };
+    ghost view = { λ name. take name.length name.bytes };
 
-    ghost invariant = { λ name. IsTypeName name.text.bytes };
+    ghost invariant = { λ name. (name.length ≤ 32) × IsTypeName (take name.length name.bytes) };
 }
 
 /// Why a text is no type name.
@@ -36,6 +47,20 @@ pub enum NameFault {
     TooLong,
     /// The byte at this place may not stand in a name; it is the first of those.
     BadByte(usize),
+}
+
+impl Error for NameFault {}
+
+impl fmt::Display for NameFault {
+    ghost output = { λ fault. Some (name_fault_text fault) };
+
+    fn fmt<W: fmt::Write>(&self, f: &mut fmt::Formatter<W>) -> fmt::Result {
+        match self {
+            NameFault::Empty => f.write_str("empty"),
+            NameFault::TooLong => f.write_str("too_long"),
+            NameFault::BadByte(at) => write!(f, "bad_byte {at}"),
+        }
+    }
 }
 
 impl TypeName {
@@ -58,23 +83,94 @@ impl TypeName {
         if let Some(at) = first_bad_byte(text.as_bytes()) {
             return Err(NameFault::BadByte(at));
         }
-        let mut name = ArrayString::new();
-        name.push_str(text);
-        Ok(TypeName { text: name })
+        Ok(TypeName::of_bytes(text.as_bytes()))
     }
 
     /// The text of the name.
     pub fn as_str(&self) -> &str
         ensures { result.now ≡ self.now }
     {
-        self.text.as_str()
+        str::from_utf8(self.as_bytes()).unwrap()
+    }
+
+    /// The bytes of the name, of which each is ASCII.
+    pub fn as_bytes(&self) -> &[u8]
+        ensures bytes { result.now ≡ self.now }
+        ensures name { IsTypeName result.now }
+    {
+        &self.bytes[..usize::from(self.length)]
+    }
+
+    /// The name of these bytes.
+    fn of_bytes(text: &[u8]) -> TypeName
+        requires { IsTypeName text.now }
+        ensures { result ≡ text.now }
+    {
+        let mut bytes = [0; MAX_NAME_BYTES];
+        bytes[..text.len()].copy_from_slice(text);
+        TypeName {
+            bytes,
+            length: text.len() as u8,
+        }
     }
 
     /// The same name again.
     pub fn copy(&self) -> TypeName
         ensures { result ≡ self.now }
     {
-        TypeName { text: self.text }
+        TypeName {
+            bytes: self.bytes,
+            length: self.length,
+        }
+    }
+}
+
+impl PartialEq for TypeName {
+    ghost eq = { pointwise nat_eq };
+
+    ghost laws = { partial_equiv_from_equiv nat_list_eq_equiv };
+
+    fn eq(&self, other: &TypeName) -> bool {
+        self.as_bytes() == other.as_bytes()
+    }
+}
+
+impl Eq for TypeName {
+    ghost laws = { nat_list_eq_equiv };
+}
+
+impl PartialOrd for TypeName {
+    ghost partial_cmp = { λ a b. Some (slice_cmp nat_cmp a b) };
+
+    ghost laws = { texts_po };
+
+    fn partial_cmp(&self, other: &TypeName) -> Option<Ordering> {
+        Some(self.cmp(other))
+    }
+}
+
+/// Names stand in the order of their bytes.
+impl Ord for TypeName {
+    ghost cmp = { slice_cmp nat_cmp };
+
+    ghost total = { nat_list_cmp_total };
+
+    ghost matches_partial_cmp = { λ _ _. refl };
+
+    ghost matches_eq = { texts_ties };
+
+    fn cmp(&self, other: &TypeName) -> Ordering {
+        self.as_bytes().cmp(&other.as_bytes())
+    }
+}
+
+impl Hash for TypeName {
+    ghost hash_input = { fed.slice fed.u8 };
+
+    ghost respects_eq = { Prim.search (hashing, rules) };
+
+    fn hash<H: Hasher>(&self, state: &mut H) {
+        self.as_bytes().hash(state);
     }
 }
 
@@ -83,9 +179,7 @@ impl Default for TypeName {
 
     /// The name `unspecified`, as in MDS; slots of a list that hold no name yet are filled with it.
     fn default() -> TypeName {
-        let mut name = ArrayString::new();
-        name.push_str("unspecified");
-        TypeName { text: name }
+        TypeName::of_bytes(b"unspecified")
     }
 }
 

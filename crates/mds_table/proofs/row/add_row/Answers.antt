@@ -2,7 +2,8 @@ use Rattle.std.proofs.Common.{Ok, Err, sym, ◌∙◌, ap, rules, of_calls}
 use Rattle.std.specs.List.{insert}
 use Rattle.std.proofs.lemmas.Fn.{always_returns_same}
 use Rattle.mds_table.specs.Row.{row_cmp, ascends}
-use Rattle.mds_table.proofs.RowOrder.{row_cmp_total, same_row_by_cmp}
+use Rattle.mds_table.specs.RowLaws.{row_cmp_total}
+use Rattle.mds_table.proofs.RowOrder.{same_row_by_cmp}
 use Rattle.mds_table.proofs.Ascending.{searched, insert_adds, nothing_added}
 use Rattle.mds_table.proofs.row.add_row.Goals as goal
 

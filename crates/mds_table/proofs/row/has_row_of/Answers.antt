@@ -1,7 +1,8 @@
 use Rattle.std.proofs.Common.{rules, of_calls}
 use Rattle.std.proofs.lemmas.Fn.{always_returns_same}
 use Rattle.mds_table.specs.Row.{row_of, row_cmp}
-use Rattle.mds_table.proofs.RowOrder.{row_cmp_total, same_row_by_cmp}
+use Rattle.mds_table.specs.RowLaws.{row_cmp_total}
+use Rattle.mds_table.proofs.RowOrder.{same_row_by_cmp}
 use Rattle.mds_table.proofs.Ascending.{searched, decided}
 use Rattle.mds_table.proofs.row.has_row_of.Goals as goal
 

@@ -1,8 +1,7 @@
-use Rattle.std.proofs.Common.{Ok, Err, sym, ◌∙◌, ap, rules, of_calls}
+use Rattle.std.proofs.Common.{Ok, Err, sym, ◌∙◌, ap}
 use Rattle.std.specs.List.{insert}
 use Rattle.std.specs.Ordering.{nat_cmp}
 use Rattle.std.specs.Cmp.Lexicographic.{slice_cmp}
-use Rattle.std.proofs.lemmas.Fn.{always_returns_same}
 use Rattle.std.proofs.lemmas.Cmp.{nat_list_cmp_total}
 use Rattle.mds_table.specs.Row.{ascends}
 use Rattle.mds_table.proofs.RowOrder.{same_name}
@@ -12,9 +11,8 @@ use Rattle.mds_table.proofs.table_file.add_kind.Goals as goal
 pub returns-in_ok-insert-clause-order : goal.returns-in_ok-insert-clause-order
 returns-in_ok-insert-clause-order c =
     let kind = c.args.kind in
-    let found = c.in-Err.ensures.position (λ other. slice_cmp nat_cmp other kind) (always_returns_same _ _ _ (λ a r f called. search (rules, of_calls))) in
     let up = ap (ascends (slice_cmp nat_cmp)) c.deref.ensures.value ∙ c.requires in
-    let place = searched nat_list_cmp_total same_name c.deref.result.now kind (Err c.in-Err.at) up c.in-Err.ensures.bound found in
+    let place = searched nat_list_cmp_total same_name c.deref.result.now kind (Err c.in-Err.at) up c.in-Err.ensures.bound c.in-Err.ensures.position in
     ap (ascends (slice_cmp nat_cmp)) (c.in_ok-insert.ensures.items ∙ ap (λ rows. insert rows c.in-Err.at kind) (sym c.deref.ensures.value))
     ∙ place.1
 
@@ -25,7 +23,6 @@ returns-in_ok-insert-clause-kinds c =
 pub returns-in_default-clause-kinds : goal.returns-in_default-clause-kinds
 returns-in_default-clause-kinds c =
     let kind = c.args.kind in
-    let found = c.in_default.ensures.position (λ other. slice_cmp nat_cmp other kind) (always_returns_same _ _ _ (λ a r f called. search (rules, of_calls))) in
     let up = ap (ascends (slice_cmp nat_cmp)) c.deref.ensures.value ∙ c.requires in
-    let place = searched nat_list_cmp_total same_name c.deref.result.now kind (Ok c.in_default.field-0) up c.in_default.ensures.bound found in
+    let place = searched nat_list_cmp_total same_name c.deref.result.now kind (Ok c.in_default.field-0) up c.in_default.ensures.bound c.in_default.ensures.position in
     nothing_added c.args.kinds.now.items kind (rw c.deref.ensures.value at place)

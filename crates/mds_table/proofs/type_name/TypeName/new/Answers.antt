@@ -14,12 +14,12 @@ returns-in-Some-clause-exact c =
 named : (text : List ℕ) → 1 ≤ length text → length text ≤ 32 → position (λ byte. not (may_stand byte)) text ≡ None → IsTypeName text
 named text some short good = record { some = some; short = short; bytes = all_pass may_stand text good }
 
-pub invariant_of-result : goal.invariant_of-result
-invariant_of-result c =
+pub of_bytes-requires : goal.of_bytes-requires
+of_bytes-requires c =
     let good : position (λ byte. not (may_stand byte)) c.args.text.now ≡ None = cc in
     let some : 1 ≤ length c.args.text.now = grind (arith, nat_tests) in
-    let pushed : c.push_str.new.self.bytes ≡ c.args.text.now = rw (c.push_str.ensures.bytes, c.new-name.ensures) refl in
-    subst IsTypeName (sym pushed) (named c.args.text.now some (omega arith) good)
+    let same : c.as_bytes-2.result.now ≡ c.args.text.now = cc in
+    subst IsTypeName (sym same) (named c.args.text.now some (omega arith) good)
 
 pub returns-clause-exact : goal.returns-clause-exact
 returns-clause-exact c =
