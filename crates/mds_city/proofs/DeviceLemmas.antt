@@ -6,7 +6,9 @@ use Rattle.std.proofs.lemmas.List.{take_min}
 use Rattle.std.specs.Io.KnownBytes.{Appends, Consumes, IsAtEnd}
 use Rattle.std.proofs.KnownBytes.{Appends-trans, Consumes-trans}
 use Rattle.std.specs.Prelude.{Option, Result, Ok, Err, OnOk, IfErr}
-use Rattle.mds_city.specs.Device.{AppendsFront, ConsumesUpTo, HasFront, front_of}
+use Rattle.mds_city.specs.declared.device.ReadFault.{ReadFault}
+use Rattle.mds_city.specs.declared.device.ReadFault.TheVariants.{Memory, Device}
+use Rattle.mds_city.specs.Device.{AppendsFront, ConsumesUpTo, HasFront, LosesAt, front_of}
 
 -- what went out first, and then the front of the slice that was left, is a longer front
 pub appends_next : (a b c : Option (List ℕ)) (text : List ℕ) (n m : ℕ) → Appends a b (take n text) → Appends b c (take m (take (length text - n) (drop n text))) → Appends a c (take (n + m) text)
@@ -34,6 +36,11 @@ pub consumes_next : (a b c : Option (List ℕ)) (limit count : ℕ) (held : List
 consumes_next a b c limit count held counted fits p q =
     let joined : length (held ++ q.0) ≤ limit = rw length-append (omega (arith, q.1)) in
     (held ++ q.0, joined, Consumes-trans a b c held q.0 p q.2)
+
+-- reading that stopped lost a front within the limit
+pub loses_front : (fault : ReadFault) (limit : ℕ) (a b : Option (List ℕ)) → LosesAt fault limit a b → ConsumesUpTo limit a b
+loses_front Device limit a b lost = ([], omega arith, lost)
+loses_front Memory limit a b lost = (lost.0, lost.2, lost.3)
 
 -- a list within the limit is all up to the limit
 take_whole : (limit : ℕ) (bytes : List ℕ) → length bytes ≤ limit → take limit bytes ≡ bytes

@@ -7,11 +7,18 @@ use Rattle.mds_city.specs.declared.report.Report.{Report}
 use Rattle.mds_city.specs.declared.source.Source.{Source}
 use Rattle.mds_city.specs.declared.problem.Problem.{Problem}
 use Rattle.mds_city.specs.declared.problem.Problem.TheVariants.{CannotRead, NotATable, NotABatch, Output, Memory}
+use Rattle.mds_city.specs.declared.status.Status.{Status}
+use Rattle.mds_city.specs.declared.status.Status.TheVariants.{Done, Refused}
 use Rattle.mds_city.specs.Device.{AppendsFront}
+use Rattle.mds_city.specs.Status.{code_of}
 use Rattle.mds_city.specs.Problem.{status_of, Tells}
 use Rattle.mds_city.specs.Report.{IsReport}
 use Rattle.mds_city.specs.Source.{HasTableIn, ExplainsTable, HasItemsIn, ExplainsFile}
 use Rattle.mds_city.specs.Text.{report_text, table_text}
+
+-- the status of a replay by how many items it refused
+abbrev pub status_on : ℕ → Status
+status_on refused = if refused == 0 then Done else Refused
 
 -- of a replay: the known bytes of a table file's reader, the table file if one is given, and the same of the file of events
 module _ {T R : Type 0} (table_bytes : T → Option (List ℕ)) (table : Option (Source T)) (file_bytes : R → Option (List ℕ)) (file : Source R) where
@@ -21,7 +28,7 @@ module _ {T R : Type 0} (table_bytes : T → Option (List ℕ)) (table : Option 
 
   -- the report's text went out; the status is 0 where each item was accepted, else 1
   abbrev pub Replayed : ℕ → Option (List ℕ) → Option (List ℕ) → Type 0
-  Replayed status old new = (report : Report) × HasReport report × Appends old new (report_text report) × (status ≡ (if report.refused == 0 then 0 else 1))
+  Replayed status old new = (report : Report) × HasReport report × Appends old new (report_text report) × (status ≡ code_of (status_on report.refused))
 
   -- the table was had, and then the problem is one of the file of events
   abbrev pub ExplainsEvents : Problem → Type 0
@@ -50,7 +57,7 @@ module _ {T R : Type 0} (table_bytes : T → Option (List ℕ)) (table : Option 
   -- a problem has this status, is explained, and was told
   abbrev pub Told : ℕ → Option (List ℕ) → Option (List ℕ) → Option (List ℕ) → Option (List ℕ) → Type 0
   Told status old new faults_old faults_new =
-      (problem : Problem) × (status ≡ status_of problem) × ExplainsReplay problem × WentOut problem old new × Tells faults_old faults_new problem
+      (problem : Problem) × (status ≡ code_of (status_of problem)) × ExplainsReplay problem × WentOut problem old new × Tells faults_old faults_new problem
 
 -- of a print of a table: the known bytes of its file's reader, and the file if one is given
 module _ {T : Type 0} (table_bytes : T → Option (List ℕ)) (table : Option (Source T)) where
@@ -77,4 +84,4 @@ module _ {T : Type 0} (table_bytes : T → Option (List ℕ)) (table : Option (S
   -- a problem has this status, is explained, and was told
   abbrev pub TableTold : ℕ → Option (List ℕ) → Option (List ℕ) → Option (List ℕ) → Option (List ℕ) → Type 0
   TableTold status old new faults_old faults_new =
-      (problem : Problem) × (status ≡ status_of problem) × ExplainsPrint problem × TableWentOut problem old new × Tells faults_old faults_new problem
+      (problem : Problem) × (status ≡ code_of (status_of problem)) × ExplainsPrint problem × TableWentOut problem old new × Tells faults_old faults_new problem

@@ -1,9 +1,11 @@
 -- What reads and writes in a bounded number of calls do to the bytes that are known.
-use Rattle.std.specs.Prelude.{◌≡◌, ℕ, ◌+◌, ◌<◌, ◌≤◌, Bool, List, [], ◌∷◌, ◌++◌, length, take, Option, IfSome, MatchBool}
-use Rattle.std.specs.Io.KnownBytes.{Appends, Consumes, IsAtEnd}
+use Rattle.std.specs.Prelude.{◌≡◌, ℕ, ◌+◌, ◌<◌, ◌≤◌, Bool, List, [], ◌∷◌, ◌++◌, length, take, Option, IfSome, MatchBool, if◌then◌else◌, ◌==◌}
+use Rattle.std.specs.Io.KnownBytes.{Appends, Consumes, IsAtEnd, Keeps}
 use Rattle.mds_table.specs.Json.{max_bytes}
-use Rattle.mds_city.specs.declared.device.Step.{Step}
-use Rattle.mds_city.specs.declared.device.Step.TheVariants.{Got, End, Again, Failed}
+use Rattle.mds_city.specs.declared.device.ReadFault.{ReadFault}
+use Rattle.mds_city.specs.declared.device.ReadFault.TheVariants.{Memory, Device}
+use Rattle.mds_city.specs.declared.device.Call.{Call}
+use Rattle.mds_city.specs.declared.device.Call.TheVariants.{Moved, Nothing, Again, Failed}
 
 -- the text and a line feed
 abbrev pub with_newline : List ℕ → List ℕ
@@ -25,12 +27,29 @@ HasFront known bytes = IfSome known (λ file. bytes ≡ front_of file)
 abbrev pub ConsumesUpTo : ℕ → Option (List ℕ) → Option (List ℕ) → Type 0
 ConsumesUpTo limit old new = (front : List ℕ) × (length front ≤ limit) × Consumes old new front
 
--- what a call of `read` did by its step: it gave some front of the room, met the end, or gave nothing
-abbrev pub Reads : Step → Option (List ℕ) → Option (List ℕ) → List ℕ → Type 0
-Reads (Got n) old new room = (0 < n) × (n ≤ length room) × Consumes old new (take n room)
-Reads End old new room = Consumes old new [] × IsAtEnd new
+-- what the reader lost of its known bytes by a call after which reading stopped: nothing where the call failed, and where there
+-- was no memory for what it gave, some bytes, at most `limit` of them
+abbrev pub LosesAt : ReadFault → ℕ → Option (List ℕ) → Option (List ℕ) → Type 0
+LosesAt Device limit old new = Consumes old new []
+LosesAt Memory limit old new = (front : List ℕ) × (0 < length front) × (length front ≤ limit) × Consumes old new front
+
+-- a call that answered a count came to this
+abbrev pub moved : ℕ → Call
+moved count = if count == 0 then Nothing else Moved count
+
+-- what a call of `read` did to the known bytes: it gave a front of the room, met the end, or gave nothing
+abbrev pub Reads : Call → Option (List ℕ) → Option (List ℕ) → List ℕ → Type 0
+Reads (Moved count) old new room = (0 < count) × (count ≤ length room) × Consumes old new (take count room)
+Reads Nothing old new room = Consumes old new [] × IsAtEnd new
 Reads Again old new room = Consumes old new []
 Reads Failed old new room = Consumes old new []
+
+-- what a call of `write` did to the known bytes: it took a front of these, or nothing
+abbrev pub Writes : Call → Option (List ℕ) → Option (List ℕ) → List ℕ → Type 0
+Writes (Moved count) old new bytes = (0 < count) × (count ≤ length bytes) × Appends old new (take count bytes)
+Writes Nothing old new bytes = Keeps old new
+Writes Again old new bytes = Keeps old new
+Writes Failed old new bytes = Keeps old new
 
 -- the bytes held grew by what the reader lost; reading is done at the limit or at the reader's end, and else below the limit
 abbrev pub ReadsMore : Bool → Option (List ℕ) → Option (List ℕ) → List ℕ → List ℕ → Type 0

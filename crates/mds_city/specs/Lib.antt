@@ -4,6 +4,7 @@ pub mod Words
 pub mod Requests
 pub mod Report
 pub mod Text
+pub mod Status
 pub mod Problem
 pub mod Source
 pub mod Command

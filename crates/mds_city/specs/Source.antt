@@ -6,7 +6,7 @@ use Rattle.mds_table.specs.TableFile.{HasTable, HasFault as HasTableFault}
 use Rattle.mds_table.specs.declared.table_file.TableFault.TheVariants as table
 use Rattle.mds_batch.specs.declared.batch.BatchFault.TheVariants as batch
 use Rattle.mds_batch.specs.declared.item.EventItem.{EventItem}
-use Rattle.mds_batch.specs.Items.{event_item}
+use Rattle.mds_batch.specs.Items.{IsEventItem}
 use Rattle.mds_batch.specs.Batch.{HasItems, HasFault as HasBatchFault}
 use Rattle.mds_city.specs.declared.source.Source.{Source}
 use Rattle.mds_city.specs.declared.problem.Problem.{Problem}
@@ -50,7 +50,7 @@ ExplainsTable remaining (Some source) problem = ExplainsTableFile remaining sour
 
 -- the items are those of the file
 abbrev pub HasItemsIn : {R : Type 0} → (R → Option (List ℕ)) → Source R → List EventItem → Type 0
-HasItemsIn remaining source items = (bytes : List ℕ) × HasBytes remaining source bytes × HasItems event_item bytes items
+HasItemsIn remaining source items = (bytes : List ℕ) × HasBytes remaining source bytes × HasItems IsEventItem bytes items
 
 -- why there are no items: the file has this fault, its path is told as one that can't be read, or there was no memory
 abbrev pub ExplainsFile : {R : Type 0} → (R → Option (List ℕ)) → Source R → Problem → Type 0

@@ -4,27 +4,22 @@ ghost use Rattle.std.specs.Io.KnownBytes.{Appends, Keeps};
 ghost use Rattle.mds_city.specs.declared.report.Report.{Report};
 ghost use Rattle.mds_city.specs.Text.{report_text};
 ghost use Rattle.mds_city.specs.Source.{HasTableIn};
-ghost use Rattle.mds_city.specs.Command.{HasReport, ExplainsReplay, WentOut, Replayed, Told, Tabled, ExplainsPrint, TableWentOut, TableTold};
+ghost use Rattle.mds_city.specs.Command.{HasReport, ExplainsReplay, WentOut, Replayed, Told, Tabled, ExplainsPrint, TableWentOut, TableTold, status_on};
 
 use crate::print::{print_report, print_table};
 use crate::problem::{Problem, tell};
 use crate::replay::replay;
 use crate::report::Report;
 use crate::source::{Source, items_in, table_in};
+use crate::status::Status;
 use mds_table::Row;
 use std::alloc::Global;
 use std::io::{Read, Write};
 
-/// Every item was accepted.
-const ACCEPTED: u8 = 0;
-
-/// An item was not.
-const REFUSED: u8 = 1;
-
 /// Replays a file of events over a table, the profile's where none is given, and prints a line for each item, a line for
-/// each vehicle, and the totals. It answers the status that the program ends with: 0 where each item was accepted, 1
-/// where one was not, and else the one of the problem, which is told to `faults` in one line: 3 for a file that can't be
-/// read, is no table or no batch, or an output that fails, 4 for want of memory.
+/// each vehicle, and the totals. It answers the code of the status that the program ends with: `Done` where each
+/// item was accepted, `Refused` where one was not, and else the one of the problem, which is told to `faults` in one line:
+/// `Fault` for a file that can't be read, is no table or no batch, or an output that fails, `NoMemory` for want of memory.
 pub fn replay_to<T: Read + Drop, R: Read + Drop, W: Write, E: Write>(
     alloc: Global,
     table: Option<Source<'_, T>>,
@@ -38,9 +33,19 @@ pub fn replay_to<T: Read + Drop, R: Read + Drop, W: Write, E: Write>(
         (W.contents out.old) (W.contents out.new) (E.contents faults.old) (E.contents faults.new) }
 {
     match replay_into(alloc, table, file, out) {
-        Ok(0) => ACCEPTED,
-        Ok(_) => REFUSED,
-        Err(problem) => tell(alloc, faults, problem),
+        Ok(refused) => status_on(refused).code(),
+        Err(problem) => tell(alloc, faults, problem).code(),
+    }
+}
+
+/// The status of a replay that refused so many items.
+fn status_on(refused: usize) -> Status
+    ensures { result ≡ status_on refused }
+{
+    if refused == 0 {
+        Status::Done
+    } else {
+        Status::Refused
     }
 }
 
@@ -77,8 +82,8 @@ fn report_on<'a, T: Read + Drop, R: Read + Drop>(
 }
 
 /// Prints a table, the profile's where no file is given: a line for each row, in row order, and their number. It answers
-/// the status that the program ends with: 0, or the one of the problem, which is told to `faults` in one line: 3 for a
-/// file that can't be read or is no table, or an output that fails, 4 for want of memory.
+/// the code of the status that the program ends with: `Done`, or the one of the problem, which is told to `faults` in one
+/// line: `Fault` for a file that can't be read or is no table, or an output that fails, `NoMemory` for want of memory.
 pub fn table_to<T: Read + Drop, W: Write, E: Write>(
     alloc: Global,
     table: Option<Source<'_, T>>,
@@ -91,8 +96,8 @@ pub fn table_to<T: Read + Drop, W: Write, E: Write>(
         (W.contents out.old) (W.contents out.new) (E.contents faults.old) (E.contents faults.new) }
 {
     match table_into(alloc, table, out) {
-        Ok(()) => ACCEPTED,
-        Err(problem) => tell(alloc, faults, problem),
+        Ok(()) => Status::Done.code(),
+        Err(problem) => tell(alloc, faults, problem).code(),
     }
 }
 

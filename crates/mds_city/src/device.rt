@@ -1,12 +1,13 @@
 //! Reading and writing in a bounded number of calls.
-ghost use Rattle.std.specs.Prelude.{◌≡◌, ◌+◌, ◌-◌, ◌*◌, ◌<◌, ◌≤◌, ◌++◌, ◌∷◌, [], take, length, vec_len, string_bytes, Ok, Err, OnOk, OnErr, IfOk, IfErr, IfSome, MatchOption};
+ghost use Rattle.std.specs.Prelude.{◌≡◌, ◌+◌, ◌-◌, ◌*◌, ◌<◌, ◌≤◌, ◌++◌, ◌∷◌, [], ◌≢◌, ◌↔◌, take, length, vec_len, string_bytes, string_len, IsTrue, IsErrOf, OnOk, OnErr, IfOk, IfErr, IfSome};
+ghost use Rattle.std.specs.IoError.{error_kind};
 ghost use Rattle.std.specs.Io.KnownBytes.{Appends, Consumes, Keeps};
-ghost use Rattle.mds_city.specs.Device.{AppendsFront, ConsumesUpTo, HasFront, Passes, Reads, ReadsMore, with_newline};
+ghost use Rattle.mds_city.specs.Device.{AppendsFront, ConsumesUpTo, HasFront, LosesAt, Passes, Reads, ReadsMore, Writes, moved, with_newline};
 
 use mds_table::MAX_BYTES;
 use std::alloc::Global;
 use std::fmt::{Display, Write as _};
-use std::io::{ErrorKind, Read, Write};
+use std::io::{self, ErrorKind, Read, Write};
 
 /// The number of calls of `read` for a file, and of `write` for a page, at most. Interrupted calls
 /// count too.
@@ -40,14 +41,14 @@ pub enum WriteFault {
     Device,
 }
 
-/// What one call of `read` came to.
+/// What one call of `read` or `write` came to.
 #[derive(Debug, Clone, Copy, PartialEq, Eq)]
-enum Step {
-    /// So many bytes lie at the front of the room.
-    Got(usize),
-    /// The reader is at its end.
-    End,
-    /// The call was interrupted.
+enum Call {
+    /// So many bytes went over, at least one.
+    Moved(usize),
+    /// None did: a reader is at its end, a writer takes no more.
+    Nothing,
+    /// The call was interrupted, and is made again.
     Again,
     /// The call failed.
     Failed,
@@ -78,6 +79,9 @@ pub fn read_front<R: Read>(alloc: Global, reader: &mut R) -> Result<Vec<u8>, Rea
 
 /// Puts what one call of `read` gives behind `bytes`, and says whether nothing is left to be read:
 /// the reader is at its end, or `bytes` has `MAX_READ` bytes.
+///
+/// `Device` comes where the call failed, and then the reader lost nothing by it; `Memory` where
+/// there is none for the bytes that it gave.
 fn read_more<R: Read>(
     reader: &mut R,
     bytes: &mut Vec<u8>,
@@ -88,102 +92,99 @@ fn read_more<R: Read>(
     ensures ok { IfOk result (λ is_done.
         ReadsMore is_done (R.remaining reader.old) (R.remaining reader.new)
         bytes.old.items bytes.new.items) }
-    ensures err { OnErr result (ConsumesUpTo (MAX_READ - vec_len bytes.old)
-        (R.remaining reader.old) (R.remaining reader.new)) }
+    ensures err { IfErr result (λ fault.
+        LosesAt fault (MAX_READ - vec_len bytes.old) (R.remaining reader.old) (R.remaining reader.new)) }
 {
     let asked = room.len().min(MAX_READ - bytes.len());
     match read_once(reader, &mut room[..asked]) {
-        Step::Got(n) => {
-            if bytes.extend_from_slice(&room[..n]).is_err() {
+        Call::Moved(count) => {
+            if bytes.extend_from_slice(&room[..count]).is_err() {
                 return Err(ReadFault::Memory);
             }
             Ok(bytes.len() == MAX_READ)
         }
-        Step::End => Ok(true),
-        Step::Again => Ok(false),
-        Step::Failed => Err(ReadFault::Device),
+        Call::Nothing => Ok(true),
+        Call::Again => Ok(false),
+        Call::Failed => Err(ReadFault::Device),
     }
 }
 
 /// One call of `read` into `room`.
-fn read_once<R: Read>(reader: &mut R, room: &mut [u8]) -> Step
+fn read_once<R: Read>(reader: &mut R, room: &mut [u8]) -> Call
     requires { 0 < length room.old }
     ensures { Reads result (R.remaining reader.old) (R.remaining reader.new) room.new }
 {
-    match reader.read(room) {
-        Ok(0) => Step::End,
-        Ok(n) => Step::Got(n),
+    call_of(reader.read(room))
+}
+
+/// What a call that answered this came to.
+fn call_of(came: io::Result<usize>) -> Call
+    ensures ok { IfOk came (λ count. result ≡ moved count) }
+    ensures again { IfErr came (λ error. error_kind error ≡ ErrorKind.Interrupted
+        → result ≡ Call.Again) }
+    ensures failed { IfErr came (λ error. error_kind error ≢ ErrorKind.Interrupted
+        → result ≡ Call.Failed) }
+{
+    match came {
+        Ok(0) => Call::Nothing,
+        Ok(count) => Call::Moved(count),
         Err(error) => {
-            if matches!(error.kind(), ErrorKind::Interrupted) {
-                Step::Again
+            if is_made_again(error.kind()) {
+                Call::Again
             } else {
-                Step::Failed
+                Call::Failed
             }
         }
     }
 }
 
-/// Writes all of `bytes`, by at most `calls` calls of `write`, each of which is taken off `calls`.
+/// Whether a call that failed in this way is made again: only one that was interrupted.
+fn is_made_again(kind: ErrorKind) -> bool
+    ensures { IsTrue result ↔ (kind ≡ ErrorKind.Interrupted) }
+{
+    matches!(kind, ErrorKind::Interrupted)
+}
+
+/// Writes all of `bytes`, by at most `MAX_CALLS` calls of `write`.
 ///
 /// An interrupted call is made again. `Err` holds the number of bytes that went out, fewer than all:
 /// it comes where a call fails otherwise or takes no byte, or the calls run out.
-pub fn put<W: Write>(writer: &mut W, bytes: &[u8], calls: &mut u32) -> Result<(), usize>
-    ensures ok { OnOk result (Appends (W.contents writer.old) (W.contents writer.new) bytes.now) }
-    ensures err { IfErr result (λ sent. (sent < length bytes.now)
-        × Appends (W.contents writer.old) (W.contents writer.new) (take sent bytes.now)) }
-    ensures budget { calls.new ≤ calls.old }
-{
-    let mut sent = 0;
-    while sent < bytes.len() {
-        if *calls == 0 {
-            return Err(sent);
-        }
-        *calls -= 1;
-        match write_once(writer, &bytes[sent..]) {
-            Some(taken) => sent += taken,
-            None => return Err(sent),
-        }
-    }
-    Ok(())
-}
-
-/// One call of `write`: how many of `bytes` went out, 0 where it was interrupted, and `None` where it
-/// failed or took none.
-fn write_once<W: Write>(writer: &mut W, bytes: &[u8]) -> Option<usize>
-    ensures { MatchOption result (Appends (W.contents writer.old) (W.contents writer.new) [])
-        (λ taken. (taken ≤ length bytes.now)
-        × Appends (W.contents writer.old) (W.contents writer.new) (take taken bytes.now)) }
-{
-    match writer.write(bytes) {
-        Ok(0) => None,
-        Ok(taken) => Some(taken),
-        Err(error) => {
-            if matches!(error.kind(), ErrorKind::Interrupted) {
-                Some(0)
-            } else {
-                None
-            }
-        }
-    }
-}
-
-/// Writes all of `bytes`, as `put` does, by at most `MAX_CALLS` calls of `write`.
 pub fn write_all_of<W: Write>(writer: &mut W, bytes: &[u8]) -> Result<(), usize>
     ensures ok { OnOk result (Appends (W.contents writer.old) (W.contents writer.new) bytes.now) }
     ensures err { IfErr result (λ sent. (sent < length bytes.now)
         × Appends (W.contents writer.old) (W.contents writer.new) (take sent bytes.now)) }
 {
-    let mut calls = MAX_CALLS;
-    put(writer, bytes, &mut calls)
+    let mut sent = 0;
+    let mut left = MAX_CALLS;
+    while sent < bytes.len() {
+        if left == 0 {
+            return Err(sent);
+        }
+        left -= 1;
+        match write_once(writer, &bytes[sent..]) {
+            Call::Moved(taken) => sent += taken,
+            Call::Again => {}
+            Call::Nothing | Call::Failed => return Err(sent),
+        }
+    }
+    Ok(())
+}
+
+/// One call of `write`.
+fn write_once<W: Write>(writer: &mut W, bytes: &[u8]) -> Call
+    requires { 0 < length bytes.now }
+    ensures { Writes result (W.contents writer.old) (W.contents writer.new) bytes.now }
+{
+    call_of(writer.write(bytes))
 }
 
 /// Lays `line` and a line feed out behind what `page` holds, and writes the page out and empties it
 /// where it then has at least `PAGE_BYTES` bytes.
 ///
 /// So several lines share a call of `write`, and each is written within `MAX_CALLS` calls. `Memory`
-/// comes where the page could not grow, and then nothing was written; `Device` where the page could
-/// not be written whole, and then a front of it went out. After an `Err` the page may hold any part of
-/// the text: nothing more should be written by it.
+/// comes where the page could not grow, and then nothing was written; `Device` where a page of
+/// `PAGE_BYTES` bytes or more could not be written whole, and then a front of it went out. After an
+/// `Err` the page may hold any part of the text: nothing more should be written by it.
 pub fn add_line<W: Write, D: Display>(
     writer: &mut W,
     page: &mut String,
@@ -195,8 +196,9 @@ pub fn add_line<W: Write, D: Display>(
     ensures err { OnErr result (IfSome (D.output line.now) (λ text.
         AppendsFront (W.contents writer.old) (W.contents writer.new)
         (string_bytes page.old ++ with_newline text))) }
-    ensures memory { result ≡ Err WriteFault.Memory
+    ensures memory { IsErrOf result WriteFault.Memory
         → Keeps (W.contents writer.old) (W.contents writer.new) }
+    ensures device { IsErrOf result WriteFault.Device → PAGE_BYTES ≤ string_len page.new }
 {
     if writeln!(page, "{line}").is_err() {
         return Err(WriteFault::Memory);

@@ -12,6 +12,7 @@ mod replay;
 mod report;
 mod rows;
 mod source;
+mod status;
 mod words;
 
 use crate::commands::{replay_to, table_to};

@@ -1,9 +1,9 @@
 //! Why a command could not be carried out.
 ghost use Rattle.std.specs.Prelude.{◌≡◌, ◌⊎◌, Some};
-ghost use Rattle.mds_city.specs.Device.{AppendsFront};
-ghost use Rattle.mds_city.specs.Problem.{problem_text, status_of, Tells};
+ghost use Rattle.mds_city.specs.Problem.{IsTelling, problem_text, status_of, Tells};
 
 use crate::device::{WriteFault, write_all_of};
+use crate::status::Status;
 use mds_batch::BatchFault;
 use mds_table::TableFault;
 use std::alloc::{AllocError, Global};
@@ -27,16 +27,16 @@ pub enum Problem<'a> {
 }
 
 impl Problem<'_> {
-    /// The status that the program ends with: 4 for want of memory, else 3.
-    pub fn status(&self) -> u8
+    /// How the program ends: `NoMemory` for want of memory, else `Fault`.
+    pub fn status(&self) -> Status
         ensures { result ≡ status_of self.now }
     {
         match self {
-            Problem::Memory => 4,
+            Problem::Memory => Status::NoMemory,
             Problem::CannotRead(_)
             | Problem::NotATable(_)
             | Problem::NotABatch(_)
-            | Problem::Output => 3,
+            | Problem::Output => Status::Fault,
         }
     }
 }
@@ -48,6 +48,34 @@ impl From<AllocError> for Problem<'_> {
 
     fn from(_refused: AllocError) -> Self {
         Problem::Memory
+    }
+}
+
+/// What the bytes of a table file have wrong; `CannotRead` is never made of it.
+impl From<TableFault> for Problem<'_> {
+    ghost use Rattle.mds_city.specs.Problem.{table_problem};
+
+    ghost from_gives = { λ fault problem. problem ≡ table_problem fault };
+
+    fn from(fault: TableFault) -> Self {
+        match fault {
+            TableFault::Memory => Problem::Memory,
+            fault => Problem::NotATable(fault),
+        }
+    }
+}
+
+/// What the bytes of a file of items have wrong; `CannotRead` is never made of it.
+impl From<BatchFault> for Problem<'_> {
+    ghost use Rattle.mds_city.specs.Problem.{batch_problem};
+
+    ghost from_gives = { λ fault problem. problem ≡ batch_problem fault };
+
+    fn from(fault: BatchFault) -> Self {
+        match fault {
+            BatchFault::Memory => Problem::Memory,
+            fault => Problem::NotABatch(fault),
+        }
     }
 }
 
@@ -80,22 +108,40 @@ impl fmt::Display for Problem<'_> {
 
 /// Tells the problem in one line, and answers its status. Where there is no memory to lay the line out, the problem that
 /// is told is that. Where the writer fails the status stays.
-pub fn tell<E: Write>(alloc: Global, faults: &mut E, problem: Problem<'_>) -> u8
+pub fn tell<E: Write>(alloc: Global, faults: &mut E, problem: Problem<'_>) -> Status
     ensures { ((result ≡ status_of problem.entry) × Tells (E.contents faults.old) (E.contents faults.new) problem.entry)
-        ⊎ ((result ≡ 4) × Tells (E.contents faults.old) (E.contents faults.new) Problem.Memory) }
+        ⊎ ((result ≡ Status.NoMemory) × Tells (E.contents faults.old) (E.contents faults.new) Problem.Memory) }
 {
-    let mut line = String::new(alloc);
-    if writeln!(line, "{problem}").is_err() {
-        put_some(faults, b"mds_city: out of memory\n");
-        return Problem::Memory.status();
-    }
-    put_some(faults, line.as_bytes());
-    problem.status()
+    tell_whole(alloc, faults, problem).status
 }
 
-/// Writes the bytes, or a front of them where the writer fails.
-fn put_some<W: Write>(writer: &mut W, bytes: &[u8])
-    ensures { AppendsFront (W.contents writer.old) (W.contents writer.new) bytes.now }
-{
-    let _ = write_all_of(writer, bytes);
+/// What became of a problem that was told.
+#[derive(Clone, Copy, Debug, PartialEq, Eq)]
+struct Telling {
+    /// How the program ends.
+    status: Status,
+    /// Whether the line went out whole, and else how many of its bytes did.
+    line: Result<(), usize>,
 }
+
+/// Tells the problem in one line. Where there is no memory to lay the line out, the problem that is told is that.
+fn tell_whole<E: Write>(alloc: Global, faults: &mut E, problem: Problem<'_>) -> Telling
+    ensures { IsTelling (E.contents faults.old) (E.contents faults.new) problem.entry result
+        ⊎ IsTelling (E.contents faults.old) (E.contents faults.new) Problem.Memory result }
+{
+    let mut text = String::new(alloc);
+    match writeln!(text, "{problem}") {
+        Ok(()) => Telling {
+            status: problem.status(),
+            line: write_all_of(faults, text.as_bytes()),
+        },
+        // The text of `Problem::Memory`, which there is no memory to lay out.
+        Err(_) => Telling {
+            status: Problem::Memory.status(),
+            line: write_all_of(faults, b"mds_city: out of memory\n"),
+        },
+    }
+}
+
+#[cfg(test)]
+mod tests;

@@ -4,8 +4,8 @@ ghost use Rattle.mds_city.specs.Source.{HasBytes, IsReadProblem, HasTableOf, Has
 
 use crate::device::{ReadFault, read_front};
 use crate::problem::Problem;
-use mds_batch::{BatchFault, EventItem, read_events};
-use mds_table::{Table, TableFault};
+use mds_batch::{EventItem, read_events};
+use mds_table::Table;
 use std::alloc::Global;
 use std::io::Read;
 
@@ -60,11 +60,7 @@ fn table_of_file<'a, T: Read + Drop>(
     ensures err { IfErr result (ExplainsTableFile T.remaining source.entry) }
 {
     let bytes = bytes_in(alloc, source)?;
-    match Table::from_json(alloc, &bytes) {
-        Ok(table) => Ok(table),
-        Err(TableFault::Memory) => Err(Problem::Memory),
-        Err(fault) => Err(Problem::NotATable(fault)),
-    }
+    Ok(Table::from_json(alloc, &bytes)?)
 }
 
 /// The items of a file of events.
@@ -76,9 +72,5 @@ pub fn items_in<'a, R: Read + Drop>(
     ensures err { IfErr result (ExplainsFile R.remaining source.entry) }
 {
     let bytes = bytes_in(alloc, source)?;
-    match read_events(alloc, &bytes) {
-        Ok(items) => Ok(items),
-        Err(BatchFault::Memory) => Err(Problem::Memory),
-        Err(fault) => Err(Problem::NotABatch(fault)),
-    }
+    Ok(read_events(alloc, &bytes)?)
 }

@@ -36,7 +36,8 @@ pub fn parse_words<'a, S: AsStr>(alloc: Global, words: &'a [S]) -> Result<Comman
     // Words in which `clap` finds a fault give no command, and the error is of a kind that it finds.
     ensures taken { IfOk result (λ _. fault_of program_app (map S.text words.entry.now) ≡ []) }
     ensures kind { IfErr result (λ error. HasKind (fault_of program_app (map S.text words.entry.now)) error
-        ⊎ AsksNothing (subcommand_of program_app (map S.text words.entry.now))) }
+        ⊎ ((fault_of program_app (map S.text words.entry.now) ≡ [])
+        × AsksNothing (subcommand_of program_app (map S.text words.entry.now)))) }
     // Words that `clap` takes and that ask for some command give it, where there is memory.
     ensures err { IfErr result (λ error. takes program_app (map S.text words.entry.now) ≡ true
         → (AsksNothing (subcommand_of program_app (map S.text words.entry.now)) → ⊥)

@@ -49,6 +49,13 @@ own-next_other history request Done key other = own-push_other history request k
 own-next_other history request (Seen standing) key other = refl
 own-next_other history request (Refused refusal) key other = refl
 
+-- and for this vehicle it is its next own list
+pub own-next_same : (history : List Request) (request : Request) (outcome : Outcome) (key : Key) → same_key (key_of request) key ≡ true
+    → own (next history request outcome) key ≡ next (own history key) request outcome
+own-next_same history request Done key same = own-push_same history request key same
+own-next_same history request (Seen standing) key same = refl
+own-next_same history request (Refused refusal) key same = refl
+
 -- a career goes on with a report that could be accepted
 career_more : (rows : List Row) (before rest : List Request) (event : Reported) → IsCareer rows before rest
     → IsOpen (before ++ rest) event → Leads rows (held (before ++ rest)) event.types event.state → IsCareer rows before (rest ++ Report event ∷ [])

@@ -1,4 +1,4 @@
-pub mod Lookups
+pub mod Standings
 pub mod Stuck
 pub mod Outcomes
 pub mod Histories

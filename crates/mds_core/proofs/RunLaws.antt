@@ -1,9 +1,7 @@
 -- What holds of whole runs.
-use Rattle.std.proofs.Common.{◌≡◌, suc, List, [], ◌∷◌, ◌++◌, length, Option, Some, None, refl, sym, ◌∙◌, ap, subst}
-use Rattle.std.specs.List.{last_or}
-use Rattle.std.specs.Option.{option_map_or}
-use Rattle.std.proofs.lemmas.List.Elements.{filter_map-append}
-use Rattle.mds_table.specs.declared.state.State.TheVariants.{Removed}
+use Rattle.std.proofs.Common.{◌≡◌, ℕ, suc, zero, List, [], ◌∷◌, ◌++◌, length, take, map, filter, Some, slice_get, Bool, true, false, cond, append_assoc, refl, sym, ◌∙◌, ap, subst}
+use Rattle.std.specs.List.{zip}
+use Rattle.std.proofs.lemmas.List.{append-nil}
 use Rattle.mds_table.specs.declared.row.Row.{Row}
 use Rattle.mds_core.specs.declared.key.Key.{Key}
 use Rattle.mds_core.specs.declared.request.Request.{Request}
@@ -12,13 +10,15 @@ use Rattle.mds_core.specs.declared.reply.Outcome.{Outcome}
 use Rattle.mds_core.specs.declared.reply.Outcome.TheVariants.{Done, Seen, Refused}
 use Rattle.mds_core.specs.declared.reply.Reply.{Reply}
 use Rattle.mds_core.specs.Reported.{Reported}
-use Rattle.mds_core.specs.History.{own, key_of, held, report_of, reports, last_report}
+use Rattle.mds_core.specs.History.{own, key_of, same_key, held}
 use Rattle.mds_core.specs.Answer.{Gives, next}
 use Rattle.mds_core.specs.Run.{IsRun}
 use Rattle.mds_core.specs.Lawful.{IsLawful}
-use Rattle.mds_core.specs.Headline.{IsJudged, IsStep, AreSteps}
+use Rattle.mds_core.specs.Headline.{is_done, done_of, IsDoneExactly, AcceptsExactly}
+use Rattle.mds_core.specs.Laws.{outcomes_of}
+use Rattle.mds_core.proofs.Standings.{held-push}
 use Rattle.mds_core.proofs.Outcomes.{answer_one, outcome_one}
-use Rattle.mds_core.proofs.Histories.{lawful_next, own-next_other, own-push_same, same_key_refl}
+use Rattle.mds_core.proofs.Histories.{lawful_next, own-next_other, own-next_same, own-push_same, same_key_is, same_key_refl}
 
 -- a run from a lawful history leaves a lawful one
 lawful_after : (rows : List Row) (old requests : List Request) (replies : List Reply) (new : List Request) → IsLawful rows old → IsRun rows old requests replies new → IsLawful rows new
@@ -44,64 +44,6 @@ one_run rows old (request ∷ requests) (a ∷ rest) (b ∷ others) new other fi
     let tail = one_run rows (next old request a.outcome) requests rest others new other first.1 (subst P (sym same) second.1) in
     ((λ i. same i ∷ tail.0 i), tail.1)
 
--- the last of a list with one item more is that item
-last_or-push : {X : Type 0} (o : Option X) (xs : List X) (x : X) → last_or o (xs ++ x ∷ []) ≡ Some x
-last_or-push o [] x = refl
-last_or-push o (y ∷ ys) x = last_or-push (Some y) ys x
-
--- after an event a vehicle holds the state reported
-held-push : (requests : List Request) (event : Reported) → held (requests ++ Report event ∷ []) ≡ event.state
-held-push requests event =
-    let last : last_report (requests ++ Report event ∷ []) ≡ Some event =
-    ap (last_or None) (filter_map-append report_of requests (Report event ∷ [])) ∙ last_or-push None (reports requests) event in
-    ap (λ report. option_map_or (λ e. e.state) report Removed) last
-
-judged : (rows : List Row) (old : List Request) (event : Reported) (outcome : Outcome) → Gives rows (own old event.key) (Report event) outcome
-    → IsJudged rows old event outcome (next old (Report event) outcome)
-judged rows old event outcome gives =
-    let P : Outcome → Type 0 = λ o. Gives rows (own old event.key) (Report event) o in
-    record {
-      accepted = (
-        λ done. let is = subst P done gives in record { open_to_it = is.0; rows_lead = is.1 },
-        λ may. outcome_one rows (own old event.key) (Report event) outcome Done gives (may.open_to_it, may.rows_lead),
-      );
-      state = λ done. rw (done, own-push_same old (Report event) event.key (same_key_refl event.key)) (held-push (own old event.key) event);
-    }
-
--- a look changes nothing
-look_keeps : (rows : List Row) (requests old : List Request) (key : Key) (outcome : Outcome) → Gives rows requests (Look key) outcome → next old (Look key) outcome ≡ old
-look_keeps rows requests old key Done gives = absurd gives
-look_keeps rows requests old key (Seen standing) gives = refl
-look_keeps rows requests old key (Refused refusal) gives = refl
-
-is_step : (rows : List Row) (old : List Request) (request : Request) (outcome : Outcome) → Gives rows (own old (key_of request)) request outcome
-    → IsStep rows old request outcome (next old request outcome)
-is_step rows old (Register key) outcome gives =
-    record { event = λ event is. cc; look = λ other is. cc; others = own-next_other old (Register key) outcome }
-is_step rows old (Report event) outcome gives =
-    record {
-      event = λ other is.
-          let same : event ≡ other = cc in
-          let P : Reported → Type 0 = λ e. IsJudged rows old e outcome (next old (Report event) outcome) in
-          subst P same (judged rows old event outcome gives);
-      look = λ other is. cc;
-      others = own-next_other old (Report event) outcome;
-    }
-is_step rows old (Look key) outcome gives =
-    record {
-      event = λ event is. cc;
-      look = λ other is. look_keeps rows (own old key) old key outcome gives;
-      others = own-next_other old (Look key) outcome;
-    }
-
--- every request of a run does what a step does
-pub steps_of_run : (rows : List Row) (old requests : List Request) (replies : List Reply) (new : List Request) → IsRun rows old requests replies new → AreSteps rows old requests replies
-steps_of_run rows old [] [] new run = tt
-steps_of_run rows old (request ∷ requests) (reply ∷ replies) new run =
-    (is_step rows old request reply.outcome run.0.outcome, steps_of_run rows (next old request reply.outcome) requests replies new run.1)
-steps_of_run rows old [] (reply ∷ replies) new run = absurd run
-steps_of_run rows old (request ∷ requests) [] new run = absurd run
-
 -- a run has a reply to each request
 pub run_length : (rows : List Row) (old requests : List Request) (replies : List Reply) (new : List Request) → IsRun rows old requests replies new
     → length replies ≡ length requests
@@ -109,3 +51,116 @@ run_length rows old [] [] new is = refl
 run_length rows old [] (reply ∷ replies) new is = absurd is
 run_length rows old (request ∷ requests) [] new is = absurd is
 run_length rows old (request ∷ requests) (reply ∷ replies) new is = ap suc (run_length rows (next old request reply.outcome) requests replies new is.1)
+
+-- with what was answered Done before, a request is Done exactly where the answer says so
+done_exactly : (rows : List Row) (before : List Request) (request : Request) (outcome : Outcome) → Gives rows (own before (key_of request)) request outcome
+    → IsDoneExactly rows before request outcome
+done_exactly rows before (Register key) outcome gives =
+    let P : Outcome → Type 0 = λ o. Gives rows (own before key) (Register key) o in
+    (λ done. subst P done gives, λ none. outcome_one rows (own before key) (Register key) outcome Done gives none)
+done_exactly rows before (Report event) outcome gives =
+    let P : Outcome → Type 0 = λ o. Gives rows (own before event.key) (Report event) o in (
+      λ done. let is = subst P done gives in record { open_to_it = is.0; rows_lead = is.1 },
+      λ may. outcome_one rows (own before event.key) (Report event) outcome Done gives (may.open_to_it, may.rows_lead),
+    )
+done_exactly rows before (Look key) outcome gives =
+    let P : Outcome → Type 0 = λ o. Gives rows (own before key) (Look key) o in
+    λ done. subst P done gives
+
+-- the next history, and then what was answered Done of the rest
+next-done_of : (old : List Request) (request : Request) (reply : Reply) (rest : List (Request × Reply))
+    → old ++ done_of ((request, reply) ∷ rest) ≡ next old request reply.outcome ++ done_of rest
+next-done_of old request reply rest = by_outcome reply.outcome where
+  by_outcome : (outcome : Outcome) → old ++ map (λ one. one.0) (cond (is_done outcome) ((request, reply) ∷ filter (λ one. is_done one.1.outcome) rest) (filter (λ one. is_done one.1.outcome) rest)) ≡ next old request outcome ++ done_of rest
+  by_outcome Done = sym (append_assoc old (request ∷ []) (done_of rest))
+  by_outcome (Seen standing) = refl
+  by_outcome (Refused refusal) = refl
+
+-- in a run from an old history, each request is Done exactly where it is acceptable after that history and what was Done since
+each_exactly : (rows : List Row) (old requests : List Request) (replies : List Reply) (new : List Request) → IsRun rows old requests replies new
+    → (i : ℕ) (request : Request) (reply : Reply) → slice_get (zip requests replies) i ≡ Some (request, reply)
+    → IsDoneExactly rows (old ++ done_of (take i (zip requests replies))) request reply.outcome
+each_exactly rows old [] replies new run i request reply is = cc
+each_exactly rows old (first ∷ requests) [] new run i request reply is = absurd run
+each_exactly rows old (first ∷ requests) (told ∷ replies) new run zero request reply is =
+    let pair : (first, told) ≡ (request, reply) = cc in
+    let P : Request × Reply → Type 0 = λ one. IsDoneExactly rows (old ++ []) one.0 one.1.outcome in
+    subst P pair (rw append-nil (done_exactly rows old first told.outcome run.0.outcome))
+each_exactly rows old (first ∷ requests) (told ∷ replies) new run (suc i) request reply is =
+    let P : List Request → Type 0 = λ before. IsDoneExactly rows before request reply.outcome in
+    subst P (sym (next-done_of old first told (take i (zip requests replies))))
+    (each_exactly rows (next old first told.outcome) requests replies new run.1 i request reply is)
+
+-- a run from an old history leaves it with what was Done behind it
+history_exactly : (rows : List Row) (old requests : List Request) (replies : List Reply) (new : List Request) → IsRun rows old requests replies new
+    → new ≡ old ++ done_of (zip requests replies)
+history_exactly rows old [] [] new run = run ∙ sym (append-nil old)
+history_exactly rows old [] (reply ∷ replies) new run = absurd run
+history_exactly rows old (request ∷ requests) [] new run = absurd run
+history_exactly rows old (request ∷ requests) (reply ∷ replies) new run =
+    history_exactly rows (next old request reply.outcome) requests replies new run.1 ∙ sym (next-done_of old request reply (zip requests replies))
+
+pub accepts_exactly : (rows : List Row) (requests : List Request) (replies : List Reply) (new : List Request) → IsRun rows [] requests replies new
+    → AcceptsExactly rows requests replies new
+accepts_exactly rows requests replies new run = record {
+  count = run_length rows [] requests replies new run;
+  each = each_exactly rows [] requests replies new run;
+  left = history_exactly rows [] requests replies new run;
+}
+
+-- a run of the requests of one vehicle, by its own list alone
+IsOwnRun : List Row → List Request → List Request → List Outcome → List Request → Type 0
+IsOwnRun rows old [] [] new = new ≡ old
+IsOwnRun rows old (request ∷ requests) (outcome ∷ outcomes) new = Gives rows old request outcome × IsOwnRun rows (next old request outcome) requests outcomes new
+IsOwnRun rows old [] (outcome ∷ outcomes) new = ⊥
+IsOwnRun rows old (request ∷ requests) [] new = ⊥
+
+-- it has one end
+one_own_run : (rows : List Row) (old requests : List Request) (a b : List Outcome) (new other : List Request)
+    → IsOwnRun rows old requests a new → IsOwnRun rows old requests b other → (a ≡ b) × (new ≡ other)
+unfolding IsOwnRun
+one_own_run rows old [] [] [] new other first second = (refl, first ∙ sym second)
+one_own_run rows old [] [] (b ∷ bs) new other first second = absurd second
+one_own_run rows old [] (a ∷ rest) b new other first second = absurd first
+one_own_run rows old (request ∷ requests) [] b new other first second = absurd first
+one_own_run rows old (request ∷ requests) (a ∷ rest) [] new other first second = absurd second
+one_own_run rows old (request ∷ requests) (a ∷ rest) (b ∷ others) new other first second =
+    let same = outcome_one rows old request a b first.0 second.0 in
+    let P : Outcome → Type 0 = λ outcome. IsOwnRun rows (next old request outcome) requests others other in
+    let tail = one_own_run rows (next old request a) requests rest others new other first.1 (subst P (sym same) second.1) in
+    ((λ i. same i ∷ tail.0 i), tail.1)
+
+-- what a run does for one vehicle is a run of its own requests
+narrowed : (rows : List Row) (key : Key) (old requests : List Request) (replies : List Reply) (new : List Request) → IsRun rows old requests replies new
+    → IsOwnRun rows (own old key) (own requests key) (outcomes_of key (zip requests replies)) (own new key)
+unfolding IsOwnRun
+narrowed rows key old [] [] new run = ap (λ history. own history key) run
+narrowed rows key old [] (reply ∷ replies) new run = absurd run
+narrowed rows key old (request ∷ requests) [] new run = absurd run
+narrowed rows key old (request ∷ requests) (reply ∷ replies) new run =
+    by_key (same_key (key_of request) key) refl (narrowed rows key (next old request reply.outcome) requests replies new run.1) where
+      theirs : List (Request × Reply)
+      theirs = filter (λ one. same_key (key_of one.0) key) (zip requests replies)
+
+      by_key : (b : Bool) → same_key (key_of request) key ≡ b
+          → IsOwnRun rows (own (next old request reply.outcome) key) (own requests key) (outcomes_of key (zip requests replies)) (own new key)
+          → IsOwnRun rows (own old key) (cond b (request ∷ own requests key) (own requests key)) (map (λ one. one.1.outcome) (cond b ((request, reply) ∷ theirs) theirs)) (own new key)
+      by_key false other rest =
+          let P : List Request → Type 0 = λ before. IsOwnRun rows before (own requests key) (outcomes_of key (zip requests replies)) (own new key) in
+          subst P (own-next_other old request reply.outcome key other) rest
+      by_key true same rest =
+          let P : List Request → Type 0 = λ before. IsOwnRun rows before (own requests key) (outcomes_of key (zip requests replies)) (own new key) in
+          let Q : Key → Type 0 = λ k. Gives rows (own old k) request reply.outcome in
+          (subst Q (same_key_is (key_of request) key same) run.0.outcome, subst P (own-next_same old request reply.outcome key same) rest)
+
+pub agreed : (rows : List Row) (key : Key) (requests others : List Request) (replies answers : List Reply) (new other : List Request)
+    → own requests key ≡ own others key → IsRun rows [] requests replies new → IsRun rows [] others answers other
+    → (outcomes_of key (zip requests replies) ≡ outcomes_of key (zip others answers)) × (own new key ≡ own other key)
+agreed rows key requests others replies answers new other same first second =
+    let P : List Request → Type 0 = λ asked. IsOwnRun rows [] asked (outcomes_of key (zip others answers)) (own other key) in
+    one_own_run rows [] (own requests key) (outcomes_of key (zip requests replies)) (outcomes_of key (zip others answers)) (own new key) (own other key)
+    (narrowed rows key [] requests replies new first) (subst P (sym same) (narrowed rows key [] others answers other second))
+
+-- after an accepted event a vehicle holds the state that it reports
+pub reported_held : (history : List Request) (event : Reported) → held (own (next history (Report event) Done) event.key) ≡ event.state
+reported_held history event = rw (own-push_same history (Report event) event.key (same_key_refl event.key)) (held-push (own history event.key) event)

@@ -1,16 +1,26 @@
--- What becomes of each event, in every run.
-use Rattle.std.specs.Prelude.{◌≡◌, ◌↔◌, List, [], ◌∷◌, false}
+-- What becomes of each request of a run, by its place in the list.
+use Rattle.std.specs.Prelude.{◌≡◌, ◌≢◌, ◌↔◌, ℕ, List, [], length, take, map, filter, Some, slice_get, Bool, true, false}
+use Rattle.std.specs.List.{zip}
 use Rattle.mds_table.specs.declared.row.Row.{Row}
 use Rattle.mds_table.specs.Chain.{Leads}
-use Rattle.mds_core.specs.declared.key.Key.{Key}
 use Rattle.mds_core.specs.declared.request.Request.{Request}
-use Rattle.mds_core.specs.declared.request.Request.TheVariants.{Report, Look}
+use Rattle.mds_core.specs.declared.request.Request.TheVariants.{Register, Report, Look}
 use Rattle.mds_core.specs.declared.reply.Outcome.{Outcome}
-use Rattle.mds_core.specs.declared.reply.Outcome.TheVariants.{Done}
+use Rattle.mds_core.specs.declared.reply.Outcome.TheVariants.{Done, Seen, Refused}
 use Rattle.mds_core.specs.declared.reply.Reply.{Reply}
 use Rattle.mds_core.specs.Reported.{Reported}
-use Rattle.mds_core.specs.History.{key_of, own, same_key, held}
-use Rattle.mds_core.specs.Answer.{IsOpen, next}
+use Rattle.mds_core.specs.History.{own, held}
+use Rattle.mds_core.specs.Answer.{IsOpen}
+
+-- a request was answered Done
+abbrev pub is_done : Outcome → Bool
+is_done Done = true
+is_done (Seen standing) = false
+is_done (Refused refusal) = false
+
+-- of requests with their replies, the requests that were answered Done, in their order
+abbrev pub done_of : List (Request × Reply) → List Request
+done_of answered = map (λ one. one.0) (filter (λ one. is_done one.1.outcome) answered)
 
 -- the vehicle is registered, the identifier new there, the time not before the last, and rows of the table lead, one for
 -- each of the event's types in order, from the state held to the state reported
@@ -18,21 +28,16 @@ pub record IsAcceptable (rows : List Row) (requests : List Request) (event : Rep
   pub open_to_it : IsOpen requests event
   pub rows_lead : Leads rows (held requests) event.types event.state
 
--- an event is accepted exactly where it is acceptable to its vehicle; the state reported is then held
-pub record IsJudged (rows : List Row) (old : List Request) (event : Reported) (outcome : Outcome) (new : List Request) : Type 0 where
-  pub accepted : (outcome ≡ Done) ↔ IsAcceptable rows (own old event.key) event
-  pub state : outcome ≡ Done → held (own new event.key) ≡ event.state
+-- with what was answered Done before: a registration is Done exactly where there is nothing of its vehicle, an event
+-- exactly where it is acceptable to its vehicle's own list, and a look never
+abbrev pub IsDoneExactly : List Row → List Request → Request → Outcome → Type 0
+IsDoneExactly rows before (Register key) outcome = (outcome ≡ Done) ↔ (own before key ≡ [])
+IsDoneExactly rows before (Report event) outcome = (outcome ≡ Done) ↔ IsAcceptable rows (own before event.key) event
+IsDoneExactly rows before (Look key) outcome = outcome ≢ Done
 
--- what a request does: an event is judged, a look changes nothing, and no other vehicle changes
-pub record IsStep (rows : List Row) (old : List Request) (request : Request) (outcome : Outcome) (new : List Request) : Type 0 where
-  pub event : (event : Reported) → request ≡ Report event → IsJudged rows old event outcome new
-  pub look : (key : Key) → request ≡ Look key → new ≡ old
-  pub others : (key : Key) → same_key (key_of request) key ≡ false → own new key ≡ own old key
-
--- so each request of a list does, one after the other
-abbrev pub AreSteps : List Row → List Request → List Request → List Reply → Type 0
-AreSteps rows old [] [] = Unit {0}
-AreSteps rows old (request ∷ requests) (reply ∷ replies) =
-    IsStep rows old request reply.outcome (next old request reply.outcome) × AreSteps rows (next old request reply.outcome) requests replies
-AreSteps rows old [] (reply ∷ replies) = ⊥
-AreSteps rows old (request ∷ requests) [] = ⊥
+-- so it is at each place of a list of requests, and the history is the requests answered Done
+pub record AcceptsExactly (rows : List Row) (requests : List Request) (replies : List Reply) (history : List Request) : Type 0 where
+  pub count : length replies ≡ length requests
+  pub each : (i : ℕ) (request : Request) (reply : Reply) → slice_get (zip requests replies) i ≡ Some (request, reply)
+      → IsDoneExactly rows (done_of (take i (zip requests replies))) request reply.outcome
+  pub left : history ≡ done_of (zip requests replies)

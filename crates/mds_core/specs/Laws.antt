@@ -1,14 +1,19 @@
 -- What holds of the answers, the histories and the runs.
-use Rattle.std.specs.Prelude.{◌≡◌, ◌⊎◌, ◌++◌, List, [], false}
+use Rattle.std.specs.Prelude.{◌≡◌, ◌⊎◌, ◌++◌, List, [], map, filter, false}
+use Rattle.std.specs.List.{zip}
 use Rattle.mds_table.specs.declared.row.Row.{Row}
 use Rattle.mds_core.specs.declared.key.Key.{Key}
 use Rattle.mds_core.specs.declared.request.Request.{Request}
+use Rattle.mds_core.specs.declared.request.Request.TheVariants.{Report}
+use Rattle.mds_core.specs.declared.reply.Outcome.{Outcome}
+use Rattle.mds_core.specs.declared.reply.Outcome.TheVariants.{Done}
 use Rattle.mds_core.specs.declared.reply.Reply.{Reply}
-use Rattle.mds_core.specs.History.{key_of, own, same_key}
+use Rattle.mds_core.specs.Reported.{Reported}
+use Rattle.mds_core.specs.History.{key_of, own, same_key, held}
 use Rattle.mds_core.specs.Answer.{Answers, next}
 use Rattle.mds_core.specs.Run.{IsRun}
 use Rattle.mds_core.specs.Lawful.{IsLawful}
-use Rattle.mds_core.specs.Headline.{AreSteps}
+use Rattle.mds_core.specs.Headline.{AcceptsExactly}
 
 -- a request has one outcome, by the accepted requests of its vehicle alone
 abbrev pub DependsOnOwn : Type 0
@@ -42,7 +47,23 @@ JoinsApart =
     (rows : List Row) (first second : List Request) → IsLawful rows first → IsLawful rows second
     → ((key : Key) → (own first key ≡ []) ⊎ (own second key ≡ [])) → IsLawful rows (first ++ second)
 
--- in every run from nothing, each event is accepted exactly where it is acceptable to its vehicle, the state reported is
--- then held, a look changes nothing, and no other vehicle changes
-abbrev pub RunsAreSteps : Type 0
-RunsAreSteps = (rows : List Row) (requests : List Request) (replies : List Reply) (new : List Request) → IsRun rows [] requests replies new → AreSteps rows [] requests replies
+-- a run from nothing accepts exactly what is acceptable, place by place, and leaves what it accepted
+abbrev pub RunsAcceptExactly : Type 0
+RunsAcceptExactly = (rows : List Row) (requests : List Request) (replies : List Reply) (new : List Request)
+    → IsRun rows [] requests replies new → AcceptsExactly rows requests replies new
+
+-- once an event is accepted, its vehicle holds the state that it reports
+abbrev pub HoldsReported : Type 0
+HoldsReported = (history : List Request) (event : Reported) → held (own (next history (Report event) Done) event.key) ≡ event.state
+
+-- the outcomes of a vehicle's requests, in their order
+abbrev pub outcomes_of : Key → List (Request × Reply) → List Outcome
+outcomes_of key answered = map (λ one. one.1.outcome) (filter (λ one. same_key (key_of one.0) key) answered)
+
+-- two runs from nothing whose requests of a vehicle are the same, in the same order, give it the same outcomes and the
+-- same own list, whatever stands between
+abbrev pub SchedulesAgree : Type 0
+SchedulesAgree =
+    (rows : List Row) (key : Key) (requests others : List Request) (replies answers : List Reply) (new other : List Request)
+    → own requests key ≡ own others key → IsRun rows [] requests replies new → IsRun rows [] others answers other
+    → (outcomes_of key (zip requests replies) ≡ outcomes_of key (zip others answers)) × (own new key ≡ own other key)

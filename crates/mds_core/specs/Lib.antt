@@ -6,7 +6,8 @@ pub mod Position
 pub mod Reported
 pub mod EventFault
 pub mod History
-pub mod Lookup
+pub mod Known
+pub mod Refusal
 pub mod Answer
 pub mod Run
 pub mod Lawful

@@ -6,6 +6,8 @@ ghost use Rattle.mds_core.specs.EventFault.{FaultOf};
 use crate::{Key, Position};
 use arrayvec::ArrayVec;
 use mds_table::{State, TypeName};
+use std::error::Error;
+use std::fmt;
 use std::marker::Model;
 use uuid::Uuid;
 
@@ -16,7 +18,7 @@ pub const MAX_TYPES: usize = 16;
 pub const MAX_TIME: u64 = 9_007_199_254_740_991;
 
 /// An event, as a provider reports it (MDS 2.0, "Events"). It holds no memory of its own.
-#[derive(Drop)]
+#[derive(Debug, Drop)]
 pub struct Event {
     key: Key,
     id: Uuid,
@@ -46,6 +48,18 @@ pub enum EventFault {
     /// The time is past [`MAX_TIME`].
     BadTime,
 }
+
+impl fmt::Display for EventFault {
+    fn fmt<W: fmt::Write>(&self, f: &mut fmt::Formatter<W>) -> fmt::Result {
+        f.write_str(match self {
+            EventFault::NoTypes => "the event has no type",
+            EventFault::TooManyTypes => "the event has more than 16 types",
+            EventFault::BadTime => "the event's time is past the latest",
+        })
+    }
+}
+
+impl Error for EventFault {}
 
 impl Event {
     /// An event of these types, 1 to 16, in their order, at a time in milliseconds since the Unix epoch.

@@ -4,7 +4,7 @@ ghost use Rattle.mds_core.specs.History.{own, reports, standing_of};
 ghost use Rattle.mds_core.specs.Answer.{Answers, MayBeDone, next};
 
 use crate::answers::answer;
-use crate::lookup::{events_in, standing_in};
+use crate::lookup::{events_in, known_in};
 use crate::{Event, Key, Outcome, Reply, Request, Standing};
 use mds_table::Table;
 use std::alloc::{AllocError, Global};
@@ -12,7 +12,7 @@ use std::marker::Model;
 
 /// The plain machine over one table. It keeps its history of accepted requests alone, and looks everything up in it:
 /// this is the program of the definitions, and the measure of faster ones.
-#[derive(Drop)]
+#[derive(Debug, Drop)]
 pub struct Fleet {
     table: Table,
     history: Vec<Request>,
@@ -69,7 +69,7 @@ impl Fleet {
         ensures registered { IfSome result (λ _. own self.now.history key.now ≢ []) }
         ensures standing { IfSome result (λ standing. standing ≡ standing_of (own self.now.history key.now)) }
     {
-        standing_in(&self.history, key)
+        known_in(&self.history, &Request::Look(*key)).standing
     }
 
     /// The accepted events of the vehicle in their order, or `None` where it isn't registered.

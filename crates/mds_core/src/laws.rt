@@ -1,6 +1,6 @@
 //! What holds of the definitions alone: of the answers, the histories and the runs, whoever computes them. Each law is
 //! a function that does nothing; its contract is the law.
-ghost use Rattle.mds_core.specs.Laws.{DependsOnOwn, AnswersAreOne, RunsAreOne, KeepsOthers, RunsAreLawful, JoinsApart, RunsAreSteps};
+ghost use Rattle.mds_core.specs.Laws.{DependsOnOwn, AnswersAreOne, RunsAreOne, KeepsOthers, RunsAreLawful, JoinsApart, RunsAcceptExactly, HoldsReported, SchedulesAgree};
 
 /// Histories that agree on a vehicle give its requests the same outcomes, so schedules that agree on one vehicle do.
 pub fn outcomes_depend_on_own_lists()
@@ -17,7 +17,8 @@ pub fn runs_are_one()
     ensures { RunsAreOne }
 {}
 
-/// A request changes nothing for vehicles other than its own.
+/// A request changes nothing for vehicles other than its own. It is a fact of the definitions: the next history has at
+/// most the request more.
 pub fn other_vehicles_are_kept()
     ensures { KeepsOthers }
 {}
@@ -32,9 +33,22 @@ pub fn histories_apart_join()
     ensures { JoinsApart }
 {}
 
-/// In every run an event is accepted exactly where its vehicle is registered, its identifier is new there, its time is
-/// not before the last, and rows of the table lead, one for each of its types in order, from the state held to the state
-/// reported; that state is then held, a look changes nothing, and no other vehicle changes.
-pub fn runs_are_steps()
-    ensures { RunsAreSteps }
+/// A run from nothing accepts exactly what is acceptable, place by place: a registration where nothing of its vehicle
+/// was accepted before, an event where its vehicle is registered, its identifier is new there, its time is not before
+/// the last, and rows of the table lead, one for each of its types in order, from the state held to the state reported,
+/// and never a look. The history that it leaves is what it accepted.
+pub fn runs_accept_exactly()
+    ensures { RunsAcceptExactly }
+{}
+
+/// Once an event is accepted, its vehicle holds the state that it reports. It is a fact of the definitions: the held
+/// state is defined as the last reported.
+pub fn state_reported_is_held()
+    ensures { HoldsReported }
+{}
+
+/// Two runs from nothing whose requests of one vehicle are the same, in the same order, give it the same outcomes and
+/// the same own list, whatever requests of others stand between.
+pub fn schedules_agree()
+    ensures { SchedulesAgree }
 {}

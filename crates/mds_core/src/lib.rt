@@ -6,6 +6,7 @@
 #![tactic(auto)]
 
 mod answers;
+mod decision;
 mod event;
 mod fleet;
 mod key;
@@ -19,6 +20,7 @@ mod runs;
 mod tests;
 
 pub use answers::answer;
+pub use decision::{Known, decide, decide_event};
 pub use event::{Event, EventFault, MAX_TIME, MAX_TYPES};
 pub use fleet::Fleet;
 pub use key::Key;

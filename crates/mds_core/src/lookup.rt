@@ -1,13 +1,11 @@
 //! What a history of accepted requests says of one vehicle, looked up in the history itself.
-ghost use Rattle.std.specs.Prelude.{◌≡◌, ◌≢◌, [], IfNone, IfSome, IfOk, MatchOption};
-ghost use Rattle.std.specs.List.{list_any};
-ghost use Rattle.mds_core.specs.Lookup.{reports_event};
-ghost use Rattle.mds_core.specs.History.{same_key, key_of, own, reports, has_event, standing_of};
+ghost use Rattle.std.specs.Prelude.{◌≡◌, ◌≢◌, ◌<◌, ◌++◌, ◌∷◌, [], List, length, IfOk, MatchOption};
+ghost use Rattle.mds_core.specs.declared.request.Request.{Request as Asked};
+ghost use Rattle.mds_core.specs.History.{same_key, key_of, own, reports, standing_of};
+ghost use Rattle.mds_core.specs.Known.{standing_if, is_repeated, AreKnown};
 
-use crate::{Event, Key, Request, Standing};
-use mds_table::State;
+use crate::{Event, Key, Known, Request, Standing};
 use std::alloc::{AllocError, Global};
-use uuid::Uuid;
 
 /// Whether the request is about the vehicle.
 fn is_about(request: &Request, key: &Key) -> bool
@@ -16,58 +14,52 @@ fn is_about(request: &Request, key: &Key) -> bool
     request.key() == key
 }
 
-/// Where the vehicle stands after the history, or `None` where it isn't registered.
-pub fn standing_in(history: &[Request], key: &Key) -> Option<Standing>
-    ensures none { IfNone result (own history.now key.now ≡ []) }
-    ensures registered { IfSome result (λ _. own history.now key.now ≢ []) }
-    ensures standing { IfSome result (λ standing. standing ≡ standing_of (own history.now key.now)) }
+/// What is known of the vehicle of a request after the history.
+pub fn known_in(history: &[Request], asked: &Request) -> Known
+    ensures { AreKnown (own history.now (key_of asked.now)) asked.now result }
 {
-    let mut registered = false;
-    let mut events = 0;
-    let mut last: Option<&Event> = None;
-    let mut position = None;
+    let mut known = Known {
+        standing: None,
+        has_event: false,
+    };
     for request in history {
-        if is_about(request, key) {
-            registered = true;
-            if let Request::Report(event) = request {
-                events += 1;
-                last = Some(event);
-                position = event.position().or(position);
-            }
+        if is_about(request, asked.key()) {
+            known = known_after(known, request, asked);
         }
     }
-    if !registered {
-        return None;
+    known
+}
+
+/// What is known of the vehicle of a request after one more request about it.
+fn known_after(known: Known, request: &Request, asked: &Request) -> Known
+    ensures { (requests : List Asked) → AreKnown requests asked.now known → length (reports requests) < usize.MAX
+        → AreKnown (requests ++ request.now ∷ []) asked.now result }
+{
+    Known {
+        standing: Some(standing_after(known.standing, request)),
+        has_event: known.has_event || is_same_event(request, asked),
     }
-    Some(Standing {
-        state: last.map_or(State::Removed, |event| event.state()),
-        events,
-        last: last.map(|event| event.time()),
-        position,
-    })
 }
 
-/// Whether the vehicle has an event with this identifier.
-pub fn has_event_in(history: &[Request], key: &Key, id: Uuid) -> bool
-    ensures { result ≡ has_event (own history.now key.now) id }
+/// Where a vehicle stands after one more request about it.
+fn standing_after(standing: Option<Standing>, request: &Request) -> Standing
+    ensures { (requests : List Asked) → standing ≡ standing_if requests → length (reports requests) < usize.MAX
+        → result ≡ standing_of (requests ++ request.now ∷ []) }
 {
-    any_reports_event(history, key, id)
+    let standing = standing.unwrap_or(Standing::registered());
+    match request.event() {
+        Some(event) => standing.after(event),
+        None => standing,
+    }
 }
 
-/// Whether one of the requests reports the vehicle's event with this identifier.
-fn any_reports_event(history: &[Request], key: &Key, id: Uuid) -> bool
-    ensures { result ≡ list_any (reports_event key.now id) history.now }
+/// Whether both requests report an event, and their events have the same identifier.
+fn is_same_event(request: &Request, asked: &Request) -> bool
+    ensures { result ≡ is_repeated (request.now ∷ []) asked.now }
 {
-    history.iter().any(|request| is_report_of(request, key, id))
-}
-
-/// Whether the request reports the vehicle's event with this identifier.
-fn is_report_of(request: &Request, key: &Key, id: Uuid) -> bool
-    ensures { result ≡ reports_event key.now id request.now }
-{
-    match request {
-        Request::Report(event) => event.key() == key && event.id() == id,
-        Request::Register(_) | Request::Look(_) => false,
+    match (request.event(), asked.event()) {
+        (Some(event), Some(other)) => event.id() == other.id(),
+        _ => false,
     }
 }
 
@@ -84,7 +76,7 @@ pub fn events_in(
     for request in history {
         if is_about(request, key) {
             registered = true;
-            if let Request::Report(event) = request {
+            if let Some(event) = request.event() {
                 events.push(event.copy())?;
             }
         }

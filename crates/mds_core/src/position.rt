@@ -8,11 +8,11 @@ pub const MAX_LATITUDE: i64 = 900_000_000;
 /// The most ten-millionths of a degree of longitude, east or west.
 pub const MAX_LONGITUDE: i64 = 1_800_000_000;
 
-/// A latitude and a longitude, in ten-millionths of a degree.
+/// A latitude and a longitude, in ten-millionths of a degree. Their limits fit in 32 bits each.
 #[derive(Clone, Copy, Debug, PartialEq, Eq, Hash)]
 pub struct Position {
-    lat: i64,
-    lng: i64,
+    lat: i32,
+    lng: i32,
 }
 
 impl Position {
@@ -27,20 +27,23 @@ impl Position {
         if lng < -MAX_LONGITUDE || MAX_LONGITUDE < lng {
             return None;
         }
-        Some(Position { lat, lng })
+        Some(Position {
+            lat: lat as i32,
+            lng: lng as i32,
+        })
     }
 
     /// The latitude, in ten-millionths of a degree, north of the equator.
     pub fn lat(self) -> i64
         ensures { result ≡ self.lat }
     {
-        self.lat
+        i64::from(self.lat)
     }
 
     /// The longitude, in ten-millionths of a degree, east of Greenwich.
     pub fn lng(self) -> i64
         ensures { result ≡ self.lng }
     {
-        self.lng
+        i64::from(self.lng)
     }
 }

@@ -1,6 +1,14 @@
 //! What the machine replies.
-use crate::Position;
+ghost use Rattle.std.specs.Prelude.{◌≡◌, ◌<◌, ◌++◌, ◌∷◌, [], List, Some, None, length};
+ghost use Rattle.mds_core.specs.declared.request.Request.{Request as Asked};
+ghost use Rattle.mds_core.specs.declared.request.Request.TheVariants.{Report};
+ghost use Rattle.mds_core.specs.History.{reports, standing_of};
+ghost use Rattle.mds_core.specs.Refusal.{refusal_text};
+
+use crate::{Event, Position};
 use mds_table::State;
+use std::error::Error;
+use std::fmt;
 
 /// Where a registered vehicle stands.
 #[derive(Clone, Copy, Debug, PartialEq, Eq, Hash)]
@@ -13,6 +21,33 @@ pub struct Standing {
     pub last: Option<u64>,
     /// The position of the last of them that carried one.
     pub position: Option<Position>,
+}
+
+impl Standing {
+    /// Where a vehicle stands that was registered and has no event yet.
+    pub fn registered() -> Standing
+        ensures { result ≡ record { state = State.Removed; events = 0; last = None; position = None } }
+    {
+        Standing {
+            state: State::Removed,
+            events: 0,
+            last: None,
+            position: None,
+        }
+    }
+
+    /// Where the vehicle stands after one more event: where an event carries no position, the last one stays.
+    pub fn after(&self, event: &Event) -> Standing
+        ensures { (requests : List Asked) → self.now ≡ standing_of requests → length (reports requests) < usize.MAX
+            → result ≡ standing_of (requests ++ Report event.now ∷ []) }
+    {
+        Standing {
+            state: event.state(),
+            events: self.events.saturating_add(1),
+            last: Some(event.time()),
+            position: event.position().or(self.position),
+        }
+    }
 }
 
 /// What became of a request.
@@ -48,6 +83,22 @@ pub enum Refusal {
         at: usize,
     },
 }
+
+impl fmt::Display for Refusal {
+    ghost output = { λ refusal. Some (refusal_text refusal) };
+
+    fn fmt<W: fmt::Write>(&self, f: &mut fmt::Formatter<W>) -> fmt::Result {
+        match self {
+            Refusal::AlreadyRegistered => f.write_str("already_registered"),
+            Refusal::Unregistered => f.write_str("unregistered"),
+            Refusal::Repeated => f.write_str("repeated"),
+            Refusal::Late { last } => write!(f, "late {last}"),
+            Refusal::NoChain { held, at } => write!(f, "no_chain {held} {at}"),
+        }
+    }
+}
+
+impl Error for Refusal {}
 
 /// A reply of the machine.
 #[derive(Clone, Copy, Debug, PartialEq, Eq, Hash)]

@@ -1,7 +1,7 @@
 //! The machine over whole lists of requests.
 ghost use Rattle.std.specs.Prelude.{◌≡◌, [], IfOk};
 ghost use Rattle.mds_core.specs.Run.{IsRun};
-ghost use Rattle.mds_core.specs.Headline.{AreSteps};
+ghost use Rattle.mds_core.specs.Headline.{AcceptsExactly};
 
 use crate::{Fleet, Reply, Request};
 use mds_table::Table;
@@ -9,9 +9,10 @@ use std::alloc::{AllocError, Global};
 
 /// The machine over a whole list: the fleet after it, and a reply to each request.
 ///
-/// An event is accepted exactly where its vehicle is registered, its identifier is new there, its time is not before the
-/// last, and rows of the table lead, one for each of its types in order, from the state held to the state reported; that
-/// state is then held, and no other vehicle changes.
+/// At each place of the list, with what was answered Done at earlier places: a registration is Done exactly where nothing
+/// of its vehicle was; an event exactly where its vehicle is registered, its identifier is new there, its time is not
+/// before the last, and rows of the table lead, one for each of its types in order, from the state held to the state
+/// reported; a look never. The fleet's history is the requests answered Done.
 ///
 /// # Errors
 ///
@@ -23,7 +24,7 @@ pub fn run(
 ) -> Result<(Fleet, Vec<Reply>), AllocError>
     ensures rows { IfOk result (λ ran. ran.0.rows ≡ table) }
     ensures run { IfOk result (λ ran. IsRun table [] requests.now ran.1.items ran.0.history) }
-    ensures steps { IfOk result (λ ran. AreSteps table [] requests.now ran.1.items) }
+    ensures accepted { IfOk result (λ ran. AcceptsExactly table requests.now ran.1.items ran.0.history) }
 {
     let mut fleet = Fleet::open(alloc, table);
     let mut replies = Vec::with_capacity(alloc, requests.len())?;

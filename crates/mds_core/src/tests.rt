@@ -4,7 +4,7 @@ mod fleets;
 mod growths;
 mod several_types;
 
-use crate::{Event, Fleet, Key, Outcome, Position, Refusal, Reply, Request, Standing};
+use crate::{Event, Fleet, Key, Outcome, Position, Refusal, Reply, Request, Standing, run};
 use mds_table::{State, Table, TypeName};
 use std::alloc::Global;
 use std::test::Fail;
@@ -27,6 +27,42 @@ pub const E2: &str = "00000000-0000-4000-8000-0000000000e2";
 
 pub const E3: &str = "00000000-0000-4000-8000-0000000000e3";
 
+/// What an event of a test reports.
+#[derive(Clone, Copy)]
+pub struct Told<'a> {
+    pub device: &'a str,
+    pub id: &'a str,
+    pub state: State,
+    pub types: &'a [&'a str],
+    pub time: u64,
+    pub position: Option<Position>,
+}
+
+/// What a test asks.
+#[derive(Clone, Copy)]
+pub enum Asked<'a> {
+    Register(&'a str),
+    Report(Told<'a>),
+    Look(&'a str),
+}
+
+/// An event of A without a position.
+pub fn told_of_a<'a>(id: &'a str, types: &'a [&'a str], state: State, time: u64) -> Told<'a> {
+    Told {
+        device: A,
+        id,
+        state,
+        types,
+        time,
+        position: None,
+    }
+}
+
+/// A report of such an event.
+pub fn report<'a>(id: &'a str, types: &'a [&'a str], state: State, time: u64) -> Asked<'a> {
+    Asked::Report(told_of_a(id, types, state, time))
+}
+
 /// The key of a vehicle, by its device.
 pub fn key(device: &str) -> Result<Key, Fail> {
     Ok(Key {
@@ -35,51 +71,59 @@ pub fn key(device: &str) -> Result<Key, Fail> {
     })
 }
 
-/// What an event of a test reports, besides its vehicle.
-#[derive(Clone, Copy)]
-pub struct Told<'a> {
-    pub id: &'a str,
-    pub state: State,
-    pub types: &'a [&'a str],
-    pub time: u64,
+/// The types of these names.
+fn types_of(alloc: Global, names: &[&str]) -> Result<Vec<TypeName>, Fail> {
+    let mut types = Vec::new(alloc);
+    for name in names {
+        types.push(TypeName::new(name)?)?;
+    }
+    Ok(types)
 }
 
-/// The event that is told of a vehicle, with a position.
-pub fn event_at(
-    alloc: Global,
-    device: &str,
-    told: Told<'_>,
-    position: Option<Position>,
-) -> Result<Event, Fail> {
-    let mut types = Vec::new(alloc);
-    for text in told.types {
-        types.push(TypeName::new(text)?)?;
-    }
+/// The event that is told.
+pub fn event_of(alloc: Global, told: Told<'_>) -> Result<Event, Fail> {
+    let types = types_of(alloc, told.types)?;
     let id = Uuid::parse_str(told.id)?;
-    let event = Event::new(key(device)?, id, told.state, &types, told.time, position)?;
+    let key = key(told.device)?;
+    let event = Event::new(key, id, told.state, &types, told.time, told.position)?;
     Ok(event)
 }
 
-/// A report of the event that is told of a vehicle.
-pub fn report(alloc: Global, device: &str, told: Told<'_>) -> Result<Request, Fail> {
-    Ok(Request::Report(event_at(alloc, device, told, None)?))
+/// The request that is asked.
+fn request_of(alloc: Global, asked: Asked<'_>) -> Result<Request, Fail> {
+    Ok(match asked {
+        Asked::Register(device) => Request::Register(key(device)?),
+        Asked::Report(told) => Request::Report(event_of(alloc, told)?),
+        Asked::Look(device) => Request::Look(key(device)?),
+    })
 }
 
-/// A fleet over the profile in which A was registered and, where a type is told, one event E0 at time 1000 was accepted,
-/// by which A holds the state.
-pub fn fleet_holding(alloc: Global, state: State, types: &[&str]) -> Result<Fleet, Fail> {
-    let mut fleet = Fleet::open(alloc, Table::profile(alloc)?);
-    fleet.step(&Request::Register(key(A)?))?;
-    if !types.is_empty() {
-        let told = Told {
-            id: E0,
-            state,
-            types,
-            time: 1000,
-        };
-        fleet.step(&report(alloc, A, told)?)?;
+/// The requests that are asked.
+pub fn requests_of(alloc: Global, asked: &[Asked<'_>]) -> Result<Vec<Request>, Fail> {
+    let mut requests = Vec::new(alloc);
+    for one in asked {
+        requests.push(request_of(alloc, *one)?)?;
     }
-    Ok(fleet)
+    Ok(requests)
+}
+
+/// The machine over these requests, from nothing and over the profile.
+pub fn ran(alloc: Global, asked: &[Asked<'_>]) -> Result<(Fleet, Vec<Reply>), Fail> {
+    let requests = requests_of(alloc, asked)?;
+    Ok(run(alloc, Table::profile(alloc)?, &requests)?)
+}
+
+/// The replies of the machine to these requests.
+pub fn replies(alloc: Global, asked: &[Asked<'_>]) -> Result<Vec<Reply>, Fail> {
+    let (_, replies) = ran(alloc, asked)?;
+    Ok(replies)
+}
+
+/// What became of the last of these requests.
+pub fn last_outcome(alloc: Global, asked: &[Asked<'_>]) -> Result<Outcome, Fail> {
+    let (_, replies) = ran(alloc, asked)?;
+    let last = replies.last().ok_or("nothing was asked")?;
+    Ok(last.outcome)
 }
 
 /// A reply that accepts, as the request behind this many.

@@ -1,7 +1,7 @@
 //! Readers and writers that give little, pause, stop and fail.
 ghost use Rattle.std.specs.Prelude.{◌≡◌, IfOk};
 
-use super::{MAX_CALLS, ReadFault, WriteFault, add_line, put, put_out, read_front, write_all_of};
+use super::{MAX_CALLS, ReadFault, WriteFault, add_line, put_out, read_front, write_all_of};
 use std::alloc::{AllocError, Global};
 use std::io::{self, Error, ErrorKind, Read, Write};
 use std::test::Fail;
@@ -156,25 +156,38 @@ fn reads_no_more_than_the_limit(rt: HostRuntime) -> Result<(), Fail> {
     Ok(())
 }
 
-#[test]
-fn writes_in_sips_with_pauses(rt: HostRuntime) -> Result<(), Fail> {
-    let mut writer = Sips {
-        taken: Vec::new(rt.alloc()),
-        room: 9,
+/// A writer that is interrupted before each byte that it takes.
+fn with_pauses(alloc: Global) -> Sips {
+    Sips {
+        taken: Vec::new(alloc),
+        room: 3_000_000,
         calls: 0,
         has_pauses: true,
         last: Last::Zero,
-    };
-    let mut calls = 10;
-    assert_eq!(rt; put(&mut writer, b"abc", &mut calls), Ok(()));
-    assert_eq!(rt; calls, 4);
+    }
+}
+
+#[test]
+fn writes_in_sips_with_pauses(rt: HostRuntime) -> Result<(), Fail> {
+    let mut writer = with_pauses(rt.alloc());
+    assert_eq!(rt; write_all_of(&mut writer, b""), Ok(()));
+    assert_eq!(rt; writer.calls, 0);
+    assert_eq!(rt; write_all_of(&mut writer, b"abc"), Ok(()));
     assert_eq!(rt; writer.taken.as_slice(), b"abc".as_slice());
-    assert_eq!(rt; put(&mut writer, b"defg", &mut calls), Err(2));
-    assert_eq!(rt; calls, 0);
-    assert_eq!(rt; put(&mut writer, b"h", &mut calls), Err(0));
-    assert_eq!(rt; put(&mut writer, b"", &mut calls), Ok(()));
-    assert_eq!(rt; writer.taken.as_slice(), b"abcde".as_slice());
-    assert_eq!(rt; writer.calls, 10);
+    assert_eq!(rt; writer.calls, 6);
+    Ok(())
+}
+
+/// The last call that is allowed may be the one that takes the last byte.
+#[test]
+fn writes_run_out(rt: HostRuntime) -> Result<(), Fail> {
+    let text = file_of(rt.alloc(), 2_500_001)?;
+    let mut writer = with_pauses(rt.alloc());
+    assert_eq!(rt; write_all_of(&mut writer, &text[..2_500_000]), Ok(()));
+    assert_eq!(rt; writer.calls, 5_000_000);
+    let mut writer = with_pauses(rt.alloc());
+    assert_eq!(rt; write_all_of(&mut writer, &text), Err(2_500_000));
+    assert_eq!(rt; writer.calls, 5_000_000);
     Ok(())
 }
 

@@ -1,6 +1,6 @@
 //! Positions, events and requests.
-use super::{A, E1, PROVIDER, Told, event_at, key};
-use crate::{Event, EventFault, Key, MAX_TIME, Position, Request};
+use super::{A, E1, Told, event_of, key, told_of_a};
+use crate::{Event, EventFault, MAX_TIME, Position, Refusal, Request};
 use mds_table::{State, TypeName};
 use std::test::Fail;
 use uuid::Uuid;
@@ -24,21 +24,34 @@ fn positions_end_at_their_limits(rt: HostRuntime) -> Result<(), Fail> {
     Ok(())
 }
 
+/// An event that has everything.
+fn whole_event(rt: &HostRuntime) -> Result<Event, Fail> {
+    let both = told_of_a(
+        E1,
+        &["comms_restored", "trip_end"],
+        State::Available,
+        MAX_TIME,
+    );
+    let position = Position::new(1, -2);
+    event_of(rt.alloc(), Told { position, ..both })
+}
+
 #[test]
 fn event_gives_back_what_went_in(rt: HostRuntime) -> Result<(), Fail> {
-    let told = Told {
-        id: E1,
-        state: State::Available,
-        types: &["comms_restored", "trip_end"],
-        time: MAX_TIME,
-    };
-    let position = Position::new(1, -2);
-    let event = event_at(rt.alloc(), A, told, position)?.copy();
-    assert_eq!(rt; *event.key(), key(A)?);
-    assert_eq!(rt; event.id(), Uuid::parse_str(E1)?);
-    assert_eq!(rt; event.state(), State::Available);
-    assert_eq!(rt; event.time(), 9_007_199_254_740_991);
-    assert_eq!(rt; event.position(), position);
+    let event = whole_event(&rt)?;
+    let id = Uuid::parse_str(E1)?;
+    let found = (*event.key(), event.id(), event.state(), event.time());
+    assert_eq!(rt;
+        found,
+        (key(A)?, id, State::Available, 9_007_199_254_740_991)
+    );
+    assert_eq!(rt; event.position(), Position::new(1, -2));
+    Ok(())
+}
+
+#[test]
+fn event_gives_back_its_types(rt: HostRuntime) -> Result<(), Fail> {
+    let event = whole_event(&rt)?.copy();
     let types = event.types();
     assert_eq!(rt; types.len(), 2);
     assert_eq!(rt; types[0].as_str(), "comms_restored");
@@ -74,19 +87,23 @@ fn event_faults_come_in_order(rt: HostRuntime) -> Result<(), Fail> {
 
 #[test]
 fn request_is_about_its_vehicle(rt: HostRuntime) -> Result<(), Fail> {
-    let about = Key {
-        provider: Uuid::parse_str(PROVIDER)?,
-        device: Uuid::parse_str(A)?,
+    let about = key(A)?;
+    let report = Request::Report(whole_event(&rt)?);
+    for request in [Request::Register(about), report, Request::Look(about)] {
+        assert_eq!(rt; *request.copy().key(), about);
+    }
+    Ok(())
+}
+
+#[test]
+fn refusals_print_their_words(rt: HostRuntime) -> Result<(), Fail> {
+    let alloc = rt.alloc();
+    let late = Refusal::Late { last: 2000 };
+    assert_eq!(rt; late.to_string(alloc)?.as_str(), "late 2000");
+    let stuck = Refusal::NoChain {
+        held: State::OnTrip,
+        at: 0,
     };
-    assert_eq!(rt; *Request::Register(about).copy().key(), about);
-    assert_eq!(rt; *Request::Look(about).copy().key(), about);
-    let told = Told {
-        id: E1,
-        state: State::Available,
-        types: &["provider_drop_off"],
-        time: 1000,
-    };
-    let report = super::report(rt.alloc(), A, told)?;
-    assert_eq!(rt; *report.copy().key(), about);
+    assert_eq!(rt; stuck.to_string(alloc)?.as_str(), "no_chain on_trip 0");
     Ok(())
 }

@@ -1,30 +1,47 @@
 //! The worked rows on events of one type, through a fleet.
 use super::{
-    A, B, E1, E2, E3, Told, done, event_at, fleet_holding, key, refused, report, standing,
+    A, Asked, B, E0, E1, E2, E3, Told, done, key, last_outcome, ran, refused, replies, report,
+    requests_of, standing, told_of_a,
 };
-use crate::{Fleet, Outcome, Position, Refusal, Reply, Request, answer, run};
+use crate::{Fleet, Outcome, Position, Refusal, Reply, answer};
 use mds_table::{State, Table};
 use std::test::Fail;
 
-const DROP_OFF: Told<'static> = Told {
-    id: E1,
-    state: State::Available,
-    types: &["provider_drop_off"],
-    time: 1000,
-};
+const DROP_OFF: &[&str] = &["provider_drop_off"];
 
 #[test]
 fn first_event(rt: HostRuntime) -> Result<(), Fail> {
+    let asked = [
+        Asked::Register(A),
+        report(E1, DROP_OFF, State::Available, 1000),
+        Asked::Look(A),
+    ];
+    let seen = Reply {
+        place: 2,
+        outcome: Outcome::Seen(standing(State::Available, 1, Some(1000))),
+    };
+    let found = replies(rt.alloc(), &asked)?;
+    assert_eq!(rt; found.as_slice(), [done(0), done(1), seen].as_slice());
+    Ok(())
+}
+
+#[test]
+fn what_a_fleet_tells_after_its_first_event(rt: HostRuntime) -> Result<(), Fail> {
     let alloc = rt.alloc();
-    let mut fleet = fleet_holding(alloc, State::Removed, &[])?;
-    assert_eq!(rt; fleet.step(&report(alloc, A, DROP_OFF)?)?, done(1));
-    let seen = standing(State::Available, 1, Some(1000));
-    let look = fleet.step(&Request::Look(key(A)?))?;
-    assert_eq!(rt; look.place, 2);
-    assert_eq!(rt; look.outcome, Outcome::Seen(seen));
-    assert_eq!(rt; fleet.standing(&key(A)?), Some(seen));
+    let drop_off = report(E1, DROP_OFF, State::Available, 1000);
+    let (fleet, _) = ran(alloc, &[Asked::Register(A), drop_off])?;
+    let stands = standing(State::Available, 1, Some(1000));
+    assert_eq!(rt; fleet.standing(&key(A)?), Some(stands));
     assert_eq!(rt; fleet.standing(&key(B)?), None);
     assert_eq!(rt; fleet.history().len(), 2);
+    Ok(())
+}
+
+#[test]
+fn events_of_a_vehicle_and_of_nobody(rt: HostRuntime) -> Result<(), Fail> {
+    let alloc = rt.alloc();
+    let drop_off = report(E1, DROP_OFF, State::Available, 1000);
+    let (fleet, _) = ran(alloc, &[Asked::Register(A), drop_off])?;
     let events = fleet.events(alloc, &key(A)?)?.ok_or("registered")?;
     assert_eq!(rt; events.len(), 1);
     assert_eq!(rt; events[0].time(), 1000);
@@ -34,125 +51,128 @@ fn first_event(rt: HostRuntime) -> Result<(), Fail> {
 
 #[test]
 fn identifiers_per_vehicle(rt: HostRuntime) -> Result<(), Fail> {
-    let alloc = rt.alloc();
-    let mut fleet = fleet_holding(alloc, State::Removed, &[])?;
-    fleet.step(&Request::Register(key(B)?))?;
-    assert_eq!(rt; fleet.step(&report(alloc, A, DROP_OFF)?)?, done(2));
-    assert_eq!(rt; fleet.step(&report(alloc, B, DROP_OFF)?)?, done(3));
-    assert_eq!(rt;
-        fleet.step(&report(alloc, A, DROP_OFF)?)?,
-        refused(4, Refusal::Repeated)
-    );
-    let earlier = Told {
-        time: 999,
-        ..DROP_OFF
-    };
-    assert_eq!(rt;
-        fleet.step(&report(alloc, A, earlier)?)?,
-        refused(4, Refusal::Repeated)
-    );
+    let first = told_of_a(E1, DROP_OFF, State::Available, 1000);
+    let asked = [
+        Asked::Register(A),
+        Asked::Register(B),
+        Asked::Report(first),
+        Asked::Report(Told { device: B, ..first }),
+        Asked::Report(first),
+        Asked::Report(Told { time: 999, ..first }),
+    ];
+    let repeated = refused(4, Refusal::Repeated);
+    let expected = [done(0), done(1), done(2), done(3), repeated, repeated];
+    let found = replies(rt.alloc(), &asked)?;
+    assert_eq!(rt; found.as_slice(), expected.as_slice());
     Ok(())
 }
 
 #[test]
 fn equal_and_late_times(rt: HostRuntime) -> Result<(), Fail> {
-    let alloc = rt.alloc();
-    let mut fleet = fleet_holding(alloc, State::Available, &["provider_drop_off"])?;
-    let equal = Told {
-        id: E1,
-        state: State::NonOperational,
-        types: &["battery_low"],
-        time: 1000,
+    let asked = [
+        Asked::Register(A),
+        report(E0, DROP_OFF, State::Available, 1000),
+        report(E1, &["battery_low"], State::NonOperational, 1000),
+        report(E2, &["battery_charged"], State::Available, 999),
+        Asked::Look(A),
+    ];
+    let seen = Reply {
+        place: 3,
+        outcome: Outcome::Seen(standing(State::NonOperational, 2, Some(1000))),
     };
-    assert_eq!(rt; fleet.step(&report(alloc, A, equal)?)?, done(2));
-    let late = Told {
-        id: E2,
-        state: State::Available,
-        types: &["battery_charged"],
-        time: 999,
-    };
-    assert_eq!(rt;
-        fleet.step(&report(alloc, A, late)?)?,
-        refused(3, Refusal::Late { last: 1000 })
-    );
-    let held = fleet.standing(&key(A)?).ok_or("registered")?.state;
-    assert_eq!(rt; held, State::NonOperational);
+    let late = refused(3, Refusal::Late { last: 1000 });
+    let expected = [done(0), done(1), done(2), late, seen];
+    let found = replies(rt.alloc(), &asked)?;
+    assert_eq!(rt; found.as_slice(), expected.as_slice());
     Ok(())
 }
 
-#[test]
-fn six_requests_in_a_run(rt: HostRuntime) -> Result<(), Fail> {
-    let alloc = rt.alloc();
-    let other = Told { id: E2, ..DROP_OFF };
-    let requests = vec![in alloc;
-        Request::Look(key(A)?),
-        Request::Register(key(A)?),
-        Request::Register(key(A)?),
-        report(alloc, A, DROP_OFF)?,
-        report(alloc, B, other)?,
-        Request::Look(key(A)?),
-    ]?;
-    let seen = Reply {
-        place: 2,
-        outcome: Outcome::Seen(standing(State::Available, 1, Some(1000))),
-    };
-    let expected = [
+/// Six requests, of which two are accepted.
+fn six_requests<'a>() -> [Asked<'a>; 6] {
+    let drop_off = told_of_a(E1, DROP_OFF, State::Available, 1000);
+    [
+        Asked::Look(A),
+        Asked::Register(A),
+        Asked::Register(A),
+        Asked::Report(drop_off),
+        Asked::Report(Told {
+            device: B,
+            id: E2,
+            ..drop_off
+        }),
+        Asked::Look(A),
+    ]
+}
+
+/// The replies to them.
+fn six_replies() -> [Reply; 6] {
+    [
         refused(0, Refusal::Unregistered),
         done(0),
         refused(1, Refusal::AlreadyRegistered),
         done(1),
         refused(2, Refusal::Unregistered),
-        seen,
-    ];
-    let (fleet, replies) = run(alloc, Table::profile(alloc)?, &requests)?;
-    assert_eq!(rt; replies.as_slice(), expected.as_slice());
-    assert_eq!(rt; fleet.history().len(), 2);
+        Reply {
+            place: 2,
+            outcome: Outcome::Seen(standing(State::Available, 1, Some(1000))),
+        },
+    ]
+}
 
+#[test]
+fn six_requests_in_a_run(rt: HostRuntime) -> Result<(), Fail> {
+    let (fleet, found) = ran(rt.alloc(), &six_requests())?;
+    assert_eq!(rt; found.as_slice(), six_replies().as_slice());
+    assert_eq!(rt; fleet.history().len(), 2);
+    Ok(())
+}
+
+#[test]
+fn six_requests_answered_one_by_one(rt: HostRuntime) -> Result<(), Fail> {
+    let alloc = rt.alloc();
+    let requests = requests_of(alloc, &six_requests())?;
     let table = Table::profile(alloc)?;
-    let mut slow = Fleet::open(alloc, Table::profile(alloc)?);
-    for (request, reply) in requests.iter().zip(&expected) {
-        assert_eq!(rt; answer(&table, slow.history(), request), *reply);
-        slow.step(request)?;
+    let mut fleet = Fleet::open(alloc, Table::profile(alloc)?);
+    for (request, reply) in requests.iter().zip(&six_replies()) {
+        assert_eq!(rt; answer(&table, fleet.history(), request), *reply);
+        fleet.step(request)?;
     }
     Ok(())
 }
 
 #[test]
 fn standing_with_a_position(rt: HostRuntime) -> Result<(), Fail> {
-    let alloc = rt.alloc();
-    let mut fleet = fleet_holding(alloc, State::Available, &["provider_drop_off"])?;
     let berlin = Position::new(525_200_000, 134_050_000);
-    let low = Told {
-        id: E1,
-        state: State::NonOperational,
-        types: &["battery_low"],
-        time: 2000,
-    };
-    fleet.step(&Request::Report(event_at(alloc, A, low, berlin)?))?;
-    let charged = Told {
-        id: E2,
-        state: State::Available,
-        types: &["battery_charged"],
-        time: 3000,
-    };
-    fleet.step(&report(alloc, A, charged)?)?;
-    let stands = fleet.standing(&key(A)?).ok_or("registered")?;
-    assert_eq!(rt; stands.events, 3);
-    assert_eq!(rt; stands.last, Some(3000));
-    assert_eq!(rt; stands.position, berlin);
-    let charging = Told {
-        id: E3,
-        state: State::NonOperational,
-        types: &["battery_low", "charging_start"],
-        time: 3000,
-    };
+    let low = told_of_a(E1, &["battery_low"], State::NonOperational, 2000);
+    let asked = [
+        Asked::Register(A),
+        report(E0, DROP_OFF, State::Available, 1000),
+        Asked::Report(Told {
+            position: berlin,
+            ..low
+        }),
+        report(E2, &["battery_charged"], State::Available, 3000),
+        Asked::Look(A),
+    ];
+    let mut stands = standing(State::Available, 3, Some(3000));
+    stands.position = berlin;
+    assert_eq!(rt; last_outcome(rt.alloc(), &asked)?, Outcome::Seen(stands));
+    Ok(())
+}
+
+#[test]
+fn a_type_that_stands_in_no_row(rt: HostRuntime) -> Result<(), Fail> {
+    let charging = ["battery_low", "charging_start"];
+    let asked = [
+        Asked::Register(A),
+        report(E0, DROP_OFF, State::Available, 1000),
+        report(E3, &charging, State::NonOperational, 3000),
+    ];
     let stuck = Refusal::NoChain {
         held: State::Available,
         at: 1,
     };
-    assert_eq!(rt;
-        fleet.step(&report(alloc, A, charging)?)?,
-        refused(4, stuck)
-    );
+    let found = last_outcome(rt.alloc(), &asked)?;
+    assert_eq!(rt; found, Outcome::Refused(stuck));
     Ok(())
 }

@@ -1,5 +1,5 @@
 //! The worked rows on events of several types, through a fleet.
-use super::{A, E1, Told, fleet_holding, report};
+use super::{A, Asked, E0, E1, last_outcome, report};
 use crate::{Outcome, Refusal};
 use mds_table::State;
 use std::alloc::Global;
@@ -17,14 +17,12 @@ fn brought_by(state: State) -> &'static [&'static str] {
 
 /// What becomes of one event of A, which holds the state.
 fn outcome(alloc: Global, held: State, types: &[&str], state: State) -> Result<Outcome, Fail> {
-    let mut fleet = fleet_holding(alloc, held, brought_by(held))?;
-    let told = Told {
-        id: E1,
-        state,
-        types,
-        time: 2000,
-    };
-    Ok(fleet.step(&report(alloc, A, told)?)?.outcome)
+    let asked = [
+        Asked::Register(A),
+        report(E0, brought_by(held), held, 1000),
+        report(E1, types, state, 2000),
+    ];
+    last_outcome(alloc, &asked)
 }
 
 fn no_chain(held: State, at: usize) -> Outcome {
@@ -50,37 +48,32 @@ fn comms_back_then_trip_end(rt: HostRuntime) -> Result<(), Fail> {
 #[test]
 fn comms_back_and_lost_again(rt: HostRuntime) -> Result<(), Fail> {
     let types = ["comms_restored", "comms_lost"];
-    let found = outcome(
-        rt.alloc(),
-        State::NonContactable,
-        &types,
-        State::NonContactable,
-    )?;
+    let unheard = State::NonContactable;
+    let found = outcome(rt.alloc(), unheard, &types, unheard)?;
     assert_eq!(rt; found, Outcome::Done);
     Ok(())
 }
 
 #[test]
 fn order_of_types_matters(rt: HostRuntime) -> Result<(), Fail> {
-    let alloc = rt.alloc();
+    let available = State::Available;
     let wrong = ["battery_charged", "battery_low"];
-    let found = outcome(alloc, State::Available, &wrong, State::Available)?;
-    assert_eq!(rt; found, no_chain(State::Available, 0));
+    let found = outcome(rt.alloc(), available, &wrong, available)?;
+    assert_eq!(rt; found, no_chain(available, 0));
     let right = ["battery_low", "battery_charged"];
-    let found = outcome(alloc, State::Available, &right, State::Available)?;
+    let found = outcome(rt.alloc(), available, &right, available)?;
     assert_eq!(rt; found, Outcome::Done);
     Ok(())
 }
 
 #[test]
 fn same_type_twice(rt: HostRuntime) -> Result<(), Fail> {
-    let alloc = rt.alloc();
+    let available = State::Available;
     let twice = ["battery_low", "battery_low"];
-    let found = outcome(alloc, State::Available, &twice, State::NonOperational)?;
-    assert_eq!(rt; found, no_chain(State::Available, 1));
-    let once = ["battery_low"];
-    let found = outcome(alloc, State::Available, &once, State::Available)?;
-    assert_eq!(rt; found, no_chain(State::Available, 1));
+    let found = outcome(rt.alloc(), available, &twice, State::NonOperational)?;
+    assert_eq!(rt; found, no_chain(available, 1));
+    let found = outcome(rt.alloc(), available, &["battery_low"], available)?;
+    assert_eq!(rt; found, no_chain(available, 1));
     Ok(())
 }
 

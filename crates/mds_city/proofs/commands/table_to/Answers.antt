@@ -1,8 +1,9 @@
-use Rattle.std.proofs.Common.{ℕ, List, Option, inl, inr}
+use Rattle.std.proofs.Common.{ℕ, List, Option, inl, inr, ap, ◌∙◌}
 use Rattle.mds_city.specs.declared.source.Source.{Source}
 use Rattle.mds_city.specs.declared.problem.Problem.{Problem}
 use Rattle.mds_city.specs.declared.problem.Problem.TheVariants.{CannotRead, NotATable, NotABatch, Output, Memory}
 use Rattle.mds_city.specs.Command.{TableWentOut}
+use Rattle.mds_city.specs.Status.{code_of}
 use Rattle.mds_city.proofs.commands.table_to.Goals as goal
 
 -- whatever the problem, nothing went out before it, or a front of the table's text
@@ -18,10 +19,10 @@ pub returns-in-Err-clause-told : goal.returns-in-Err-clause-told
 returns-in-Err-clause-told g c _ =
     let failed = c.in-Err.ensures.err in
     elim c.tell.ensures [
-      | inl told ↦ (c.in-Err.problem, told.0, failed.0, failed.1, told.1)
+      | inl told ↦ (c.in-Err.problem, c.code-in-Err.ensures ∙ ap code_of told.0, failed.0, failed.1, told.1)
       | inr told ↦ (
         Memory,
-        told.0,
+        c.code-in-Err.ensures ∙ ap code_of told.0,
         tt,
         out_before g.T.Read.remaining c.args.table c.in-Err.problem (g.W.Write.contents c.args.out.now) (g.W.Write.contents c.table_into.new.out) failed.1,
         told.1,

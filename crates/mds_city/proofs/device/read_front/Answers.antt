@@ -1,5 +1,5 @@
 use Rattle.std.proofs.Common.{arith, rules}
-use Rattle.mds_city.proofs.DeviceLemmas.{consumes_next, front_of_read, reads_next}
+use Rattle.mds_city.proofs.DeviceLemmas.{consumes_next, loses_front, front_of_read, reads_next}
 use Rattle.mds_city.specs.Device.{ConsumesUpTo}
 use Rattle.mds_city.proofs.device.read_front.Goals as goal
 
@@ -11,5 +11,6 @@ returns-then-branch-clause-front g c =
 pub returns-in_err-read_more-clause-lost : goal.returns-in_err-read_more-clause-lost
 returns-in_err-read_more-clause-lost g c =
     let lost : ConsumesUpTo 4194305 (g.R.Read.remaining c.args.reader.now) (g.R.Read.remaining c.read_more.new.reader) =
-    consumes_next _ _ _ _ _ _ (omega (arith, c.loop.bytes.ok.0)) (omega arith) c.loop.invariant.lost c.in_err-read_more.ensures.err in
+    consumes_next _ _ _ _ _ _ (omega (arith, c.loop.bytes.ok.0)) (omega arith) c.loop.invariant.lost
+    (loses_front _ _ _ _ c.in_err-read_more.ensures.err) in
     search rules

@@ -1,4 +1,4 @@
-use Rattle.std.proofs.Common.{◌≡◌, ◌∙◌, [], true, inl, ap, refl, subst, map}
+use Rattle.std.proofs.Common.{◌≡◌, ◌∙◌, [], true, inl, inr, ap, refl, subst, map, rules}
 use Rattle.clap.specs.Words.{App, HasKind, fault_of, is_simple_and_free, takes}
 use Rattle.mds_city.specs.Words.{program_app}
 use Rattle.mds_city.proofs.ErrorLemmas.{passed_on}
@@ -25,3 +25,10 @@ returns-in-Some-clause-taken g c =
     let words = map g.S.AsStr.text c.args.words.now in
     let found = c.in_ok-matches.ensures.kinds (ap is_simple_and_free c.in_ok-form.ensures ∙ is_simple) in
     subst (λ (a : App). fault_of a words ≡ []) c.in_ok-form.ensures found
+
+pub returns-clause-kind : goal.returns-clause-kind
+returns-clause-kind g c =
+    let words = map g.S.AsStr.text c.args.words.now in
+    let none = c.in_ok-matches.ensures.kinds (ap is_simple_and_free c.in_ok-form.ensures ∙ is_simple) in
+    let free : fault_of program_app words ≡ [] = subst (λ (a : App). fault_of a words ≡ []) c.in_ok-form.ensures none in
+    inr (free, search rules)

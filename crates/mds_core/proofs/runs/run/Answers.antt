@@ -1,7 +1,7 @@
 use Rattle.std.proofs.Common.{◌≡◌, [], drop, refl, arith}
 use Rattle.std.proofs.lemmas.List.{append-nil, drop_all}
 use Rattle.mds_core.specs.Run.{IsRun}
-use Rattle.mds_core.proofs.RunLaws.{steps_of_run}
+use Rattle.mds_core.proofs.RunLaws.{accepts_exactly}
 use Rattle.mds_core.proofs.runs.run.Goals as goal
 use Rattle.mds_core.proofs.runs.run.Goals.{After-loop-request}
 
@@ -15,5 +15,5 @@ whole c =
 pub returns-clause-run : goal.returns-clause-run
 returns-clause-run c = whole c
 
-pub returns-clause-steps : goal.returns-clause-steps
-returns-clause-steps c = steps_of_run c.args.table [] c.args.requests.now c.loop-request.replies.items c.loop-request.fleet.history (whole c)
+pub returns-clause-accepted : goal.returns-clause-accepted
+returns-clause-accepted c = accepts_exactly c.args.table c.args.requests.now c.loop-request.replies.items c.loop-request.fleet.history (whole c)

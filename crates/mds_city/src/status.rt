@@ -1,0 +1,34 @@
+//! How the program ends.
+ghost use Rattle.std.specs.Prelude.{◌≡◌};
+
+/// How the program ends.
+#[derive(Clone, Copy, Debug, PartialEq, Eq, Hash)]
+pub enum Status {
+    /// All went well, or help was asked for.
+    Done,
+    /// An item of a replay was not accepted.
+    Refused,
+    /// The words of the command line don't parse.
+    BadWords,
+    /// A file can't be read, is no table or is no batch, or an output failed.
+    Fault,
+    /// Memory was refused.
+    NoMemory,
+}
+
+impl Status {
+    ghost use Rattle.mds_city.specs.Status.{code_of};
+
+    /// The number that the system is told, from 0 to 4 in the order of the variants.
+    pub fn code(self) -> u8
+        ensures { result ≡ code_of self }
+    {
+        match self {
+            Status::Done => 0,
+            Status::Refused => 1,
+            Status::BadWords => 2,
+            Status::Fault => 3,
+            Status::NoMemory => 4,
+        }
+    }
+}

@@ -1,0 +1,5 @@
+use Rattle.mds_core.proofs.RunLaws.{agreed}
+use Rattle.mds_core.proofs.laws.schedules_agree.Goals as goal
+
+pub returns : goal.returns
+returns c rows key requests others replies answers new other same first second = agreed rows key requests others replies answers new other same first second

@@ -1,0 +1,149 @@
+"""Batches and their items, good and faulty."""
+
+import json
+
+from cases.case import MAX_BYTES, MAX_ITEMS, lists, not_a_batch, padded, started, told
+from cases.replays import MEMBERS, A, B, batch, item, replayed
+
+FAULTS = [
+    (" " * (MAX_BYTES + 1), "too_long"),
+    (padded("[]", MAX_BYTES + 1), "too_long"),
+    (b"\xff" * (MAX_BYTES + 1), "too_long"),
+    ("0" * (3 * MAX_BYTES), "too_long"),
+    (" " * MAX_BYTES, "not_json"),
+    ("", "not_json"),
+    ("\n", "not_json"),
+    ("{", "not_json"),
+    ("[1,2", "not_json"),
+    ("[1,]", "not_json"),
+    ("[] []", "not_json"),
+    ("[NaN]", "not_json"),
+    ("['available']", "not_json"),
+    (b'["\xff"]', "not_json"),
+    (b'["\xc0\x80"]', "not_json"),
+    (lists(128), "not_json"),
+    (item(more=lists(127)), "not_json"),
+    (batch([item(more=lists(126))]), "not_json"),
+    (batch([item(), "}"]), "not_json"),
+    ("7", "not_list"),
+    ("null", "not_list"),
+    ("true", "not_list"),
+    ("1.5", "not_list"),
+    ('"[]"', "not_list"),
+    (batch(["0"] * (MAX_ITEMS + 1)), "too_many"),
+    (f"[{'0,' * 1999999}0]", "too_many"),
+]
+GOOD = [
+    ("one event", item()),
+    ("one event, deep", item(more=lists(126))),
+    ("a list of one event, deep", batch([item(more=lists(125))])),
+    ("most bytes", padded(batch([item()]), MAX_BYTES)),
+]
+
+
+def batches():
+    """Whole batches, from a file and as standard input."""
+    for words in ("replay events.json", "replay -"):
+        for text, fault in FAULTS:
+            more = {"given": text, "files": {"events.json": text}, "name": started(text)}
+            yield told(words, not_a_batch(fault), **more)
+        for name, text in GOOD:
+            files = {"events.json": text}
+            yield replayed(text, ["ok available"], [(A, "available", 1)], words=words, files=files, name=name)
+    yield replayed("[]", [], [], name="no item")
+    yield replayed(lists(127), ["fault not_object"], [], name="the deepest list")
+    most = batch(["0"] * MAX_ITEMS)
+    yield replayed(most, ["fault not_object"] * MAX_ITEMS, [], name="most items")
+
+
+NAMES = list(MEMBERS)
+SEVENTEEN = json.dumps(["trip_end"] * 17)
+# Members of an item that are changed, and its fault.
+FAULTY = [
+    *[({name: None}, f"missing_param {name}") for name in NAMES],
+    *[({name: "null"}, f"bad_param {name}") for name in NAMES],
+    ({"provider_id": '"00000000-0000-4000-8000"'}, "bad_param provider_id"),
+    ({"provider_id": '""'}, "bad_param provider_id"),
+    ({"device_id": "12"}, "bad_param device_id"),
+    ({"device_id": f'"{A[:-1]}g"'}, "bad_param device_id"),
+    ({"event_id": f'"{A}0"'}, "bad_param event_id"),
+    ({"event_id": '"{%s}"' % A.replace("-", "")}, "bad_param event_id"),
+    ({"vehicle_state": '"Available"'}, "bad_param vehicle_state"),
+    ({"vehicle_state": '""'}, "bad_param vehicle_state"),
+    ({"vehicle_state": "1"}, "bad_param vehicle_state"),
+    ({"event_types": "[]"}, "bad_param event_types"),
+    ({"event_types": SEVENTEEN}, "bad_param event_types"),
+    ({"event_types": '["trip-end"]'}, "bad_param event_types"),
+    ({"event_types": '["trip_end", ""]'}, "bad_param event_types"),
+    ({"event_types": '["trip_end", 7]'}, "bad_param event_types"),
+    ({"event_types": f'["{"k" * 33}"]'}, "bad_param event_types"),
+    ({"event_types": '"trip_end"'}, "bad_param event_types"),
+    ({"timestamp": "1000.0"}, "bad_param timestamp"),
+    ({"timestamp": "1000.5"}, "bad_param timestamp"),
+    ({"timestamp": "1e3"}, "bad_param timestamp"),
+    ({"timestamp": "-0"}, "bad_param timestamp"),
+    ({"timestamp": "-1"}, "bad_param timestamp"),
+    ({"timestamp": '"1000"'}, "bad_param timestamp"),
+    ({"timestamp": "[1000]"}, "bad_param timestamp"),
+    ({"timestamp": "9007199254740992"}, "bad_param timestamp"),
+    ({"timestamp": "18446744073709552616"}, "bad_param timestamp"),
+    ({"location_e7": "[0, 0]"}, "bad_param location_e7"),
+    ({"location_e7": "0"}, "bad_param location_e7"),
+    ({"location_e7": "{}"}, "bad_param location_e7"),
+    ({"location_e7": '{"lat": 0}'}, "bad_param location_e7"),
+    ({"location_e7": '{"lng": 0}'}, "bad_param location_e7"),
+    ({"location_e7": '{"lat": 52.52, "lng": 0}'}, "bad_param location_e7"),
+    ({"location_e7": '{"lat": 0, "lng": null}'}, "bad_param location_e7"),
+    ({"location_e7": '{"lat": 900000001, "lng": 0}'}, "bad_param location_e7"),
+    ({"location_e7": '{"lat": -900000001, "lng": 0}'}, "bad_param location_e7"),
+    ({"location_e7": '{"lat": 0, "lng": 1800000001}'}, "bad_param location_e7"),
+    ({"location_e7": '{"lat": 0, "lng": -1800000001}'}, "bad_param location_e7"),
+    # of two faulty members the first in the order of the formats
+    *[(dict.fromkeys(NAMES[at:]), f"missing_param {NAMES[at]}") for at in range(len(NAMES))],
+    ({"provider_id": "7", "device_id": None}, "bad_param provider_id"),
+    ({"device_id": None, "timestamp": "-1"}, "missing_param device_id"),
+    ({"timestamp": "-1", "location_e7": "7"}, "bad_param timestamp"),
+    ({"timestamp": None, "location_e7": "7"}, "missing_param timestamp"),
+]
+ACCEPTED = [
+    {"timestamp": "0"},
+    {"timestamp": "9007199254740991"},
+    {"location_e7": "null"},
+    {"location_e7": '{"lat": 900000000, "lng": 1800000000}'},
+    {"location_e7": '{"lat": -900000000, "lng": -1800000000, "more": 1.5}'},
+    {"location": '{"lat": 52.52, "lng": 13.405}', "battery_percent": "88", "trip_ids": "[]"},
+    {"publication_time": "1700000000500", "location": "7"},
+    # members written twice, of which the last counts
+    {"timestamp": '-1, "timestamp": 3000'},
+    {"device_id": f'7, "device_id": "{A}"'},
+    # identifiers in the other forms
+    {"device_id": f'"{A.upper()}"', "provider_id": MEMBERS["provider_id"].replace("-", "")},
+    {"device_id": f'"urn:uuid:{A}"', "event_id": '"{%s}"' % A.upper()},
+]
+SIXTEEN = json.dumps(["provider_drop_off"] + 7 * ["battery_low", "battery_charged"] + ["comms_lost"])
+# No faults of the item: its event is refused.
+REFUSED = [
+    ({"event_types": '["never_heard_of"]'}, "refused no_chain removed 0"),
+    ({"event_types": f'["{"k" * 32}"]'}, "refused no_chain removed 0"),
+    ({"event_types": SIXTEEN}, "refused no_chain removed 16"),
+]
+
+
+def items():
+    """Items of a batch, good and faulty."""
+    for changed, fault in FAULTY:
+        yield replayed(batch([item(**changed)]), [f"fault {fault}"], [], name=str(changed))
+    twice = item(timestamp='3000, "timestamp": -1')
+    yield replayed(twice, ["fault bad_param timestamp"], [], name="a time twice, the last one bad")
+    for text in ("7", "null", "[]", '"text"', "false"):
+        yield replayed(f"[{text}]", ["fault not_object"], [], name=text)
+    for changed, verdict in REFUSED:
+        yield replayed(item(**changed), [verdict], [(A, "removed", 0)], name=str(changed))
+    escaped = item().replace("timestamp", "time\\u0073tamp")
+    backwards = "{%s}" % ", ".join(f'"{name}": {MEMBERS[name]}' for name in NAMES[::-1])
+    for text in (escaped, backwards, *[item(**changed) for changed in ACCEPTED]):
+        yield replayed(text, ["ok available"], [(A, "available", 1)], name=text)
+    neighbours = [item(), item(device_id=None), item(device_id=f'"{B}"')]
+    verdicts = ["ok available", "fault missing_param device_id", "ok available"]
+    vehicles = [(A, "available", 1), (B, "available", 1)]
+    yield replayed(batch(neighbours), verdicts, vehicles, name="a faulty item between two others")

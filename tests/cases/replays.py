@@ -1,0 +1,124 @@
+"""Batches of events, and what `replay` prints of them."""
+
+import json
+
+from cases.case import MAX_ITEMS, Case
+
+P = "00000000-0000-4000-8000-000000000001"
+A = "00000000-0000-4000-8000-00000000000a"
+B = "00000000-0000-4000-8000-00000000000b"
+MEMBERS = {
+    "provider_id": f'"{P}"',
+    "device_id": f'"{A}"',
+    "event_id": '"00000000-0000-4000-8000-0000000000e1"',
+    "vehicle_state": '"available"',
+    "event_types": '["provider_drop_off"]',
+    "timestamp": "1000",
+}
+
+
+def item(**changed):
+    """The JSON of an event that vehicle A, not there so far, accepts; with these members changed (to a text of JSON) or
+    left out (None)."""
+    members = {**MEMBERS, **changed}
+    return "{%s}" % ", ".join(f'"{name}": {text}' for name, text in members.items() if text is not None)
+
+
+def event(device, number, types, state, time):
+    """The JSON of an event of this device, with the identifier that ends so, of these types."""
+    return item(
+        device_id=json.dumps(device),
+        event_id=json.dumps(f"00000000-0000-4000-8000-{number:0>12}"),
+        event_types=json.dumps(types.split()),
+        vehicle_state=json.dumps(state),
+        timestamp=str(time),
+    )
+
+
+def batch(items):
+    return f"[{', '.join(items)}]"
+
+
+def replayed(text, verdicts, vehicles, words="replay -", **more):
+    """A replay, of this standard input, with these verdicts; a vehicle is its device, the state held, its events."""
+    accepted = sum(verdict.startswith("ok ") for verdict in verdicts)
+    lines = [f"{index} {verdict}" for index, verdict in enumerate(verdicts)]
+    lines += [f"vehicle {P} {device} {state} {events}" for device, state, events in vehicles]
+    lines += [f"accepted {accepted} refused {len(verdicts) - accepted}", ""]
+    status = 0 if accepted == len(verdicts) else 1
+    return Case(words, status=status, out="\n".join(lines), given=text, **more)
+
+
+# What makes a vehicle that isn't there so far hold a state.
+FIRST = {
+    "available": "provider_drop_off",
+    "on_trip": "provider_drop_off trip_start",
+    "non_contactable": "comms_lost",
+}
+# The state held, the types of an event, the state that it reports, and the verdict on it.
+SECOND = [
+    ("on_trip", "trip_end battery_low", "non_operational", "ok non_operational"),
+    ("non_contactable", "comms_restored trip_end", "available", "ok available"),
+    ("non_contactable", "comms_restored comms_lost", "non_contactable", "ok non_contactable"),
+    ("available", "battery_charged battery_low", "available", "refused no_chain available 0"),
+    ("available", "battery_low battery_charged", "available", "ok available"),
+    ("available", "battery_low battery_low", "non_operational", "refused no_chain available 1"),
+    ("available", "battery_low", "available", "refused no_chain available 1"),
+    ("available", "battery_low charging_start", "non_operational", "refused no_chain available 1"),
+    ("available", "battery_low battery_charged " * 8, "available", "ok available"),
+]
+# Events with their verdicts, and the vehicles.
+RUNS = [
+    (
+        "an identifier used before, of another vehicle and of the same",
+        [
+            ((A, "e1", "provider_drop_off", "available", 1000), "ok available"),
+            ((B, "e1", "provider_drop_off", "available", 1000), "ok available"),
+            ((A, "e1", "provider_drop_off", "available", 1000), "refused repeated"),
+            ((A, "e1", "provider_drop_off", "available", 999), "refused repeated"),
+        ],
+        [(A, "available", 1), (B, "available", 1)],
+    ),
+    (
+        "an equal time, and one before",
+        [
+            ((A, "e0", "provider_drop_off", "available", 1000), "ok available"),
+            ((A, "e1", "battery_low", "non_operational", 1000), "ok non_operational"),
+            ((A, "e2", "battery_charged", "available", 999), "refused late 1000"),
+        ],
+        [(A, "non_operational", 2)],
+    ),
+    (
+        "vehicles of which nothing is accepted",
+        [
+            ((A, "e1", "trip_end", "available", 1000), "refused no_chain removed 0"),
+            ((A, "e2", "changed_geographies", "elsewhere", 2000), "refused no_chain removed 0"),
+            ((B, "e3", "trip_end", "reserved", 1000), "refused no_chain removed 0"),
+        ],
+        [(A, "removed", 0), (B, "removed", 0)],
+    ),
+    (
+        "a refused event, whose vehicle comes first, and whose identifier and time are free",
+        [
+            ((B, "e1", "wake", "available", 1000), "refused no_chain removed 0"),
+            ((A, "e1", "provider_drop_off", "available", 1000), "ok available"),
+            ((B, "e1", "provider_drop_off", "available", 0), "ok available"),
+        ],
+        [(B, "available", 1), (A, "available", 1)],
+    ),
+]
+
+
+def replays():
+    """What the machine answers."""
+    for held, types, reported, verdict in SECOND:
+        events = [event(A, "e0", FIRST[held], held, 1000), event(A, "e1", types, reported, 2000)]
+        ends = (A, reported, 2) if verdict.startswith("ok") else (A, held, 1)
+        yield replayed(batch(events), [f"ok {held}", verdict], [ends], name=f"{held}, {types}, {reported}")
+    for name, events, vehicles in RUNS:
+        text = batch(event(*of_event) for of_event, _ in events)
+        yield replayed(text, [verdict for _, verdict in events], vehicles, name=name)
+    devices = [f"00000000-0000-4000-8001-{number:012x}" for number in range(MAX_ITEMS)]
+    text = batch(event(device, "e1", "provider_drop_off", "available", 1000) for device in devices)
+    vehicles = [(device, "available", 1) for device in devices]
+    yield replayed(text, ["ok available"] * MAX_ITEMS, vehicles, name="as many vehicles as items can be")
