@@ -42,7 +42,7 @@ pub enum VehicleItem {
 }
 
 /// An item of a batch of events. It holds no memory of its own.
-#[derive(Drop)]
+#[derive(Debug, Drop)]
 pub enum EventItem {
     /// The event that is reported.
     Event(Event),
