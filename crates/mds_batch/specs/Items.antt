@@ -1,5 +1,5 @@
 -- What a value of a batch stands for: a vehicle's key, an event, or what is wrong with it.
-use Rattle.std.specs.Prelude.{◌≡◌, List, [], ◌∷◌, ◌++◌, Bool, Option, Some, None, is_some, is_none, option_map, option_and_then, find, if◌then◌else◌}
+use Rattle.std.specs.Prelude.{◌≡◌, codes, ℕ, List, [], ◌∷◌, ◌++◌, Bool, Option, Some, None, is_some, is_none, option_map, option_and_then, find, if◌then◌else◌}
 use Rattle.serde_json.specs.Data.{Data}
 use Rattle.serde_json.specs.Find.{get, as_null, as_object}
 use Rattle.mds_table.specs.Json.{state_in}
@@ -79,3 +79,9 @@ IsVehicleItem value (vehicle.Fault fault) = fault_of vehicle_members value ≡ S
 unfoldable pub IsEventItem : Data → EventItem → Type 0
 IsEventItem value (event.Event reported) = IsEventOf value reported
 IsEventItem value (event.Fault fault) = fault_of event_members value ≡ Some fault
+
+-- the words for a fault
+abbrev pub item_fault_text : ItemFault → List ℕ
+item_fault_text NotObject = codes "not_object"
+item_fault_text (Missing member) = codes "missing_param " ++ member_name member
+item_fault_text (Bad member) = codes "bad_param " ++ member_name member

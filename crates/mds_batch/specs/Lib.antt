@@ -4,3 +4,4 @@ pub mod Member
 pub mod Forms
 pub mod Items
 pub mod Batch
+pub mod Laws

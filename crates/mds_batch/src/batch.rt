@@ -10,6 +10,7 @@ use mds_table::MAX_BYTES;
 use mds_table::json::{TextFault, value_of};
 use serde_json::Value;
 use std::alloc::{AllocError, Global};
+use std::error::Error;
 use std::{fmt, slice};
 
 /// The most items that a batch has.
@@ -57,6 +58,8 @@ impl From<TextFault> for BatchFault {
         }
     }
 }
+
+impl Error for BatchFault {}
 
 impl From<AllocError> for BatchFault {
     ghost use Rattle.mds_batch.specs.declared.batch.BatchFault.TheVariants.{Memory};

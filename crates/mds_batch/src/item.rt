@@ -1,7 +1,11 @@
 //! The items of a batch.
+ghost use Rattle.std.specs.Prelude.{Some};
+ghost use Rattle.mds_batch.specs.Items.{item_fault_text};
 
 use crate::Member;
 use mds_core::{Event, Key};
+use std::error::Error;
+use std::fmt;
 
 /// What is wrong with an item: the first that holds, in this order, and of its members the first that is at fault.
 #[derive(Clone, Copy, Debug, PartialEq, Eq, Hash)]
@@ -14,6 +18,20 @@ pub enum ItemFault {
     Bad(Member),
 }
 
+impl fmt::Display for ItemFault {
+    ghost output = { λ fault. Some (item_fault_text fault) };
+
+    fn fmt<W: fmt::Write>(&self, f: &mut fmt::Formatter<W>) -> fmt::Result {
+        match self {
+            ItemFault::NotObject => write!(f, "not_object"),
+            ItemFault::Missing(member) => write!(f, "missing_param {member}"),
+            ItemFault::Bad(member) => write!(f, "bad_param {member}"),
+        }
+    }
+}
+
+impl Error for ItemFault {}
+
 /// An item of a batch of registrations.
 #[derive(Clone, Copy, Debug, PartialEq, Eq, Hash)]
 pub enum VehicleItem {
@@ -24,7 +42,7 @@ pub enum VehicleItem {
 }
 
 /// An item of a batch of events. It holds no memory of its own.
-#[derive(Drop)]
+#[derive(Debug, Drop)]
 pub enum EventItem {
     /// The event that is reported.
     Event(Event),

@@ -9,6 +9,7 @@
 mod batch;
 mod form;
 mod item;
+pub mod laws;
 mod member;
 mod read;
 #[cfg(test)]

@@ -1,6 +1,8 @@
 //! The members of an item.
-ghost use Rattle.std.specs.Prelude.{◌≡◌};
+ghost use Rattle.std.specs.Prelude.{◌≡◌, Some};
 ghost use Rattle.mds_batch.specs.Member.{member_name};
+
+use std::fmt;
 
 /// A member of an item, in the order in which faults are looked for.
 #[derive(Clone, Copy, Debug, PartialEq, Eq, Hash)]
@@ -35,5 +37,13 @@ impl Member {
             Member::Timestamp => "timestamp",
             Member::LocationE7 => "location_e7",
         }
+    }
+}
+
+impl fmt::Display for Member {
+    ghost output = { λ member. Some (member_name member) };
+
+    fn fmt<W: fmt::Write>(&self, f: &mut fmt::Formatter<W>) -> fmt::Result {
+        f.write_str(self.name())
     }
 }

@@ -57,6 +57,22 @@ fn faults_have_texts(rt: HostRuntime) -> Result<(), Fail> {
 }
 
 #[test]
+fn item_faults_have_texts(rt: HostRuntime) -> Result<(), Fail> {
+    let expected = [
+        (ItemFault::NotObject, "not_object"),
+        (
+            ItemFault::Missing(Member::EventId),
+            "missing_param event_id",
+        ),
+        (ItemFault::Bad(Member::LocationE7), "bad_param location_e7"),
+    ];
+    for (fault, text) in expected {
+        assert_eq!(rt; fault.to_string(rt.alloc())?.as_str(), text);
+    }
+    Ok(())
+}
+
+#[test]
 fn empty_batches(rt: HostRuntime) -> Result<(), Fail> {
     assert_eq!(rt; read_vehicles(rt.alloc(), b"[]")?.len(), 0);
     assert_eq!(rt; read_events(rt.alloc(), b"[]")?.len(), 0);
