@@ -18,7 +18,7 @@ pub const MAX_TYPES: usize = 16;
 pub const MAX_TIME: u64 = 9_007_199_254_740_991;
 
 /// An event, as a provider reports it (MDS 2.0, "Events"). It holds no memory of its own.
-#[derive(Debug, Drop)]
+#[derive(Debug, PartialEq, Eq, Hash, Drop)]
 pub struct Event {
     key: Key,
     id: Uuid,
@@ -34,6 +34,8 @@ impl Model for Event {
     ghost Value = { Reported };
 
     ghost view = { λ event. record { key = event.key; id = event.id; state = event.state; types = event.types.items; time = event.time; position = event.position } };
+
+    ghost inverse = { λ event. record { key = event.key; id = event.id; state = event.state; types = record { items = event.types }; time = event.time; position = event.position } };
 
     ghost invariant = { λ event. MayBeReported event.types.items event.time };
 }

@@ -4,7 +4,7 @@ ghost use Rattle.std.specs.Prelude.{◌≡◌, option_map};
 use crate::{Event, Key};
 
 /// What the machine is asked. It holds no memory of its own.
-#[derive(Debug, Drop)]
+#[derive(Debug, PartialEq, Eq, Hash, Drop)]
 pub enum Request {
     /// The vehicle is registered with the city.
     Register(Key),

@@ -20,7 +20,7 @@ pub const MAX_NAME_BYTES: usize = 32;
 
 /// The name of an event type: 1 to 32 bytes of `a` to `z`, `0` to `9` and `_`. It holds no memory of its own, and takes
 /// 33 bytes.
-#[derive(Debug, Drop)]
+#[derive(Drop)]
 pub struct TypeName {
     /// The bytes of the name, then zeros.
     bytes: [u8; MAX_NAME_BYTES],
@@ -180,6 +180,13 @@ impl Default for TypeName {
     /// The name `unspecified`, as in MDS; slots of a list that hold no name yet are filled with it.
     fn default() -> TypeName {
         TypeName::of_bytes(b"unspecified")
+    }
+}
+
+/// As the text of the name.
+impl fmt::Debug for TypeName {
+    fn fmt<W: fmt::Write>(&self, f: &mut fmt::Formatter<W>) -> fmt::Result {
+        fmt::Debug::fmt(self.as_str(), f)
     }
 }
 
