@@ -15,11 +15,12 @@ use Rattle.mds_table.specs.declared.row.Row.{Row}
 use Rattle.mds_table.specs.declared.table_file.TableFault.{TableFault}
 use Rattle.mds_table.specs.declared.table_file.TableFault.TheVariants.{Memory, TooLong, NotJson, NotRows, BadRow, TooManyRows, TooManyTypes, Empty}
 use Rattle.mds_table.specs.Row.{ascends}
-use Rattle.mds_table.specs.Json.{IsTextOf}
-use Rattle.mds_table.specs.TableFile.{IsRowEntry, AnyStandsFor, AreRowsOf, AreTypesOf, AreGood, AreGoodBefore, IsBadAt, HasTooManyRowsAt, HasTooManyTypesAt, HasTable, HasFault, HasEntries, entries_in}
+use Rattle.mds_table.specs.declared.json.TextFault.TheVariants as text
+use Rattle.mds_table.specs.Json.{IsShortTextOf, HasTextFault}
+use Rattle.mds_table.specs.TableFile.{IsRowEntry, AnyStandsFor, AreRowsOf, AreTypesOf, AreGood, AreGoodBefore, EntryFault, bad_form, many_rows, many_types, IsFaultAt, IsFirstFault, HasTable, HasFault, entries_in}
 use Rattle.mds_table.specs.RowLaws.{row_cmp_total}
 use Rattle.mds_table.proofs.Ascending.{Contains-tail, head_or_tail}
-use Rattle.mds_table.proofs.OneTable.{before_all, not_itself, rest_ascends, both_hold}
+use Rattle.mds_table.proofs.OneTable.{before_all, not_itself, rest_ascends, both_hold, same_rows, same_value}
 
 -- a list that ascends is no longer than one that has its members
 subset_length : {X : Type 0} {cmp : X → X → Ordering} (o : IsTotalOrder cmp) (xs ys : List X) → ascends cmp xs ≡ true → ascends cmp ys ≡ true
@@ -85,190 +86,163 @@ at_within P (entry ∷ rest) zero some = omega arith
 at_within P (entry ∷ rest) (suc at) some = let later = at_within P rest at some in omega (arith, later)
 
 -- no fault lies among entries without one
-bad_not_before : (entries : List Data) (n at : ℕ) → IsBadAt entries at → at < n → AreGoodBefore entries n → ⊥
-bad_not_before entries n at is within good = not_bad IsRowEntry entries n at within good.2.forms is.bad
+not_before : (entries : List Data) (n at : ℕ) (fault : EntryFault) → IsFaultAt entries at fault → at < n → AreGoodBefore entries n → ⊥
+not_before entries n at bad_form bad within good = not_bad IsRowEntry entries n at within good.2.forms bad
+not_before entries n at many_rows many within good =
+    let fits : length many.1 ≤ length good.0 = fewer_rows many.1 good.0 many.2 good.2.exactly (rows_within entries (at + 1) n many.1 good.0 (omega arith) many.2 good.2.exactly) in
+    omega (arith, fits, many.3, good.2.few_rows)
+not_before entries n at many_types many within good =
+    let fits : length many.4 ≤ length good.1 =
+    fewer_types many.1 good.0 many.4 good.1 many.5 good.2.types (rows_within entries (at + 1) n many.1 good.0 (omega arith) many.2 good.2.exactly) in
+    omega (arith, fits, many.6, good.2.few_kinds)
 
-rows_not_before : (entries : List Data) (n at : ℕ) → HasTooManyRowsAt entries at → at < n → AreGoodBefore entries n → ⊥
-rows_not_before entries n at is within good =
-    let few = is.many.0 in
-    let fits : length few ≤ length good.0 = fewer_rows few good.0 is.many.1 good.2.exactly (rows_within entries (at + 1) n few good.0 (omega arith) is.many.1 good.2.exactly) in
-    absurd (omega (arith, fits, is.many.2, good.2.few_rows))
-
-types_not_before : (entries : List Data) (n at : ℕ) → HasTooManyTypesAt entries at → at < n → AreGoodBefore entries n → ⊥
-types_not_before entries n at is within good =
-    let few = is.many.0 in
-    let fits : length is.many.1 ≤ length good.1 =
-    fewer_types few good.0 is.many.1 good.1 is.many.4 good.2.types (rows_within entries (at + 1) n few good.0 (omega arith) is.many.2 good.2.exactly) in
-    absurd (omega (arith, fits, is.many.5, good.2.few_kinds))
-
-good_whole : (entries : List Data) (rows : List Row) (kinds : List (List ℕ)) → AreGood entries rows kinds → AreGoodBefore entries (length entries)
-good_whole entries rows kinds good = (rows, kinds, subst (λ front. AreGood front rows kinds) (sym (take_all (length entries) entries (omega arith))) good)
-
--- the value of a text is one
-same_value : (bytes : List ℕ) (d e : Data) → IsTextOf bytes d → IsTextOf bytes e → e ≡ d
-same_value bytes d e is are =
-    let texts : Some e ≡ Some d = sym are.1 ∙ is.1 in cc
-
--- what is said of a file's entries is said of the same ones
-joined : (bytes : List ℕ) {P Q : List Data → Type 0} → HasEntries bytes P → HasEntries bytes Q → (entries : List Data) × P entries × Q entries
-joined bytes {P} {Q} is are =
-    both_hold (entries_in is.1) is.3 (subst (λ d. IsSomeAnd (entries_in d) Q) (same_value bytes is.1 are.1 is.2 are.2) are.3)
-
-none_of_none : {T : Type 0} (P : T → Type 0) (o : Option T) → IsSomeAnd o P → o ≡ None → ⊥
-none_of_none P o some none = subst (λ o. IsSomeAnd o P) none some
-
--- a table file has no fault
-pub no_fault : (bytes : List ℕ) (rows : List Row) (fault : TableFault) → HasTable bytes rows → HasFault bytes fault → fault ≡ Memory
-no_fault bytes rows Memory is fault = refl
-no_fault bytes rows TooLong is fault = absurd (omega (arith, is.0, fault))
-no_fault bytes rows NotJson is fault = absurd (fault.1 is.1 is.2)
-no_fault bytes rows NotRows is fault =
-    absurd (none_of_none (λ entries. (1 ≤ length entries) × (kinds : List (List ℕ)) × AreGood entries rows kinds) (entries_in is.1) is.3 (ap entries_in (sym (same_value bytes is.1 fault.1 is.2 fault.2)) ∙ fault.3))
-no_fault bytes rows (BadRow at) is fault =
-    let both = joined bytes is fault in
-    let good = good_whole both.0 rows both.1.1 both.1.2 in
-    absurd (bad_not_before both.0 (length both.0) at both.2 (at_within (λ entry. IsRowEntry entry → ⊥) both.0 at both.2.bad) good)
-no_fault bytes rows TooManyRows is fault =
-    let both = joined bytes is fault in
-    let good = good_whole both.0 rows both.1.1 both.1.2 in
-    absurd (rows_not_before both.0 (length both.0) both.2.0 both.2.1 (at_within IsRowEntry both.0 both.2.0 both.2.1.form) good)
-no_fault bytes rows TooManyTypes is fault =
-    let both = joined bytes is fault in
-    let good = good_whole both.0 rows both.1.1 both.1.2 in
-    absurd (types_not_before both.0 (length both.0) both.2.0 both.2.1 (at_within IsRowEntry both.0 both.2.0 both.2.1.form) good)
-no_fault bytes rows Empty is fault =
-    let both = joined bytes is fault in
-    absurd (omega (arith, both.1.0, ap length both.2))
-
-no_entries : (bytes : List ℕ) {P : List Data → Type 0} → HasEntries bytes P → HasFault bytes NotRows → ⊥
-no_entries bytes {P} is none = none_of_none P (entries_in is.1) is.3 (ap entries_in (sym (same_value bytes is.1 none.1 is.2 none.2)) ∙ none.3)
+-- a fault lies at an entry
+fault_within : (entries : List Data) (at : ℕ) (fault : EntryFault) → IsFaultAt entries at fault → at < length entries
+fault_within entries at bad_form bad = at_within (λ entry. IsRowEntry entry → ⊥) entries at bad
+fault_within entries at many_rows many = at_within IsRowEntry entries at many.0
+fault_within entries at many_types many = at_within IsRowEntry entries at many.0
 
 form_or_bad : (P : Data → Type 0) (o : Option Data) → IsSomeAnd o P → IsSomeAnd o (λ entry. P entry → ⊥) → ⊥
 form_or_bad P o form bad = let both = both_hold o form bad in both.2 both.1
 
-bad_or_rows : (bytes : List ℕ) (at : ℕ) → HasFault bytes (BadRow at) → HasFault bytes TooManyRows → ⊥
-bad_or_rows bytes at is are =
-    let both = joined bytes is are in
-    let other = both.2.0 in
-    ⊎_elim
-    (λ same. form_or_bad IsRowEntry (slice_get both.0 other) both.2.1.form (subst (λ n. IsSomeAnd (slice_get both.0 n) (λ entry. IsRowEntry entry → ⊥)) same both.1.bad))
-    (λ apart. ⊎_elim
-    (λ earlier. bad_not_before both.0 other at both.1 earlier both.2.1.before)
-    (λ later. rows_not_before both.0 at other both.2.1 later both.1.before)
-    apart)
-    (cases_order at other)
+rows_or_types : (entries : List Data) (at : ℕ) → IsFaultAt entries at many_rows → IsFaultAt entries at many_types → ⊥
+rows_or_types entries at many few =
+    let same : many.1 ≡ few.1 = same_rows (take (at + 1) entries) many.1 few.1 many.2 few.2 in
+    omega (arith, ap length same, many.3, few.3)
 
-bad_or_types : (bytes : List ℕ) (at : ℕ) → HasFault bytes (BadRow at) → HasFault bytes TooManyTypes → ⊥
-bad_or_types bytes at is are =
-    let both = joined bytes is are in
-    let other = both.2.0 in
-    ⊎_elim
-    (λ same. form_or_bad IsRowEntry (slice_get both.0 other) both.2.1.form (subst (λ n. IsSomeAnd (slice_get both.0 n) (λ entry. IsRowEntry entry → ⊥)) same both.1.bad))
-    (λ apart. ⊎_elim
-    (λ earlier. bad_not_before both.0 other at both.1 earlier both.2.1.before)
-    (λ later. types_not_before both.0 at other both.2.1 later both.1.before)
-    apart)
-    (cases_order at other)
+-- at a place there is one first fault
+one_kind : (entries : List Data) (at : ℕ) (fault other : EntryFault) → IsFaultAt entries at fault → IsFaultAt entries at other → fault ≡ other
+one_kind entries at bad_form bad_form is are = refl
+one_kind entries at bad_form many_rows is are = absurd (form_or_bad IsRowEntry (slice_get entries at) are.0 is)
+one_kind entries at bad_form many_types is are = absurd (form_or_bad IsRowEntry (slice_get entries at) are.0 is)
+one_kind entries at many_rows bad_form is are = absurd (form_or_bad IsRowEntry (slice_get entries at) is.0 are)
+one_kind entries at many_rows many_rows is are = refl
+one_kind entries at many_rows many_types is are = absurd (rows_or_types entries at is are)
+one_kind entries at many_types bad_form is are = absurd (form_or_bad IsRowEntry (slice_get entries at) is.0 are)
+one_kind entries at many_types many_rows is are = absurd (rows_or_types entries at are is)
+one_kind entries at many_types many_types is are = refl
 
-rows_and_types : (entries : List Data) (at : ℕ) → HasTooManyRowsAt entries at → HasTooManyTypesAt entries at → ⊥
-rows_and_types entries at is are =
-    let fits : length is.many.0 ≤ length are.many.0 =
-    fewer_rows is.many.0 are.many.0 is.many.1 are.many.2 (rows_within entries (at + 1) (at + 1) is.many.0 are.many.0 (omega arith) is.many.1 are.many.2) in
-    absurd (omega (arith, fits, is.many.2, are.many.3))
-
-rows_or_types : (bytes : List ℕ) → HasFault bytes TooManyRows → HasFault bytes TooManyTypes → ⊥
-rows_or_types bytes is are =
-    let both = joined bytes is are in
-    let at = both.1.0 in
-    let other = both.2.0 in
-    ⊎_elim
-    (λ same. rows_and_types both.0 other (subst (HasTooManyRowsAt both.0) same both.1.1) both.2.1)
-    (λ apart. ⊎_elim
-    (λ earlier. rows_not_before both.0 other at both.1.1 earlier both.2.1.before)
-    (λ later. types_not_before both.0 at other both.2.1 later both.1.1.before)
-    apart)
-    (cases_order at other)
-
--- a place of an entry, where there is none
-empty_or_at : (P : Data → Type 0) (entries : List Data) (at : ℕ) → IsSomeAnd (slice_get entries at) P → entries ≡ [] → ⊥
-empty_or_at P entries at some none = absurd (omega (arith, at_within P entries at some, ap length none))
-
-bad_or_empty : (bytes : List ℕ) (at : ℕ) → HasFault bytes (BadRow at) → HasFault bytes Empty → ⊥
-bad_or_empty bytes at is are = let both = joined bytes is are in empty_or_at (λ entry. IsRowEntry entry → ⊥) both.0 at both.1.bad both.2
-
-rows_or_empty : (bytes : List ℕ) → HasFault bytes TooManyRows → HasFault bytes Empty → ⊥
-rows_or_empty bytes is are = let both = joined bytes is are in empty_or_at IsRowEntry both.0 both.1.0 both.1.1.form both.2
-
-types_or_empty : (bytes : List ℕ) → HasFault bytes TooManyTypes → HasFault bytes Empty → ⊥
-types_or_empty bytes is are = let both = joined bytes is are in empty_or_at IsRowEntry both.0 both.1.0 both.1.1.form both.2
-
-same_place : (bytes : List ℕ) (at other : ℕ) → HasFault bytes (BadRow at) → HasFault bytes (BadRow other) → at ≡ other
-same_place bytes at other is are =
-    let both = joined bytes is are in
-    ⊎_elim
+-- and there is one first place
+one_place : (entries : List Data) (at place : ℕ) (fault other : EntryFault) → IsFirstFault entries at fault → IsFirstFault entries place other → at ≡ place
+one_place entries at place fault other is are = ⊎_elim
     (λ same. same)
     (λ apart. ⊎_elim
-    (λ earlier. absurd (bad_not_before both.0 other at both.1 earlier both.2.before))
-    (λ later. absurd (bad_not_before both.0 at other both.2 later both.1.before))
+    (λ earlier. absurd (not_before entries place at fault is.here earlier are.before))
+    (λ later. absurd (not_before entries at place other are.here later is.before))
     apart)
-    (cases_order at other)
+    (cases_order at place)
+
+-- where the value of a text has its first fault: it has no list of entries, or one with none, or one with a fault at an entry
+data Place : Type 0 where
+  no_list : Place
+  no_entry : Place
+  at_entry : ℕ → EntryFault → Place
+
+abbrev IsAt : Option (List Data) → Place → Type 0
+IsAt entries no_list = entries ≡ None
+IsAt entries no_entry = IsSomeAnd entries (λ list. list ≡ [])
+IsAt entries (at_entry at fault) = IsSomeAnd entries (λ list. IsFirstFault list at fault)
+
+abbrev fault_at : Place → TableFault
+fault_at no_list = NotRows
+fault_at no_entry = Empty
+fault_at (at_entry at bad_form) = BadRow at
+fault_at (at_entry at many_rows) = TooManyRows
+fault_at (at_entry at many_types) = TooManyTypes
+
+none_of_none : {T : Type 0} (P : T → Type 0) (o : Option T) → IsSomeAnd o P → o ≡ None → ⊥
+none_of_none P o some none = subst (λ o. IsSomeAnd o P) none some
+
+empty_or_at : (entries : List Data) (at : ℕ) (fault : EntryFault) → IsFirstFault entries at fault → entries ≡ [] → ⊥
+empty_or_at entries at fault is none = omega (arith, fault_within entries at fault is.here, ap length none)
+
+first_fault : (entries : List Data) (at place : ℕ) (fault other : EntryFault) → IsFirstFault entries at fault → IsFirstFault entries place other
+    → at_entry at fault ≡ at_entry place other
+first_fault entries at place fault other is are =
+    let same : at ≡ place = one_place entries at place fault other is are in
+    let kind : fault ≡ other = one_kind entries place fault other (subst (λ n. IsFaultAt entries n fault) same is.here) are.here in
+    λ i. at_entry (same i) (kind i)
+
+one_at : (o : Option (List Data)) (place other : Place) → IsAt o place → IsAt o other → place ≡ other
+one_at o no_list no_list is are = refl
+one_at o no_list no_entry is are = absurd (none_of_none (λ list. list ≡ []) o are is)
+one_at o no_list (at_entry at fault) is are = absurd (none_of_none (λ list. IsFirstFault list at fault) o are is)
+one_at o no_entry no_list is are = absurd (none_of_none (λ list. list ≡ []) o is are)
+one_at o no_entry no_entry is are = refl
+one_at o no_entry (at_entry at fault) is are = let both = both_hold o is are in absurd (empty_or_at both.0 at fault both.2 both.1)
+one_at o (at_entry at fault) no_list is are = absurd (none_of_none (λ list. IsFirstFault list at fault) o is are)
+one_at o (at_entry at fault) no_entry is are = let both = both_hold o is are in absurd (empty_or_at both.0 at fault both.1 both.2)
+one_at o (at_entry at fault) (at_entry place other) is are = let both = both_hold o is are in first_fault both.0 at place fault other both.1 both.2
+
+-- a file's fault lies in its text, or in the value of its text, if it isn't want of memory
+abbrev InText : List ℕ → TableFault → Type 0
+InText bytes fault = ((fault ≡ TooLong) × HasTextFault bytes text.TooLong) ⊎ ((fault ≡ NotJson) × HasTextFault bytes text.NotJson)
+
+abbrev InValue : List ℕ → TableFault → Type 0
+InValue bytes fault = (place : Place) × (fault ≡ fault_at place) × (value : Data) × IsShortTextOf value bytes × IsAt (entries_in value) place
+
+-- the place at which something holds of a list
+place_of : (P : ℕ → List Data → Type 0) (o : Option (List Data)) → IsSomeAnd o (λ list. (at : ℕ) × P at list) → (at : ℕ) × IsSomeAnd o (P at)
+place_of P None some = absurd some
+place_of P (Some list) some = some
+
+located : (bytes : List ℕ) (fault : TableFault) → HasFault bytes fault → (fault ≡ Memory) ⊎ (InText bytes fault ⊎ InValue bytes fault)
+located bytes Memory is = inl refl
+located bytes TooLong is = inr (inl (inl (refl, is)))
+located bytes NotJson is = inr (inl (inr (refl, is)))
+located bytes NotRows is = inr (inr (no_list, refl, is.0, is.1, is.2))
+located bytes Empty is = inr (inr (no_entry, refl, is.0, is.1, is.2))
+located bytes (BadRow at) is = inr (inr (at_entry at bad_form, refl, is.0, is.1, is.2))
+located bytes TooManyRows is =
+    let found = place_of (λ at list. IsFirstFault list at many_rows) (entries_in is.0) is.2 in inr (inr (at_entry found.0 many_rows, refl, is.0, is.1, found.1))
+located bytes TooManyTypes is =
+    let found = place_of (λ at list. IsFirstFault list at many_types) (entries_in is.0) is.2 in inr (inr (at_entry found.0 many_types, refl, is.0, is.1, found.1))
+
+no_text : (bytes : List ℕ) (fault : TableFault) (value : Data) → InText bytes fault → IsShortTextOf value bytes → ⊥
+no_text bytes fault value is short = ⊎_elim (λ long. omega (arith, long.1, short.0)) (λ none. none.1.1 value short.1) is
+
+one_text : (bytes : List ℕ) (fault other : TableFault) → InText bytes fault → InText bytes other → fault ≡ other
+one_text bytes fault other is are = ⊎_elim
+    (λ long. ⊎_elim (λ too. long.0 ∙ sym too.0) (λ none. absurd (omega (arith, long.1, none.1.0))) are)
+    (λ none. ⊎_elim (λ long. absurd (omega (arith, long.1, none.1.0))) (λ too. none.0 ∙ sym too.0) are)
+    is
+
+one_value : (bytes : List ℕ) (fault other : TableFault) → InValue bytes fault → InValue bytes other → fault ≡ other
+one_value bytes fault other is are =
+    let here = subst (λ value. IsAt (entries_in value) are.0) (same_value bytes is.2 are.2 is.3 are.3) are.4 in
+    is.1 ∙ ap fault_at (one_at (entries_in is.2) is.0 are.0 is.4 here) ∙ sym are.1
 
 -- a file has one first fault
 pub one_fault : (bytes : List ℕ) (fault other : TableFault) → HasFault bytes fault → HasFault bytes other → (fault ≡ Memory) ⊎ ((other ≡ Memory) ⊎ (fault ≡ other))
-one_fault bytes Memory other is are = inl refl
-one_fault bytes TooLong Memory is are = inr (inl refl)
-one_fault bytes TooLong TooLong is are = inr (inr refl)
-one_fault bytes TooLong NotJson is are = absurd (omega (arith, is, are.0))
-one_fault bytes TooLong NotRows is are = absurd (omega (arith, is, are.0))
-one_fault bytes TooLong (BadRow there) is are = absurd (omega (arith, is, are.0))
-one_fault bytes TooLong TooManyRows is are = absurd (omega (arith, is, are.0))
-one_fault bytes TooLong TooManyTypes is are = absurd (omega (arith, is, are.0))
-one_fault bytes TooLong Empty is are = absurd (omega (arith, is, are.0))
-one_fault bytes NotJson Memory is are = inr (inl refl)
-one_fault bytes NotJson TooLong is are = absurd (omega (arith, are, is.0))
-one_fault bytes NotJson NotJson is are = inr (inr refl)
-one_fault bytes NotJson NotRows is are = absurd (is.1 are.1 are.2)
-one_fault bytes NotJson (BadRow there) is are = absurd (is.1 are.1 are.2)
-one_fault bytes NotJson TooManyRows is are = absurd (is.1 are.1 are.2)
-one_fault bytes NotJson TooManyTypes is are = absurd (is.1 are.1 are.2)
-one_fault bytes NotJson Empty is are = absurd (is.1 are.1 are.2)
-one_fault bytes NotRows Memory is are = inr (inl refl)
-one_fault bytes NotRows TooLong is are = absurd (omega (arith, are, is.0))
-one_fault bytes NotRows NotJson is are = absurd (are.1 is.1 is.2)
-one_fault bytes NotRows NotRows is are = inr (inr refl)
-one_fault bytes NotRows (BadRow there) is are = absurd (no_entries bytes are is)
-one_fault bytes NotRows TooManyRows is are = absurd (no_entries bytes are is)
-one_fault bytes NotRows TooManyTypes is are = absurd (no_entries bytes are is)
-one_fault bytes NotRows Empty is are = absurd (no_entries bytes are is)
-one_fault bytes (BadRow at) Memory is are = inr (inl refl)
-one_fault bytes (BadRow at) TooLong is are = absurd (omega (arith, are, is.0))
-one_fault bytes (BadRow at) NotJson is are = absurd (are.1 is.1 is.2)
-one_fault bytes (BadRow at) NotRows is are = absurd (no_entries bytes is are)
-one_fault bytes (BadRow at) (BadRow there) is are = inr (inr (ap BadRow (same_place bytes at there is are)))
-one_fault bytes (BadRow at) TooManyRows is are = absurd (bad_or_rows bytes at is are)
-one_fault bytes (BadRow at) TooManyTypes is are = absurd (bad_or_types bytes at is are)
-one_fault bytes (BadRow at) Empty is are = absurd (bad_or_empty bytes at is are)
-one_fault bytes TooManyRows Memory is are = inr (inl refl)
-one_fault bytes TooManyRows TooLong is are = absurd (omega (arith, are, is.0))
-one_fault bytes TooManyRows NotJson is are = absurd (are.1 is.1 is.2)
-one_fault bytes TooManyRows NotRows is are = absurd (no_entries bytes is are)
-one_fault bytes TooManyRows (BadRow there) is are = absurd (bad_or_rows bytes there are is)
-one_fault bytes TooManyRows TooManyRows is are = inr (inr refl)
-one_fault bytes TooManyRows TooManyTypes is are = absurd (rows_or_types bytes is are)
-one_fault bytes TooManyRows Empty is are = absurd (rows_or_empty bytes is are)
-one_fault bytes TooManyTypes Memory is are = inr (inl refl)
-one_fault bytes TooManyTypes TooLong is are = absurd (omega (arith, are, is.0))
-one_fault bytes TooManyTypes NotJson is are = absurd (are.1 is.1 is.2)
-one_fault bytes TooManyTypes NotRows is are = absurd (no_entries bytes is are)
-one_fault bytes TooManyTypes (BadRow there) is are = absurd (bad_or_types bytes there are is)
-one_fault bytes TooManyTypes TooManyRows is are = absurd (rows_or_types bytes are is)
-one_fault bytes TooManyTypes TooManyTypes is are = inr (inr refl)
-one_fault bytes TooManyTypes Empty is are = absurd (types_or_empty bytes is are)
-one_fault bytes Empty Memory is are = inr (inl refl)
-one_fault bytes Empty TooLong is are = absurd (omega (arith, are, is.0))
-one_fault bytes Empty NotJson is are = absurd (are.1 is.1 is.2)
-one_fault bytes Empty NotRows is are = absurd (no_entries bytes is are)
-one_fault bytes Empty (BadRow there) is are = absurd (bad_or_empty bytes there are is)
-one_fault bytes Empty TooManyRows is are = absurd (rows_or_empty bytes are is)
-one_fault bytes Empty TooManyTypes is are = absurd (types_or_empty bytes are is)
-one_fault bytes Empty Empty is are = inr (inr refl)
+one_fault bytes fault other is are = ⊎_elim
+    (λ memory. inl memory)
+    (λ said. inr (⊎_elim (λ memory. inl memory) (λ too. inr (same said too)) (located bytes other are)))
+    (located bytes fault is)
+  where
+    same : InText bytes fault ⊎ InValue bytes fault → InText bytes other ⊎ InValue bytes other → fault ≡ other
+    same (inl said) (inl too) = one_text bytes fault other said too
+    same (inl said) (inr too) = absurd (no_text bytes fault too.2 said too.3)
+    same (inr said) (inl too) = absurd (no_text bytes other said.2 too said.3)
+    same (inr said) (inr too) = one_value bytes fault other said too
+
+-- entries without a fault have none at a place
+good_nowhere : (entries : List Data) (rows : List Row) (kinds : List (List ℕ)) (at : ℕ) (fault : EntryFault) → AreGood entries rows kinds → IsFaultAt entries at fault → ⊥
+good_nowhere entries rows kinds at fault good is =
+    not_before entries (length entries) at fault is (fault_within entries at fault is)
+    (rows, kinds, subst (λ front. AreGood front rows kinds) (sym (take_all (length entries) entries (omega arith))) good)
+
+-- a table file has no fault
+pub no_fault : (bytes : List ℕ) (rows : List Row) (fault : TableFault) → HasTable bytes rows → HasFault bytes fault → fault ≡ Memory
+no_fault bytes rows fault is are = ⊎_elim (λ memory. memory) (λ said. absurd (none said)) (located bytes fault are) where
+  at : (entries : List Data) (place : Place) → (1 ≤ length entries) × (kinds : List (List ℕ)) × AreGood entries rows kinds → IsAt (Some entries) place → ⊥
+  at entries no_list good nothing = cc
+  at entries no_entry good empty = omega (arith, good.0, ap length empty)
+  at entries (at_entry n f) good first = good_nowhere entries rows good.1 n f good.2 first.here
+
+  whole : (o : Option (List Data)) (place : Place) → IsSomeAnd o (λ entries. (1 ≤ length entries) × (kinds : List (List ℕ)) × AreGood entries rows kinds) → IsAt o place → ⊥
+  whole None place good said = absurd good
+  whole (Some entries) place good said = at entries place good said
+
+  none : InText bytes fault ⊎ InValue bytes fault → ⊥
+  none (inl said) = no_text bytes fault is.0 said is.1
+  none (inr said) = whole (entries_in is.0) said.0 is.2 (subst (λ value. IsAt (entries_in value) said.0) (same_value bytes is.0 said.2 is.1 said.3) said.4)

@@ -11,7 +11,8 @@ use Rattle.std.proofs.lemmas.Bool.{and_parts}
 use Rattle.serde_json.specs.Data.{Data}
 use Rattle.mds_table.specs.declared.row.Row.{Row}
 use Rattle.mds_table.specs.Row.{ascends}
-use Rattle.mds_table.specs.TableFile.{AreRowsOf, AreGood, HasTable, entries_in}
+use Rattle.mds_table.specs.Json.{IsShortTextOf}
+use Rattle.mds_table.specs.TableFile.{AreRowsOf, HasTable, HasEntries, entries_in}
 use Rattle.mds_table.specs.RowLaws.{row_cmp_total}
 use Rattle.mds_table.proofs.Ascending.{Contains-tail, head_or_tail, lt_is_Less}
 
@@ -62,7 +63,7 @@ same_members {X} {cmp} o (x ∷ xs) (y ∷ ys) up vp to from =
     (λ z there. ⊎_elim (λ found. found) (λ same. absurd (not_itself o y z (before_all o y ys vp z there) (same ∙ first))) (head_or_tail z x xs (from z (Contains-tail z y ys there)))) in
     λ i. first i ∷ rest i
 
-same_rows : (entries : List Data) (rows others : List Row) → AreRowsOf entries rows → AreRowsOf entries others → rows ≡ others
+pub same_rows : (entries : List Data) (rows others : List Row) → AreRowsOf entries rows → AreRowsOf entries others → rows ≡ others
 same_rows entries rows others is are =
     same_members row_cmp_total rows others is.order are.order
     (λ row there. are.all row (is.none_else row there)) (λ row there. is.all row (are.none_else row there))
@@ -71,9 +72,17 @@ pub both_hold : {T : Type 0} {P Q : T → Type 0} (o : Option T) → IsSomeAnd o
 both_hold None p q = absurd p
 both_hold (Some x) p q = (x, p, q)
 
+-- the value of a text is one
+pub same_value : (bytes : List ℕ) (value other : Data) → IsShortTextOf value bytes → IsShortTextOf other bytes → other ≡ value
+same_value bytes value other is are =
+    let texts : Some other ≡ Some value = sym are.1.1 ∙ is.1.1 in cc
+
+-- what is said of a file's entries is said of the same ones
+pub joined : (bytes : List ℕ) {P Q : List Data → Type 0} → HasEntries bytes P → HasEntries bytes Q → (entries : List Data) × P entries × Q entries
+joined bytes {P} {Q} is are =
+    both_hold (entries_in is.0) is.2 (subst (λ value. IsSomeAnd (entries_in value) Q) (same_value bytes is.0 are.0 is.1 are.1) are.2)
+
 pub one_table : (bytes : List ℕ) (rows others : List Row) → HasTable bytes rows → HasTable bytes others → rows ≡ others
 one_table bytes rows others is are =
-    let texts : Some are.1 ≡ Some is.1 = sym are.2.1 ∙ is.2.1 in
-    let same : are.1 ≡ is.1 = cc in
-    let both = both_hold (entries_in is.1) is.3 (subst (λ d. IsSomeAnd (entries_in d) (λ entries. (1 ≤ length entries) × (kinds : List (List ℕ)) × AreGood entries others kinds)) same are.3) in
+    let both = joined bytes is are in
     same_rows both.0 rows others both.1.2.exactly both.2.2.exactly

@@ -9,7 +9,7 @@ use Rattle.mds_table.specs.declared.table_file.TableFault.{TableFault}
 use Rattle.mds_table.specs.declared.table_file.TableFault.TheVariants.{Memory, TooLong, NotJson, NotRows, BadRow, TooManyRows, TooManyTypes, Empty}
 use Rattle.mds_table.specs.State.{code_of}
 use Rattle.mds_table.specs.Json.{state_in}
-use Rattle.mds_table.specs.TableFile.{StandsFor, IsBadAt, HasTooManyRowsAt, HasTooManyTypesAt}
+use Rattle.mds_table.specs.TableFile.{StandsFor, bad_form, many_rows, many_types, IsFirstFault}
 
 -- the state is marked
 abbrev pub is_marked : States → State → Bool
@@ -47,9 +47,9 @@ pub record IsRowTo (from : State) (entry : Entry) (states : List State) (row : R
 -- the first fault of the entries of a file
 abbrev pub HasFaultIn : List Data → TableFault → Type 0
 HasFaultIn entries Memory = Unit {0}
-HasFaultIn entries (BadRow at) = IsBadAt entries at
-HasFaultIn entries TooManyRows = (at : ℕ) × HasTooManyRowsAt entries at
-HasFaultIn entries TooManyTypes = (at : ℕ) × HasTooManyTypesAt entries at
+HasFaultIn entries (BadRow at) = IsFirstFault entries at bad_form
+HasFaultIn entries TooManyRows = (at : ℕ) × IsFirstFault entries at many_rows
+HasFaultIn entries TooManyTypes = (at : ℕ) × IsFirstFault entries at many_types
 HasFaultIn entries TooLong = ⊥
 HasFaultIn entries NotJson = ⊥
 HasFaultIn entries NotRows = ⊥

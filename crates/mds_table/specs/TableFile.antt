@@ -12,7 +12,7 @@ use Rattle.mds_table.specs.declared.json.TextFault.TheVariants as text
 use Rattle.mds_table.specs.declared.table_file.TableFault.{TableFault}
 use Rattle.mds_table.specs.declared.table_file.TableFault.TheVariants.{Memory, TooLong, NotJson, NotRows, BadRow, TooManyRows, TooManyTypes, Empty}
 use Rattle.mds_table.specs.Row.{ascends, in_order}
-use Rattle.mds_table.specs.Json.{max_bytes, items_in, IsTextOf, state_in, type_name_in}
+use Rattle.mds_table.specs.Json.{items_in, IsShortTextOf, HasTextFault, state_in, type_name_in}
 
 -- the most rows of a table
 abbrev pub max_rows : ℕ
@@ -88,31 +88,33 @@ pub record AreGood (entries : List Data) (rows : List Row) (kinds : List (List �
 abbrev pub AreGoodBefore : List Data → ℕ → Type 0
 AreGoodBefore entries at = (rows : List Row) × (kinds : List (List ℕ)) × AreGood (take at entries) rows kinds
 
--- the entry at this place is the first with a fault, and is not of the right form
-pub record IsBadAt (entries : List Data) (at : ℕ) : Type 0 where
-  pub before : AreGoodBefore entries at
-  pub bad : IsSomeAnd (slice_get entries at) (λ entry. IsRowEntry entry → ⊥)
+-- what can be wrong with an entry: its form, or that with it there are more rows, or more types, than a table may have
+pub data EntryFault : Type 0 where
+  bad_form : EntryFault
+  many_rows : EntryFault
+  many_types : EntryFault
 
--- the entry at this place is the first with a fault: with it there are more rows than a table may have
-pub record HasTooManyRowsAt (entries : List Data) (at : ℕ) : Type 0 where
-  pub before : AreGoodBefore entries at
-  pub form : IsSomeAnd (slice_get entries at) IsRowEntry
-  pub many : (rows : List Row) × AreRowsOf (take (at + 1) entries) rows × (max_rows < length rows)
+-- the fault of the entry at this place, of these three the first
+abbrev pub IsFaultAt : List Data → ℕ → EntryFault → Type 0
+IsFaultAt entries at bad_form = IsSomeAnd (slice_get entries at) (λ entry. IsRowEntry entry → ⊥)
+IsFaultAt entries at many_rows =
+    IsSomeAnd (slice_get entries at) IsRowEntry × (rows : List Row) × AreRowsOf (take (at + 1) entries) rows × (max_rows < length rows)
+IsFaultAt entries at many_types =
+    IsSomeAnd (slice_get entries at) IsRowEntry × (rows : List Row) × AreRowsOf (take (at + 1) entries) rows × (length rows ≤ max_rows)
+    × (kinds : List (List ℕ)) × AreTypesOf rows kinds × (max_table_types < length kinds)
 
--- the entry at this place is the first with a fault: with it there are more types than a table may have
-pub record HasTooManyTypesAt (entries : List Data) (at : ℕ) : Type 0 where
+-- the first fault of entries: the entries before this place have none, and the one at it has this fault
+pub record IsFirstFault (entries : List Data) (at : ℕ) (fault : EntryFault) : Type 0 where
   pub before : AreGoodBefore entries at
-  pub form : IsSomeAnd (slice_get entries at) IsRowEntry
-  pub many : (rows : List Row) × (kinds : List (List ℕ)) × AreRowsOf (take (at + 1) entries) rows × (length rows ≤ max_rows)
-      × AreTypesOf rows kinds × (max_table_types < length kinds)
+  pub here : IsFaultAt entries at fault
 
 -- the entries of a file: its member `rows`, if it is an object with such a list
 abbrev pub entries_in : Data → Option (List Data)
 entries_in d = option_map items_in (option_and_then as_array (get (codes "rows") d))
 
--- the bytes are not too long, and a text with entries of which this holds
+-- the bytes are few enough, and a text with entries of which this holds
 abbrev pub HasEntries : List ℕ → (List Data → Type 0) → Type 0
-HasEntries bytes P = (length bytes ≤ max_bytes) × (d : Data) × IsTextOf bytes d × IsSomeAnd (entries_in d) P
+HasEntries bytes P = (value : Data) × IsShortTextOf value bytes × IsSomeAnd (entries_in value) P
 
 -- the bytes are a table file of these rows: it has an entry, and each entry is without a fault
 abbrev pub HasTable : List ℕ → List Row → Type 0
@@ -122,13 +124,13 @@ HasTable bytes rows = HasEntries bytes (λ entries. (1 ≤ length entries) × (k
 -- wanting whatever the file has.
 abbrev pub HasFault : List ℕ → TableFault → Type 0
 HasFault bytes Memory = Unit {0}
-HasFault bytes TooLong = max_bytes < length bytes
-HasFault bytes NotJson = (length bytes ≤ max_bytes) × ((d : Data) → IsTextOf bytes d → ⊥)
-HasFault bytes NotRows = (length bytes ≤ max_bytes) × (d : Data) × IsTextOf bytes d × (entries_in d ≡ None)
-HasFault bytes (BadRow at) = HasEntries bytes (λ entries. IsBadAt entries at)
-HasFault bytes TooManyRows = HasEntries bytes (λ entries. (at : ℕ) × HasTooManyRowsAt entries at)
-HasFault bytes TooManyTypes = HasEntries bytes (λ entries. (at : ℕ) × HasTooManyTypesAt entries at)
+HasFault bytes TooLong = HasTextFault bytes text.TooLong
+HasFault bytes NotJson = HasTextFault bytes text.NotJson
+HasFault bytes NotRows = (value : Data) × IsShortTextOf value bytes × (entries_in value ≡ None)
 HasFault bytes Empty = HasEntries bytes (λ entries. entries ≡ [])
+HasFault bytes (BadRow at) = HasEntries bytes (λ entries. IsFirstFault entries at bad_form)
+HasFault bytes TooManyRows = HasEntries bytes (λ entries. (at : ℕ) × IsFirstFault entries at many_rows)
+HasFault bytes TooManyTypes = HasEntries bytes (λ entries. (at : ℕ) × IsFirstFault entries at many_types)
 
 -- the fault of a file whose text has this one
 abbrev pub of_text : TextFault → TableFault

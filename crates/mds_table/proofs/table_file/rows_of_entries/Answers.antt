@@ -16,8 +16,12 @@ returns-then-len-gt-MAX_ROWS-clause-fault c =
       at,
       record {
         before = (c.loop-at.rows.items, c.loop-at.kinds.items, good);
-        form = value_at IsRowEntry c.args.entries.now at c.index-entries-at.result c.loop-at-test.true c.index-entries-at.is c.in-Some.ensures.form;
-        many = (c.add_rows.new.rows.items, rw more rows, search rules);
+        here = (
+          value_at IsRowEntry c.args.entries.now at c.index-entries-at.result c.loop-at-test.true c.index-entries-at.is c.in-Some.ensures.form,
+          c.add_rows.new.rows.items,
+          rw more rows,
+          search rules,
+        );
       },
     )
 
@@ -33,8 +37,15 @@ returns-then-len-gt-MAX_TYPES-clause-fault c =
       at,
       record {
         before = (c.loop-at.rows.items, c.loop-at.kinds.items, good);
-        form = value_at IsRowEntry c.args.entries.now at c.index-entries-at.result c.loop-at-test.true c.index-entries-at.is c.in-Some.ensures.form;
-        many = (c.add_rows.new.rows.items, c.add_kind.new.kinds.items, rw more rows, search rules, types, search rules);
+        here = (
+          value_at IsRowEntry c.args.entries.now at c.index-entries-at.result c.loop-at-test.true c.index-entries-at.is c.in-Some.ensures.form,
+          c.add_rows.new.rows.items,
+          rw more rows,
+          search rules,
+          c.add_kind.new.kinds.items,
+          types,
+          search rules,
+        );
       },
     )
 
