@@ -1,5 +1,5 @@
 -- Chains in two parts.
-use Rattle.std.proofs.Common.{◌≡◌, ◌≤◌, ℕ, List, [], ◌∷◌, ◌++◌, take, drop, Contains, refl, sym, subst}
+use Rattle.std.proofs.Common.{◌≤◌, ℕ, List, [], ◌∷◌, ◌++◌, take, drop, Contains, refl, sym, subst}
 use Rattle.std.proofs.lemmas.List.{take-append-drop, take-take}
 use Rattle.mds_table.specs.declared.state.State.{State}
 use Rattle.mds_table.specs.declared.row.Row.{Row}
@@ -8,11 +8,8 @@ use Rattle.mds_table.specs.Chain.{Leads, Passes}
 
 module _ (rows : List Row) where
   -- without a type, the state held is the one reported
-  pub leads_nowhere : (state : State) → Leads rows state [] state
+  leads_nowhere : (state : State) → Leads rows state [] state
   leads_nowhere state = (state ∷ [], (refl, refl))
-
-  pub same_state : (from to : State) → Leads rows from [] to → from ≡ to
-  same_state from to leads = leads.1.1
 
   -- one type leads where a row of it does
   pub leads_by_row : (from to : State) (kind : List ℕ) → Contains rows (row_of from kind to) → Leads rows from (kind ∷ []) to

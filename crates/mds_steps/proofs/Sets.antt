@@ -7,7 +7,7 @@ use Rattle.mds_table.specs.Chain.{Leads, Passes, IsStuckAt}
 use Rattle.mds_steps.specs.Step.{AreNext, ArePrevious}
 use Rattle.mds_steps.specs.Reached.{AreReached}
 use Rattle.mds_steps.specs.Opening.{AreOpenings}
-use Rattle.mds_steps.proofs.Chains.{leads_nowhere, same_state, leads_by_row, row_of_step, join, split, split_at, passes_fewer}
+use Rattle.mds_steps.proofs.Chains.{leads_by_row, row_of_step, join, split, split_at, passes_fewer}
 
 pub none_in_empty : {X : Type 0} (x : X) → Contains [] x → ⊥
 none_in_empty x found = omega (arith, found.1)
@@ -25,13 +25,6 @@ some_in [] not_empty = absurd (not_empty refl)
 some_in (x ∷ xs) not_empty = (x, (0, omega arith, refl))
 
 module _ (rows : List Row) where
-  -- without a type the set itself is reached
-  pub reached_none : (set : List State) → AreReached rows set [] set
-  reached_none set = λ to. (
-    λ found. (to, found, leads_nowhere rows to),
-    λ from. subst (Contains set) (same_state rows from.0 to from.2) from.1,
-  )
-
   -- one more type
   pub reached_more : (set reached next : List State) (kinds : List (List ℕ)) (kind : List ℕ)
       → AreReached rows set kinds reached → AreNext rows reached kind next → AreReached rows set (kinds ++ kind ∷ []) next
@@ -65,13 +58,6 @@ module _ (rows : List Row) where
             let parts = split_at rows at kinds from.0 to from.2 in
             absurd (none parts.0 ((before parts.0).1 (from.0, from.1, parts.1))),
       )
-
-  -- without a type the reported state itself is the opening
-  pub openings_none : (reported : State) → AreOpenings rows [] reported (reported ∷ [])
-  openings_none reported = λ from. (
-    λ found. subst (λ state. Leads rows state [] reported) (only_one reported from found) (leads_nowhere rows reported),
-    λ leads. subst (Contains (reported ∷ [])) (sym (same_state rows from reported leads)) (one_itself reported),
-  )
 
   -- one more type in front
   pub openings_more : (later previous : List State) (kind : List ℕ) (kinds : List (List ℕ)) (reported : State)

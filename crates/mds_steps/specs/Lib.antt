@@ -5,3 +5,4 @@ pub mod StateSet
 pub mod Step
 pub mod Reached
 pub mod Opening
+pub mod NoChain

@@ -1,10 +1,13 @@
 //! Whether an event is admitted.
-ghost use Rattle.std.specs.Prelude.{◌↔◌, IsOk, IfErr};
+ghost use Rattle.std.specs.Prelude.{◌↔◌, Some, IsOk, IfErr};
 ghost use Rattle.mds_table.specs.Chain.{Leads, IsStuckAt};
+ghost use Rattle.mds_steps.specs.NoChain.{no_chain_text};
 
 use crate::StateSet;
 use crate::steps::next_states;
 use mds_table::{State, Table, TypeName};
+use std::error::Error;
+use std::fmt;
 
 /// No chain leads from the state held to the state reported.
 #[derive(Clone, Copy, Debug, PartialEq, Eq, Hash)]
@@ -12,6 +15,16 @@ pub struct NoChain {
     /// The place of the first type that no chain passes, or the number of types where all can be passed and only the
     /// state reported can't be reached.
     pub at: usize,
+}
+
+impl Error for NoChain {}
+
+impl fmt::Display for NoChain {
+    ghost output = { λ fault. Some (no_chain_text fault) };
+
+    fn fmt<W: fmt::Write>(&self, f: &mut fmt::Formatter<W>) -> fmt::Result {
+        write!(f, "no_chain {}", self.at)
+    }
 }
 
 /// Whether an event with these types may lead from the state held to the state reported.

@@ -9,7 +9,7 @@ use std::marker::Model;
 /// A set of states. Contracts see it as the list of the states in it, each once, in the order of their codes.
 #[derive(Debug, Drop)]
 pub struct StateSet {
-    states: ArrayVec<State, 8>,
+    states: ArrayVec<State, { State::COUNT }>,
 }
 
 impl Model for StateSet {
@@ -74,7 +74,7 @@ impl StateSet {
     }
 
     /// The states in the set, each once, in the order of their codes.
-    pub fn states(&self) -> ArrayVec<State, 8>
+    pub fn states(&self) -> ArrayVec<State, { State::COUNT }>
         ensures items { result.items ≡ self.now }
         ensures order { AreInCodeOrder result.items }
     {

@@ -158,3 +158,10 @@ fn no_types(rt: HostRuntime) -> Result<(), Fail> {
     );
     Ok(())
 }
+
+#[test]
+fn refusal_has_a_text(rt: HostRuntime) -> Result<(), Fail> {
+    let text = NoChain { at: 2 }.to_string(rt.alloc())?;
+    assert_eq!(rt; text.as_str(), "no_chain 2");
+    Ok(())
+}

@@ -3,7 +3,7 @@
 //! A file is an object with a member `rows`, a list of entries `{"from":[..],"type":"..","to":[..]}`. `from` and `to`
 //! are a list of at least one state name, or a single one; `type` is a type name. Other members are ignored. An entry
 //! stands for all pairs of its states; a row that is written twice counts once.
-ghost use Rattle.std.specs.Prelude.{◌≡◌, ◌≤◌, ℕ, List, length, map, option_map, true, Some, IfOk, IfErr, OnOk, Contains};
+ghost use Rattle.std.specs.Prelude.{◌≡◌, ℕ, List, map, option_map, true, Some, IfOk, IfErr, OnOk, Contains};
 ghost use Rattle.serde_json.specs.View.{view};
 ghost use Rattle.mds_table.specs.Row.{ascends, in_order};
 ghost use Rattle.mds_table.specs.TableFile.{entries_in, AreGood, HasTable, HasFault, fault_text};
