@@ -8,3 +8,4 @@ pub mod Status
 pub mod Problem
 pub mod Source
 pub mod Command
+pub mod Program

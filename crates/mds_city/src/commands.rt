@@ -133,4 +133,4 @@ mod failing;
 #[cfg(test)]
 mod refused;
 #[cfg(test)]
-mod tests;
+pub(crate) mod tests;

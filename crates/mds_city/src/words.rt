@@ -1,7 +1,7 @@
 //! The words of the command line, read by `clap`.
-ghost use Rattle.std.specs.Prelude.{◌≡◌, ◌⊎◌, [], None, true, false, codes, map, IfOk, IfErr, MatchOption};
-ghost use Rattle.clap.specs.Words.{HasKind, app_of, fault_of, first_of, found_of, kind_of, rows_of, rule_of, subcommand_of, subcommand_rows_of, takes, with_subcommand};
-ghost use Rattle.mds_city.specs.Words.{Asks, AsksNothing, HasValues, name_of, program_app, replay_app, table_app, table_rule};
+ghost use Rattle.std.specs.Prelude.{◌≡◌, [], None, true, false, codes, map, IfOk, IfErr, MatchOption};
+ghost use Rattle.clap.specs.Words.{app_of, fault_of, first_of, found_of, kind_of, rows_of, rule_of, subcommand_of, subcommand_rows_of, takes, with_subcommand};
+ghost use Rattle.mds_city.specs.Words.{Asks, AsksNothing, HasValues, IsErrorOf, name_of, program_app, replay_app, table_app, table_rule};
 
 use clap::error::ErrorKind;
 use clap::{Arg, ArgMatches, Error};
@@ -35,9 +35,7 @@ pub fn parse_words<'a, S: AsStr>(alloc: Global, words: &'a [S]) -> Result<Comman
     ensures ok { IfOk result (Asks (subcommand_of program_app (map S.text words.entry.now))) }
     // Words in which `clap` finds a fault give no command, and the error is of a kind that it finds.
     ensures taken { IfOk result (λ _. fault_of program_app (map S.text words.entry.now) ≡ []) }
-    ensures kind { IfErr result (λ error. HasKind (fault_of program_app (map S.text words.entry.now)) error
-        ⊎ ((fault_of program_app (map S.text words.entry.now) ≡ [])
-        × AsksNothing (subcommand_of program_app (map S.text words.entry.now)))) }
+    ensures kind { IfErr result (IsErrorOf (map S.text words.entry.now)) }
     // Words that `clap` takes and that ask for some command give it, where there is memory.
     ensures err { IfErr result (λ error. takes program_app (map S.text words.entry.now) ≡ true
         → (AsksNothing (subcommand_of program_app (map S.text words.entry.now)) → ⊥)

@@ -3,6 +3,7 @@
 use super::{replay_to, table_to};
 use crate::source::Source;
 use std::alloc::Global;
+use std::fmt::Write as _;
 use std::test::Fail;
 
 /// The five-event run, and the lines that it prints.
@@ -77,19 +78,44 @@ fn empty_and_broken_batches(rt: HostRuntime) -> Result<(), Fail> {
     let alloc = rt.alloc();
     let nothing = expected(alloc, 0, "accepted 0 refused 0\n", "")?;
     assert_eq!(rt; replayed(alloc, None, "[]"), nothing);
+    let longest = spaces(alloc, 4_194_304)?;
+    let too_long = spaces(alloc, 4_194_305)?;
+    let too_many = sevens(alloc, 10_001)?;
     let cases = [
         ("{", "mds_city: not a batch: not_json\n"),
         ("", "mds_city: not a batch: not_json\n"),
+        (longest.as_str(), "mds_city: not a batch: not_json\n"),
+        (too_long.as_str(), "mds_city: not a batch: too_long\n"),
         ("7", "mds_city: not a batch: not_list\n"),
+        (too_many.as_str(), "mds_city: not a batch: too_many\n"),
     ];
     for (text, fault) in cases {
         assert_eq!(rt;
             replayed(alloc, None, text),
             expected(alloc, 3, "", fault)?,
-            "{text}"
+            "{fault}"
         );
     }
     Ok(())
+}
+
+/// So many spaces.
+fn spaces(alloc: Global, count: usize) -> Result<String, Fail> {
+    let mut text = String::with_capacity(alloc, count)?;
+    for _ in 0..count {
+        text.push(' ')?;
+    }
+    Ok(text)
+}
+
+/// A list of so many sevens, at least one.
+fn sevens(alloc: Global, count: usize) -> Result<String, Fail> {
+    let mut text = String::from_str(alloc, "[7")?;
+    for _ in 1..count {
+        text.push_str(",7")?;
+    }
+    text.push(']')?;
+    Ok(text)
 }
 
 #[test]
@@ -160,10 +186,37 @@ fn profile_prints_74_rows(rt: HostRuntime) -> Result<(), Fail> {
     Ok(())
 }
 
+/// A table file with a row for each type of so many, between all pairs of these states.
+fn types(alloc: Global, count: u32, states: &str, more: &str) -> Result<String, Fail> {
+    let mut text = String::from_str(alloc, "{\"rows\":[")?;
+    for index in 0..count {
+        if index > 0 {
+            text.push(',')?;
+        }
+        write!(
+            text,
+            "{{\"from\":{states},\"type\":\"type_{index}\",\"to\":{states}}}"
+        )?;
+    }
+    text.push_str(more)?;
+    text.push_str("]}")?;
+    Ok(text)
+}
+
+const ALL_STATES: &str =
+    r#"["removed","available","non_operational","reserved","on_trip","elsewhere","non_contactable","missing"]"#;
+
 #[test]
 fn table_file_faults_come_before_the_batch(rt: HostRuntime) -> Result<(), Fail> {
     let alloc = rt.alloc();
+    let too_long = spaces(alloc, 4_194_305)?;
+    let one_more = r#",{"from":"removed","type":"one_more","to":"removed"}"#;
+    let too_many_rows = types(alloc, 64, ALL_STATES, one_more)?;
+    let too_many_types = types(alloc, 64, "\"removed\"", one_more)?;
+    let bad_row = types(alloc, 7, "\"removed\"", ",8")?;
     let cases = [
+        (too_long.as_str(), "mds_city: not a table: too_long\n"),
+        ("", "mds_city: not a table: not_json\n"),
         ("{", "mds_city: not a table: not_json\n"),
         ("[]", "mds_city: not a table: not_rows\n"),
         (r#"{"rows":[]}"#, "mds_city: not a table: empty\n"),
@@ -171,18 +224,61 @@ fn table_file_faults_come_before_the_batch(rt: HostRuntime) -> Result<(), Fail> 
             r#"{"rows":[{"from":"flying","type":"x","to":"removed"}]}"#,
             "mds_city: not a table: bad_row 0\n",
         ),
+        (bad_row.as_str(), "mds_city: not a table: bad_row 7\n"),
+        (
+            too_many_rows.as_str(),
+            "mds_city: not a table: too_many_rows\n",
+        ),
+        (
+            too_many_types.as_str(),
+            "mds_city: not a table: too_many_types\n",
+        ),
     ];
     for (text, fault) in cases {
         assert_eq!(rt;
             replayed(alloc, Some(file("T", text)), "{"),
             expected(alloc, 3, "", fault)?,
-            "{text}"
+            "{fault}"
         );
         assert_eq!(rt;
             tabled(alloc, Some(file("T", text))),
             expected(alloc, 3, "", fault)?,
-            "{text}"
+            "{fault}"
         );
     }
+    Ok(())
+}
+
+/// The events of so many vehicles, each dropped off.
+fn fleet(alloc: Global, count: u32) -> Result<String, Fail> {
+    let mut text = String::from_str(alloc, "[")?;
+    for index in 0..count {
+        if index > 0 {
+            text.push(',')?;
+        }
+        write!(
+            text,
+            "{{\"provider_id\":\"00000000-0000-4000-8000-000000000001\",\"device_id\":\"00000000-0000-4000-8000-{index:012x}\",\"event_id\":\"00000000-0000-4000-8000-0000000000e1\",\"vehicle_state\":\"available\",\"event_types\":[\"provider_drop_off\"],\"timestamp\":1000}}"
+        )?;
+    }
+    text.push(']')?;
+    Ok(text)
+}
+
+#[test]
+fn two_thousand_vehicles(rt: HostRuntime) -> Result<(), Fail> {
+    let alloc = rt.alloc();
+    let text = fleet(alloc, 2_000)?;
+    let came = replayed(alloc, None, text.as_str());
+    assert_eq!(rt; came.status, 0);
+    assert!(rt; came.faults.is_empty());
+    let lines = came.out.iter().filter(|byte| **byte == b'\n').count();
+    assert_eq!(rt; lines, 4_001);
+    assert!(rt; came.out.starts_with(b"0 ok available\n1 ok available\n"));
+    assert!(rt;
+        came.out.ends_with(
+            b"\nvehicle 00000000-0000-4000-8000-000000000001 00000000-0000-4000-8000-0000000007cf available 1\naccepted 2000 refused 0\n"
+        )
+    );
     Ok(())
 }

@@ -1,0 +1,90 @@
+-- What the program does with the words of its command line.
+use Rattle.std.specs.Prelude.{◌≡◌, ◌≢◌, ◌⊎◌, ℕ, ◌<◌, ◌≤◌, List, [], Option, Some, None, codes, option_map}
+use Rattle.std.specs.Io.KnownBytes.{Keeps}
+use Rattle.clap.specs.Words.{Text, fault_of, kind_of, subcommand_of}
+use Rattle.clap.specs.declared.error.Error.{Error}
+use Rattle.clap.specs.declared.error.kind.ErrorKind.{ErrorKind}
+use Rattle.clap.specs.declared.error.kind.ErrorKind.TheVariants as kind
+use Rattle.mds_city.specs.declared.program.Answer.{Answer}
+use Rattle.mds_city.specs.declared.program.Answer.TheVariants.{Help, Mistake, NoMemory}
+use Rattle.mds_city.specs.declared.problem.Problem.{Problem}
+use Rattle.mds_city.specs.declared.problem.Problem.TheVariants as problem
+use Rattle.mds_city.specs.declared.source.Source.{Source}
+use Rattle.mds_city.specs.declared.status.Status.{Status}
+use Rattle.mds_city.specs.declared.status.Status.TheVariants as status
+use Rattle.mds_city.specs.declared.words.Command.{Command}
+use Rattle.mds_city.specs.declared.words.Command.TheVariants.{Replay, Table}
+use Rattle.mds_city.specs.Command.{Replayed, Told, Tabled, TableTold}
+use Rattle.mds_city.specs.Problem.{Tells}
+use Rattle.mds_city.specs.Status.{code_of}
+use Rattle.mds_city.specs.Words.{Asks, IsErrorOf, program_app}
+
+-- how an error of this kind is answered: help and the version are printed, all else but the want of memory is a mistake
+abbrev pub answer_to : ErrorKind → Answer
+answer_to kind.DisplayHelp = Help
+answer_to kind.DisplayVersion = Help
+answer_to kind.OutOfMemory = NoMemory
+answer_to error = Mistake
+
+-- the want of memory was told
+abbrev pub TellsNoMemory : Status → Option (List ℕ) → Option (List ℕ) → Type 0
+TellsNoMemory ended faults faults_new = (ended ≡ status.NoMemory) × Tells faults faults_new problem.Memory
+
+-- what an answer to the words did: help keeps the fault writer, unless the output failed or there was no memory to tell that;
+-- mistakes keep the output
+abbrev pub Explains : Answer → Status → Option (List ℕ) → Option (List ℕ) → Option (List ℕ) → Option (List ℕ) → Type 0
+Explains Help ended out out_new faults faults_new =
+    ((ended ≡ status.Done) × Keeps faults faults_new) ⊎ ((ended ≡ status.Fault) × Tells faults faults_new problem.Output) ⊎ TellsNoMemory ended faults faults_new
+Explains Mistake ended out out_new faults faults_new = (ended ≡ status.BadWords) × Keeps out out_new
+Explains NoMemory ended out out_new faults faults_new = TellsNoMemory ended faults faults_new × Keeps out out_new
+
+-- a replay of a file came to this status, and to these bytes at the output and the fault writer
+abbrev pub CameToReplay : {T R : Type 0} → (T → Option (List ℕ)) → Option (Source T) → (R → Option (List ℕ)) → Source R
+    → ℕ → Option (List ℕ) → Option (List ℕ) → Option (List ℕ) → Option (List ℕ) → Type 0
+CameToReplay table_bytes table file_bytes file code out out_new faults faults_new =
+    (code < 2 → Replayed table_bytes table file_bytes file code out out_new × Keeps faults faults_new)
+    × (2 ≤ code → Told table_bytes table file_bytes file code out out_new faults faults_new)
+
+-- a print of a table likewise
+abbrev pub CameToTable : {T : Type 0} → (T → Option (List ℕ)) → Option (Source T)
+    → ℕ → Option (List ℕ) → Option (List ℕ) → Option (List ℕ) → Option (List ℕ) → Type 0
+CameToTable table_bytes table code out out_new faults faults_new =
+    (code < 2 → (code ≡ 0) × Tabled table_bytes table out out_new × Keeps faults faults_new)
+    × (2 ≤ code → TableTold table_bytes table code out out_new faults faults_new)
+
+-- of what opens files: the relation of its paths to what comes of opening them, and itself
+module _ {O F : Type 0} (opens : O → List ℕ → Option F → Type 0) (files : O) where
+  -- the source is the file of this path, opened if it can be
+  abbrev pub IsFileOf : List ℕ → Source F → Type 0
+  IsFileOf path source = (source.path.now ≡ path) × opens files path source.reader
+
+  -- the source is the file that is named, and there is none where none is
+  abbrev pub IsFileNamed : Option (List ℕ) → Option (Source F) → Type 0
+  IsFileNamed None source = source ≡ None
+  IsFileNamed (Some path) None = ⊥
+  IsFileNamed (Some path) (Some source) = IsFileOf path source
+
+  -- besides, of what reads files and standard input: the bytes that are known of each, and standard input itself
+  module _ {I : Type 0} (file_bytes : F → Option (List ℕ)) (input_bytes : I → Option (List ℕ)) (input : I) where
+    -- a replay of the file of this path, which is standard input for `-` alone, came to these
+    abbrev pub CarriesReplay : List ℕ → Option (Source F) → ℕ → Option (List ℕ) → Option (List ℕ) → Option (List ℕ) → Option (List ℕ) → Type 0
+    CarriesReplay path table code out out_new faults faults_new =
+        ((path ≡ codes "-") × (file : Source I) × (file.path.now ≡ path) × (file.reader ≡ Some input)
+        × CameToReplay file_bytes table input_bytes file code out out_new faults faults_new)
+        ⊎ ((path ≢ codes "-") × (file : Source F) × IsFileOf path file
+        × CameToReplay file_bytes table file_bytes file code out out_new faults faults_new)
+
+    -- what a command did: it read the files that it names, and came to these
+    abbrev pub Carries : Command → ℕ → Option (List ℕ) → Option (List ℕ) → Option (List ℕ) → Option (List ℕ) → Type 0
+    Carries (Table path) code out out_new faults faults_new =
+        (table : Option (Source F)) × IsFileNamed (option_map (λ named. named.now) path) table × CameToTable file_bytes table code out out_new faults faults_new
+    Carries (Replay file path) code out out_new faults faults_new =
+        (table : Option (Source F)) × IsFileNamed (option_map (λ named. named.now) path) table × CarriesReplay file.now table code out out_new faults faults_new
+
+    -- what the program did with words: it carried out the command that they ask for, or explained why they give none
+    abbrev pub Runs : List Text → ℕ → Option (List ℕ) → Option (List ℕ) → Option (List ℕ) → Option (List ℕ) → Type 0
+    Runs words code out out_new faults faults_new =
+        ((command : Command) × Asks (subcommand_of program_app words) command × (fault_of program_app words ≡ [])
+        × Carries command code out out_new faults faults_new)
+        ⊎ ((error : Error) × (ended : Status) × IsErrorOf words error × (code ≡ code_of ended)
+        × Explains (answer_to (kind_of error)) ended out out_new faults faults_new)

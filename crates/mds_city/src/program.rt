@@ -1,0 +1,202 @@
+//! What the program does with the words of its command line, over any files and streams.
+ghost use Rattle.std.specs.Prelude.{◌≡◌, ◌≢◌, ◌↔◌, ℕ, List, Option, ⊤, Err, codes, map, option_map, IsTrue, IfOk, IfErr};
+ghost use Rattle.std.specs.IoError.{error_kind};
+ghost use Rattle.clap.specs.Words.{kind_of};
+ghost use Rattle.mds_city.specs.Problem.{Tells};
+ghost use Rattle.mds_city.specs.Program.{Carries, Explains, IsFileNamed, IsFileOf, Runs, answer_to};
+
+use crate::commands::{replay_to, table_to};
+use crate::device::write_all_of;
+use crate::problem::{Problem, tell};
+use crate::source::Source;
+use crate::status::Status;
+use crate::words::{Command, parse_words};
+use clap::error::ErrorKind;
+use std::alloc::Global;
+use std::convert::AsStr;
+use std::env::Args;
+use std::io::{self, ErrorKind as ReadKind, Read, Write};
+
+/// What opens files by their paths.
+pub trait Opens {
+    /// An open file.
+    type File: Read + Drop;
+
+    // what may come of opening the file of this path
+    ghost opens: { Self → List ℕ → Option Self.File → Type 0 } = { λ _ _ _. ⊤ };
+
+    /// Opens the file of this path, or answers `None` where it can't be opened.
+    fn open(&self, path: &str) -> Option<Self::File>
+        ensures { opens self.now path.now result };
+}
+
+/// Why the words of the command line can't be read.
+#[derive(Clone, Copy, Debug, PartialEq, Eq)]
+pub enum WordsFault {
+    /// A word isn't text in UTF-8.
+    NotText,
+    /// There is no memory for them.
+    Memory,
+}
+
+/// The words of the command line, of which the system gave these or none.
+pub fn words_of(alloc: Global, args: io::Result<Args>) -> Result<Vec<String>, WordsFault>
+    ensures not_text { IfErr args (λ error. error_kind error ≢ ReadKind.OutOfMemory → result ≡ Err WordsFault.NotText) }
+    ensures memory { IfErr args (λ error. error_kind error ≡ ReadKind.OutOfMemory → result ≡ Err WordsFault.Memory) }
+    ensures given { IfOk args (λ _. IfErr result (λ fault. fault ≡ WordsFault.Memory)) }
+{
+    match args {
+        Ok(words) => words.collect(alloc).map_err(|_| WordsFault::Memory),
+        Err(error) => Err(match error.kind() {
+            ReadKind::OutOfMemory => WordsFault::Memory,
+            _ => WordsFault::NotText,
+        }),
+    }
+}
+
+/// Tells why the words of the command line can't be read.
+pub fn tell_words<E: Write>(alloc: Global, faults: &mut E, fault: WordsFault) -> Status
+    ensures not_text { fault ≡ WordsFault.NotText → result ≡ Status.BadWords }
+    ensures memory { fault ≡ WordsFault.Memory → (result ≡ Status.NoMemory) × Tells (E.contents faults.old) (E.contents faults.new) Problem.Memory }
+{
+    match fault {
+        WordsFault::Memory => tell(alloc, faults, Problem::Memory),
+        WordsFault::NotText => {
+            let _ = write_all_of(
+                faults,
+                b"error: the words of the command line aren't text\n",
+            );
+            Status::BadWords
+        }
+    }
+}
+
+/// Carries out what the words of the command line ask for, of which the first is the program's name, over these files and
+/// streams, or says why they ask for nothing. It answers the code of the status that the program ends with.
+pub fn run<S: AsStr, O: Opens, I: Read + Drop, W: Write, E: Write>(
+    alloc: Global,
+    words: &[S],
+    files: &O,
+    input: I,
+    out: &mut W,
+    faults: &mut E,
+) -> u8
+    ensures { Runs O.opens files.now O.File.remaining I.remaining input (map S.text words.now) result
+        (W.contents out.old) (W.contents out.new) (E.contents faults.old) (E.contents faults.new) }
+{
+    match parse_words(alloc, words) {
+        Ok(command) => carry_out(alloc, files, command, input, out, faults),
+        Err(error) => explain(alloc, &error, out, faults).code(),
+    }
+}
+
+/// How an error of `clap` is answered.
+#[derive(Clone, Copy, Debug, PartialEq, Eq)]
+enum Answer {
+    /// Help was asked for, and goes to the output.
+    Help,
+    /// The words are mistaken, which the fault writer is told.
+    Mistake,
+    /// There was no memory to read them.
+    NoMemory,
+}
+
+/// How an error of this kind is answered.
+fn answer_to(kind: ErrorKind) -> Answer
+    ensures { result ≡ answer_to kind }
+{
+    match kind {
+        ErrorKind::DisplayHelp | ErrorKind::DisplayVersion => Answer::Help,
+        ErrorKind::OutOfMemory => Answer::NoMemory,
+        _ => Answer::Mistake,
+    }
+}
+
+/// Prints the help that was asked for to `out`, or tells `faults` why the words gave no command. Where `faults` fails the
+/// status stays.
+fn explain<W: Write, E: Write>(
+    alloc: Global,
+    error: &clap::Error,
+    out: &mut W,
+    faults: &mut E,
+) -> Status
+    ensures { Explains (answer_to (kind_of error.now)) result
+        (W.contents out.old) (W.contents out.new) (E.contents faults.old) (E.contents faults.new) }
+{
+    match answer_to(error.kind()) {
+        Answer::Help => {
+            if write!(out, "{error}").is_ok() {
+                return Status::Done;
+            }
+            tell(alloc, faults, Problem::Output)
+        }
+        Answer::Mistake => {
+            let _ = write!(faults, "{error}");
+            Status::BadWords
+        }
+        Answer::NoMemory => tell(alloc, faults, Problem::Memory),
+    }
+}
+
+/// Carries out a command over these files and streams, and answers the code of the status that the program ends with. The
+/// file `-` of a replay is `input`; the table file is one of its name, whatever that is.
+fn carry_out<O: Opens, I: Read + Drop, W: Write, E: Write>(
+    alloc: Global,
+    files: &O,
+    command: Command<'_>,
+    input: I,
+    out: &mut W,
+    faults: &mut E,
+) -> u8
+    ensures { Carries O.opens files.now O.File.remaining I.remaining input command.entry result
+        (W.contents out.old) (W.contents out.new) (E.contents faults.old) (E.contents faults.new) }
+{
+    match command {
+        Command::Table { table } => table_to(alloc, file_if_named(files, table), out, faults),
+        Command::Replay { file, table } => {
+            let table = file_if_named(files, table);
+            if is_standard_input(file) {
+                return replay_to(alloc, table, open_file(file, input), out, faults);
+            }
+            replay_to(alloc, table, file_of(files, file), out, faults)
+        }
+    }
+}
+
+/// Whether the file of a replay is standard input.
+fn is_standard_input(file: &str) -> bool
+    ensures { IsTrue result ↔ (file.now ≡ codes "-") }
+{
+    file == "-"
+}
+
+/// The file of this path, which this reads.
+fn open_file<'a, R: Read + Drop>(path: &'a str, reader: R) -> Source<'a, R>
+    ensures path { result.path.now ≡ path.now }
+    ensures reader { result.reader ≡ Some reader }
+{
+    Source {
+        path,
+        reader: Some(reader),
+    }
+}
+
+/// The file of this path, if one is named.
+fn file_if_named<'a, O: Opens>(files: &O, path: Option<&'a str>) -> Option<Source<'a, O::File>>
+    ensures { IsFileNamed O.opens files.now (option_map (λ named. named.now) path.entry) result }
+{
+    Some(file_of(files, path?))
+}
+
+/// The file of this path.
+fn file_of<'a, O: Opens>(files: &O, path: &'a str) -> Source<'a, O::File>
+    ensures { IsFileOf O.opens files.now path.now result }
+{
+    Source {
+        path,
+        reader: files.open(path),
+    }
+}
+
+#[cfg(test)]
+mod tests;

@@ -1,0 +1,256 @@
+//! The program's words, over files and streams in memory.
+use super::{Opens, WordsFault, run, tell_words, words_of};
+use crate::commands::tests::{FIVE_EVENTS, FIVE_LINES, ONE_ROW};
+use crate::status::Status;
+use std::alloc::Global;
+use std::io::{self, ErrorKind, Write};
+use std::test::Fail;
+
+const ONE_ROW_LINES: &str = "wake removed available\nrows 1\n";
+
+/// What the five events come to over the table of one row.
+const FIVE_BY_ONE_ROW: &str = "0 refused no_chain removed 0
+1 refused no_chain removed 0
+2 refused no_chain removed 0
+3 refused no_chain removed 0
+4 refused no_chain removed 0
+vehicle 00000000-0000-4000-8000-000000000001 00000000-0000-4000-8000-00000000000a removed 0
+vehicle 00000000-0000-4000-8000-000000000001 00000000-0000-4000-8000-00000000000b removed 0
+accepted 0 refused 5
+";
+
+/// A folder with the five events, the table of one row, and that table once more in a file named `-`.
+#[derive(Clone, Copy)]
+struct Folder;
+
+impl Opens for Folder {
+    type File = &'static [u8];
+
+    fn open(&self, path: &str) -> Option<&'static [u8]> {
+        match path {
+            "events" => Some(FIVE_EVENTS.as_bytes()),
+            "rows" | "-" => Some(ONE_ROW.as_bytes()),
+            _ => None,
+        }
+    }
+}
+
+/// What the program came to: the code of its status, its output and its faults.
+#[derive(Drop)]
+struct Came {
+    code: u8,
+    out: Vec<u8>,
+    faults: Vec<u8>,
+}
+
+/// Runs the program in the folder, with `[]` at standard input.
+fn ran(alloc: Global, words: &[&str]) -> Came {
+    let mut out = Vec::new(alloc);
+    let mut faults = Vec::new(alloc);
+    let code = run(
+        alloc,
+        words,
+        &Folder,
+        b"[]".as_slice(),
+        &mut out,
+        &mut faults,
+    );
+    Came { code, out, faults }
+}
+
+#[test]
+fn commands_read_the_files_that_they_name(rt: HostRuntime) {
+    let nothing = "accepted 0 refused 0\n";
+    let no_list = "mds_city: not a table: not_rows\n";
+    let cases = [
+        (
+            ["mds_city", "replay", "events"].as_slice(),
+            1,
+            FIVE_LINES,
+            "",
+        ),
+        (
+            ["mds_city", "replay", "events", "--table", "rows"].as_slice(),
+            1,
+            FIVE_BY_ONE_ROW,
+            "",
+        ),
+        (["mds_city", "replay", "-"].as_slice(), 0, nothing, ""),
+        (
+            ["mds_city", "replay", "-", "--table", "rows"].as_slice(),
+            0,
+            nothing,
+            "",
+        ),
+        (
+            ["mds_city", "replay", "--table", "-", "events"].as_slice(),
+            1,
+            FIVE_BY_ONE_ROW,
+            "",
+        ),
+        (
+            ["mds_city", "table", "--table", "rows"].as_slice(),
+            0,
+            ONE_ROW_LINES,
+            "",
+        ),
+        (
+            ["mds_city", "table", "--table", "-"].as_slice(),
+            0,
+            ONE_ROW_LINES,
+            "",
+        ),
+        (
+            ["mds_city", "table", "--table", "events"].as_slice(),
+            3,
+            "",
+            no_list,
+        ),
+        (
+            ["mds_city", "table", "--table", "none"].as_slice(),
+            3,
+            "",
+            "mds_city: cannot read none\n",
+        ),
+        (
+            ["mds_city", "replay", "none"].as_slice(),
+            3,
+            "",
+            "mds_city: cannot read none\n",
+        ),
+        (
+            ["mds_city", "replay", "-", "--table", "none"].as_slice(),
+            3,
+            "",
+            "mds_city: cannot read none\n",
+        ),
+    ];
+    for (words, code, out, faults) in cases {
+        let came = ran(rt.alloc(), words);
+        assert_eq!(rt; came.code, code, "{words:?}");
+        assert_eq!(rt; came.out.as_slice(), out.as_bytes(), "{words:?}");
+        assert_eq!(rt; came.faults.as_slice(), faults.as_bytes(), "{words:?}");
+    }
+}
+
+#[test]
+fn mistakes_go_to_the_fault_writer(rt: HostRuntime) {
+    let cases = [
+        ["mds_city"].as_slice(),
+        ["mds_city", "replay"].as_slice(),
+        ["mds_city", "replay", "events", "--table"].as_slice(),
+        ["mds_city", "serve"].as_slice(),
+        ["mds_city", "table", "rows"].as_slice(),
+        ["mds_city", "replay", "events", "--any"].as_slice(),
+    ];
+    for words in cases {
+        let came = ran(rt.alloc(), words);
+        assert_eq!(rt; came.code, 2, "{words:?}");
+        assert!(rt; came.out.is_empty(), "{words:?}");
+        assert!(rt; came.faults.starts_with(b"error: "), "{words:?}");
+        assert!(rt; came.faults.ends_with(b"\n"), "{words:?}");
+    }
+}
+
+#[test]
+fn help_goes_to_the_output(rt: HostRuntime) {
+    let cases = [
+        ["mds_city", "--help"].as_slice(),
+        ["mds_city", "replay", "--help"].as_slice(),
+        ["mds_city", "table", "-h"].as_slice(),
+    ];
+    for words in cases {
+        let came = ran(rt.alloc(), words);
+        assert_eq!(rt; came.code, 0, "{words:?}");
+        assert!(rt; !came.out.is_empty(), "{words:?}");
+        assert!(rt; came.faults.is_empty(), "{words:?}");
+    }
+}
+
+/// A writer that takes nothing.
+#[derive(Drop)]
+struct Full;
+
+impl Write for Full {
+    fn write(&mut self, _buf: &[u8]) -> io::Result<usize> {
+        Err(io::Error::from(ErrorKind::StorageFull))
+    }
+
+    fn flush(&mut self) -> io::Result<()> {
+        Ok(())
+    }
+}
+
+#[test]
+fn streams_that_are_full(rt: HostRuntime) {
+    let alloc = rt.alloc();
+    let help = ["mds_city", "--help"];
+    let mut faults = Vec::new(alloc);
+    let code = run(
+        alloc,
+        &help,
+        &Folder,
+        b"".as_slice(),
+        &mut Full,
+        &mut faults,
+    );
+    assert_eq!(rt; code, 3);
+    assert_eq!(rt; faults.as_slice(), b"mds_city: output\n".as_slice());
+    let mistake = ["mds_city", "serve"];
+    let mut out = Vec::new(alloc);
+    assert_eq!(rt;
+        run(
+            alloc,
+            &mistake,
+            &Folder,
+            b"".as_slice(),
+            &mut out,
+            &mut Full
+        ),
+        2
+    );
+    assert!(rt; out.is_empty());
+    assert_eq!(rt;
+        run(alloc, &help, &Folder, b"".as_slice(), &mut Full, &mut Full),
+        3
+    );
+}
+
+#[test]
+fn words_that_cannot_be_read(rt: HostRuntime) -> Result<(), Fail> {
+    let alloc = rt.alloc();
+    let cases = [
+        (
+            ErrorKind::InvalidData,
+            WordsFault::NotText,
+            Status::BadWords,
+            "error: the words of the command line aren't text\n",
+        ),
+        (
+            ErrorKind::OutOfMemory,
+            WordsFault::Memory,
+            Status::NoMemory,
+            "mds_city: out of memory\n",
+        ),
+    ];
+    for (kind, fault, status, text) in cases {
+        assert_eq!(rt;
+            words_of(alloc, Err(io::Error::from(kind))).err(),
+            Some(fault)
+        );
+        let mut faults = Vec::new(alloc);
+        assert_eq!(rt; tell_words(alloc, &mut faults, fault), status);
+        assert_eq!(rt; faults.as_slice(), text.as_bytes());
+    }
+    let mut given = Vec::new(alloc);
+    given.push(String::from_str(alloc, "mds_city")?)?;
+    given.push(String::from_str(alloc, "table")?)?;
+    match words_of(alloc, Ok(given.into_iter())) {
+        Ok(words) => {
+            assert_eq!(rt; words.len(), 2);
+            assert_eq!(rt; words[1].as_str(), "table");
+        }
+        Err(_) => panic!(rt; "words weren't taken"),
+    }
+    Ok(())
+}
