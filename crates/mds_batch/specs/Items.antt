@@ -66,7 +66,7 @@ is_faulty value LocationE7 = is_none (position_in value)
 abbrev pub fault_at : Data → Member → ItemFault
 fault_at value member = if is_some (get (member_name member) value) then Bad member else Missing member
 
--- what is wrong with a value, if anything is: it is no object, or the first faulty one of the members asked for
+-- what is wrong with a value, if anything is: it is no object, or what is wrong with the first faulty one of the members asked for
 abbrev pub fault_of : List Member → Data → Option ItemFault
 fault_of asked value = if is_some (as_object value) then option_map (fault_at value) (find (is_faulty value) asked) else Some NotObject
 

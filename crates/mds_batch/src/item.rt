@@ -42,7 +42,7 @@ pub enum VehicleItem {
 }
 
 /// An item of a batch of events. It holds no memory of its own.
-#[derive(Debug, Drop)]
+#[derive(Debug, PartialEq, Eq, Hash, Drop)]
 pub enum EventItem {
     /// The event that is reported.
     Event(Event),

@@ -86,7 +86,8 @@ fn longest_list(rt: HostRuntime) -> Result<(), Fail> {
     let text = list_of(alloc, "0", MAX_ITEMS)?;
     let items = read_events(alloc, text.as_bytes())?;
     assert_eq!(rt; items.len(), 10000);
-    let all = items.iter().all(|item| matches!(item, EventItem::Fault(ItemFault::NotObject)));
+    let fault = EventItem::Fault(ItemFault::NotObject);
+    let all = items.iter().all(|item| *item == fault);
     assert!(rt; all);
     assert_eq!(rt; read_vehicles(alloc, text.as_bytes())?.len(), 10000);
     Ok(())
