@@ -52,7 +52,7 @@ pub fn file<'a>(path: &'a str, text: &'a str) -> Source<'a, &'a [u8]> {
     }
 }
 
-fn replayed<'a>(alloc: Global, table: Option<Source<'a, &'a [u8]>>, text: &'a str) -> Came {
+fn replayed<'a, 'b>(alloc: Global, table: Option<Source<'a, &'a [u8]>>, text: &'b str) -> Came {
     let mut out = Vec::new(alloc);
     let mut faults = Vec::new(alloc);
     let status = replay_to(alloc, table, file("F", text), &mut out, &mut faults);
