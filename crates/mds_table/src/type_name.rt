@@ -90,7 +90,8 @@ impl TypeName {
     pub fn as_str(&self) -> &str
         ensures { result.now ≡ self.now }
     {
-        str::from_utf8(self.as_bytes()).unwrap()
+        // That the bytes are UTF-8, which this requires, is proved: each of them is ASCII.
+        unsafe { str::from_utf8_unchecked(self.as_bytes()) }
     }
 
     /// The bytes of the name, of which each is ASCII.
@@ -131,7 +132,7 @@ impl PartialEq for TypeName {
     ghost laws = { partial_equiv_from_equiv nat_list_eq_equiv };
 
     fn eq(&self, other: &TypeName) -> bool {
-        self.as_bytes() == other.as_bytes()
+        self.as_str() == other.as_str()
     }
 }
 
@@ -160,7 +161,7 @@ impl Ord for TypeName {
     ghost matches_eq = { texts_ties };
 
     fn cmp(&self, other: &TypeName) -> Ordering {
-        self.as_bytes().cmp(&other.as_bytes())
+        self.as_str().cmp(&other.as_str())
     }
 }
 
