@@ -7,7 +7,6 @@ use Rattle.clap.specs.declared.error.kind.ErrorKind.{ErrorKind}
 use Rattle.clap.specs.declared.error.kind.ErrorKind.TheVariants as kind
 use Rattle.mds_city.specs.declared.program.Answer.{Answer}
 use Rattle.mds_city.specs.declared.program.Answer.TheVariants.{Help, Mistake, NoMemory}
-use Rattle.mds_city.specs.declared.problem.Problem.{Problem}
 use Rattle.mds_city.specs.declared.problem.Problem.TheVariants as problem
 use Rattle.mds_city.specs.declared.source.Source.{Source}
 use Rattle.mds_city.specs.declared.status.Status.{Status}

@@ -4,30 +4,13 @@ use Rattle.std.specs.List.{flat_map}
 use Rattle.uuid.specs.Text.{hyphenated_text, lower}
 use Rattle.mds_table.specs.declared.row.Row.{Row}
 use Rattle.mds_table.specs.State.{name_of}
-use Rattle.mds_core.specs.declared.reply.Refusal.{Refusal}
-use Rattle.mds_core.specs.declared.reply.Refusal.TheVariants.{AlreadyRegistered, Unregistered, Repeated, Late, NoChain}
-use Rattle.mds_batch.specs.declared.item.ItemFault.{ItemFault}
-use Rattle.mds_batch.specs.declared.item.ItemFault.TheVariants.{NotObject, Missing, Bad}
-use Rattle.mds_batch.specs.Member.{member_name}
+use Rattle.mds_core.specs.Refusal.{refusal_text}
+use Rattle.mds_batch.specs.Items.{item_fault_text}
 use Rattle.mds_city.specs.declared.report.Verdict.{Verdict}
 use Rattle.mds_city.specs.declared.report.Verdict.TheVariants.{Accepted, Refused, Fault}
 use Rattle.mds_city.specs.declared.report.VehicleEnd.{VehicleEnd}
 use Rattle.mds_city.specs.declared.report.Report.{Report}
 use Rattle.mds_city.specs.Device.{with_newline}
-
--- why an event was refused
-abbrev pub refusal_text : Refusal → List ℕ
-refusal_text AlreadyRegistered = codes "already_registered"
-refusal_text Unregistered = codes "unregistered"
-refusal_text Repeated = codes "repeated"
-refusal_text (Late last) = codes "late " ++ decimal last
-refusal_text (NoChain held at) = codes "no_chain " ++ name_of held ++ codes " " ++ decimal at
-
--- what is wrong with an item
-abbrev pub item_fault_text : ItemFault → List ℕ
-item_fault_text NotObject = codes "not_object"
-item_fault_text (Missing member) = codes "missing_param " ++ member_name member
-item_fault_text (Bad member) = codes "bad_param " ++ member_name member
 
 -- what is said of an item
 abbrev pub verdict_text : Verdict → List ℕ

@@ -1,6 +1,6 @@
 //! What a replay comes to, and the lines that are printed of it.
 ghost use Rattle.std.specs.Prelude.{◌≡◌, Some};
-ghost use Rattle.mds_city.specs.Text.{refusal_text, item_fault_text, verdict_text, item_line, vehicle_line, total_line};
+ghost use Rattle.mds_city.specs.Text.{verdict_text, item_line, vehicle_line, total_line};
 
 use mds_batch::ItemFault;
 use mds_core::{Key, Refusal, Standing};
@@ -51,60 +51,14 @@ pub struct Report {
     pub refused: usize,
 }
 
-/// Why an event was refused, as it is printed.
-#[derive(Clone, Copy)]
-struct RefusalText(Refusal);
-
-impl fmt::Display for RefusalText {
-    ghost output = { λ text. Some (refusal_text text.0) };
-
-    fn fmt<W: fmt::Write>(&self, f: &mut fmt::Formatter<W>) -> fmt::Result {
-        match self.0 {
-            Refusal::AlreadyRegistered => write!(f, "already_registered"),
-            Refusal::Unregistered => write!(f, "unregistered"),
-            Refusal::Repeated => write!(f, "repeated"),
-            Refusal::Late { last } => write!(f, "late {last}"),
-            Refusal::NoChain { held, at } => write!(f, "no_chain {held} {at}"),
-        }
-    }
-}
-
-/// What is wrong with an item, as it is printed.
-#[derive(Clone, Copy)]
-struct FaultText(ItemFault);
-
-impl fmt::Display for FaultText {
-    ghost output = { λ text. Some (item_fault_text text.0) };
-
-    fn fmt<W: fmt::Write>(&self, f: &mut fmt::Formatter<W>) -> fmt::Result {
-        match self.0 {
-            ItemFault::NotObject => write!(f, "not_object"),
-            ItemFault::Missing(member) => {
-                let name = member.name();
-                write!(f, "missing_param {name}")
-            }
-            ItemFault::Bad(member) => {
-                let name = member.name();
-                write!(f, "bad_param {name}")
-            }
-        }
-    }
-}
-
 impl fmt::Display for Verdict {
     ghost output = { λ verdict. Some (verdict_text verdict) };
 
     fn fmt<W: fmt::Write>(&self, f: &mut fmt::Formatter<W>) -> fmt::Result {
         match self {
             Verdict::Accepted(state) => write!(f, "ok {state}"),
-            Verdict::Refused(refusal) => {
-                let text = RefusalText(*refusal);
-                write!(f, "refused {text}")
-            }
-            Verdict::Fault(fault) => {
-                let text = FaultText(*fault);
-                write!(f, "fault {text}")
-            }
+            Verdict::Refused(refusal) => write!(f, "refused {refusal}"),
+            Verdict::Fault(fault) => write!(f, "fault {fault}"),
         }
     }
 }

@@ -1,4 +1,4 @@
-use Rattle.std.proofs.Common.{List, ℕ, Option, ◌⊎◌, inl, inr, sym}
+use Rattle.std.proofs.Common.{List, ℕ, Option, inl, inr}
 use Rattle.mds_city.specs.declared.problem.Problem.{Problem}
 use Rattle.mds_city.specs.declared.problem.Problem.TheVariants.{Memory}
 use Rattle.mds_city.specs.declared.problem.Telling.{Telling}
