@@ -266,18 +266,18 @@ fn fleet(alloc: Global, count: u32) -> Result<String, Fail> {
 }
 
 #[test]
-fn two_thousand_vehicles(rt: HostRuntime) -> Result<(), Fail> {
+fn three_hundred_vehicles(rt: HostRuntime) -> Result<(), Fail> {
     let alloc = rt.alloc();
-    let text = fleet(alloc, 2_000)?;
+    let text = fleet(alloc, 300)?;
     let came = replayed(alloc, None, text.as_str());
     assert_eq!(rt; came.status, 0);
     assert!(rt; came.faults.is_empty());
     let lines = came.out.iter().filter(|byte| **byte == b'\n').count();
-    assert_eq!(rt; lines, 4_001);
+    assert_eq!(rt; lines, 601);
     assert!(rt; came.out.starts_with(b"0 ok available\n1 ok available\n"));
     assert!(rt;
         came.out.ends_with(
-            b"\nvehicle 00000000-0000-4000-8000-000000000001 00000000-0000-4000-8000-0000000007cf available 1\naccepted 2000 refused 0\n"
+            b"\nvehicle 00000000-0000-4000-8000-000000000001 00000000-0000-4000-8000-00000000012b available 1\naccepted 300 refused 0\n"
         )
     );
     Ok(())
