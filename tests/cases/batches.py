@@ -4,6 +4,7 @@ import json
 
 from cases.case import MAX_BYTES, MAX_ITEMS, lists, not_a_batch, padded, started, told
 from cases.replays import MEMBERS, A, B, batch, item, replayed
+from cases.tables import ONE_ROW
 
 FAULTS = [
     (" " * (MAX_BYTES + 1), "too_long"),
@@ -147,3 +148,7 @@ def items():
     verdicts = ["ok available", "fault missing_param device_id", "ok available"]
     vehicles = [(A, "available", 1), (B, "available", 1)]
     yield replayed(batch(neighbours), verdicts, vehicles, name="a faulty item between two others")
+    faulty = batch(["7", item(), item(event_id=None)])
+    verdicts = ["fault not_object", "refused no_chain removed 0", "fault missing_param event_id"]
+    more = {"words": "replay - --table table.json", "files": {"table.json": ONE_ROW}}
+    yield replayed(faulty, verdicts, [(A, "removed", 0)], name="faulty items over a table of one row", **more)

@@ -3,7 +3,9 @@ use Rattle.std.specs.Prelude.{◌≡◌, ◌≢◌, ℕ, List, Option, Some, Non
 use Rattle.mds_table.specs.declared.row.Row.{Row}
 use Rattle.mds_table.specs.Profile.{profile_rows}
 use Rattle.mds_table.specs.TableFile.{HasTable, HasFault as HasTableFault}
+use Rattle.mds_table.specs.declared.table_file.TableFault.{TableFault}
 use Rattle.mds_table.specs.declared.table_file.TableFault.TheVariants as table
+use Rattle.mds_batch.specs.declared.batch.BatchFault.{BatchFault}
 use Rattle.mds_batch.specs.declared.batch.BatchFault.TheVariants as batch
 use Rattle.mds_batch.specs.declared.item.EventItem.{EventItem}
 use Rattle.mds_batch.specs.Items.{IsEventItem}
@@ -12,6 +14,7 @@ use Rattle.mds_city.specs.declared.source.Source.{Source}
 use Rattle.mds_city.specs.declared.problem.Problem.{Problem}
 use Rattle.mds_city.specs.declared.problem.Problem.TheVariants.{CannotRead, NotATable, NotABatch, Output, Memory}
 use Rattle.mds_city.specs.Device.{HasFront}
+use Rattle.mds_city.specs.Problem.{table_problem, batch_problem}
 
 -- the file was opened, and its reader had left these bytes, or these are the first 4194305 of them; where it isn't known
 -- what the reader had left, this says only that it was opened
@@ -25,6 +28,14 @@ IsReadProblem source Memory = Unit {0}
 IsReadProblem source (NotATable fault) = ⊥
 IsReadProblem source (NotABatch fault) = ⊥
 IsReadProblem source Output = ⊥
+
+-- the problem is what is wrong with the bytes of a table file
+abbrev pub IsTableProblem : List ℕ → Problem → Type 0
+IsTableProblem bytes problem = (fault : TableFault) × HasTableFault bytes fault × (problem ≡ table_problem fault)
+
+-- the problem is what is wrong with the bytes of a file of events
+abbrev pub IsBatchProblem : List ℕ → Problem → Type 0
+IsBatchProblem bytes problem = (fault : BatchFault) × HasBatchFault bytes fault × (problem ≡ batch_problem fault)
 
 -- the rows are those of the table file
 abbrev pub HasTableOf : {R : Type 0} → (R → Option (List ℕ)) → Source R → List Row → Type 0

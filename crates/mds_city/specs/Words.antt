@@ -1,7 +1,8 @@
 -- What the words of the command line ask for.
 use Rattle.std.specs.Prelude.{◌≡◌, ◌⊎◌, List, [], Option, Some, None, true, codes, option_map}
-use Rattle.clap.specs.Words.{App, HasKind, Row, Rule, Text, fault_of, first_of, new_app, new_rule, with_rule, subcommand_of, with_subcommand}
+use Rattle.clap.specs.Words.{App, HasKind, Row, Rule, Text, fault_of, first_of, kind_of, new_app, new_rule, with_rule, subcommand_of, with_subcommand}
 use Rattle.clap.specs.declared.error.Error.{Error}
+use Rattle.clap.specs.declared.error.kind.ErrorKind.TheVariants.{MissingSubcommand}
 use Rattle.mds_city.specs.declared.words.Command.{Command}
 use Rattle.mds_city.specs.declared.words.Command.TheVariants.{Replay, Table}
 
@@ -48,6 +49,9 @@ Asks (Some found) command = (found.0 ≡ name_of command) × HasValues found.1 c
 abbrev pub AsksNothing : Option (Text × List Row) → Type 0
 AsksNothing found = (command : Command) → Asks found command → ⊥
 
--- why these words give no command: `clap` finds such a fault in them, or finds none and they ask for none; or memory was refused
+-- why these words give no command: `clap` finds such a fault in them, or finds none and they ask for none, which the error
+-- says; or memory was refused
 abbrev pub IsErrorOf : List Text → Error → Type 0
-IsErrorOf words error = HasKind (fault_of program_app words) error ⊎ ((fault_of program_app words ≡ []) × AsksNothing (subcommand_of program_app words))
+IsErrorOf words error =
+    HasKind (fault_of program_app words) error
+    ⊎ ((fault_of program_app words ≡ []) × AsksNothing (subcommand_of program_app words) × (kind_of error ≡ MissingSubcommand))

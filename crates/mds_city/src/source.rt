@@ -1,6 +1,9 @@
 //! Files that a command reads.
 ghost use Rattle.std.specs.Prelude.{IfOk, IfErr};
-ghost use Rattle.mds_city.specs.Source.{HasBytes, IsReadProblem, HasTableOf, HasTableIn, ExplainsTableFile, ExplainsTable, HasItemsIn, ExplainsFile};
+ghost use Rattle.mds_table.specs.TableFile.{HasTable};
+ghost use Rattle.mds_batch.specs.Items.{IsEventItem};
+ghost use Rattle.mds_batch.specs.Batch.{HasItems};
+ghost use Rattle.mds_city.specs.Source.{HasBytes, IsReadProblem, IsTableProblem, HasTableOf, HasTableIn, ExplainsTableFile, ExplainsTable, IsBatchProblem, HasItemsIn, ExplainsFile};
 
 use crate::device::{ReadFault, read_front};
 use crate::problem::Problem;
@@ -60,7 +63,15 @@ fn table_of_file<'a, T: Read + Drop>(
     ensures err { IfErr result (ExplainsTableFile T.remaining source.entry) }
 {
     let bytes = bytes_in(alloc, source)?;
-    Ok(Table::from_json(alloc, &bytes)?)
+    table_of_bytes(alloc, &bytes)
+}
+
+/// The table that the bytes of a table file are. What is wrong with them is never told as a fault of what gave them.
+fn table_of_bytes<'a>(alloc: Global, bytes: &[u8]) -> Result<Table, Problem<'a>>
+    ensures table { IfOk result (HasTable bytes.now) }
+    ensures fault { IfErr result (IsTableProblem bytes.now) }
+{
+    Ok(Table::from_json(alloc, bytes)?)
 }
 
 /// The items of a file of events.
@@ -72,5 +83,13 @@ pub fn items_in<'a, R: Read + Drop>(
     ensures err { IfErr result (ExplainsFile R.remaining source.entry) }
 {
     let bytes = bytes_in(alloc, source)?;
-    Ok(read_events(alloc, &bytes)?)
+    items_of_bytes(alloc, &bytes)
+}
+
+/// The items that the bytes of a file of events are. What is wrong with them is never told as a fault of what gave them.
+fn items_of_bytes<'a>(alloc: Global, bytes: &[u8]) -> Result<Vec<EventItem>, Problem<'a>>
+    ensures items { IfOk result (λ items. HasItems IsEventItem bytes.now items.items) }
+    ensures fault { IfErr result (IsBatchProblem bytes.now) }
+{
+    Ok(read_events(alloc, bytes)?)
 }

@@ -47,7 +47,7 @@ pub fn decide_event(table: &Table, known: &Known, event: &Event) -> Result<(), R
     ensures decided { (requests : List Asked) → AreKnown requests (Request.Report event.now) known.now → MatchResult result
         (λ _. Gives table.now requests (Request.Report event.now) Outcome.Done)
         (λ refusal. Gives table.now requests (Request.Report event.now) (Outcome.Refused refusal)) }
-    // What no list has, as an event of a vehicle that isn't registered, is decided in the same order.
+    // What no list has, as an identifier held by a vehicle that isn't registered, is decided in the same order.
     ensures unregistered { known.now.standing ≡ None → result ≡ Err Refusal.Unregistered }
     ensures repeated { IsSome known.now.standing → known.now.has_event ≡ true → result ≡ Err Refusal.Repeated }
 {

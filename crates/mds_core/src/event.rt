@@ -1,7 +1,7 @@
 //! Events, as providers report them.
-ghost use Rattle.std.specs.Prelude.{◌≡◌, ◌↔◌, ◌≤◌, length, IsOk, IfOk, IfErr};
+ghost use Rattle.std.specs.Prelude.{◌≡◌, ◌↔◌, ◌≤◌, length, Some, IsOk, IfOk, IfErr};
 ghost use Rattle.mds_core.specs.Reported.{max_event_types, max_time, MayBeReported};
-ghost use Rattle.mds_core.specs.EventFault.{FaultOf};
+ghost use Rattle.mds_core.specs.EventFault.{FaultOf, event_fault_text};
 
 use crate::{Key, Position};
 use arrayvec::ArrayVec;
@@ -52,11 +52,13 @@ pub enum EventFault {
 }
 
 impl fmt::Display for EventFault {
+    ghost output = { λ fault. Some (event_fault_text fault) };
+
     fn fmt<W: fmt::Write>(&self, f: &mut fmt::Formatter<W>) -> fmt::Result {
         f.write_str(match self {
-            EventFault::NoTypes => "the event has no type",
-            EventFault::TooManyTypes => "the event has more than 16 types",
-            EventFault::BadTime => "the event's time is past the latest",
+            EventFault::NoTypes => "no_types",
+            EventFault::TooManyTypes => "too_many_types",
+            EventFault::BadTime => "bad_time",
         })
     }
 }

@@ -2,7 +2,7 @@
 //! a function that does nothing; its contract is the law.
 ghost use Rattle.mds_core.specs.Laws.{DependsOnOwn, AnswersAreOne, RunsAreOne, KeepsOthers, RunsAreLawful, JoinsApart, RunsAcceptExactly, HoldsReported, SchedulesAgree};
 
-/// Histories that agree on a vehicle give its requests the same outcomes, so schedules that agree on one vehicle do.
+/// Histories that agree on a vehicle give its requests the same outcomes.
 pub fn outcomes_depend_on_own_lists()
     ensures { DependsOnOwn }
 {}

@@ -1,7 +1,9 @@
 //! What the machine replies.
-ghost use Rattle.std.specs.Prelude.{◌≡◌, ◌<◌, ◌++◌, ◌∷◌, [], List, Some, None, length};
+ghost use Rattle.std.specs.Prelude.{◌≡◌, ◌+◌, ◌<◌, ◌++◌, ◌∷◌, [], List, Some, None, length};
 ghost use Rattle.mds_core.specs.declared.request.Request.{Request as Asked};
-ghost use Rattle.mds_core.specs.declared.request.Request.TheVariants.{Report};
+ghost use Rattle.std.specs.Option.{option_or};
+ghost use Rattle.mds_core.specs.declared.key.Key.{Key};
+ghost use Rattle.mds_core.specs.declared.request.Request.TheVariants.{Register, Report};
 ghost use Rattle.mds_core.specs.History.{reports, standing_of};
 ghost use Rattle.mds_core.specs.Refusal.{refusal_text};
 
@@ -26,7 +28,8 @@ pub struct Standing {
 impl Standing {
     /// Where a vehicle stands that was registered and has no event yet.
     pub fn registered() -> Standing
-        ensures { result ≡ record { state = State.Removed; events = 0; last = None; position = None } }
+        ensures fields { result ≡ record { state = State.Removed; events = 0; last = None; position = None } }
+        ensures list { (key : Key) → result ≡ standing_of (Register key ∷ []) }
     {
         Standing {
             state: State::Removed,
@@ -36,9 +39,16 @@ impl Standing {
         }
     }
 
-    /// Where the vehicle stands after one more event: where an event carries no position, the last one stays.
+    /// Where the vehicle stands after one more event: where an event carries no position, the last one stays. The number
+    /// of events goes no further than `usize::MAX`.
     pub fn after(&self, event: &Event) -> Standing
-        ensures { (requests : List Asked) → self.now ≡ standing_of requests → length (reports requests) < usize.MAX
+        ensures fields { self.now.events < usize.MAX → result ≡ record {
+          state = event.now.state;
+          events = self.now.events + 1;
+          last = Some event.now.time;
+          position = option_or event.now.position self.now.position;
+        } }
+        ensures list { (requests : List Asked) → self.now ≡ standing_of requests → length (reports requests) < usize.MAX
             → result ≡ standing_of (requests ++ Report event.now ∷ []) }
     {
         Standing {

@@ -1,4 +1,4 @@
-//! What no clause says: the worked rows, and that each call can succeed.
+//! What no clause says: the worked cases, and that each call can succeed.
 mod events;
 mod fleets;
 mod growths;

@@ -1,4 +1,4 @@
-//! The worked rows, from bytes to bytes, and what no clause says: that each call can succeed, and what it does where a
+//! The worked cases, from bytes to bytes, and what no clause says: that each call can succeed, and what it does where a
 //! device fails.
 use super::{replay_to, table_to};
 use crate::source::Source;

@@ -13,6 +13,10 @@ enum Last {
     Zero,
     /// It fails.
     Failure,
+    /// It would block.
+    Block,
+    /// It has timed out.
+    Timeout,
     /// It is interrupted, each time.
     Pause,
 }
@@ -36,6 +40,8 @@ fn ending(last: Last) -> io::Result<usize>
     match last {
         Last::Zero => Ok(0),
         Last::Failure => Err(Error::from(ErrorKind::BrokenPipe)),
+        Last::Block => Err(Error::from(ErrorKind::WouldBlock)),
+        Last::Timeout => Err(Error::from(ErrorKind::TimedOut)),
         Last::Pause => Err(pause()),
     }
 }
@@ -108,19 +114,23 @@ fn reads_in_drops_with_pauses(rt: HostRuntime) -> Result<(), Fail> {
     Ok(())
 }
 
-#[test]
-fn a_read_fault(rt: HostRuntime) {
+/// The fault of reading a stream of three bytes that ends so, and the number of calls.
+fn read_to(alloc: Global, last: Last) -> (Option<ReadFault>, u32) {
     let mut reader = Drops {
         bytes: b"abc",
         calls: 0,
         has_pauses: false,
-        last: Last::Failure,
+        last,
     };
-    assert_eq!(rt;
-        read_front(rt.alloc(), &mut reader).err(),
-        Some(ReadFault::Device)
-    );
-    assert_eq!(rt; reader.calls, 4);
+    let fault = read_front(alloc, &mut reader).err();
+    (fault, reader.calls)
+}
+
+#[test]
+fn a_read_that_fails_is_not_made_again(rt: HostRuntime) {
+    for last in [Last::Failure, Last::Block, Last::Timeout] {
+        assert_eq!(rt; read_to(rt.alloc(), last), (Some(ReadFault::Device), 4));
+    }
 }
 
 #[test]
@@ -203,14 +213,6 @@ fn writes_that_stop(rt: HostRuntime) {
     };
     assert_eq!(rt; write_all_of(&mut full, b"abc"), Err(2));
     assert_eq!(rt; full.calls, 3);
-    let mut broken = Sips {
-        taken: Vec::new(rt.alloc()),
-        room: 1,
-        calls: 0,
-        has_pauses: false,
-        last: Last::Failure,
-    };
-    assert_eq!(rt; write_all_of(&mut broken, b"abc"), Err(1));
     let mut paused = Sips {
         taken: Vec::new(rt.alloc()),
         room: 2,
@@ -221,6 +223,26 @@ fn writes_that_stop(rt: HostRuntime) {
     assert_eq!(rt; write_all_of(&mut paused, b"abc"), Err(2));
     assert_eq!(rt; paused.calls, MAX_CALLS);
     assert_eq!(rt; paused.calls, 5_000_000);
+}
+
+/// What comes of writing three bytes to a stream that takes one and ends so, and the number of calls.
+fn written_to(alloc: Global, last: Last) -> (Result<(), usize>, u32) {
+    let mut writer = Sips {
+        taken: Vec::new(alloc),
+        room: 1,
+        calls: 0,
+        has_pauses: false,
+        last,
+    };
+    let sent = write_all_of(&mut writer, b"abc");
+    (sent, writer.calls)
+}
+
+#[test]
+fn a_write_that_fails_is_not_made_again(rt: HostRuntime) {
+    for last in [Last::Failure, Last::Block, Last::Timeout] {
+        assert_eq!(rt; written_to(rt.alloc(), last), (Err(1), 2));
+    }
 }
 
 #[test]

@@ -95,6 +95,13 @@ fn request_is_about_its_vehicle(rt: HostRuntime) -> Result<(), Fail> {
 }
 
 #[test]
+fn event_faults_print_their_words(rt: HostRuntime) -> Result<(), Fail> {
+    let word = EventFault::TooManyTypes.to_string(rt.alloc())?;
+    assert_eq!(rt; word.as_str(), "too_many_types");
+    Ok(())
+}
+
+#[test]
 fn refusals_print_their_words(rt: HostRuntime) -> Result<(), Fail> {
     let alloc = rt.alloc();
     let late = Refusal::Late { last: 2000 };

@@ -1,4 +1,4 @@
-//! The worked rows on events of one type, through a fleet.
+//! The worked cases on events of one type, through a fleet.
 use super::{
     A, Asked, B, E0, E1, E2, E3, Told, done, key, last_outcome, ran, refused, replies, report,
     requests_of, standing, told_of_a,

@@ -1,4 +1,4 @@
-//! The worked rows on events of several types, through a fleet.
+//! The worked cases on events of several types, through a fleet.
 use super::{A, Asked, E0, E1, last_outcome, report};
 use crate::{Outcome, Refusal};
 use mds_table::State;

@@ -1,11 +1,12 @@
-use Rattle.std.proofs.Common.{ℕ, List, Option}
+use Rattle.std.proofs.Common.{ℕ, List, Option, subst, sym}
 use Rattle.mds_batch.specs.Batch.{HasFault}
 use Rattle.mds_batch.specs.declared.batch.BatchFault.{BatchFault}
 use Rattle.mds_batch.specs.declared.batch.BatchFault.TheVariants.{Memory}
 use Rattle.mds_city.specs.declared.source.Source.{Source}
+use Rattle.mds_city.specs.declared.problem.Problem.{Problem}
 use Rattle.mds_city.specs.Problem.{batch_problem}
-use Rattle.mds_city.specs.Source.{ExplainsFile, HasBytes}
-use Rattle.mds_city.proofs.ErrorLemmas.{passed_on}
+use Rattle.mds_city.specs.Source.{ExplainsFile, IsBatchProblem, HasBytes}
+use Rattle.mds_city.proofs.ErrorLemmas.{IfErr_then}
 use Rattle.mds_city.proofs.source.items_in.Goals as goal
 
 -- a fault of the file's bytes explains the problem that is made of it
@@ -14,8 +15,14 @@ explained : {R : Type 0} (remaining : R → Option (List ℕ)) (source : Source 
 explained remaining source bytes Memory has wrong = tt
 explained remaining source bytes fault has wrong = ((λ same. cc), bytes, has, wrong)
 
-pub returns-in_err-read_events-clause-err : goal.returns-in_err-read_events-clause-err
-returns-in_err-read_events-clause-err g c =
-    passed_on _ _ _ c.from_residual-in_err-read_events.ensures.1
-    (explained g.R.Read.remaining c.args.source c.in_ok-bytes.bytes.items c.in_err-read_events.field-0.0 c.in_ok-bytes.ensures.ok
-    (rw c.deref.ensures.value at c.in_err-read_events.ensures.fault))
+-- and so does the problem that its bytes are
+of_bytes : {R : Type 0} (remaining : R → Option (List ℕ)) (source : Source R) (bytes : List ℕ) (problem : Problem) → HasBytes remaining source bytes
+    → IsBatchProblem bytes problem → ExplainsFile remaining source problem
+of_bytes remaining source bytes problem has is =
+    subst (ExplainsFile remaining source) (sym is.2) (explained remaining source bytes is.0 has is.1)
+
+pub returns-clause-err : goal.returns-clause-err
+returns-clause-err g c =
+    let bytes = c.in_ok-bytes.bytes.items in
+    IfErr_then c.items_of_bytes.result (IsBatchProblem bytes) (ExplainsFile g.R.Read.remaining c.args.source) (rw c.deref.ensures.value at c.items_of_bytes.ensures.fault)
+    (λ problem is. of_bytes g.R.Read.remaining c.args.source bytes problem c.in_ok-bytes.ensures.ok is)

@@ -1,11 +1,12 @@
-use Rattle.std.proofs.Common.{ℕ, List, Option}
+use Rattle.std.proofs.Common.{ℕ, List, Option, subst, sym}
 use Rattle.mds_table.specs.TableFile.{HasFault}
 use Rattle.mds_table.specs.declared.table_file.TableFault.{TableFault}
 use Rattle.mds_table.specs.declared.table_file.TableFault.TheVariants.{Memory}
 use Rattle.mds_city.specs.declared.source.Source.{Source}
+use Rattle.mds_city.specs.declared.problem.Problem.{Problem}
 use Rattle.mds_city.specs.Problem.{table_problem}
-use Rattle.mds_city.specs.Source.{ExplainsTableFile, HasBytes}
-use Rattle.mds_city.proofs.ErrorLemmas.{passed_on}
+use Rattle.mds_city.specs.Source.{ExplainsTableFile, IsTableProblem, HasBytes}
+use Rattle.mds_city.proofs.ErrorLemmas.{IfErr_then}
 use Rattle.mds_city.proofs.source.table_of_file.Goals as goal
 
 -- a fault of the file's bytes explains the problem that is made of it
@@ -14,8 +15,14 @@ explained : {R : Type 0} (remaining : R → Option (List ℕ)) (source : Source 
 explained remaining source bytes Memory has wrong = tt
 explained remaining source bytes fault has wrong = ((λ same. cc), bytes, has, wrong)
 
-pub returns-in_err-from_json-clause-err : goal.returns-in_err-from_json-clause-err
-returns-in_err-from_json-clause-err g c =
-    passed_on _ _ _ c.from_residual-in_err-from_json.ensures.1
-    (explained g.T.Read.remaining c.args.source c.in_ok-bytes.bytes.items c.in_err-from_json.field-0.0 c.in_ok-bytes.ensures.ok
-    (rw c.deref.ensures.value at c.in_err-from_json.ensures.fault))
+-- and so does the problem that its bytes are
+of_bytes : {R : Type 0} (remaining : R → Option (List ℕ)) (source : Source R) (bytes : List ℕ) (problem : Problem) → HasBytes remaining source bytes
+    → IsTableProblem bytes problem → ExplainsTableFile remaining source problem
+of_bytes remaining source bytes problem has is =
+    subst (ExplainsTableFile remaining source) (sym is.2) (explained remaining source bytes is.0 has is.1)
+
+pub returns-clause-err : goal.returns-clause-err
+returns-clause-err g c =
+    let bytes = c.in_ok-bytes.bytes.items in
+    IfErr_then c.table_of_bytes.result (IsTableProblem bytes) (ExplainsTableFile g.T.Read.remaining c.args.source) (rw c.deref.ensures.value at c.table_of_bytes.ensures.fault)
+    (λ problem is. of_bytes g.T.Read.remaining c.args.source bytes problem c.in_ok-bytes.ensures.ok is)

@@ -31,4 +31,4 @@ returns-clause-kind g c =
     let words = map g.S.AsStr.text c.args.words.now in
     let none = c.in_ok-matches.ensures.kinds (ap is_simple_and_free c.in_ok-form.ensures ∙ is_simple) in
     let free : fault_of program_app words ≡ [] = subst (λ (a : App). fault_of a words ≡ []) c.in_ok-form.ensures none in
-    inr (free, search rules)
+    inr (free, search rules, c.in_ok-error-in-None.ensures.kind)

@@ -4,8 +4,8 @@ use Rattle.mds_core.specs.History.{reports}
 use Rattle.mds_core.proofs.Standings.{standing_of-push}
 use Rattle.mds_core.proofs.reply.Standing.after.Goals as goal
 
-pub returns : goal.returns
-returns c = λ requests is few.
+pub returns-clause-list : goal.returns-clause-list
+returns-clause-list c = λ requests is few.
     let count : c.args.self.now.events ≡ length (reports requests) = ap (λ standing. standing.events) is in
     let events : c.saturating_add.result ≡ length (reports requests) + 1 = omega (arith, c.saturating_add.ensures, count, few) in
     let position = c.or.ensures ∙ ap (λ p. option_or p c.args.self.now.position) c.position.ensures ∙ ap (λ standing. option_or c.args.event.now.position standing.position) is in
