@@ -4,3 +4,4 @@ pub mod WordsLemmas
 pub mod PageLemmas
 pub mod MentionLemmas
 pub mod ErrorLemmas
+pub mod ReplyLemmas

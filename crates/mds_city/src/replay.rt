@@ -3,12 +3,12 @@ ghost use Rattle.std.specs.Prelude.{◌≡◌, ◌++◌, map, count_by, IfOk, On
 ghost use Rattle.std.specs.List.{list_any};
 ghost use Rattle.mds_core.specs.History.{same_key};
 ghost use Rattle.mds_city.specs.Requests.{events_of, vehicles_of};
-ghost use Rattle.mds_city.specs.Report.{IsReport, verdicts, verdict_on, end_of, accepts};
+ghost use Rattle.mds_city.specs.Report.{IsReport, AreReplies, AreVerdicts, IsOfReport, IsVerdictOn, end_of, accepts};
 
 use crate::report::{Report, VehicleEnd, Verdict};
 use mds_batch::EventItem;
-use mds_core::{Event, Fleet, Key, Outcome, Refusal, Reply, Request, Standing, run};
-use mds_table::{State, Table};
+use mds_core::{Event, Fleet, Key, Outcome, Reply, Request, Standing, run};
+use mds_table::Table;
 use std::alloc::{AllocError, Global};
 
 /// Replays the items over a table: each vehicle that they mention is registered, then each event is reported, and a
@@ -110,7 +110,8 @@ fn verdicts_on(
     items: &[EventItem],
     replies: &[Reply],
 ) -> Result<Vec<Verdict>, AllocError>
-    ensures { IfOk result (λ lines. lines.items ≡ verdicts items.now replies.now) }
+    requires { AreReplies (events_of items.now) replies.now }
+    ensures { IfOk result (λ lines. AreVerdicts items.now replies.now lines.items) }
 {
     let mut lines = Vec::with_capacity(alloc, items.len())?;
     let mut rest = replies;
@@ -119,7 +120,7 @@ fn verdicts_on(
             EventItem::Fault(fault) => lines.push(Verdict::Fault(*fault))?,
             EventItem::Event(event) => {
                 let Some((reply, later)) = rest.split_first() else {
-                    return Ok(lines);
+                    unreachable!()
                 };
                 lines.push(verdict_of(event, reply.outcome))?;
                 rest = later;
@@ -129,14 +130,15 @@ fn verdicts_on(
     Ok(lines)
 }
 
-/// The verdict on an event of this outcome.
+/// The verdict on an event whose report has this outcome.
 fn verdict_of(event: &Event, outcome: Outcome) -> Verdict
-    ensures { result ≡ verdict_on event.now outcome }
+    requires { IsOfReport outcome }
+    ensures { IsVerdictOn event.now outcome result }
 {
     match outcome {
         Outcome::Done => Verdict::Accepted(event.state()),
         Outcome::Refused(refusal) => Verdict::Refused(refusal),
-        Outcome::Seen(_) => Verdict::Refused(Refusal::Unregistered),
+        Outcome::Seen(_) => unreachable!(),
     }
 }
 
@@ -155,18 +157,9 @@ fn ends_of(alloc: Global, fleet: &Fleet, vehicles: &[Key]) -> Result<Vec<Vehicle
 fn end_in(fleet: &Fleet, key: &Key) -> VehicleEnd
     ensures { result ≡ end_of fleet.now.history key.now }
 {
-    let standing = match fleet.standing(key) {
-        Some(standing) => standing,
-        None => Standing {
-            state: State::Removed,
-            events: 0,
-            last: None,
-            position: None,
-        },
-    };
     VehicleEnd {
         key: *key,
-        standing,
+        standing: fleet.standing(key).unwrap_or(Standing::registered()),
     }
 }
 
