@@ -1,5 +1,4 @@
 -- Lemmas of this crate.
-pub mod DeviceLemmas
 pub mod WordsLemmas
 pub mod PageLemmas
 pub mod MentionLemmas

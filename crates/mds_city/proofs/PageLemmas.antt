@@ -2,7 +2,7 @@
 use Rattle.std.proofs.Common.{◌≡◌, ℕ, ◌+◌, ◌<◌, List, ◌∷◌, ◌++◌, length, get_or, drop, Option, sym, ap, ◌∙◌, append_assoc, add-one}
 use Rattle.std.proofs.Math.Seq.{drop-cons}
 use Rattle.std.proofs.KnownBytes.{Appends-trans}
-use Rattle.mds_city.specs.Device.{AppendsFront, Passes}
+use Rattle.mds_device.specs.Device.{AppendsFront, Passes}
 
 -- a text went out but for what was left, and of that and more all but the new rest
 pub passes_then : (a b c : Option (List ℕ)) (text left more rest : List ℕ) → Passes a b text left → Passes b c (left ++ more) rest → Passes a c (text ++ more) rest

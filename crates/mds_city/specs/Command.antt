@@ -9,7 +9,7 @@ use Rattle.mds_city.specs.declared.problem.Problem.{Problem}
 use Rattle.mds_city.specs.declared.problem.Problem.TheVariants.{CannotRead, NotATable, NotABatch, Output, Memory}
 use Rattle.mds_city.specs.declared.status.Status.{Status}
 use Rattle.mds_city.specs.declared.status.Status.TheVariants.{Done, Refused}
-use Rattle.mds_city.specs.Device.{AppendsFront}
+use Rattle.mds_device.specs.Device.{AppendsFront}
 use Rattle.mds_city.specs.Status.{code_of}
 use Rattle.mds_city.specs.Problem.{status_of, Tells}
 use Rattle.mds_city.specs.Report.{IsReport}

@@ -13,7 +13,7 @@ use Rattle.mds_batch.specs.Batch.{HasItems, HasFault as HasBatchFault}
 use Rattle.mds_city.specs.declared.source.Source.{Source}
 use Rattle.mds_city.specs.declared.problem.Problem.{Problem}
 use Rattle.mds_city.specs.declared.problem.Problem.TheVariants.{CannotRead, NotATable, NotABatch, Output, Memory}
-use Rattle.mds_city.specs.Device.{HasFront}
+use Rattle.mds_device.specs.Device.{HasFront}
 use Rattle.mds_city.specs.Problem.{table_problem, batch_problem}
 
 -- the file was opened, and its reader had left these bytes, or these are the first 4194305 of them; where it isn't known

@@ -10,7 +10,7 @@ use Rattle.mds_city.specs.declared.report.Verdict.{Verdict}
 use Rattle.mds_city.specs.declared.report.Verdict.TheVariants.{Accepted, Refused, Fault}
 use Rattle.mds_city.specs.declared.report.VehicleEnd.{VehicleEnd}
 use Rattle.mds_city.specs.declared.report.Report.{Report}
-use Rattle.mds_city.specs.Device.{with_newline}
+use Rattle.mds_device.specs.Device.{with_newline}
 
 -- what is said of an item
 abbrev pub verdict_text : Verdict → List ℕ

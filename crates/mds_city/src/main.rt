@@ -2,7 +2,6 @@
 #![tactic(auto)]
 
 mod commands;
-mod device;
 mod print;
 mod problem;
 mod program;

@@ -1,10 +1,10 @@
 //! Printing a replay's report, and a table.
 ghost use Rattle.std.specs.Prelude.{◌++◌, string_bytes, OnOk, OnErr};
 ghost use Rattle.std.specs.Io.KnownBytes.{Appends};
-ghost use Rattle.mds_city.specs.Device.{AppendsFront, Passes};
+ghost use Rattle.mds_device.specs.Device.{AppendsFront, Passes};
 ghost use Rattle.mds_city.specs.Text.{item_lines, vehicle_lines, report_text, row_lines, table_text};
 
-use crate::device::{WriteFault, add_line, put_out};
+use mds_device::{WriteFault, add_line, put_out};
 use crate::report::{ItemLine, Report, TotalLine, VehicleEnd, Verdict};
 use crate::rows::{CountLine, RowLine};
 use mds_table::Row;

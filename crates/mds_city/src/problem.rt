@@ -2,7 +2,7 @@
 ghost use Rattle.std.specs.Prelude.{◌≡◌, ◌⊎◌, Some};
 ghost use Rattle.mds_city.specs.Problem.{IsTelling, problem_text, status_of, Tells};
 
-use crate::device::{WriteFault, write_all_of};
+use mds_device::{WriteFault, write_all_of};
 use crate::status::Status;
 use mds_batch::BatchFault;
 use mds_table::TableFault;

@@ -6,7 +6,7 @@ ghost use Rattle.mds_city.specs.Problem.{Tells};
 ghost use Rattle.mds_city.specs.Program.{Carries, Explains, IsFileNamed, IsFileOf, Runs, answer_to};
 
 use crate::commands::{replay_to, table_to};
-use crate::device::write_all_of;
+use mds_device::write_all_of;
 use crate::problem::{Problem, tell};
 use crate::source::Source;
 use crate::status::Status;

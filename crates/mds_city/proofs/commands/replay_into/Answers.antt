@@ -1,6 +1,6 @@
 use Rattle.std.proofs.Common.{ℕ, List, Option, inr, refl}
-use Rattle.mds_city.specs.declared.device.WriteFault.{WriteFault}
-use Rattle.mds_city.specs.declared.device.WriteFault.TheVariants as write
+use Rattle.mds_device.specs.declared.device.WriteFault.{WriteFault}
+use Rattle.mds_device.specs.declared.device.WriteFault.TheVariants as write
 use Rattle.mds_city.specs.declared.source.Source.{Source}
 use Rattle.mds_city.specs.Problem.{written_problem}
 use Rattle.mds_city.specs.Command.{ExplainsReplay, PrintsFront, WentOut}

@@ -1,9 +1,9 @@
 use Rattle.std.proofs.Common.{ℕ, List, Option, inr}
 use Rattle.mds_table.specs.declared.row.Row.{Row}
-use Rattle.mds_city.specs.declared.device.WriteFault.{WriteFault}
-use Rattle.mds_city.specs.declared.device.WriteFault.TheVariants as write
+use Rattle.mds_device.specs.declared.device.WriteFault.{WriteFault}
+use Rattle.mds_device.specs.declared.device.WriteFault.TheVariants as write
 use Rattle.mds_city.specs.declared.source.Source.{Source}
-use Rattle.mds_city.specs.Device.{AppendsFront}
+use Rattle.mds_device.specs.Device.{AppendsFront}
 use Rattle.mds_city.specs.Problem.{written_problem}
 use Rattle.mds_city.specs.Source.{HasTableIn}
 use Rattle.mds_city.specs.Text.{table_text}

@@ -1,6 +1,6 @@
 use Rattle.std.proofs.Common.{rules, ◌+◌, ◌++◌, List, drop, subst, string_bytes}
 use Rattle.mds_table.specs.declared.row.Row.{Row}
-use Rattle.mds_city.specs.Device.{AppendsFront, Passes, with_newline}
+use Rattle.mds_device.specs.Device.{AppendsFront, Passes, with_newline}
 use Rattle.mds_city.specs.Text.{row_line, row_lines}
 use Rattle.mds_city.proofs.PageLemmas.{passes_line, front_of_line, next_item}
 use Rattle.mds_city.proofs.print.add_rows.Goals as goal

@@ -2,10 +2,10 @@
 use Rattle.std.specs.Prelude.{◌≡◌, ℕ, ◌+◌, ◌<◌, ◌≤◌, Bool, List, [], ◌∷◌, ◌++◌, length, take, Option, IfSome, MatchBool, if◌then◌else◌, ◌==◌}
 use Rattle.std.specs.Io.KnownBytes.{Appends, Consumes, IsAtEnd, Keeps}
 use Rattle.mds_table.specs.Json.{max_bytes}
-use Rattle.mds_city.specs.declared.device.ReadFault.{ReadFault}
-use Rattle.mds_city.specs.declared.device.ReadFault.TheVariants.{Memory, Device}
-use Rattle.mds_city.specs.declared.device.Call.{Call}
-use Rattle.mds_city.specs.declared.device.Call.TheVariants.{Moved, Nothing, Again, Failed}
+use Rattle.mds_device.specs.declared.device.ReadFault.{ReadFault}
+use Rattle.mds_device.specs.declared.device.ReadFault.TheVariants.{Memory, Device}
+use Rattle.mds_device.specs.declared.device.Call.{Call}
+use Rattle.mds_device.specs.declared.device.Call.TheVariants.{Moved, Nothing, Again, Failed}
 
 -- the text and a line feed
 abbrev pub with_newline : List ℕ → List ℕ

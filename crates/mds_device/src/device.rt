@@ -2,7 +2,7 @@
 ghost use Rattle.std.specs.Prelude.{◌≡◌, ◌+◌, ◌-◌, ◌*◌, ◌<◌, ◌≤◌, ◌++◌, ◌∷◌, [], ◌≢◌, ◌↔◌, take, length, vec_len, string_bytes, string_len, IsTrue, IsErrOf, OnOk, OnErr, IfOk, IfErr, IfSome};
 ghost use Rattle.std.specs.IoError.{error_kind};
 ghost use Rattle.std.specs.Io.KnownBytes.{Appends, Consumes, Keeps};
-ghost use Rattle.mds_city.specs.Device.{AppendsFront, ConsumesUpTo, HasFront, LosesAt, Passes, Reads, ReadsMore, Writes, moved, with_newline};
+ghost use Rattle.mds_device.specs.Device.{AppendsFront, ConsumesUpTo, HasFront, LosesAt, Passes, Reads, ReadsMore, Writes, moved, with_newline};
 
 use mds_table::MAX_BYTES;
 use std::alloc::Global;

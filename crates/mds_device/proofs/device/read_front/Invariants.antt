@@ -1,6 +1,6 @@
 use Rattle.std.proofs.Common.{◌<◌, vec_len}
 use Rattle.std.specs.Io.KnownBytes.{Consumes}
-use Rattle.mds_city.proofs.device.read_front.Given as goal
+use Rattle.mds_device.proofs.device.read_front.Given as goal
 
 abbrev pub invariant-loop : goal.invariant-loop
 invariant-loop g l = record {

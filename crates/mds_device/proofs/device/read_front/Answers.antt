@@ -1,7 +1,7 @@
 use Rattle.std.proofs.Common.{arith, rules}
-use Rattle.mds_city.proofs.DeviceLemmas.{consumes_next, loses_front, front_of_read, reads_next}
-use Rattle.mds_city.specs.Device.{ConsumesUpTo}
-use Rattle.mds_city.proofs.device.read_front.Goals as goal
+use Rattle.mds_device.proofs.DeviceLemmas.{consumes_next, loses_front, front_of_read, reads_next}
+use Rattle.mds_device.specs.Device.{ConsumesUpTo}
+use Rattle.mds_device.proofs.device.read_front.Goals as goal
 
 pub returns-then-branch-clause-front : goal.returns-then-branch-clause-front
 returns-then-branch-clause-front g c =

@@ -6,9 +6,9 @@ use Rattle.std.proofs.lemmas.List.{take_min}
 use Rattle.std.specs.Io.KnownBytes.{Appends, Consumes, IsAtEnd}
 use Rattle.std.proofs.KnownBytes.{Appends-trans, Consumes-trans}
 use Rattle.std.specs.Prelude.{Option, Result, Ok, Err, OnOk, IfErr}
-use Rattle.mds_city.specs.declared.device.ReadFault.{ReadFault}
-use Rattle.mds_city.specs.declared.device.ReadFault.TheVariants.{Memory, Device}
-use Rattle.mds_city.specs.Device.{AppendsFront, ConsumesUpTo, HasFront, LosesAt, front_of}
+use Rattle.mds_device.specs.declared.device.ReadFault.{ReadFault}
+use Rattle.mds_device.specs.declared.device.ReadFault.TheVariants.{Memory, Device}
+use Rattle.mds_device.specs.Device.{AppendsFront, ConsumesUpTo, HasFront, LosesAt, front_of}
 
 -- what went out first, and then the front of the slice that was left, is a longer front
 pub appends_next : (a b c : Option (List ℕ)) (text : List ℕ) (n m : ℕ) → Appends a b (take n text) → Appends b c (take m (take (length text - n) (drop n text))) → Appends a c (take (n + m) text)
