@@ -4,9 +4,9 @@ ghost use Rattle.std.specs.Io.KnownBytes.{Appends};
 ghost use Rattle.mds_device.specs.Device.{AppendsFront, Passes};
 ghost use Rattle.mds_city.specs.Text.{item_lines, vehicle_lines, report_text, row_lines, table_text};
 
-use mds_device::{WriteFault, add_line, put_out};
 use crate::report::{ItemLine, Report, TotalLine, VehicleEnd, Verdict};
 use crate::rows::{CountLine, RowLine};
+use mds_device::{WriteFault, add_line, put_out};
 use mds_table::Row;
 use std::alloc::Global;
 use std::io::Write;

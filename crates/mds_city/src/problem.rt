@@ -2,9 +2,9 @@
 ghost use Rattle.std.specs.Prelude.{◌≡◌, ◌⊎◌, Some};
 ghost use Rattle.mds_city.specs.Problem.{IsTelling, problem_text, status_of, Tells};
 
-use mds_device::{WriteFault, write_all_of};
 use crate::status::Status;
 use mds_batch::BatchFault;
+use mds_device::{WriteFault, write_all_of};
 use mds_table::TableFault;
 use std::alloc::{AllocError, Global};
 use std::fmt;

@@ -6,12 +6,12 @@ ghost use Rattle.mds_city.specs.Problem.{Tells};
 ghost use Rattle.mds_city.specs.Program.{Carries, Explains, IsFileNamed, IsFileOf, Runs, answer_to};
 
 use crate::commands::{replay_to, table_to};
-use mds_device::write_all_of;
 use crate::problem::{Problem, tell};
 use crate::source::Source;
 use crate::status::Status;
 use crate::words::{Command, parse_words};
 use clap::error::ErrorKind;
+use mds_device::write_all_of;
 use std::alloc::Global;
 use std::convert::AsStr;
 use std::env::Args;

@@ -5,9 +5,9 @@ ghost use Rattle.mds_batch.specs.Items.{IsEventItem};
 ghost use Rattle.mds_batch.specs.Batch.{HasItems};
 ghost use Rattle.mds_city.specs.Source.{HasBytes, IsReadProblem, IsTableProblem, HasTableOf, HasTableIn, ExplainsTableFile, ExplainsTable, IsBatchProblem, HasItemsIn, ExplainsFile};
 
-use mds_device::{ReadFault, read_front};
 use crate::problem::Problem;
 use mds_batch::{EventItem, read_events};
+use mds_device::{ReadFault, read_front};
 use mds_table::Table;
 use std::alloc::Global;
 use std::io::Read;

@@ -1,23 +1,12 @@
 //! The program's words, over files and streams in memory.
 use super::{Opens, WordsFault, run, tell_words, words_of};
-use crate::commands::tests::{FIVE_EVENTS, FIVE_LINES, ONE_ROW};
+use crate::commands::tests::{FIVE_BY_ONE_ROW, FIVE_EVENTS, FIVE_LINES, ONE_ROW};
 use crate::status::Status;
 use std::alloc::Global;
 use std::io::{self, ErrorKind, Write};
 use std::test::Fail;
 
 const ONE_ROW_LINES: &str = "wake removed available\nrows 1\n";
-
-/// What the five events come to over the table of one row.
-const FIVE_BY_ONE_ROW: &str = "0 refused no_chain removed 0
-1 refused no_chain removed 0
-2 refused no_chain removed 0
-3 refused no_chain removed 0
-4 refused no_chain removed 0
-vehicle 00000000-0000-4000-8000-000000000001 00000000-0000-4000-8000-00000000000a removed 0
-vehicle 00000000-0000-4000-8000-000000000001 00000000-0000-4000-8000-00000000000b removed 0
-accepted 0 refused 5
-";
 
 /// A folder with the five events, the table of one row, and that table once more in a file named `-`.
 #[derive(Clone, Copy)]
@@ -75,8 +64,9 @@ const NOTHING: &str = "accepted 0 refused 0\n";
 const CANNOT_READ: &str = "mds_city: cannot read none\n";
 
 #[test]
-fn replays_read_the_files_that_they_name(rt: HostRuntime) {
-    let cases: [Case<'_>; 7] = [
+fn files_are_those_that_are_named(rt: HostRuntime) {
+    let no_table = "mds_city: not a table: not_rows\n";
+    let cases: [Case<'_>; 9] = [
         (&["mds_city", "replay", "events"], 1, FIVE_LINES, ""),
         (
             &["mds_city", "replay", "events", "--table", "rows"],
@@ -84,7 +74,6 @@ fn replays_read_the_files_that_they_name(rt: HostRuntime) {
             FIVE_BY_ONE_ROW,
             "",
         ),
-        (&["mds_city", "replay", "-"], 0, NOTHING, ""),
         (
             &["mds_city", "replay", "-", "--table", "rows"],
             0,
@@ -104,22 +93,6 @@ fn replays_read_the_files_that_they_name(rt: HostRuntime) {
             "",
             CANNOT_READ,
         ),
-    ];
-    for case in &cases {
-        assert!(rt; comes_to(rt.alloc(), case), "{case:?}");
-    }
-}
-
-#[test]
-fn tables_are_those_of_the_files_that_they_name(rt: HostRuntime) {
-    let no_table = "mds_city: not a table: not_rows\n";
-    let cases: [Case<'_>; 4] = [
-        (
-            &["mds_city", "table", "--table", "rows"],
-            0,
-            ONE_ROW_LINES,
-            "",
-        ),
         (&["mds_city", "table", "--table", "-"], 0, ONE_ROW_LINES, ""),
         (&["mds_city", "table", "--table", "events"], 3, "", no_table),
         (
@@ -134,37 +107,28 @@ fn tables_are_those_of_the_files_that_they_name(rt: HostRuntime) {
     }
 }
 
-#[test]
-fn mistakes_go_to_the_fault_writer(rt: HostRuntime) {
-    let cases = [
-        ["mds_city"].as_slice(),
-        ["mds_city", "replay"].as_slice(),
-        ["mds_city", "replay", "events", "--table"].as_slice(),
-        ["mds_city", "serve"].as_slice(),
-        ["mds_city", "table", "rows"].as_slice(),
-        ["mds_city", "replay", "events", "--any"].as_slice(),
-    ];
-    for words in cases {
-        let came = ran(rt.alloc(), words);
-        assert_eq!(rt; came.code, 2, "{words:?}");
-        assert!(rt; came.out.is_empty(), "{words:?}");
-        assert!(rt; came.faults.starts_with(b"error: "), "{words:?}");
-        assert!(rt; came.faults.ends_with(b"\n"), "{words:?}");
-    }
+/// Whether the program ends with this status, and prints to the one stream alone that it should.
+fn answers(alloc: Global, words: &[&str], code: u8) -> bool {
+    let came = ran(alloc, words);
+    let (told, kept) = if code == 0 {
+        (came.out, came.faults)
+    } else {
+        (came.faults, came.out)
+    };
+    came.code == code && told.ends_with(b"\n") && kept.is_empty()
 }
 
 #[test]
-fn help_goes_to_the_output(rt: HostRuntime) {
-    let cases = [
-        ["mds_city", "--help"].as_slice(),
-        ["mds_city", "replay", "--help"].as_slice(),
-        ["mds_city", "table", "-h"].as_slice(),
+fn help_and_mistakes_go_to_their_streams(rt: HostRuntime) {
+    let cases: [(&[&str], u8); 5] = [
+        (&["mds_city", "--help"], 0),
+        (&["mds_city", "table", "-h"], 0),
+        (&["mds_city"], 2),
+        (&["mds_city", "replay"], 2),
+        (&["mds_city", "replay", "events", "--any"], 2),
     ];
-    for words in cases {
-        let came = ran(rt.alloc(), words);
-        assert_eq!(rt; came.code, 0, "{words:?}");
-        assert!(rt; !came.out.is_empty(), "{words:?}");
-        assert!(rt; came.faults.is_empty(), "{words:?}");
+    for (words, code) in cases {
+        assert!(rt; answers(rt.alloc(), words, code), "{words:?}");
     }
 }
 
@@ -182,39 +146,37 @@ impl Write for Full {
     }
 }
 
-#[test]
-fn streams_that_are_full(rt: HostRuntime) {
-    let alloc = rt.alloc();
-    let help = ["mds_city", "--help"];
+/// The status of a program whose output is full, and what it told.
+fn ran_full(alloc: Global, words: &[&str]) -> (u8, Vec<u8>) {
     let mut faults = Vec::new(alloc);
     let code = run(
         alloc,
-        &help,
+        words,
         &Folder,
         b"".as_slice(),
         &mut Full,
         &mut faults,
     );
+    (code, faults)
+}
+
+#[test]
+fn streams_that_are_full(rt: HostRuntime) {
+    let help = ["mds_city", "--help"];
+    let (code, faults) = ran_full(rt.alloc(), &help);
     assert_eq!(rt; code, 3);
     assert_eq!(rt; faults.as_slice(), b"mds_city: output\n".as_slice());
-    let mistake = ["mds_city", "serve"];
-    let mut out = Vec::new(alloc);
-    assert_eq!(rt;
-        run(
-            alloc,
-            &mistake,
+    for (words, code) in [(help.as_slice(), 3u8), (&["mds_city", "serve"], 2)] {
+        let ended = run(
+            rt.alloc(),
+            words,
             &Folder,
             b"".as_slice(),
-            &mut out,
-            &mut Full
-        ),
-        2
-    );
-    assert!(rt; out.is_empty());
-    assert_eq!(rt;
-        run(alloc, &help, &Folder, b"".as_slice(), &mut Full, &mut Full),
-        3
-    );
+            &mut Full,
+            &mut Full,
+        );
+        assert_eq!(rt; ended, code);
+    }
 }
 
 #[test]
