@@ -6,8 +6,3 @@ use Rattle.std.specs.Prelude.{IsErrAnd}
 pub passed_on : {T E : Type 0} (r : Result T E) (e : E) (P : E → Type 0) → IsErrAnd r (λ y. y ≡ e) → P e → IfErr r P
 passed_on (Ok x) e P same p = tt
 passed_on (Err y) e P same p = subst P (sym same) p
-
--- what follows of an error
-pub IfErr_then : {T E : Type 0} (r : Result T E) (P Q : E → Type 0) → IfErr r P → ((y : E) → P y → Q y) → IfErr r Q
-IfErr_then (Ok x) P Q is then = tt
-IfErr_then (Err y) P Q is then = then y is

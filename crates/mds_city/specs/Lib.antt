@@ -1,5 +1,4 @@
 -- Definitions that the contracts cite.
-pub mod Words
 pub mod Requests
 pub mod Report
 pub mod Text

@@ -11,12 +11,12 @@ use Rattle.mds_city.specs.declared.problem.Problem.TheVariants as problem
 use Rattle.mds_city.specs.declared.source.Source.{Source}
 use Rattle.mds_city.specs.declared.status.Status.{Status}
 use Rattle.mds_city.specs.declared.status.Status.TheVariants as status
-use Rattle.mds_city.specs.declared.words.Command.{Command}
-use Rattle.mds_city.specs.declared.words.Command.TheVariants.{Replay, Table}
+use Rattle.mds_words.specs.declared.words.Command.{Command}
+use Rattle.mds_words.specs.declared.words.Command.TheVariants.{Replay, Table}
 use Rattle.mds_city.specs.Command.{Replayed, Told, Tabled, TableTold}
 use Rattle.mds_city.specs.Problem.{Tells}
 use Rattle.mds_city.specs.Status.{code_of}
-use Rattle.mds_city.specs.Words.{Asks, IsErrorOf, program_app}
+use Rattle.mds_words.specs.Words.{Asks, IsErrorOf, program_app}
 
 -- how an error of this kind is answered: help and the version are printed, all else but the want of memory is a mistake
 abbrev pub answer_to : ErrorKind → Answer

@@ -10,7 +10,6 @@ mod report;
 mod rows;
 mod source;
 mod status;
-mod words;
 
 use crate::program::{Opens, run, tell_words, words_of};
 use std::process::ExitCode;

@@ -9,7 +9,7 @@ use crate::commands::{replay_to, table_to};
 use crate::problem::{Problem, tell};
 use crate::source::Source;
 use crate::status::Status;
-use crate::words::{Command, parse_words};
+use mds_words::{Command, parse_words};
 use clap::error::ErrorKind;
 use mds_device::write_all_of;
 use std::alloc::Global;

@@ -1,4 +1,5 @@
 use Rattle.std.proofs.Common.{ℕ, List, Option, subst, sym}
+use Rattle.std.proofs.lemmas.Result.{IfErr-weaker}
 use Rattle.mds_table.specs.TableFile.{HasFault}
 use Rattle.mds_table.specs.declared.table_file.TableFault.{TableFault}
 use Rattle.mds_table.specs.declared.table_file.TableFault.TheVariants.{Memory}
@@ -6,7 +7,6 @@ use Rattle.mds_city.specs.declared.source.Source.{Source}
 use Rattle.mds_city.specs.declared.problem.Problem.{Problem}
 use Rattle.mds_city.specs.Problem.{table_problem}
 use Rattle.mds_city.specs.Source.{ExplainsTableFile, IsTableProblem, HasBytes}
-use Rattle.mds_city.proofs.ErrorLemmas.{IfErr_then}
 use Rattle.mds_city.proofs.source.table_of_file.Goals as goal
 
 -- a fault of the file's bytes explains the problem that is made of it
@@ -24,5 +24,6 @@ of_bytes remaining source bytes problem has is =
 pub returns-clause-err : goal.returns-clause-err
 returns-clause-err g c =
     let bytes = c.in_ok-bytes.bytes.items in
-    IfErr_then c.table_of_bytes.result (IsTableProblem bytes) (ExplainsTableFile g.T.Read.remaining c.args.source) (rw c.deref.ensures.value at c.table_of_bytes.ensures.fault)
+    IfErr-weaker c.table_of_bytes.result (IsTableProblem bytes) (ExplainsTableFile g.T.Read.remaining c.args.source)
     (λ problem is. of_bytes g.T.Read.remaining c.args.source bytes problem c.in_ok-bytes.ensures.ok is)
+    (rw c.deref.ensures.value at c.table_of_bytes.ensures.fault)

@@ -1,7 +1,7 @@
 //! The words of the command line, read by `clap`.
 ghost use Rattle.std.specs.Prelude.{◌≡◌, [], None, true, false, codes, map, IfOk, IfErr, MatchOption};
 ghost use Rattle.clap.specs.Words.{app_of, fault_of, first_of, found_of, kind_of, rows_of, rule_of, subcommand_of, subcommand_rows_of, takes, with_subcommand};
-ghost use Rattle.mds_city.specs.Words.{Asks, AsksNothing, HasValues, IsErrorOf, name_of, program_app, replay_app, table_app, table_rule};
+ghost use Rattle.mds_words.specs.Words.{Asks, AsksNothing, HasValues, IsErrorOf, name_of, program_app, replay_app, table_app, table_rule};
 
 use clap::error::ErrorKind;
 use clap::{Arg, ArgMatches, Error};

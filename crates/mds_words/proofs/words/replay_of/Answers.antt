@@ -1,7 +1,7 @@
 use Rattle.std.proofs.Common.{◌≡◌, None, Some, codes, refl, rules}
 use Rattle.clap.specs.Words.{first_of, found_of, rows_of}
-use Rattle.mds_city.proofs.WordsLemmas.{text_of_rows}
-use Rattle.mds_city.proofs.words.replay_of.Goals as goal
+use Rattle.mds_words.proofs.WordsLemmas.{text_of_rows}
+use Rattle.mds_words.proofs.words.replay_of.Goals as goal
 
 pub returns-in_err-file : goal.returns-in_err-file
 returns-in_err-file c =

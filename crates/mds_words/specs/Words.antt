@@ -3,8 +3,8 @@ use Rattle.std.specs.Prelude.{◌≡◌, ◌⊎◌, List, [], Option, Some, None
 use Rattle.clap.specs.Words.{App, HasKind, Row, Rule, Text, fault_of, first_of, kind_of, new_app, new_rule, with_rule, subcommand_of, with_subcommand}
 use Rattle.clap.specs.declared.error.Error.{Error}
 use Rattle.clap.specs.declared.error.kind.ErrorKind.TheVariants.{MissingSubcommand}
-use Rattle.mds_city.specs.declared.words.Command.{Command}
-use Rattle.mds_city.specs.declared.words.Command.TheVariants.{Replay, Table}
+use Rattle.mds_words.specs.declared.words.Command.{Command}
+use Rattle.mds_words.specs.declared.words.Command.TheVariants.{Replay, Table}
 
 -- the positional word FILE, which must be there
 abbrev pub file_rule : Rule

@@ -1,8 +1,8 @@
 use Rattle.std.proofs.Common.{◌≡◌, ◌∙◌, [], true, inl, inr, ap, refl, subst, map, rules}
 use Rattle.clap.specs.Words.{App, HasKind, fault_of, is_simple_and_free, takes}
-use Rattle.mds_city.specs.Words.{program_app}
-use Rattle.mds_city.proofs.ErrorLemmas.{passed_on}
-use Rattle.mds_city.proofs.words.parse_words.Goals as goal
+use Rattle.mds_words.specs.Words.{program_app}
+use Rattle.clap.proofs.TakesLemmas.{passed_up}
+use Rattle.mds_words.proofs.words.parse_words.Goals as goal
 
 -- `clap` says of such a program which faults it finds
 is_simple : is_simple_and_free program_app ≡ true
@@ -10,14 +10,14 @@ is_simple = refl
 
 pub returns-in_err-matches-clause-err : goal.returns-in_err-matches-clause-err
 returns-in_err-matches-clause-err g c =
-    passed_on _ _ _ c.from_residual-in_err-matches.ensures.1
+    passed_up _ _ _ c.from_residual-in_err-matches.ensures.1
     (λ taken asked. c.in_err-matches.ensures.passes (ap (λ (a : App). takes a (map g.S.AsStr.text c.args.words.now)) c.in_ok-form.ensures ∙ taken))
 
 pub returns-in_err-matches-clause-kind : goal.returns-in_err-matches-clause-kind
 returns-in_err-matches-clause-kind g c =
     let words = map g.S.AsStr.text c.args.words.now in
     let found = c.in_err-matches.ensures.kinds (ap is_simple_and_free c.in_ok-form.ensures ∙ is_simple) in
-    passed_on _ _ _ c.from_residual-in_err-matches.ensures.1
+    passed_up _ _ _ c.from_residual-in_err-matches.ensures.1
     (inl (subst (λ (a : App). HasKind (fault_of a words) c.in_err-matches.field-0.0) c.in_ok-form.ensures found))
 
 pub returns-in-Some-clause-taken : goal.returns-in-Some-clause-taken
