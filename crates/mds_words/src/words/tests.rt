@@ -4,9 +4,27 @@ use super::{Command, parse_words};
 /// Words behind the program's name, and the command that they ask for, if they ask for one.
 type Case<'a> = (&'a [&'a str], Option<Command<'a>>);
 
-/// The replay of a file.
+/// The replay of a file, whose vehicles are registered first.
 fn replay<'a>(file: &'a str, table: Option<&'a str>) -> Option<Command<'a>> {
-    Some(Command::Replay { file, table })
+    let any = false;
+    Some(Command::Replay { file, table, any })
+}
+
+/// The replay of a file, whose vehicles may hold any state.
+fn replay_any<'a>(file: &'a str, table: Option<&'a str>) -> Option<Command<'a>> {
+    let any = true;
+    Some(Command::Replay { file, table, any })
+}
+
+/// The debugger on the vehicle `b` of the provider `a`.
+fn debug<'a>(file: &'a str, table: Option<&'a str>) -> Option<Command<'a>> {
+    let (provider, device) = ("a", "b");
+    Some(Command::Debug {
+        file,
+        provider,
+        device,
+        table,
+    })
 }
 
 /// The print of a table.
@@ -17,7 +35,7 @@ fn table(table: Option<&str>) -> Option<Command<'_>> {
 #[test]
 fn words_ask_for_commands(rt: HostRuntime) {
     let rows = Some("rows.json");
-    let cases: [Case<'_>; 18] = [
+    let cases: [Case<'_>; 25] = [
         (&["mds_city", "replay", "-"], replay("-", None)),
         (
             &["mds_city", "replay", "a b/events.json"],
@@ -43,6 +61,19 @@ fn words_ask_for_commands(rt: HostRuntime) {
             &["mds_city", "replay", "--table", "-", "-"],
             replay("-", Some("-")),
         ),
+        (&["mds_city", "replay", "-", "--any"], replay_any("-", None)),
+        (
+            &["mds_city", "replay", "--any", "--table", "rows.json", "F"],
+            replay_any("F", rows),
+        ),
+        (&["mds_city", "debug", "F", "a", "b"], debug("F", None)),
+        (
+            &["mds_city", "debug", "-", "--table=rows.json", "a", "b"],
+            debug("-", rows),
+        ),
+        (&["mds_city", "debug", "F", "a"], None),
+        (&["mds_city", "debug", "F", "a", "b", "--any"], None),
+        (&["mds_city", "replay", "-", "--any=true"], None),
         (&[], None),
         (&["mds_city"], None),
         (&["mds_city", "replay", "--table", "rows.json"], None),
