@@ -1,0 +1,73 @@
+//! The replay of a file's items.
+ghost use Rattle.std.specs.Prelude.{◌≡◌, map, count_by, IfOk};
+ghost use Rattle.mds_trace.specs.Verdict.{accepts};
+ghost use Rattle.mds_trace.specs.Replay.{IsReport};
+
+#[cfg(test)]
+mod tests;
+
+use crate::followed::Followed;
+use crate::judge::{Vehicles, judge_item};
+use crate::{Opening, Report, VehicleEnd, Verdict};
+use indexmap::{IndexMap, IndexSet};
+use mds_batch::EventItem;
+use mds_core::Key;
+use mds_table::Table;
+use std::alloc::{AllocError, Global};
+
+/// Replays the items of a provider's file over a table, one after the other.
+///
+/// The verdict on an event is the machine's outcome after a registration of its vehicle and the accepted events of the
+/// vehicle before it. With [`Opening::Any`] the first event of a vehicle is accepted where it leads from some state to
+/// the one that it reports. A faulty item is passed over, and mentions no vehicle.
+///
+/// # Errors
+///
+/// `AllocError` where there is no memory for the report, or for what is kept of the vehicles on the way.
+pub fn replay(
+    alloc: Global,
+    table: Table,
+    items: &[EventItem],
+    opening: Opening,
+) -> Result<Report, AllocError>
+    ensures report { IfOk result (IsReport opening table items.now) }
+{
+    let mut vehicles = IndexMap::new(alloc);
+    let mut names = IndexSet::new(alloc);
+    let mut lines = Vec::with_capacity(alloc, items.len())?;
+    for item in items {
+        let line = judge_item(&table, opening, &mut vehicles, &mut names, item)?;
+        lines.push(line)?;
+    }
+    let accepted = count_accepted(&lines);
+    let refused = lines.len() - accepted;
+    let vehicles = ends_of(alloc, &vehicles)?;
+    Ok(Report {
+        lines,
+        vehicles,
+        accepted,
+        refused,
+    })
+}
+
+/// How many of the verdicts accept.
+fn count_accepted(lines: &[Verdict]) -> usize
+    ensures { result ≡ count_by accepts lines.now }
+{
+    lines.iter().filter(|verdict| verdict.accepts()).count()
+}
+
+/// Where the vehicles end.
+fn ends_of(alloc: Global, vehicles: &Vehicles) -> Result<Vec<VehicleEnd>, AllocError> {
+    vehicles.iter().map(end_of).collect(alloc)
+}
+
+/// Where a vehicle ends of which this is kept.
+fn end_of(entry: (&Key, &Followed)) -> VehicleEnd {
+    let (key, vehicle) = entry;
+    VehicleEnd {
+        key: *key,
+        openings: vehicle.openings.copy(),
+        standing: vehicle.standing,
+    }
+}
