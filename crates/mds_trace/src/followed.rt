@@ -84,7 +84,7 @@ fn judge_first(table: &Table, event: &Event) -> (Verdict, Followed)
     ensures followed { IsFollowed Opening.Any table.now event.now.key (accepted_by (item.Event event.now) result.0) result.1 }
 {
     let openings = openings(table, event.types(), event.state());
-    if openings.is_empty() {
+    if openings.states().is_empty() {
         let at = stuck_from(table, &StateSet::all(), event.types());
         return (Verdict::NoOpening { at }, Followed::begins(Opening::Any));
     }

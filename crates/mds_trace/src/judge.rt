@@ -1,5 +1,6 @@
 //! The verdict on an item, by what is kept of the vehicles.
-ghost use Rattle.std.specs.Prelude.{◌≡◌, ◌<◌, ◌++◌, List, Option, length, IfOk};
+ghost use Rattle.std.specs.Prelude.{◌≡◌, ◌<◌, ◌++◌, ◌∷◌, [], ℕ, List, length, IfOk};
+ghost use Rattle.mds_table.specs.declared.row.Row.{Row};
 ghost use Rattle.mds_core.specs.declared.key.Key.{Key as Vehicle};
 ghost use Rattle.mds_core.specs.Reported.{Reported};
 ghost use Rattle.mds_core.specs.History.{same_key};
@@ -67,7 +68,10 @@ fn judge_event(
 }
 
 /// What is kept of a vehicle so far.
-fn vehicle_at(vehicles: &Vehicles, key: &Key, opening: Opening) -> Followed {
+fn vehicle_at(vehicles: &Vehicles, key: &Key, opening: Opening) -> Followed
+    ensures { (rows : List Row) (mentioned : List Vehicle) (accepted : List Reported) (seen : List (Vehicle × List ℕ))
+        → AreFollowed opening rows mentioned accepted vehicles.now.entries seen → IsFollowed opening rows key.now (prior_of key.now accepted) result }
+{
     match vehicles.get(key) {
         Some(vehicle) => vehicle.copy(),
         None => Followed::begins(opening),

@@ -6,8 +6,8 @@
 
 mod followed;
 mod judge;
-mod replay;
+mod replayer;
 mod report;
 
-pub use replay::replay;
+pub use replayer::replay;
 pub use report::{Opening, Report, VehicleEnd, Verdict};

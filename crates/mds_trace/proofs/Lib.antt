@@ -1,0 +1,6 @@
+pub mod Following
+pub mod Entries
+pub mod Mentions
+pub mod Verdicts
+pub mod Keeping
+pub mod Replaying
