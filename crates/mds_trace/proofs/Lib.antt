@@ -4,3 +4,5 @@ pub mod Mentions
 pub mod Verdicts
 pub mod Keeping
 pub mod Replaying
+pub mod Ends
+pub mod Runs

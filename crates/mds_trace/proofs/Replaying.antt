@@ -45,3 +45,10 @@ module _ (opening : Opening) (rows : List Row) (items : List EventItem) (lines :
         vehicles = subst (λ keys. AreFollowed opening rows keys (accepted_of (items ++ Faulty fault ∷ []) (lines ++ Fault fault ∷ [])) entries names) (sym mentioned)
             (subst (λ events. AreFollowed opening rows (vehicles_of (events_of items)) events entries names) (sym accepted) so_far.vehicles);
       }
+
+-- nothing is replayed yet
+pub none_replayed : (opening : Opening) (rows : List Row) → IsReplayed opening rows [] [] [] []
+none_replayed opening rows = record {
+  verdicts = record { count = refl; each = λ i item line at_item at_line. cc };
+  vehicles = record { apart = tt; unknown = λ key new. refl; vehicles = tt; named = refl };
+}

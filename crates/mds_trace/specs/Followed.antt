@@ -9,6 +9,7 @@ use Rattle.mds_batch.specs.declared.item.EventItem.{EventItem}
 use Rattle.mds_trace.specs.declared.followed.Followed.{Followed}
 use Rattle.mds_trace.specs.declared.report.Opening.{Opening}
 use Rattle.mds_trace.specs.declared.report.Verdict.{Verdict}
+use Rattle.mds_trace.specs.declared.report.VehicleEnd.{VehicleEnd}
 use Rattle.mds_trace.specs.Items.{events_of, vehicles_of}
 use Rattle.mds_trace.specs.Replay.{prior_of, accepted_of, standing_after, AreOpeningsOf, AreVerdicts}
 
@@ -16,6 +17,10 @@ use Rattle.mds_trace.specs.Replay.{prior_of, accepted_of, standing_after, AreOpe
 pub record IsFollowed (opening : Opening) (rows : List Row) (key : Key) (prior : List Reported) (vehicle : Followed) : Type 0 where
   pub openings : AreOpeningsOf opening rows prior vehicle.openings
   pub standing : vehicle.standing ≡ standing_after opening key prior
+
+-- where a vehicle ends of which this is kept
+abbrev pub end_at : Key × Followed → VehicleEnd
+end_at entry = record { key = entry.0; openings = entry.1.openings; standing = entry.1.standing }
 
 -- no key stands twice
 abbrev pub AreApart : {K : Type 0} → (K → K → Bool) → List K → Type 0

@@ -3,3 +3,4 @@ pub mod Items
 pub mod Verdict
 pub mod Replay
 pub mod Followed
+pub mod Laws

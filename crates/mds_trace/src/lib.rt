@@ -6,6 +6,7 @@
 
 mod followed;
 mod judge;
+pub mod laws;
 mod replayer;
 mod report;
 
