@@ -1,10 +1,8 @@
 -- What is kept of a vehicle goes on with each of its events.
-use Rattle.std.proofs.Common.{◌≡◌, List, [], ◌∷◌, ◌++◌, length, Option, Some, None, refl, sym, ◌∙◌, ap}
+use Rattle.std.proofs.Common.{◌≡◌, List, [], ◌∷◌, ◌++◌, Some, refl, sym, ◌∙◌, ap}
 use Rattle.std.proofs.lemmas.List.{map-append}
-use Rattle.mds_table.specs.declared.state.State.{State}
 use Rattle.mds_table.specs.declared.row.Row.{Row}
 use Rattle.mds_core.specs.declared.key.Key.{Key}
-use Rattle.mds_core.specs.declared.request.Request.{Request}
 use Rattle.mds_core.specs.declared.request.Request.TheVariants.{Register, Report}
 use Rattle.mds_core.specs.declared.reply.Standing.{Standing}
 use Rattle.mds_core.specs.Reported.{Reported}
@@ -13,7 +11,7 @@ use Rattle.mds_trace.specs.declared.report.Opening.{Opening}
 use Rattle.mds_trace.specs.declared.report.Opening.TheVariants.{Removed, Any}
 use Rattle.mds_trace.specs.declared.report.Verdict.{Verdict}
 use Rattle.mds_trace.specs.declared.followed.Followed.{Followed}
-use Rattle.mds_trace.specs.Replay.{requests_of, standing_after, AreOpeningsOf, IsOutcome, IsVerdictOn}
+use Rattle.mds_trace.specs.Replay.{requests_of, IsOutcome, IsVerdictOn}
 use Rattle.mds_trace.specs.Followed.{IsFollowed}
 
 pub requests-push : (key : Key) (prior : List Reported) (event : Reported) → requests_of key (prior ++ event ∷ []) ≡ requests_of key prior ++ Report event ∷ []

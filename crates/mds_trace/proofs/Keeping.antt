@@ -1,5 +1,5 @@
 -- What is kept of the vehicles goes on with each event.
-use Rattle.std.proofs.Common.{◌≡◌, ℕ, ◌&&◌, ◌||◌, if◌then◌else◌, cond, List, [], ◌∷◌, ◌++◌, map, filter, Bool, true, false, refl, sym, ◌∙◌, ap, subst}
+use Rattle.std.proofs.Common.{◌≡◌, ℕ, ◌&&◌, ◌||◌, if◌then◌else◌, cond, List, [], ◌∷◌, ◌++◌, map, Bool, true, false, refl, sym, ◌∙◌, ap, subst}
 use Rattle.std.specs.List.{list_any}
 use Rattle.std.specs.Str.{bytes_eq}
 use Rattle.std.proofs.lemmas.Bool.{true≢false}
@@ -21,7 +21,7 @@ use Rattle.mds_trace.specs.declared.followed.Followed.{Followed}
 use Rattle.mds_trace.specs.Verdict.{accepts}
 use Rattle.mds_trace.specs.Replay.{accepted_by, prior_of, requests_of, IsVerdictOn}
 use Rattle.mds_trace.specs.Followed.{name_of, IsFollowed, AreFollowed}
-use Rattle.mds_trace.proofs.Entries.{other_way, none_inserted, apart_insert, insert_new, inserted}
+use Rattle.mds_trace.proofs.Entries.{other_way, none_inserted, apart_insert, inserted}
 use Rattle.mds_trace.proofs.Following.{reports-requests_of}
 use Rattle.mds_trace.proofs.Verdicts.{prior_same, prior_other}
 
@@ -45,7 +45,7 @@ named key id (event ∷ accepted) = by_key (same_key event.key key) refl (named 
   by_key : (b : Bool) → same_key event.key key ≡ b
       → list_any (same_name (key, id)) (map name_of accepted) ≡ list_any (λ e. bytes_eq e.id id) (prior_of key accepted)
       → ((same_key key event.key && bytes_eq id event.id) || list_any (same_name (key, id)) (map name_of accepted))
-        ≡ list_any (λ e. bytes_eq e.id id) (cond b (event ∷ prior_of key accepted) (prior_of key accepted))
+      ≡ list_any (λ e. bytes_eq e.id id) (cond b (event ∷ prior_of key accepted) (prior_of key accepted))
   by_key true is rest =
       let its_own : same_key key event.key ≡ true = ap (same_key key) (same_key_is event.key key is) ∙ same_key_refl key in
       rw (its_own, bytes_eq-sym id event.id, rest) refl

@@ -1,5 +1,5 @@
 -- A replay goes on with each item.
-use Rattle.std.proofs.Common.{◌≡◌, ℕ, ◌++◌, ◌∷◌, List, [], length, refl, sym, ◌∙◌, ap, subst}
+use Rattle.std.proofs.Common.{◌≡◌, ℕ, ◌++◌, ◌∷◌, List, [], refl, sym, ◌∙◌, ap, subst}
 use Rattle.std.proofs.lemmas.List.{append-nil}
 use Rattle.indexmap.specs.IndexSet.{insert_key}
 use Rattle.mds_table.specs.declared.row.Row.{Row}

@@ -44,7 +44,7 @@ module _ (rows : List Row) where
 
   in_turn : (accepted : List Reported) (items : List EventItem) (lines : List Verdict) → length lines ≡ length items
       → ((i : ℕ) (item : EventItem) (line : Verdict) → slice_get items i ≡ Some item → slice_get lines i ≡ Some line
-        → IsVerdict Removed rows (accepted ++ accepted_of (take i items) (take i lines)) item line)
+      → IsVerdict Removed rows (accepted ++ accepted_of (take i items) (take i lines)) item line)
       → InTurn accepted items lines
   in_turn accepted [] [] count each = tt
   in_turn accepted [] (line ∷ lines) count each = absurd (omega (arith, count))
@@ -52,8 +52,8 @@ module _ (rows : List Row) where
   in_turn accepted (item ∷ items) (line ∷ lines) count each = (
     subst (λ events. IsVerdict Removed rows events item line) (append-nil accepted) (each zero item line refl refl),
     in_turn (accepted ++ accepted_by item line) items lines (omega (arith, count)) (λ i other said at_item at_line.
-      subst (λ events. IsVerdict Removed rows events other said) (sym (append_assoc accepted (accepted_by item line) (accepted_of (take i items) (take i lines))))
-      (each (suc i) other said at_item at_line)),
+        subst (λ events. IsVerdict Removed rows events other said) (sym (append_assoc accepted (accepted_by item line) (accepted_of (take i items) (take i lines))))
+        (each (suc i) other said at_item at_line)),
   )
 
   -- the same over the events alone
@@ -102,13 +102,13 @@ fits_more : (before : List Request) (accepted : List Reported) (history : List R
     → ((key : Key) → request ≡ Register key → own history key ≡ [] → ⊥) → Fits (before ++ request ∷ []) accepted history
 fits_more before accepted history request fits old key = elim (fits key) [
   | inl new ↦ inl (record {
-      own_list = new.own_list;
-      prior = new.prior;
-      absent = λ found. elim (Contains-push_cases before request (Register key) found) [
-        | inl earlier ↦ new.absent earlier
-        | inr is ↦ old key is new.own_list
-      ];
-    })
+    own_list = new.own_list;
+    prior = new.prior;
+    absent = λ found. elim (Contains-push_cases before request (Register key) found) [
+      | inl earlier ↦ new.absent earlier
+      | inr is ↦ old key is new.own_list
+    ];
+  })
   | inr known ↦ inr known
 ]
 
@@ -125,13 +125,13 @@ fits_registered before accepted history key fits new other = by_key (same_key ke
       inr (own-push_same history (Register key) other is ∙ ap (λ all. all ++ Register key ∷ []) nothing ∙ ap (λ k. Register k ∷ []) same ∙ ap (requests_of other) (sym none))
   by_key false is = elim (fits other) [
     | inl still ↦ inl (record {
-        own_list = own-push_other history (Register key) other is ∙ still.own_list;
-        prior = still.prior;
-        absent = λ found. elim (Contains-push_cases before (Register key) (Register other) found) [
-          | inl earlier ↦ still.absent earlier
-          | inr same ↦ let equal : key ≡ other = cc in absurd (true≢false (sym (same_key_refl key) ∙ ap (same_key key) equal ∙ is))
-        ];
-      })
+      own_list = own-push_other history (Register key) other is ∙ still.own_list;
+      prior = still.prior;
+      absent = λ found. elim (Contains-push_cases before (Register key) (Register other) found) [
+        | inl earlier ↦ still.absent earlier
+        | inr same ↦ let equal : key ≡ other = cc in absurd (true≢false (sym (same_key_refl key) ∙ ap (same_key key) equal ∙ is))
+      ];
+    })
     | inr known ↦ inr (own-push_other history (Register key) other is ∙ known)
   ]
 
@@ -153,13 +153,13 @@ fits_accepted before accepted history event fits known other = by_key (same_key 
       let prior = prior_other accepted event (Accepted event.state) other is in
       elim (fits other) [
         | inl new ↦ inl (record {
-            own_list = own-push_other history (Report event) other is ∙ new.own_list;
-            prior = prior ∙ new.prior;
-            absent = λ found. elim (Contains-push_cases before (Report event) (Register other) found) [
-              | inl earlier ↦ new.absent earlier
-              | inr same ↦ cc
-            ];
-          })
+          own_list = own-push_other history (Report event) other is ∙ new.own_list;
+          prior = prior ∙ new.prior;
+          absent = λ found. elim (Contains-push_cases before (Report event) (Register other) found) [
+            | inl earlier ↦ new.absent earlier
+            | inr same ↦ cc
+          ];
+        })
         | inr kept ↦ inr (own-push_other history (Report event) other is ∙ kept ∙ ap (requests_of other) (sym prior))
       ]
 

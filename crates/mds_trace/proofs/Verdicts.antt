@@ -1,5 +1,5 @@
 -- Verdicts, and the events that they accept, when one more item comes.
-use Rattle.std.proofs.Common.{◌≡◌, ◌⊎◌, inl, inr, ℕ, zero, suc, ◌+◌, ◌<◌, ◌≤◌, if◌then◌else◌, cond, List, [], ◌∷◌, ◌++◌, length, take, slice_get, filter, not, Some, Bool, true, false, append_assoc, length-append, refl, sym, ◌∙◌, ap, subst, arith}
+use Rattle.std.proofs.Common.{◌≡◌, ◌⊎◌, inl, inr, ℕ, zero, suc, ◌<◌, ◌≤◌, if◌then◌else◌, cond, List, [], ◌∷◌, ◌++◌, length, take, slice_get, not, Some, Bool, true, false, append_assoc, length-append, refl, sym, ◌∙◌, ap, subst, arith}
 use Rattle.std.proofs.lemmas.List.{append-nil, take-append-le}
 use Rattle.std.proofs.Math.Seq.{take-append_seam}
 use Rattle.std.proofs.lemmas.List.Elements.{filter-append}
@@ -59,13 +59,13 @@ verdicts-push opening rows items lines item line so_far next = record {
   count = omega (arith, so_far.count, length-append items (item ∷ []), length-append lines (line ∷ []));
   each = λ i other said at_item at_line. elim (slice_get_push items item other i at_item) [
     | inl earlier ↦ elim (slice_get_push lines line said i at_line) [
-        | inl before ↦ earlier_verdict i other said earlier.0 before.0 earlier.1 before.1
-        | inr last ↦ absurd (omega (arith, earlier.0, last.0, so_far.count))
-      ]
+      | inl before ↦ earlier_verdict i other said earlier.0 before.0 earlier.1 before.1
+      | inr last ↦ absurd (omega (arith, earlier.0, last.0, so_far.count))
+    ]
     | inr last_item ↦ elim (slice_get_push lines line said i at_line) [
-        | inl before ↦ absurd (omega (arith, last_item.0, before.0, so_far.count))
-        | inr last ↦ last_verdict i other said last_item.0 last.0 last_item.1 last.1
-      ]
+      | inl before ↦ absurd (omega (arith, last_item.0, before.0, so_far.count))
+      | inr last ↦ last_verdict i other said last_item.0 last.0 last_item.1 last.1
+    ]
   ];
 } where
   Is : EventItem → Verdict → List EventItem → List Verdict → Type 0

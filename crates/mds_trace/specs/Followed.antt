@@ -1,5 +1,5 @@
 -- What a replay keeps of each vehicle while it goes over the items.
-use Rattle.std.specs.Prelude.{◌≡◌, ℕ, List, [], ◌∷◌, map, Bool, false, Option}
+use Rattle.std.specs.Prelude.{◌≡◌, ℕ, List, [], ◌∷◌, map, Bool, false}
 use Rattle.std.specs.List.{AllZip, list_any}
 use Rattle.mds_table.specs.declared.row.Row.{Row}
 use Rattle.mds_core.specs.declared.key.Key.{Key}

@@ -42,7 +42,14 @@ fn key(device: &str) -> Result<Key, Fail> {
 fn item(told: Told<'_>) -> Result<EventItem, Fail> {
     let (device, id, state, kind, time) = told;
     let types = [TypeName::new(kind)?];
-    let event = Event::new(key(device)?, Uuid::parse_str(id)?, state, &types, time, None)?;
+    let event = Event::new(
+        key(device)?,
+        Uuid::parse_str(id)?,
+        state,
+        &types,
+        time,
+        None,
+    )?;
     Ok(EventItem::Event(event))
 }
 
@@ -75,7 +82,9 @@ fn replayed(alloc: Global, items: &[EventItem], opening: Opening) -> Result<Repo
 fn ends(alloc: Global, report: &Report) -> Result<Vec<End>, AllocError> {
     let mut ends = Vec::new(alloc);
     for end in &report.vehicles {
-        let known = end.standing.map(|standing| (standing.state, standing.events));
+        let known = end
+            .standing
+            .map(|standing| (standing.state, standing.events));
         ends.push((end.key, end.openings.states(), known))?;
     }
     Ok(ends)
@@ -199,6 +208,9 @@ fn identifiers_per_vehicle(rt: HostRuntime) -> Result<(), Fail> {
         Verdict::Refused(Refusal::Repeated),
     ];
     assert_eq!(rt; report.lines.as_slice(), verdicts.as_slice());
-    assert_eq!(rt; (report.accepted, report.refused, report.vehicles.len()), (2, 2, 2));
+    assert_eq!(rt;
+        (report.accepted, report.refused, report.vehicles.len()),
+        (2, 2, 2)
+    );
     Ok(())
 }

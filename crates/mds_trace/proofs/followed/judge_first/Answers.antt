@@ -3,7 +3,6 @@ use Rattle.std.proofs.lemmas.Bool.Decides.{nat_tests}
 use Rattle.mds_table.specs.declared.state.State.{State}
 use Rattle.mds_steps.specs.StateSet.{AreInCodeOrder}
 use Rattle.mds_steps.specs.Opening.{AreOpenings}
-use Rattle.mds_steps.specs.Stuck.{IsStuckFrom}
 use Rattle.mds_steps.proofs.Sets.{some_in}
 use Rattle.mds_core.specs.declared.request.Request.TheVariants.{Register}
 use Rattle.mds_trace.proofs.followed.judge_first.Goals as goal

@@ -44,5 +44,5 @@ returns c = λ mentioned accepted are few.
     ] in (
       verdict,
       subst (λ all. AreFollowed opening rows (insert_key same_key mentioned event.key) (accepted ++ accepted_by (Event event) line) all c.if-accepts.names.keys) (sym entries)
-      (next_followed opening rows mentioned accepted c.args.vehicles.now.entries names c.if-accepts.names.keys event line c.judge-line.result.1 are followed now),
+          (next_followed opening rows mentioned accepted c.args.vehicles.now.entries names c.if-accepts.names.keys event line c.judge-line.result.1 are followed now),
     )

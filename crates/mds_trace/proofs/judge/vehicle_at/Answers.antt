@@ -1,4 +1,4 @@
-use Rattle.std.proofs.Common.{◌≡◌, [], None, Some, sym, ◌∙◌, ap, subst}
+use Rattle.std.proofs.Common.{◌≡◌, None, Some, sym, ◌∙◌, ap, subst}
 use Rattle.std.specs.Map.{lookup}
 use Rattle.mds_core.specs.History.{same_key}
 use Rattle.mds_core.proofs.Histories.{same_key_is, same_key_refl}

@@ -1,4 +1,4 @@
-use Rattle.std.proofs.Common.{List, take, subst, arith}
+use Rattle.std.proofs.Common.{List, subst, arith}
 use Rattle.std.proofs.lemmas.List.{take_all}
 use Rattle.mds_batch.specs.declared.item.EventItem.{EventItem}
 use Rattle.mds_trace.specs.Items.{events_of, vehicles_of}

@@ -1,9 +1,6 @@
-use Rattle.std.proofs.Common.{◌≡◌, ◌<◌, ◌∙◌, length, Some, refl, ap, subst, arith}
+use Rattle.std.proofs.Common.{◌<◌, length, Some, ap}
 use Rattle.std.below.core.specs.declared.int.usize.TheConstants.{MAX}
-use Rattle.mds_core.specs.declared.request.Request.TheVariants.{Report}
-use Rattle.mds_core.specs.declared.decision.Known.{Known}
 use Rattle.mds_core.specs.History.{reports}
-use Rattle.mds_core.specs.Known.{AreKnown}
 use Rattle.mds_trace.specs.Replay.{requests_of}
 use Rattle.mds_trace.proofs.Following.{known_is, known_verdict, known_after, reports-requests_of}
 use Rattle.mds_trace.proofs.followed.Followed.judge.Goals as goal
