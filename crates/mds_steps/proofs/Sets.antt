@@ -7,6 +7,7 @@ use Rattle.mds_table.specs.Chain.{Leads, Passes, IsStuckAt}
 use Rattle.mds_steps.specs.Step.{AreNext, ArePrevious}
 use Rattle.mds_steps.specs.Reached.{AreReached}
 use Rattle.mds_steps.specs.Opening.{AreOpenings}
+use Rattle.mds_steps.specs.Stuck.{PassesFrom}
 use Rattle.mds_steps.proofs.Chains.{leads_by_row, row_of_step, join, split, split_at, passes_fewer}
 
 pub none_in_empty : {X : Type 0} (x : X) → Contains [] x → ⊥
@@ -141,3 +142,17 @@ module _ (rows : List Row) where
       stuck = λ less. absurd (omega (arith, less));
     },
   )
+
+  -- from a set: where some state is reached by the first types, they can be passed
+  pub passes_from : (set : List State) (kinds : List (List ℕ)) (at : ℕ) (reached : List State) → AreReached rows set (take at kinds) reached
+      → (reached ≡ [] → ⊥) → PassesFrom rows set kinds at
+  passes_from set kinds at reached all not_empty =
+      let some = some_in reached not_empty in
+      let from = (all some.0).0 some.1 in
+      (from.0, from.1, (some.0, from.2))
+
+  -- where none is, they can't
+  pub passes_none : (set : List State) (kinds : List (List ℕ)) (at : ℕ) (reached : List State) → reached ≡ [] → AreReached rows set (take at kinds) reached
+      → PassesFrom rows set kinds at → ⊥
+  passes_none set kinds at reached nothing all passes =
+      none_in_empty passes.2.0 (subst (λ states. Contains states passes.2.0) nothing ((all passes.2.0).1 (passes.0, passes.1, passes.2.1)))

@@ -6,3 +6,4 @@ pub mod Step
 pub mod Reached
 pub mod Opening
 pub mod NoChain
+pub mod Stuck

@@ -2,6 +2,7 @@
 ghost use Rattle.std.specs.Prelude.{◌↔◌, Some, IsOk, IfErr};
 ghost use Rattle.mds_table.specs.Chain.{Leads, IsStuckAt};
 ghost use Rattle.mds_steps.specs.NoChain.{no_chain_text};
+ghost use Rattle.mds_steps.specs.Stuck.{IsStuckFrom};
 
 use crate::StateSet;
 use crate::steps::next_states;
@@ -49,4 +50,19 @@ pub fn admit(table: &Table, held: State, types: &[TypeName], reported: State) ->
     } else {
         Err(NoChain { at: types.len() })
     }
+}
+
+/// How far an event with these types gets from a set of states: the place of the first type that no chain from a state of
+/// the set passes, or the number of types where all can be passed. Of the empty set that is 0.
+pub fn stuck_from(table: &Table, set: &StateSet, types: &[TypeName]) -> usize
+    ensures { IsStuckFrom table.now set.now types.now result }
+{
+    let mut states = set.copy();
+    for (place, kind) in types.iter().enumerate() {
+        states = next_states(table, &states, kind);
+        if states.is_empty() {
+            return place;
+        }
+    }
+    types.len()
 }

@@ -12,6 +12,6 @@ mod steps;
 #[cfg(test)]
 mod tests;
 
-pub use admission::{NoChain, admit};
+pub use admission::{NoChain, admit, stuck_from};
 pub use reach::{forward, openings};
 pub use state_set::StateSet;

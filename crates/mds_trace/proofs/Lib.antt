@@ -1,0 +1,8 @@
+pub mod Following
+pub mod Entries
+pub mod Mentions
+pub mod Verdicts
+pub mod Keeping
+pub mod Replaying
+pub mod Ends
+pub mod Runs

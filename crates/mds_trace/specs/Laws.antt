@@ -1,0 +1,56 @@
+-- What holds of replays.
+use Rattle.std.specs.Prelude.{◌≡◌, ℕ, List, [], take, slice_get, Contains, Option, Some, None}
+use Rattle.std.specs.List.{filter_map, zip}
+use Rattle.mds_table.specs.declared.row.Row.{Row}
+use Rattle.mds_core.specs.declared.request.Request.{Request}
+use Rattle.mds_core.specs.declared.request.Request.TheVariants.{Register, Report, Look}
+use Rattle.mds_core.specs.declared.reply.Outcome.{Outcome}
+use Rattle.mds_core.specs.declared.reply.Outcome.TheVariants.{Done, Refused as RefusedBy}
+use Rattle.mds_core.specs.declared.reply.Reply.{Reply}
+use Rattle.mds_core.specs.Reported.{Reported}
+use Rattle.mds_core.specs.History.{reports}
+use Rattle.mds_core.specs.Run.{IsRun}
+use Rattle.mds_batch.specs.declared.item.EventItem.{EventItem}
+use Rattle.mds_trace.specs.declared.report.Opening.TheVariants.{Removed}
+use Rattle.mds_trace.specs.declared.report.Verdict.{Verdict}
+use Rattle.mds_trace.specs.declared.report.Verdict.TheVariants.{Accepted, Refused, NoOpening, Fault}
+use Rattle.mds_trace.specs.Items.{events_of}
+use Rattle.mds_trace.specs.Replay.{AreVerdicts}
+
+-- the outcome that a verdict tells; of a faulty item there is none
+abbrev pub outcome_told : Verdict → Option Outcome
+outcome_told (Accepted state) = Some Done
+outcome_told (Refused refusal) = Some (RefusedBy refusal)
+outcome_told (NoOpening at) = None
+outcome_told (Fault fault) = None
+
+-- the outcome of a request that reports an event
+abbrev pub outcome_of_report : Request → Reply → Option Outcome
+outcome_of_report (Register key) reply = None
+outcome_of_report (Report event) reply = Some reply.outcome
+outcome_of_report (Look key) reply = None
+
+-- the outcomes of the reports among requests with these replies, in their order
+abbrev pub outcomes_of_reports : List Request → List Reply → List Outcome
+outcomes_of_reports requests replies = filter_map (λ one. outcome_of_report one.0 one.1) (zip requests replies)
+
+-- each report stands behind a registration of its vehicle
+abbrev pub AreRegisteredFirst : List Request → Type 0
+AreRegisteredFirst requests = (i : ℕ) (event : Reported) → slice_get requests i ≡ Some (Report event) → Contains (take i requests) (Register event.key)
+
+-- the machine has one run of the requests from nothing, and the outcomes of its reports are those that the verdicts tell
+pub record IsRunOf (rows : List Row) (requests : List Request) (lines : List Verdict) : Type 0 where
+  pub replies : List Reply
+  pub history : List Request
+  pub run : IsRun rows [] requests replies history
+  pub only : (others : List Reply) (left : List Request) → IsRun rows [] requests others left → (others ≡ replies) × (left ≡ history)
+  pub outcomes : outcomes_of_reports requests replies ≡ filter_map outcome_told lines
+
+-- so it is of all requests that report the events of the items, in their order, each behind a registration of its vehicle,
+-- whatever registrations and looks stand between
+abbrev pub AreOutcomes : List Row → List EventItem → List Verdict → Type 0
+AreOutcomes rows items lines = (requests : List Request) → reports requests ≡ events_of items → AreRegisteredFirst requests → IsRunOf rows requests lines
+
+-- the verdicts of a replay in which each vehicle begins with a registration are the outcomes of a run of the machine
+abbrev pub ReplaysAreRuns : Type 0
+ReplaysAreRuns = (rows : List Row) (items : List EventItem) (lines : List Verdict) → AreVerdicts Removed rows items lines → AreOutcomes rows items lines
