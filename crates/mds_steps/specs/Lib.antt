@@ -5,4 +5,5 @@ pub mod StateSet
 pub mod Step
 pub mod Reached
 pub mod Opening
+pub mod LeastChain
 pub mod NoChain
