@@ -1,0 +1,5 @@
+pub use Rattle.mds_core.specs.Reported
+pub use Rattle.mds_steps.specs.LeastChain
+pub mod Walk
+pub mod Session
+pub mod SessionFault
