@@ -1,5 +1,5 @@
 -- Sessions: a vehicle's events, one after the other, and type by type within an event.
-use Rattle.std.specs.Prelude.{◌≡◌, ◌≢◌, ◌↔◌, ◌⊎◌, ◌<◌, ◌≤◌, ◌+◌, ◌++◌, ℕ, zero, suc, List, [], ◌∷◌, length, map, take, Contains, Option, Some, None, slice_get}
+use Rattle.std.specs.Prelude.{◌≡◌, ◌≢◌, ◌↔◌, ◌⊎◌, ◌<◌, ◌≤◌, ◌+◌, ◌-◌, ℕ, zero, suc, List, [], length, map, take, Contains, Option, Some, None, slice_get}
 use Rattle.std.specs.List.{All, AllPairs}
 use Rattle.std.specs.Option.{option_map_or}
 use Rattle.mds_table.specs.declared.state.State.{State}
@@ -107,11 +107,14 @@ identifiers_of events = map (λ event. event.id) events
 abbrev pub IsNewAfter : List Reported → Reported → Type 0
 IsNewAfter before event = All (λ earlier. earlier.id ≢ event.id) before
 
--- the event at a place is of the vehicle of the one before it, if there is one, and not earlier
-abbrev pub FollowsOn : List Reported → ℕ → Type 0
-FollowsOn events zero = Unit {0}
-FollowsOn events (suc i) = (before after : Reported) → slice_get events i ≡ Some before → slice_get events (suc i) ≡ Some after
-    → (before.key ≡ after.key) × (before.time ≤ after.time)
+-- two events are of one vehicle, and the second isn't earlier
+pub record ComesNext (last event : Reported) : Type 0 where
+  pub key : last.key ≡ event.key
+  pub time : last.time ≤ event.time
+
+-- an event comes next after the last of the events before it, if there are any
+abbrev pub FollowsOn : List Reported → Reported → Type 0
+FollowsOn before event = (last : Reported) → slice_get before (length before - 1) ≡ Some last → ComesNext last event
 
 -- the place of the first event from a place on that reports the state, if there is one
 abbrev pub IsFirstReporting : List Reported → ℕ → State → Option ℕ → Type 0

@@ -1,7 +1,7 @@
 //! The events of a session: what stands at a place, and whether a session over them may be opened.
-ghost use Rattle.std.specs.Prelude.{◌≡◌, ◌↔◌, ◌<◌, ◌++◌, List, [], ◌∷◌, IsTrue, IfOk, IfErr, OnOk, length};
+ghost use Rattle.std.specs.Prelude.{◌≡◌, ◌↔◌, ◌++◌, List, [], ◌∷◌, IsTrue, IfOk, IfErr, OnOk};
 ghost use Rattle.mds_core.specs.Reported.{Reported};
-ghost use Rattle.mds_trace.specs.Session.{held_at, types_at, identifiers_of, AreOpenFrom, IsNewAfter, FollowsOn, IsFirstReporting, IsFaultOf};
+ghost use Rattle.mds_trace.specs.Session.{held_at, types_at, identifiers_of, AreOpenFrom, AreInOrder, IsNewAfter, ComesNext, FollowsOn, IsFirstReporting, IsFaultOf};
 
 use crate::SessionFault;
 use indexmap::IndexSet;
@@ -51,8 +51,7 @@ pub fn check_events(
 {
     let mut seen = IndexSet::with_capacity(alloc, events.len())?;
     for (at, event) in events.iter().enumerate() {
-        let is_new = is_new(&mut seen, event)?;
-        if !(is_new && follows_on(events, at)) {
+        if !keeps_order(&mut seen, &events[..at], event)? {
             return Err(SessionFault::BadOrder { event: at });
         }
         let held = held_at(opening, events, at);
@@ -66,6 +65,19 @@ pub fn check_events(
     Ok(())
 }
 
+/// Whether the event may stand behind these, whose identifiers were seen; its own is then seen too.
+fn keeps_order(
+    seen: &mut IndexSet<Uuid>,
+    before: &[Event],
+    event: &Event,
+) -> Result<bool, AllocError>
+    ensures { IfOk result (λ keeps. seen.old.keys ≡ identifiers_of before.now → AreInOrder before.now
+        → (IsTrue keeps ↔ AreInOrder (before.now ++ event.now ∷ [])) × (IsTrue keeps → seen.new.keys ≡ identifiers_of (before.now ++ event.now ∷ []))) }
+{
+    let is_new = is_new(seen, event)?;
+    Ok(is_new && follows_on(before, event))
+}
+
 /// Whether the event has an identifier that none of those seen has; it is then seen too.
 fn is_new(seen: &mut IndexSet<Uuid>, event: &Event) -> Result<bool, AllocError>
     ensures { IfOk result (λ new. (before : List Reported) → seen.old.keys ≡ identifiers_of before
@@ -74,17 +86,21 @@ fn is_new(seen: &mut IndexSet<Uuid>, event: &Event) -> Result<bool, AllocError>
     Ok(seen.insert(event.id())?)
 }
 
-/// Whether the event at this place is the first, or is of the vehicle of the event before it and not earlier.
-fn follows_on(events: &[Event], at: usize) -> bool
-    requires { at < length events.now }
-    ensures { IsTrue result ↔ FollowsOn events.now at }
+/// Whether the event is the first, or is of the vehicle of the last event before it and not earlier.
+fn follows_on(before: &[Event], event: &Event) -> bool
+    ensures { IsTrue result ↔ FollowsOn before.now event.now }
 {
-    if at == 0 {
-        return true;
+    match before.last() {
+        Some(last) => comes_next(last, event),
+        None => true,
     }
-    let before = &events[at - 1];
-    let event = &events[at];
-    before.key() == event.key() && before.time() <= event.time()
+}
+
+/// Whether both events are of one vehicle, and the second isn't earlier.
+fn comes_next(last: &Event, event: &Event) -> bool
+    ensures { IsTrue result ↔ ComesNext last.now event.now }
+{
+    last.key() == event.key() && last.time() <= event.time()
 }
 
 /// The first event from this place on that reports this state.
