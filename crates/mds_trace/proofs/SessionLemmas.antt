@@ -4,11 +4,11 @@ use Rattle.std.specs.List.{All, list_any}
 use Rattle.std.specs.Option.{option_map_or}
 use Rattle.std.specs.Str.{bytes_eq}
 use Rattle.std.proofs.lemmas.Bool.{cases_Bool, cases_lt, false_from_ne_true, true≢false}
-use Rattle.std.proofs.lemmas.List.{get_or_append_left, take_more, map-append}
+use Rattle.std.proofs.lemmas.List.{get_or_append_left, take_more, take_all, map-append}
 use Rattle.std.proofs.lemmas.List.Elements.{All-nil, All-cons}
 use Rattle.std.proofs.lemmas.List.Quantifiers.{all_pairs_push}
 use Rattle.std.proofs.lemmas.Slice.Eq.{bytes_eq-Decides}
-use Rattle.std.proofs.Math.Seq.{get_or-append_seam}
+use Rattle.std.proofs.Math.Seq.{get_or-append_seam, take-append_seam}
 use Rattle.std.proofs.lemmas.Option.{slice_get_cases, slice_get_within, slice_get-get_or, get_or_from_slice_get}
 use Rattle.mds_table.specs.declared.state.State.{State}
 use Rattle.mds_table.specs.declared.row.Row.{Row}
@@ -156,21 +156,23 @@ slice_get_take (suc n) [] i less = refl
 slice_get_take (suc n) (event ∷ events) zero less = refl
 slice_get_take (suc n) (event ∷ events) (suc i) less = slice_get_take n events i (omega (arith, less))
 
-module _ (rows : List Row) (opening : State) (events : List Reported) where
-  held_at_take : (n i : ℕ) → i ≤ n → held_at opening (take n events) i ≡ held_at opening events i
-  held_at_take n zero within = refl
-  held_at_take n (suc i) within = ap (λ one. option_map_or (λ (event : Reported). event.state) one opening) (slice_get_take n events i (omega (arith, within)))
+-- the state held at a place of the first events is the one held there in all
+pub held_at_take : (opening : State) (events : List Reported) (n i : ℕ) → i ≤ n → held_at opening (take n events) i ≡ held_at opening events i
+held_at_take opening events n zero within = refl
+held_at_take opening events n (suc i) within =
+    ap (λ one. option_map_or (λ (event : Reported). event.state) one opening) (slice_get_take n events i (omega (arith, within)))
 
+module _ (rows : List Row) (opening : State) (events : List Reported) where
   -- one more event that leads on
   pub lead_more : (at : ℕ) (event : Reported) → slice_get events at ≡ Some event → EachLeads rows opening (take at events)
       → Leads rows (held_at opening events at) event.types event.state → EachLeads rows opening (take (at + 1) events)
   lead_more at event is before leads i other there =
       let less : i < at + 1 = omega (arith, slice_get_within (take (at + 1) events) i other there, length-take (at + 1) events) in
       let here : slice_get events i ≡ Some other = sym (slice_get_take (at + 1) events i less) ∙ there in
-      subst (λ held. Leads rows held other.types other.state) (sym (held_at_take (at + 1) i (omega (arith, less))))
+      subst (λ held. Leads rows held other.types other.state) (sym (held_at_take opening events (at + 1) i (omega (arith, less))))
       (elim (cases_lt i at) [
         | inl earlier ↦
-            subst (λ held. Leads rows held other.types other.state) (held_at_take at i (omega (arith, earlier)))
+            subst (λ held. Leads rows held other.types other.state) (held_at_take opening events at i (omega (arith, earlier)))
             (before i other (slice_get_take at events i earlier ∙ here))
         | inr rest ↦
             let same : i ≡ at = omega (arith, less, rest) in
@@ -184,6 +186,29 @@ module _ (rows : List Row) (opening : State) (events : List Reported) where
   pub open_more : (at : ℕ) (event : Reported) → slice_get events at ≡ Some event → AreOpenFrom rows opening (take at events)
       → AreInOrder (take (at + 1) events) → Leads rows (held_at opening events at) event.types event.state → AreOpenFrom rows opening (take (at + 1) events)
   open_more at event is before order leads = record { order = order; lead = lead_more at event is before.lead leads }
+
+-- over no events a session may be opened
+pub none_open : (rows : List Row) (opening : State) → AreOpenFrom rows opening []
+none_open rows opening = record {
+  order = λ i j d less within. absurd (omega (arith, within));
+  lead = λ i event at. absurd (omega (arith, slice_get_within [] i event at));
+}
+
+-- one more event behind a list
+pub open_push : (rows : List Row) (opening : State) (before : List Reported) (event : Reported) → AreOpenFrom rows opening before
+    → AreInOrder (before ++ event ∷ []) → Leads rows (held_at opening before (length before)) event.types event.state
+    → AreOpenFrom rows opening (before ++ event ∷ [])
+open_push rows opening before event is_open order leads =
+    let all = before ++ event ∷ [] in
+    let front : take (length before) all ≡ before = take-append_seam before (event ∷ []) in
+    let whole : take (length before + 1) all ≡ all = take_all (length before + 1) all (omega (arith, length-append before (event ∷ []))) in
+    let at : slice_get all (length before) ≡ Some event =
+    slice_get-get_or all (length before) event (omega (arith, length-append before (event ∷ []))) ∙ ap Some (get_or-append_seam before event [] event) in
+    let held : held_at opening before (length before) ≡ held_at opening all (length before) =
+    ap (λ events. held_at opening events (length before)) (sym front) ∙ held_at_take opening all (length before) (length before) (omega arith) in
+    subst (λ events. AreOpenFrom rows opening events) whole
+    (open_more rows opening all (length before) event at (subst (λ events. AreOpenFrom rows opening events) (sym front) is_open)
+      (subst (λ events. AreInOrder events) (sym whole) order) (subst (λ state. Leads rows state event.types event.state) held leads))
 
 -- the events up to a place are those before it and the one there
 pub take_push : (events : List Reported) (at : ℕ) (event : Reported) → at < length events → event ≡ get_or events at event

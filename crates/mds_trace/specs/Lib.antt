@@ -3,3 +3,4 @@ pub use Rattle.mds_steps.specs.LeastChain
 pub mod Walk
 pub mod Session
 pub mod SessionFault
+pub mod SessionLaws

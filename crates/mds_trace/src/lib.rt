@@ -4,6 +4,7 @@
 mod session;
 mod session_events;
 mod session_fault;
+pub mod session_laws;
 #[cfg(test)]
 mod session_tests;
 

@@ -298,6 +298,8 @@ fn faults_and_halts_have_texts(rt: HostRuntime) -> Result<(), Fail> {
         "at end",
         "at start",
     ];
-    assert!(rt; texts.iter().map(|text| text.as_str()).eq(expected));
+    for (text, words) in texts.iter().zip(expected) {
+        assert_eq!(rt; text.as_str(), words);
+    }
     Ok(())
 }
