@@ -1,6 +1,6 @@
 -- The events of a vehicle of a lawful history, walked through from removed.
-use Rattle.std.proofs.Common.{◌≡◌, ◌≢◌, ◌≤◌, ◌+◌, ◌-◌, ℕ, zero, suc, Bool, true, false, List, [], ◌∷◌, ◌++◌, length, map, take, get_or, Option, Some, None, slice_get, inl, inr, refl, sym, subst, ◌∙◌, ap, add-one, append_assoc, ◌||◌, ltb, cond, arith, length-append}
-use Rattle.std.specs.List.{All, last_or, list_any, filter_map}
+use Rattle.std.proofs.Common.{◌≡◌, ◌≢◌, ◌≤◌, ◌+◌, ◌-◌, ℕ, suc, Bool, true, false, List, [], ◌∷◌, ◌++◌, length, map, take, get_or, Option, Some, None, slice_get, inl, inr, refl, sym, subst, ◌∙◌, ap, add-one, append_assoc, ◌||◌, ltb, cond, arith, length-append}
+use Rattle.std.specs.List.{All, last_or, list_any}
 use Rattle.std.specs.Option.{option_map, option_map_or}
 use Rattle.std.specs.Str.{bytes_eq}
 use Rattle.std.proofs.lemmas.Bool.{cases_Bool, ltb-false, true≢false}
@@ -9,7 +9,6 @@ use Rattle.std.proofs.lemmas.List.Elements.{All-nil, All-cons}
 use Rattle.std.proofs.lemmas.Option.{slice_get-get_or, slice_get_within, get_or_from_slice_get}
 use Rattle.std.proofs.lemmas.Slice.Eq.{bytes_eq-Decides}
 use Rattle.std.proofs.Math.Seq.{get_or-append_seam}
-use Rattle.mds_table.specs.declared.state.State.{State}
 use Rattle.mds_table.specs.declared.state.State.TheVariants.{Removed}
 use Rattle.mds_table.specs.declared.row.Row.{Row}
 use Rattle.mds_table.specs.Chain.{Leads}
@@ -17,11 +16,11 @@ use Rattle.mds_core.specs.declared.key.Key.{Key}
 use Rattle.mds_core.specs.declared.request.Request.{Request}
 use Rattle.mds_core.specs.declared.request.Request.TheVariants.{Register, Report, Look}
 use Rattle.mds_core.specs.Reported.{Reported}
-use Rattle.mds_core.specs.History.{own, reports, report_of, held, key_of, same_key, has_event, is_late, last_time}
+use Rattle.mds_core.specs.History.{own, reports, held, key_of, same_key, is_late, last_time}
 use Rattle.mds_core.specs.Answer.{IsOpen}
-use Rattle.mds_core.specs.Lawful.{IsCareer, IsLawfulOf, IsLawful}
+use Rattle.mds_core.specs.Lawful.{IsCareer, IsLawfulOf}
 use Rattle.mds_core.proofs.Histories.{same_key_is}
-use Rattle.mds_trace.specs.Session.{AreOpenFrom, held_at, IsNewAfter, ComesNext, FollowsOn}
+use Rattle.mds_trace.specs.Session.{AreOpenFrom, held_at, IsNewAfter, FollowsOn}
 use Rattle.mds_trace.specs.SessionLaws.{LawfulReportsOpen}
 use Rattle.mds_trace.proofs.SessionLemmas.{held_at_take, none_open, open_push, order_more}
 
@@ -55,8 +54,8 @@ new_to id (event ∷ rest) none =
     elim (cases_Bool (bytes_eq event.id id)) [
       | inl found ↦ absurd (true≢false (sym (ap (λ here. here || list_any (λ (one : Reported). bytes_eq one.id id) rest) found) ∙ none))
       | inr other ↦ All-cons (λ (one : Reported). one.id ≢ id) event rest
-        (λ same. true≢false (sym ((bytes_eq-Decides event.id id).1 same) ∙ other))
-        (new_to id rest (sym (ap (λ here. here || list_any (λ (one : Reported). bytes_eq one.id id) rest) other) ∙ none))
+          (λ same. true≢false (sym ((bytes_eq-Decides event.id id).1 same) ∙ other))
+          (new_to id rest (sym (ap (λ here. here || list_any (λ (one : Reported). bytes_eq one.id id) rest) other) ∙ none))
     ]
 
 -- what holds of each element holds of each of a front, and of one in the middle
@@ -105,13 +104,13 @@ module _ (rows : List Row) (key registered : Key) where
       let new : IsNewAfter done event = new_to event.id done (sym (ap (list_any (λ (one : Reported). bytes_eq one.id event.id)) (reports_of done)) ∙ career.0.new) in
       let leads : Leads rows (held_at Removed done (length done)) event.types event.state =
       subst (λ state. Leads rows state event.types event.state)
-        (ap (λ events. option_map_or (λ (one : Reported). one.state) (last_or None events) Removed) (reports_of done) ∙ held_is done) career.1 in
+      (ap (λ events. option_map_or (λ (one : Reported). one.state) (last_or None events) Removed) (reports_of done) ∙ held_is done) career.1 in
       let next : AreOpenFrom rows Removed (done ++ event ∷ []) =
       open_push rows Removed done event before (order_more done event before.order new (comes_next done event theirs same career.0)) leads in
       let grown : told done ++ Report event ∷ [] ≡ told (done ++ event ∷ []) = ap (λ more. Register registered ∷ more) (sym (map-append Report done (event ∷ []))) in
       subst (λ events. AreOpenFrom rows Removed events) (sym all)
       (goes_on rest (done ++ event ∷ []) (subst (λ events. All (λ (one : Reported). one.key ≡ key) events) all keys) next
-        (subst (λ requests. IsCareer rows requests (map Report rest)) grown career.2))
+      (subst (λ requests. IsCareer rows requests (map Report rest)) grown career.2))
 
 -- a career is reports alone
 all_reports : (rows : List Row) (before rest : List Request) → IsCareer rows before rest → rest ≡ map Report (reports rest)
@@ -128,8 +127,8 @@ held_told registered events i within =
     let told : reports (take i (map Report events)) ≡ take i events = ap reports (take-map Report i events) ∙ reports_of (take i events) in
     let held_there : held_at Removed (take i events) i ≡ held_at Removed events i = held_at_take Removed events i i (omega arith) in
     rw add-one (sym (
-      ap (λ all. option_map_or (λ (one : Reported). one.state) (last_or None all) Removed) told ∙ held_is (take i events)
-      ∙ ap (held_at Removed (take i events)) front ∙ held_there))
+    ap (λ all. option_map_or (λ (one : Reported). one.state) (last_or None all) Removed) told ∙ held_is (take i events)
+    ∙ ap (held_at Removed (take i events)) front ∙ held_there))
 
 of_lawful : (rows : List Row) (requests : List Request) (key : Key) → IsLawfulOf rows requests → requests ≢ []
     → All (λ (one : Reported). one.key ≡ key) (reports requests)

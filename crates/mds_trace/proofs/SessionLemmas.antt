@@ -4,7 +4,7 @@ use Rattle.std.specs.List.{All, list_any}
 use Rattle.std.specs.Option.{option_map_or}
 use Rattle.std.specs.Str.{bytes_eq}
 use Rattle.std.proofs.lemmas.Bool.{cases_Bool, cases_lt, false_from_ne_true, true≢false}
-use Rattle.std.proofs.lemmas.List.{get_or_append_left, take_more, take_all, map-append}
+use Rattle.std.proofs.lemmas.List.{get_or_append_left, get_or-take, take_more, take_all, map-append}
 use Rattle.std.proofs.lemmas.List.Elements.{All-nil, All-cons}
 use Rattle.std.proofs.lemmas.List.Quantifiers.{all_pairs_push}
 use Rattle.std.proofs.lemmas.Slice.Eq.{bytes_eq-Decides}
@@ -14,8 +14,10 @@ use Rattle.mds_table.specs.declared.state.State.{State}
 use Rattle.mds_table.specs.declared.row.Row.{Row}
 use Rattle.mds_table.specs.Chain.{Leads}
 use Rattle.mds_core.specs.Reported.{Reported}
+use Rattle.mds_trace.specs.declared.session_fault.SessionFault.{SessionFault}
+use Rattle.mds_trace.specs.declared.session_fault.SessionFault.TheVariants.{Memory, Unlawful, BadOrder}
 use Rattle.mds_trace.specs.Walk.{Walk}
-use Rattle.mds_trace.specs.Session.{held_at, ArePossibleAfter, IsFirstReporting, IsFirstLater, MayPrecede, AreInOrder, identifiers_of, IsNewAfter, ComesNext, FollowsOn, EachLeads, AreOpenFrom}
+use Rattle.mds_trace.specs.Session.{held_at, ArePossibleAfter, IsFirstReporting, IsFirstLater, MayPrecede, AreInOrder, identifiers_of, IsNewAfter, ComesNext, FollowsOn, EachLeads, AreOpenFrom, IsFaultOf}
 
 -- the same states are possible, told by equal parts
 pub possible_alike : (rows other : List Row) (held same : State) (kinds types : List (List ℕ)) (set : List State)
@@ -208,7 +210,20 @@ open_push rows opening before event is_open order leads =
     ap (λ events. held_at opening events (length before)) (sym front) ∙ held_at_take opening all (length before) (length before) (omega arith) in
     subst (λ events. AreOpenFrom rows opening events) whole
     (open_more rows opening all (length before) event at (subst (λ events. AreOpenFrom rows opening events) (sym front) is_open)
-      (subst (λ events. AreInOrder events) (sym whole) order) (subst (λ state. Leads rows state event.types event.state) held leads))
+    (subst (λ events. AreInOrder events) (sym whole) order) (subst (λ state. Leads rows state event.types event.state) held leads))
+
+-- over events with a fault other than want of memory no session may be opened
+pub not_open : (rows : List Row) (opening : State) (events : List Reported) (fault : SessionFault) → IsFaultOf rows opening events fault → fault ≢ Memory
+    → AreOpenFrom rows opening events → ⊥
+not_open rows opening events Memory is other is_open = other refl
+not_open rows opening events (Unlawful at stuck) is other is_open = is.2.2.none (is_open.lead at is.2.0 is.2.1)
+not_open rows opening events (BadOrder at) is other is_open =
+    is.2 (λ i j d less within.
+    let inside : j < at + 1 = omega (arith, within, length-take (at + 1) events) in
+    let among : j < length events = omega (arith, within, length-take (at + 1) events) in
+    let pair : MayPrecede (get_or events i d) (get_or events j d) = is_open.order i j d less among in
+    subst (λ first. MayPrecede first (get_or (take (at + 1) events) j d)) (sym (get_or-take (at + 1) events i d (omega (arith, less, inside))))
+    (subst (λ second. MayPrecede (get_or events i d) second) (sym (get_or-take (at + 1) events j d inside)) pair))
 
 -- the events up to a place are those before it and the one there
 pub take_push : (events : List Reported) (at : ℕ) (event : Reported) → at < length events → event ≡ get_or events at event

@@ -2,6 +2,7 @@
 ghost use Rattle.std.specs.Prelude.{◌≡◌, ◌≢◌, ◌<◌, ◌≤◌, ◌+◌, ℕ, IfOk, IfErr, OnErr, OnOk, MatchOption, length};
 ghost use Rattle.mds_trace.specs.declared.session.Halt.TheVariants.{AtEnd, AtStart};
 ghost use Rattle.mds_trace.specs.declared.session.Place.{Place as At};
+ghost use Rattle.mds_trace.specs.declared.session_fault.SessionFault.TheVariants.{Memory};
 ghost use Rattle.mds_trace.specs.Session.{held_at, state_of, AreOpenFrom, IsPlace, IsStep, ArePossible, ArePossibleAfter, KeepsEvents, IsFirstLater, IsPresentChain, IsFaultOf};
 
 use crate::SessionFault;
@@ -87,6 +88,7 @@ impl Session {
         ensures opened { IfOk result (λ session. session ≡ record { rows = table; opening = opening; events = events.items; place = record { event = 0; passed = 0 } }) }
         ensures open { OnOk result (AreOpenFrom table opening events.items) }
         ensures fault { IfErr result (IsFaultOf table opening events.items) }
+        ensures refused { IfErr result (λ fault. fault ≢ Memory → AreOpenFrom table opening events.items → ⊥) }
     {
         check_events(alloc, &table, opening, &events)?;
         Ok(Session {
