@@ -5,5 +5,6 @@ pub mod StateSet
 pub mod Step
 pub mod Reached
 pub mod Opening
+pub mod LeastChain
 pub mod NoChain
 pub mod Stuck

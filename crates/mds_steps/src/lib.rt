@@ -6,6 +6,7 @@
 #![tactic(auto)]
 
 mod admission;
+mod chain;
 mod reach;
 mod state_set;
 mod steps;
@@ -13,5 +14,6 @@ mod steps;
 mod tests;
 
 pub use admission::{NoChain, admit, stuck_from};
+pub use chain::least_chain;
 pub use reach::{forward, openings};
 pub use state_set::StateSet;

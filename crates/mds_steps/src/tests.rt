@@ -1,9 +1,10 @@
 //! What no clause says: worked cases, and each call once.
-use crate::{NoChain, StateSet, admit, forward, openings};
+use crate::{NoChain, StateSet, admit, forward, least_chain, openings};
 use mds_table::State::{
     Available, Elsewhere, Missing, NonContactable, NonOperational, OnTrip, Removed, Reserved,
 };
 use mds_table::{State, Table, TypeName};
+use std::alloc::Global;
 use std::process::Abort;
 use std::test::Fail;
 
@@ -14,6 +15,44 @@ fn type_name(text: &str) -> Result<TypeName, Fail> {
 /// Asserts that the set has these states.
 fn expect_states(rt: &impl Abort, set: &StateSet, expected: &[State]) {
     assert_eq!(rt; set.states().as_slice(), expected);
+}
+
+/// The least chain of an event of two types by the profile; no states where there is none.
+fn profile_chain(
+    alloc: Global,
+    held: State,
+    types: [&str; 2],
+    reported: State,
+) -> Result<Vec<State>, Fail> {
+    let table = Table::profile(alloc)?;
+    let kinds = [type_name(types[0])?, type_name(types[1])?];
+    let chain = least_chain(alloc, &table, held, &kinds, reported)?;
+    Ok(chain.unwrap_or(Vec::new(alloc)))
+}
+
+#[test]
+fn least_chains(rt: HostRuntime) -> Result<(), Fail> {
+    let asked = [
+        (NonContactable, ["comms_restored", "trip_end"], Available),
+        (
+            NonContactable,
+            ["comms_restored", "comms_lost"],
+            NonContactable,
+        ),
+        (Available, ["battery_charged", "battery_low"], Available),
+        (OnTrip, ["trip_end", "battery_low"], NonOperational),
+    ];
+    let expected: [&[State]; 4] = [
+        &[NonContactable, OnTrip, Available],
+        &[NonContactable, Removed, NonContactable],
+        &[],
+        &[OnTrip, Available, NonOperational],
+    ];
+    for ((held, types, reported), chain) in asked.iter().zip(expected) {
+        let found = profile_chain(rt.alloc(), *held, *types, *reported)?;
+        assert_eq!(rt; found.as_slice(), chain);
+    }
+    Ok(())
 }
 
 #[test]

@@ -1,3 +1,4 @@
+-- Lemmas of this crate.
 pub mod Following
 pub mod Entries
 pub mod Mentions
@@ -6,3 +7,5 @@ pub mod Keeping
 pub mod Replaying
 pub mod Ends
 pub mod Runs
+pub mod SessionLemmas
+pub mod Lawful

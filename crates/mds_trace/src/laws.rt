@@ -1,10 +1,17 @@
-//! What holds of the definitions alone: of verdicts and runs, whoever computes them. Each law is a function that does
+//! What holds of the definitions alone: of verdicts and runs, and of sessions, whoever computes them. Each law is a function that does
 //! nothing; its contract is the law.
 ghost use Rattle.mds_trace.specs.Laws.{ReplaysAreRuns};
+ghost use Rattle.mds_trace.specs.SessionLaws.{LawfulReportsOpen};
 
 /// The verdicts of a replay with [`Opening::Removed`](crate::Opening::Removed) are the outcomes of the machine's run over
 /// any requests that report the same events in the same order, each behind a registration of its vehicle, whatever else
 /// is asked between.
 pub fn replays_are_runs()
     ensures { ReplaysAreRuns }
+{}
+
+/// In a lawful history, a session over the events of a registered vehicle may be opened from removed, and it shows the
+/// states that the vehicle held: before each event, and after the last, the one held after as many reports.
+pub fn lawful_reports_open()
+    ensures { LawfulReportsOpen }
 {}

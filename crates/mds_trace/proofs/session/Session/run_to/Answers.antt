@@ -1,0 +1,23 @@
+use Rattle.std.proofs.Common.{◌≡◌, Some, None, refl, subst, ap, ◌∙◌}
+use Rattle.mds_trace.specs.Walk.{Walk}
+use Rattle.mds_trace.specs.Session.{IsFirstReporting}
+use Rattle.mds_trace.proofs.SessionLemmas.{first_later, none_later}
+use Rattle.mds_trace.proofs.session.Session.run_to.Goals as goal
+
+pub returns-in-Some-clause-moved : goal.returns-in-Some-clause-moved
+returns-in-Some-clause-moved c =
+    let events : c.deref.result.now ≡ c.args.self.now.events = c.deref.ensures.value ∙ ap (λ (walk : Walk). walk.events) c.self.view_is in
+    let place : c.self.inside.place.event ≡ c.args.self.now.place.event = ap (λ (walk : Walk). walk.place.event) c.self.view_is in
+    first_later c.args.self.now c.args.state c.in-Some.event
+    (subst (λ all. IsFirstReporting all c.args.self.now.place.event c.args.state (Some c.in-Some.event)) events
+    (subst (λ from. IsFirstReporting c.deref.result.now from c.args.state (Some c.in-Some.event)) place c.in-Some.ensures))
+
+pub returns-in-None-clause-halt : goal.returns-in-None-clause-halt
+returns-in-None-clause-halt c =
+    let events : c.deref.result.now ≡ c.args.self.now.events = c.deref.ensures.value ∙ ap (λ (walk : Walk). walk.events) c.self.view_is in
+    let place : c.self.inside.place.event ≡ c.args.self.now.place.event = ap (λ (walk : Walk). walk.place.event) c.self.view_is in (
+      refl,
+      none_later c.args.self.now c.args.state
+          (subst (λ all. IsFirstReporting all c.args.self.now.place.event c.args.state None) events
+          (subst (λ from. IsFirstReporting c.deref.result.now from c.args.state None) place c.in-None.ensures)),
+    )

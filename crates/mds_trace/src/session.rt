@@ -1,0 +1,256 @@
+//! Sessions: a vehicle's events, walked through type by type.
+ghost use Rattle.std.specs.Prelude.{◌≡◌, ◌≢◌, ◌<◌, ◌≤◌, ◌+◌, ℕ, IfOk, IfErr, OnErr, OnOk, MatchOption, length};
+ghost use Rattle.mds_trace.specs.declared.session.Halt.TheVariants.{AtEnd, AtStart};
+ghost use Rattle.mds_trace.specs.declared.session.Place.{Place as At};
+ghost use Rattle.mds_trace.specs.declared.session_fault.SessionFault.TheVariants.{Memory};
+ghost use Rattle.mds_trace.specs.Session.{held_at, state_of, AreOpenFrom, IsPlace, IsStep, ArePossible, ArePossibleAfter, KeepsEvents, IsFirstLater, IsPresentChain, IsFaultOf};
+
+use crate::SessionFault;
+use crate::session_events::{check_events, first_reporting, held_at, types_at};
+use mds_core::Event;
+use mds_steps::{StateSet, forward, least_chain};
+use mds_table::{State, Table, TypeName};
+use std::alloc::{AllocError, Global};
+use std::error::Error;
+use std::fmt;
+use std::marker::Model;
+
+/// A place in a vehicle's events: before an event, within it, or at the end of all.
+#[derive(Clone, Copy, Debug, PartialEq, Eq, Hash)]
+pub struct Place {
+    /// The event, from 0; at the end, the number of events.
+    pub event: usize,
+    /// How many types of the event are passed, 0 to their number; 0 at the end.
+    pub passed: usize,
+}
+
+/// Why a session doesn't move.
+#[derive(Clone, Copy, Debug, PartialEq, Eq, Hash)]
+pub enum Halt {
+    /// No such place comes later.
+    AtEnd,
+    /// It stands before the first event.
+    AtStart,
+}
+
+impl Error for Halt {}
+
+impl fmt::Display for Halt {
+    ghost use Rattle.std.specs.Prelude.{Some};
+    ghost use Rattle.mds_trace.specs.SessionFault.{halt_text};
+
+    ghost output = { λ halt. Some (halt_text halt) };
+
+    fn fmt<W: fmt::Write>(&self, f: &mut fmt::Formatter<W>) -> fmt::Result {
+        f.write_str(match self {
+            Halt::AtEnd => "at end",
+            Halt::AtStart => "at start",
+        })
+    }
+}
+
+/// A walk through a vehicle's events, one type after the other, over one table and from one state held before the
+/// first event. It begins before the first event. Each event leads, by the table, from the state held before it to the
+/// state that it reports.
+#[derive(Debug, Drop)]
+pub struct Session {
+    table: Table,
+    opening: State,
+    events: Vec<Event>,
+    place: Place,
+}
+
+impl Model for Session {
+    ghost use Rattle.mds_trace.specs.Walk.{Walk};
+    ghost use Rattle.mds_trace.specs.Session.{AreOpenFrom, IsPlace, IsWalk};
+
+    ghost Value = { Walk };
+
+    ghost view = { λ session. record { rows = session.table; opening = session.opening; events = session.events.items; place = session.place } };
+
+    ghost invariant = { λ session. IsWalk session.table session.opening session.events.items session.place };
+}
+
+impl Session {
+    /// A session over these events, which stands before the first of them; this state is held there.
+    ///
+    /// # Errors
+    ///
+    /// The fault of the first faulty event: `BadOrder` where it is of another vehicle than the first, has the identifier
+    /// of an earlier one, or is earlier than the one before; else `Unlawful` where no chain leads from the state held
+    /// before it to the state that it reports. `Memory` where there is none to compare identifiers.
+    pub fn open(
+        alloc: Global,
+        table: Table,
+        opening: State,
+        events: Vec<Event>,
+    ) -> Result<Session, SessionFault>
+        ensures opened { IfOk result (λ session. session ≡ record { rows = table; opening = opening; events = events.items; place = record { event = 0; passed = 0 } }) }
+        ensures open { OnOk result (AreOpenFrom table opening events.items) }
+        ensures fault { IfErr result (IsFaultOf table opening events.items) }
+        ensures refused { IfErr result (λ fault. fault ≢ Memory → AreOpenFrom table opening events.items → ⊥) }
+    {
+        check_events(alloc, &table, opening, &events)?;
+        Ok(Session {
+            table,
+            opening,
+            events,
+            place: Place {
+                event: 0,
+                passed: 0,
+            },
+        })
+    }
+
+    /// Where the session stands.
+    pub fn place(&self) -> Place
+        ensures place { result ≡ self.now.place }
+        ensures within { IsPlace self.now.events result }
+    {
+        self.place
+    }
+
+    /// The state held before the present event; at the end, the one held after the last.
+    pub fn state(&self) -> State
+        ensures { result ≡ state_of self.now }
+    {
+        held_at(self.opening, &self.events, self.place.event)
+    }
+
+    /// The states in which chains from [`Session::state`] through the types passed end: where the vehicle may be at this
+    /// place, as far as the present event says.
+    pub fn possible(&self) -> StateSet
+        ensures { ArePossible self.now result }
+    {
+        let types = types_at(&self.events, self.place.event);
+        possible_after(&self.table, self.state(), &types[..self.place.passed])
+    }
+
+    /// The least chain of the present event, from the state held before it to the state that it reports; `None` at the
+    /// end.
+    ///
+    /// # Errors
+    ///
+    /// `AllocError` where there is no memory for its states.
+    pub fn chain(&self, alloc: Global) -> Result<Option<Vec<State>>, AllocError>
+        ensures { IfOk result (λ chain. MatchOption chain (self.now.place.event ≡ length self.now.events) (λ states. IsPresentChain self.now states.items)) }
+    {
+        match self.events.get(self.place.event) {
+            Some(event) => least_chain(
+                alloc,
+                &self.table,
+                self.state(),
+                event.types(),
+                event.state(),
+            ),
+            None => Ok(None),
+        }
+    }
+
+    /// Passes one type of the present event; after its last type, goes on to the next event.
+    ///
+    /// # Errors
+    ///
+    /// `AtEnd` at the end; the session stays there.
+    pub fn step(&mut self) -> Result<(), Halt>
+        ensures kept { KeepsEvents self.old self.new }
+        ensures moved { OnOk result (IsStep self.old.events self.old.place self.new.place) }
+        ensures halt { IfErr result (λ halt. (halt ≡ AtEnd) × ((to : At) → IsStep self.old.events self.old.place to → ⊥)) }
+        ensures stays { OnErr result (self.new.place ≡ self.old.place) }
+    {
+        let place = self.place;
+        if place.event == self.events.len() {
+            return Err(Halt::AtEnd);
+        }
+        self.place = if place.passed < types_at(&self.events, place.event).len() {
+            Place {
+                event: place.event,
+                passed: place.passed + 1,
+            }
+        } else {
+            Place {
+                event: place.event + 1,
+                passed: 0,
+            }
+        };
+        Ok(())
+    }
+
+    /// Undoes one step: goes to the place from which [`Session::step`] leads here.
+    ///
+    /// # Errors
+    ///
+    /// `AtStart` before the first event; the session stays there.
+    pub fn back(&mut self) -> Result<(), Halt>
+        ensures kept { KeepsEvents self.old self.new }
+        ensures moved { OnOk result (IsStep self.old.events self.new.place self.old.place) }
+        ensures halt { IfErr result (λ halt. (halt ≡ AtStart) × ((from : At) → IsStep self.old.events from self.old.place → ⊥)) }
+        ensures stays { OnErr result (self.new.place ≡ self.old.place) }
+    {
+        let place = self.place;
+        if place.passed > 0 {
+            self.place.passed = place.passed - 1;
+            return Ok(());
+        }
+        if place.event == 0 {
+            return Err(Halt::AtStart);
+        }
+        let event = place.event - 1;
+        self.place = Place {
+            event,
+            passed: types_at(&self.events, event).len(),
+        };
+        Ok(())
+    }
+
+    /// Goes on to the next event, or from within the last event to the end.
+    ///
+    /// # Errors
+    ///
+    /// `AtEnd` at the end; the session stays there.
+    pub fn next_event(&mut self) -> Result<(), Halt>
+        ensures kept { KeepsEvents self.old self.new }
+        ensures moved { OnOk result ((self.new.place ≡ record { event = self.old.place.event + 1; passed = 0 }) × (self.old.place.event < length self.old.events)) }
+        ensures halt { IfErr result (λ halt. (halt ≡ AtEnd) × (self.old.place.event ≡ length self.old.events)) }
+        ensures stays { OnErr result (self.new.place ≡ self.old.place) }
+    {
+        if self.place.event == self.events.len() {
+            return Err(Halt::AtEnd);
+        }
+        self.place = Place {
+            event: self.place.event + 1,
+            passed: 0,
+        };
+        Ok(())
+    }
+
+    /// Goes to the first later place before an event, or at the end, at which this state is held.
+    ///
+    /// # Errors
+    ///
+    /// `AtEnd` where there is no such place; the session stays where it is.
+    pub fn run_to(&mut self, state: State) -> Result<(), Halt>
+        ensures kept { KeepsEvents self.old self.new }
+        ensures moved { OnOk result (IsFirstLater self.old state self.new.place) }
+        ensures halt { IfErr result (λ halt. (halt ≡ AtEnd) × ((i : ℕ) → self.old.place.event < i → i ≤ length self.old.events → held_at self.old.opening self.old.events i ≢ state)) }
+        ensures stays { OnErr result (self.new.place ≡ self.old.place) }
+    {
+        match first_reporting(&self.events, self.place.event, state) {
+            Some(event) => {
+                self.place = Place {
+                    event: event + 1,
+                    passed: 0,
+                };
+                Ok(())
+            }
+            None => Err(Halt::AtEnd),
+        }
+    }
+}
+
+/// The states in which chains from the state held through these types end.
+fn possible_after(table: &Table, held: State, types: &[TypeName]) -> StateSet
+    ensures { ArePossibleAfter table.now held types.now result }
+{
+    forward(table, &StateSet::of(held), types)
+}

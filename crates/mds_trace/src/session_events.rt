@@ -1,0 +1,116 @@
+//! The events of a session: what stands at a place, and whether a session over them may be opened.
+ghost use Rattle.std.specs.Prelude.{◌≡◌, ◌↔◌, ◌++◌, List, [], ◌∷◌, IsTrue, IfOk, IfErr, OnOk};
+ghost use Rattle.mds_core.specs.Reported.{Reported};
+ghost use Rattle.mds_trace.specs.Session.{held_at, types_at, identifiers_of, AreOpenFrom, AreInOrder, IsNewAfter, ComesNext, FollowsOn, IsFirstReporting, IsFaultOf};
+
+use crate::SessionFault;
+use indexmap::IndexSet;
+use mds_core::Event;
+use mds_steps::admit;
+use mds_table::{State, Table, TypeName};
+use std::alloc::{AllocError, Global};
+use uuid::Uuid;
+
+/// The state held before the event at this place; past the last event, the state held after it.
+pub fn held_at(opening: State, events: &[Event], at: usize) -> State
+    ensures { result ≡ held_at opening events.now at }
+{
+    if at == 0 {
+        return opening;
+    }
+    match events.get(at - 1) {
+        Some(event) => event.state(),
+        None => opening,
+    }
+}
+
+/// The types of the event at this place; none past the last event.
+pub fn types_at(events: &[Event], at: usize) -> &[TypeName]
+    ensures { result.now ≡ types_at events.now at }
+{
+    match events.get(at) {
+        Some(event) => event.types(),
+        None => &[],
+    }
+}
+
+/// Whether a session over these events may be opened with this state held before them.
+///
+/// # Errors
+///
+/// The fault of the first faulty event, `BadOrder` before `Unlawful`; `Memory` where there is none to compare
+/// identifiers.
+pub fn check_events(
+    alloc: Global,
+    table: &Table,
+    opening: State,
+    events: &[Event],
+) -> Result<(), SessionFault>
+    ensures open { OnOk result (AreOpenFrom table.now opening events.now) }
+    ensures fault { IfErr result (IsFaultOf table.now opening events.now) }
+{
+    let mut seen = IndexSet::with_capacity(alloc, events.len())?;
+    for (at, event) in events.iter().enumerate() {
+        if !keeps_order(&mut seen, &events[..at], event)? {
+            return Err(SessionFault::BadOrder { event: at });
+        }
+        let held = held_at(opening, events, at);
+        if let Err(none) = admit(table, held, event.types(), event.state()) {
+            return Err(SessionFault::Unlawful {
+                event: at,
+                at: none.at,
+            });
+        }
+    }
+    Ok(())
+}
+
+/// Whether the event may stand behind these, whose identifiers were seen; its own is then seen too.
+fn keeps_order(
+    seen: &mut IndexSet<Uuid>,
+    before: &[Event],
+    event: &Event,
+) -> Result<bool, AllocError>
+    ensures { IfOk result (λ keeps. seen.old.keys ≡ identifiers_of before.now → AreInOrder before.now
+        → (IsTrue keeps ↔ AreInOrder (before.now ++ event.now ∷ [])) × (IsTrue keeps → seen.new.keys ≡ identifiers_of (before.now ++ event.now ∷ []))) }
+{
+    let is_new = is_new(seen, event)?;
+    Ok(is_new && follows_on(before, event))
+}
+
+/// Whether the event has an identifier that none of those seen has; it is then seen too.
+fn is_new(seen: &mut IndexSet<Uuid>, event: &Event) -> Result<bool, AllocError>
+    ensures { IfOk result (λ new. (before : List Reported) → seen.old.keys ≡ identifiers_of before
+        → (IsTrue new ↔ IsNewAfter before event.now) × (IsTrue new → seen.new.keys ≡ identifiers_of (before ++ event.now ∷ []))) }
+{
+    Ok(seen.insert(event.id())?)
+}
+
+/// Whether the event is the first, or is of the vehicle of the last event before it and not earlier.
+fn follows_on(before: &[Event], event: &Event) -> bool
+    ensures { IsTrue result ↔ FollowsOn before.now event.now }
+{
+    match before.last() {
+        Some(last) => comes_next(last, event),
+        None => true,
+    }
+}
+
+/// Whether both events are of one vehicle, and the second isn't earlier.
+fn comes_next(last: &Event, event: &Event) -> bool
+    ensures { IsTrue result ↔ ComesNext last.now event.now }
+{
+    last.key() == event.key() && last.time() <= event.time()
+}
+
+/// The first event from this place on that reports this state.
+pub fn first_reporting(events: &[Event], from: usize, state: State) -> Option<usize>
+    ensures { IsFirstReporting events.now from state result }
+{
+    for at in from..events.len() {
+        if events[at].state() == state {
+            return Some(at);
+        }
+    }
+    None
+}
