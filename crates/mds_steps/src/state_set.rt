@@ -1,9 +1,11 @@
 //! Sets of states.
 ghost use Rattle.std.specs.Prelude.{◌≡◌, ◌≤◌, ◌↔◌, ◌⊎◌, [], ◌∷◌, length, IsTrue, Contains};
-ghost use Rattle.mds_steps.specs.StateSet.{all_states, AreInCodeOrder, AreWhere, IsUnion};
+ghost use Rattle.std.specs.Prelude.{Some};
+ghost use Rattle.mds_steps.specs.StateSet.{all_states, names_of, AreInCodeOrder, AreWhere, IsUnion};
 
 use arrayvec::ArrayVec;
 use mds_table::State;
+use std::fmt;
 use std::marker::Model;
 
 /// A set of states. Contracts see it as the list of the states in it, each once, in the order of their codes.
@@ -111,5 +113,21 @@ impl StateSet {
             }
         }
         StateSet { states: found }
+    }
+}
+
+/// The names of the states in the set, in the order of their codes, with a comma between.
+impl fmt::Display for StateSet {
+    ghost output = { λ set. Some (names_of set) };
+
+    fn fmt<W: fmt::Write>(&self, f: &mut fmt::Formatter<W>) -> fmt::Result {
+        let Some((first, rest)) = self.as_slice().split_first() else {
+            return Ok(());
+        };
+        write!(f, "{first}")?;
+        for state in rest {
+            write!(f, ",{state}")?;
+        }
+        Ok(())
     }
 }
