@@ -1,5 +1,5 @@
 //! What no clause says: worked cases, and each call once.
-use crate::{NoChain, StateSet, admit, forward, least_chain, openings};
+use crate::{NoChain, StateSet, admit, forward, least_chain, openings, stuck_from};
 use mds_table::State::{
     Available, Elsewhere, Missing, NonContactable, NonOperational, OnTrip, Removed, Reserved,
 };
@@ -181,6 +181,21 @@ fn openings_without_registration(rt: HostRuntime) -> Result<(), Fail> {
         Err(NoChain { at: 0 })
     );
     assert_eq!(rt; admit(&table, Available, &changed, Elsewhere), Ok(()));
+    Ok(())
+}
+
+/// From any state a trip can end, and then no other.
+#[test]
+fn stuck_from_any_state(rt: HostRuntime) -> Result<(), Fail> {
+    let table = Table::profile(rt.alloc())?;
+    let types = [type_name("trip_end")?, type_name("trip_end")?];
+    let places = [
+        stuck_from(&table, &StateSet::all(), &types[..1]),
+        stuck_from(&table, &StateSet::all(), &types),
+        stuck_from(&table, &StateSet::of(Reserved), &types),
+        stuck_from(&table, &StateSet::empty(), &types),
+    ];
+    assert_eq!(rt; places, [1, 1, 0, 0]);
     Ok(())
 }
 

@@ -186,21 +186,18 @@ fn removed_before_the_first_event(rt: HostRuntime) -> Result<(), Fail> {
     Ok(())
 }
 
-/// An event of A, repeated for B and then again for A, before its time, too, with a faulty item between.
+/// An event of A, repeated for B and then, at an earlier time, for A, with a faulty item between.
 #[test]
 fn identifiers_per_vehicle(rt: HostRuntime) -> Result<(), Fail> {
-    let alloc = rt.alloc();
-    let state = State::Available;
-    let kind = "provider_drop_off";
-    let told = [
-        (A, E1, state, kind, 1000),
-        (B, E1, state, kind, 1000),
-        (A, E1, state, kind, 999),
-    ];
-    let mut items = items(alloc, &told)?;
     let fault = ItemFault::Missing(Member::EventId);
-    items.insert(1, EventItem::Fault(fault))?;
-    let report = replayed(alloc, &items, Opening::Removed)?;
+    let state = State::Available;
+    let items = [
+        item((A, E1, state, "provider_drop_off", 1000))?,
+        EventItem::Fault(fault),
+        item((B, E1, state, "provider_drop_off", 1000))?,
+        item((A, E1, state, "provider_drop_off", 999))?,
+    ];
+    let report = replayed(rt.alloc(), &items, Opening::Removed)?;
     let verdicts = [
         Verdict::Accepted(state),
         Verdict::Fault(fault),
@@ -211,6 +208,22 @@ fn identifiers_per_vehicle(rt: HostRuntime) -> Result<(), Fail> {
     assert_eq!(rt;
         (report.accepted, report.refused, report.vehicles.len()),
         (2, 2, 2)
+    );
+    Ok(())
+}
+
+#[test]
+fn replay_succeeds_after_a_refused_growth(rt: HostRuntime) -> Result<(), Fail> {
+    let items = [item(FIVE[0])?, item(FIVE[2])?, item(FIVE[1])?];
+    let report = replayed(rt.alloc(), &items, Opening::Any)?;
+    let states = [State::Available, State::Available, State::OnTrip];
+    assert_eq!(rt;
+        report.lines.as_slice(),
+        states.map(Verdict::Accepted).as_slice()
+    );
+    assert_eq!(rt;
+        (report.accepted, report.refused, report.vehicles.len()),
+        (3, 0, 2)
     );
     Ok(())
 }
