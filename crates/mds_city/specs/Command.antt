@@ -3,7 +3,7 @@ use Rattle.std.specs.Prelude.{◌≡◌, ◌⊎◌, ◌==◌, ℕ, List, Option,
 use Rattle.std.specs.Io.KnownBytes.{Appends, Keeps}
 use Rattle.mds_table.specs.declared.row.Row.{Row}
 use Rattle.mds_batch.specs.declared.item.EventItem.{EventItem}
-use Rattle.mds_city.specs.declared.report.Report.{Report}
+use Rattle.mds_trace.specs.declared.report.Report.{Report}
 use Rattle.mds_city.specs.declared.source.Source.{Source}
 use Rattle.mds_city.specs.declared.problem.Problem.{Problem}
 use Rattle.mds_city.specs.declared.problem.Problem.TheVariants.{CannotRead, NotATable, NotABatch, Output, Memory}
@@ -12,7 +12,10 @@ use Rattle.mds_city.specs.declared.status.Status.TheVariants.{Done, Refused}
 use Rattle.mds_device.specs.Device.{AppendsFront}
 use Rattle.mds_city.specs.Status.{code_of}
 use Rattle.mds_city.specs.Problem.{status_of, Tells}
-use Rattle.mds_city.specs.Report.{IsReport}
+use Rattle.mds_trace.specs.declared.report.Opening.{Opening}
+use Rattle.mds_trace.specs.declared.report.Opening.TheVariants as opening
+use Rattle.mds_trace.specs.Replay.{IsReport}
+use Rattle.mds_trace.specs.Laws.{AreOutcomes}
 use Rattle.mds_city.specs.Source.{HasTableIn, ExplainsTable, HasItemsIn, ExplainsFile}
 use Rattle.mds_city.specs.Text.{report_text, table_text}
 
@@ -20,15 +23,19 @@ use Rattle.mds_city.specs.Text.{report_text, table_text}
 abbrev pub status_on : ℕ → Status
 status_on refused = if refused == 0 then Done else Refused
 
--- of a replay: the known bytes of a table file's reader, the table file if one is given, and the same of the file of events
-module _ {T R : Type 0} (table_bytes : T → Option (List ℕ)) (table : Option (Source T)) (file_bytes : R → Option (List ℕ)) (file : Source R) where
-  -- the report of a replay of the file's items over the table
+-- of a replay: what its vehicles hold at first, the known bytes of a table file's reader, the table file if one is given, and
+-- the same of the file of events
+module _ {T R : Type 0} (begins : Opening) (table_bytes : T → Option (List ℕ)) (table : Option (Source T)) (file_bytes : R → Option (List ℕ)) (file : Source R) where
+  -- the report of a replay of the file's items over the table; with registrations before, its verdicts are the outcomes of the
+  -- machine's run
   abbrev pub HasReport : Report → Type 0
-  HasReport report = (rows : List Row) × (items : List EventItem) × HasTableIn table_bytes table rows × HasItemsIn file_bytes file items × IsReport rows items report
+  HasReport report =
+      (rows : List Row) × (items : List EventItem) × HasTableIn table_bytes table rows × HasItemsIn file_bytes file items
+      × IsReport begins rows items report × (begins ≡ opening.Removed → AreOutcomes rows items report.lines.items)
 
   -- the report's text went out; the status is 0 where each item was accepted, else 1
   abbrev pub Replayed : ℕ → Option (List ℕ) → Option (List ℕ) → Type 0
-  Replayed status old new = (report : Report) × HasReport report × Appends old new (report_text report) × (status ≡ code_of (status_on report.refused))
+  Replayed status old new = (report : Report) × HasReport report × Appends old new (report_text begins report) × (status ≡ code_of (status_on report.refused))
 
   -- the table was had, and then the problem is one of the file of events
   abbrev pub ExplainsEvents : Problem → Type 0
@@ -44,7 +51,7 @@ module _ {T R : Type 0} (table_bytes : T → Option (List ℕ)) (table : Option 
 
   -- a front of the report's text went out
   abbrev pub PrintsFront : Option (List ℕ) → Option (List ℕ) → Type 0
-  PrintsFront old new = (report : Report) × HasReport report × AppendsFront old new (report_text report)
+  PrintsFront old new = (report : Report) × HasReport report × AppendsFront old new (report_text begins report)
 
   -- what went out before a problem: nothing where a file was at fault, a front of the report where the output was
   abbrev pub WentOut : Problem → Option (List ℕ) → Option (List ℕ) → Type 0

@@ -1,6 +1,4 @@
 -- Definitions that the contracts cite.
-pub mod Requests
-pub mod Report
 pub mod Text
 pub mod Status
 pub mod Problem

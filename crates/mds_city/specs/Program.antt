@@ -1,10 +1,12 @@
 -- What the program does with the words of its command line.
-use Rattle.std.specs.Prelude.{◌≡◌, ◌≢◌, ◌⊎◌, ℕ, ◌<◌, ◌≤◌, List, [], Option, Some, None, codes, option_map}
+use Rattle.std.specs.Prelude.{◌≡◌, ◌≢◌, ◌⊎◌, ℕ, ◌<◌, ◌≤◌, List, [], Option, Some, None, Bool, true, false, codes, option_map}
 use Rattle.std.specs.Io.KnownBytes.{Keeps}
 use Rattle.clap.specs.Words.{Text, fault_of, kind_of, subcommand_of}
 use Rattle.clap.specs.declared.error.Error.{Error}
 use Rattle.clap.specs.declared.error.kind.ErrorKind.{ErrorKind}
 use Rattle.clap.specs.declared.error.kind.ErrorKind.TheVariants as kind
+use Rattle.mds_trace.specs.declared.report.Opening.{Opening}
+use Rattle.mds_trace.specs.declared.report.Opening.TheVariants.{Removed, Any}
 use Rattle.mds_city.specs.declared.program.Answer.{Answer}
 use Rattle.mds_city.specs.declared.program.Answer.TheVariants.{Help, Mistake, NoMemory}
 use Rattle.mds_city.specs.declared.problem.Problem.TheVariants as problem
@@ -12,7 +14,7 @@ use Rattle.mds_city.specs.declared.source.Source.{Source}
 use Rattle.mds_city.specs.declared.status.Status.{Status}
 use Rattle.mds_city.specs.declared.status.Status.TheVariants as status
 use Rattle.mds_words.specs.declared.words.Command.{Command}
-use Rattle.mds_words.specs.declared.words.Command.TheVariants.{Replay, Table}
+use Rattle.mds_words.specs.declared.words.Command.TheVariants.{Replay, Debug, Table}
 use Rattle.mds_city.specs.Command.{Replayed, Told, Tabled, TableTold}
 use Rattle.mds_city.specs.Problem.{Tells}
 use Rattle.mds_city.specs.Status.{code_of}
@@ -37,12 +39,17 @@ Explains Help ended out out_new faults faults_new =
 Explains Mistake ended out out_new faults faults_new = (ended ≡ status.BadWords) × Keeps out out_new
 Explains NoMemory ended out out_new faults faults_new = TellsNoMemory ended faults faults_new × Keeps out out_new
 
+-- what the vehicles of a replay hold at first: by the flag `--any` nothing is taken for given
+abbrev pub opening_if : Bool → Opening
+opening_if true = Any
+opening_if false = Removed
+
 -- a replay of a file came to this status, and to these bytes at the output and the fault writer
-abbrev pub CameToReplay : {T R : Type 0} → (T → Option (List ℕ)) → Option (Source T) → (R → Option (List ℕ)) → Source R
+abbrev pub CameToReplay : {T R : Type 0} → Opening → (T → Option (List ℕ)) → Option (Source T) → (R → Option (List ℕ)) → Source R
     → ℕ → Option (List ℕ) → Option (List ℕ) → Option (List ℕ) → Option (List ℕ) → Type 0
-CameToReplay table_bytes table file_bytes file code out out_new faults faults_new =
-    (code < 2 → Replayed table_bytes table file_bytes file code out out_new × Keeps faults faults_new)
-    × (2 ≤ code → Told table_bytes table file_bytes file code out out_new faults faults_new)
+CameToReplay begins table_bytes table file_bytes file code out out_new faults faults_new =
+    (code < 2 → Replayed begins table_bytes table file_bytes file code out out_new × Keeps faults faults_new)
+    × (2 ≤ code → Told begins table_bytes table file_bytes file code out out_new faults faults_new)
 
 -- a print of a table likewise
 abbrev pub CameToTable : {T : Type 0} → (T → Option (List ℕ)) → Option (Source T)
@@ -66,19 +73,19 @@ module _ {O F : Type 0} (opens : O → List ℕ → Option F → Type 0) (files 
   -- besides, of what reads files and standard input: the bytes that are known of each, and standard input itself
   module _ {I : Type 0} (file_bytes : F → Option (List ℕ)) (input_bytes : I → Option (List ℕ)) (input : I) where
     -- a replay of the file of this path, which is standard input for `-` alone, came to these
-    abbrev pub CarriesReplay : List ℕ → Option (Source F) → ℕ → Option (List ℕ) → Option (List ℕ) → Option (List ℕ) → Option (List ℕ) → Type 0
-    CarriesReplay path table code out out_new faults faults_new =
+    abbrev pub CarriesReplay : Opening → List ℕ → Option (Source F) → ℕ → Option (List ℕ) → Option (List ℕ) → Option (List ℕ) → Option (List ℕ) → Type 0
+    CarriesReplay begins path table code out out_new faults faults_new =
         ((path ≡ codes "-") × (file : Source I) × (file.path.now ≡ path) × (file.reader ≡ Some input)
-        × CameToReplay file_bytes table input_bytes file code out out_new faults faults_new)
+        × CameToReplay begins file_bytes table input_bytes file code out out_new faults faults_new)
         ⊎ ((path ≢ codes "-") × (file : Source F) × IsFileOf path file
-        × CameToReplay file_bytes table file_bytes file code out out_new faults faults_new)
+        × CameToReplay begins file_bytes table file_bytes file code out out_new faults faults_new)
 
     -- what a command did: it read the files that it names, and came to these
     abbrev pub Carries : Command → ℕ → Option (List ℕ) → Option (List ℕ) → Option (List ℕ) → Option (List ℕ) → Type 0
     Carries (Table path) code out out_new faults faults_new =
         (table : Option (Source F)) × IsFileNamed (option_map (λ named. named.now) path) table × CameToTable file_bytes table code out out_new faults faults_new
-    Carries (Replay file path) code out out_new faults faults_new =
-        (table : Option (Source F)) × IsFileNamed (option_map (λ named. named.now) path) table × CarriesReplay file.now table code out out_new faults faults_new
+    Carries (Replay file path any) code out out_new faults faults_new =
+        (table : Option (Source F)) × IsFileNamed (option_map (λ named. named.now) path) table × CarriesReplay (opening_if any) file.now table code out out_new faults faults_new
 
     -- what the program did with words: it carried out the command that they ask for, or explained why they give none
     abbrev pub Runs : List Text → ℕ → Option (List ℕ) → Option (List ℕ) → Option (List ℕ) → Option (List ℕ) → Type 0

@@ -1,32 +1,39 @@
 -- The lines that the program prints of a replay and of a table.
-use Rattle.std.specs.Prelude.{ℕ, ◌+◌, List, [], ◌∷◌, ◌++◌, length, codes, decimal}
+use Rattle.std.specs.Prelude.{ℕ, ◌+◌, List, [], ◌∷◌, ◌++◌, length, codes, decimal, Option, Some, None}
 use Rattle.std.specs.List.{flat_map}
 use Rattle.uuid.specs.Text.{hyphenated_text, lower}
 use Rattle.mds_table.specs.declared.row.Row.{Row}
 use Rattle.mds_table.specs.State.{name_of}
-use Rattle.mds_core.specs.Refusal.{refusal_text}
-use Rattle.mds_batch.specs.Items.{item_fault_text}
-use Rattle.mds_city.specs.declared.report.Verdict.{Verdict}
-use Rattle.mds_city.specs.declared.report.Verdict.TheVariants.{Accepted, Refused, Fault}
-use Rattle.mds_city.specs.declared.report.VehicleEnd.{VehicleEnd}
-use Rattle.mds_city.specs.declared.report.Report.{Report}
+use Rattle.mds_table.specs.declared.state.State.{State}
+use Rattle.mds_steps.specs.StateSet.{names_of}
+use Rattle.mds_core.specs.declared.reply.Standing.{Standing}
+use Rattle.mds_trace.specs.declared.report.Opening.{Opening}
+use Rattle.mds_trace.specs.declared.report.Opening.TheVariants.{Removed, Any}
+use Rattle.mds_trace.specs.declared.report.Verdict.{Verdict}
+use Rattle.mds_trace.specs.declared.report.VehicleEnd.{VehicleEnd}
+use Rattle.mds_trace.specs.declared.report.Report.{Report}
+use Rattle.mds_trace.specs.Verdict.{verdict_text}
 use Rattle.mds_device.specs.Device.{with_newline}
-
--- what is said of an item
-abbrev pub verdict_text : Verdict → List ℕ
-verdict_text (Accepted state) = codes "ok " ++ name_of state
-verdict_text (Refused refusal) = codes "refused " ++ refusal_text refusal
-verdict_text (Fault fault) = codes "fault " ++ item_fault_text fault
 
 -- the line of an item: its index, and what is said of it
 abbrev pub item_line : ℕ → Verdict → List ℕ
 item_line index verdict = decimal index ++ codes " " ++ verdict_text verdict
 
--- the line of a vehicle: its key, the state that it holds, and how many of its events were accepted
-abbrev pub vehicle_line : VehicleEnd → List ℕ
-vehicle_line end =
+-- the state that a vehicle holds, where it is known, and how many of its events were accepted
+abbrev pub held_text : Option Standing → List ℕ
+held_text None = codes "unknown 0"
+held_text (Some standing) = name_of standing.state ++ codes " " ++ decimal standing.events
+
+-- the states in which a vehicle may have opened, where nothing was taken for given
+abbrev pub from_text : Opening → List State → List ℕ
+from_text Removed openings = []
+from_text Any openings = codes " from " ++ names_of openings
+
+-- the line of a vehicle: its key, what it holds, and how it may have opened
+abbrev pub vehicle_line : Opening → VehicleEnd → List ℕ
+vehicle_line opening end =
     codes "vehicle " ++ hyphenated_text lower end.key.provider ++ codes " " ++ hyphenated_text lower end.key.device ++ codes " "
-    ++ name_of end.standing.state ++ codes " " ++ decimal end.standing.events
+    ++ held_text end.standing ++ from_text opening end.openings
 
 -- the last line
 abbrev pub total_line : ℕ → ℕ → List ℕ
@@ -38,12 +45,12 @@ item_lines index [] = []
 item_lines index (verdict ∷ rest) = with_newline (item_line index verdict) ++ item_lines (index + 1) rest
 
 -- a line for each vehicle
-abbrev pub vehicle_lines : List VehicleEnd → List ℕ
-vehicle_lines ends = flat_map (λ end. with_newline (vehicle_line end)) ends
+abbrev pub vehicle_lines : Opening → List VehicleEnd → List ℕ
+vehicle_lines opening ends = flat_map (λ end. with_newline (vehicle_line opening end)) ends
 
 -- all that is printed of a replay: a line an item, a line a vehicle, and the totals
-abbrev pub report_text : Report → List ℕ
-report_text report = item_lines 0 report.lines.items ++ vehicle_lines report.vehicles.items ++ with_newline (total_line report.accepted report.refused)
+abbrev pub report_text : Opening → Report → List ℕ
+report_text opening report = item_lines 0 report.lines.items ++ vehicle_lines opening report.vehicles.items ++ with_newline (total_line report.accepted report.refused)
 
 -- the line of a row: its type, and the states that it leads from and to
 abbrev pub row_line : Row → List ℕ

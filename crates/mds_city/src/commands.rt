@@ -1,38 +1,38 @@
 //! What the commands do, over any readers and writers.
 ghost use Rattle.std.specs.Prelude.{◌≡◌, ◌≢◌, ◌<◌, ◌≤◌, IfOk, IfErr, OnOk};
 ghost use Rattle.std.specs.Io.KnownBytes.{Appends, Keeps};
-ghost use Rattle.mds_city.specs.declared.report.Report.{Report};
+ghost use Rattle.mds_trace.specs.declared.report.Report.{Report};
 ghost use Rattle.mds_city.specs.Text.{report_text};
 ghost use Rattle.mds_city.specs.Source.{HasTableIn};
 ghost use Rattle.mds_city.specs.Command.{HasReport, ExplainsReplay, WentOut, Replayed, Told, Tabled, ExplainsPrint, TableWentOut, TableTold, status_on};
 
 use crate::print::{print_report, print_table};
 use crate::problem::{Problem, tell};
-use crate::replay::replay;
-use crate::report::Report;
 use crate::source::{Source, items_in, table_in};
 use crate::status::Status;
 use mds_table::Row;
+use mds_trace::{Opening, Report, replay};
 use std::alloc::Global;
 use std::io::{Read, Write};
 
-/// Replays a file of events over a table, the profile's where none is given, and prints a line for each item, a line for
-/// each vehicle, and the totals. It answers the code of the status that the program ends with: `Done` where each
+/// Replays a file of events over a table, the profile's where none is given, with this opening of its vehicles, and prints a
+/// line for each item, a line for each vehicle, and the totals. It answers the code of the status that the program ends with: `Done` where each
 /// item was accepted, `Refused` where one was not, and else the one of the problem, which is told to `faults` in one line:
 /// `Fault` for a file that can't be read, is no table or no batch, or an output that fails, `NoMemory` for want of memory.
 pub fn replay_to<T: Read + Drop, R: Read + Drop, W: Write, E: Write>(
     alloc: Global,
     table: Option<Source<'_, T>>,
     file: Source<'_, R>,
+    opening: Opening,
     out: &mut W,
     faults: &mut E,
 ) -> u8
-    ensures ran { result < 2 → Replayed T.remaining table.entry R.remaining file.entry result
+    ensures ran { result < 2 → Replayed opening T.remaining table.entry R.remaining file.entry result
         (W.contents out.old) (W.contents out.new) × Keeps (E.contents faults.old) (E.contents faults.new) }
-    ensures told { 2 ≤ result → Told T.remaining table.entry R.remaining file.entry result
+    ensures told { 2 ≤ result → Told opening T.remaining table.entry R.remaining file.entry result
         (W.contents out.old) (W.contents out.new) (E.contents faults.old) (E.contents faults.new) }
 {
-    match replay_into(alloc, table, file, out) {
+    match replay_into(alloc, table, file, opening, out) {
         Ok(refused) => status_on(refused).code(),
         Err(problem) => tell(alloc, faults, problem).code(),
     }
@@ -54,15 +54,16 @@ fn replay_into<'a, T: Read + Drop, R: Read + Drop, W: Write>(
     alloc: Global,
     table: Option<Source<'a, T>>,
     file: Source<'a, R>,
+    opening: Opening,
     out: &mut W,
 ) -> Result<usize, Problem<'a>>
-    ensures ok { IfOk result (λ refused. (report : Report) × HasReport T.remaining table.entry R.remaining file.entry report
-        × Appends (W.contents out.old) (W.contents out.new) (report_text report) × (refused ≡ report.refused)) }
-    ensures err { IfErr result (λ problem. ExplainsReplay T.remaining table.entry R.remaining file.entry problem
-        × WentOut T.remaining table.entry R.remaining file.entry problem (W.contents out.old) (W.contents out.new)) }
+    ensures ok { IfOk result (λ refused. (report : Report) × HasReport opening T.remaining table.entry R.remaining file.entry report
+        × Appends (W.contents out.old) (W.contents out.new) (report_text opening report) × (refused ≡ report.refused)) }
+    ensures err { IfErr result (λ problem. ExplainsReplay opening T.remaining table.entry R.remaining file.entry problem
+        × WentOut opening T.remaining table.entry R.remaining file.entry problem (W.contents out.old) (W.contents out.new)) }
 {
-    let report = report_on(alloc, table, file)?;
-    print_report(alloc, out, &report)?;
+    let report = report_on(alloc, table, file, opening)?;
+    print_report(alloc, out, &report, opening)?;
     Ok(report.refused)
 }
 
@@ -71,14 +72,15 @@ fn report_on<'a, T: Read + Drop, R: Read + Drop>(
     alloc: Global,
     table: Option<Source<'a, T>>,
     file: Source<'a, R>,
+    opening: Opening,
 ) -> Result<Report, Problem<'a>>
-    ensures ok { IfOk result (HasReport T.remaining table.entry R.remaining file.entry) }
-    ensures err { IfErr result (λ problem. ExplainsReplay T.remaining table.entry R.remaining file.entry problem
+    ensures ok { IfOk result (HasReport opening T.remaining table.entry R.remaining file.entry) }
+    ensures err { IfErr result (λ problem. ExplainsReplay opening T.remaining table.entry R.remaining file.entry problem
         × (problem ≢ Problem.Output)) }
 {
     let table = table_in(alloc, table)?;
     let items = items_in(alloc, file)?;
-    Ok(replay(alloc, table, &items)?)
+    Ok(replay(alloc, table, &items, opening)?)
 }
 
 /// Prints a table, the profile's where no file is given: a line for each row, in row order, and their number. It answers

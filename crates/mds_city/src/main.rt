@@ -2,11 +2,10 @@
 #![tactic(auto)]
 
 mod commands;
+mod lines;
 mod print;
 mod problem;
 mod program;
-mod replay;
-mod report;
 mod rows;
 mod source;
 mod status;

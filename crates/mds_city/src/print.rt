@@ -4,14 +4,15 @@ ghost use Rattle.std.specs.Io.KnownBytes.{Appends};
 ghost use Rattle.mds_device.specs.Device.{AppendsFront, Passes};
 ghost use Rattle.mds_city.specs.Text.{item_lines, vehicle_lines, report_text, row_lines, table_text};
 
-use crate::report::{ItemLine, Report, TotalLine, VehicleEnd, Verdict};
+use crate::lines::{ItemLine, TotalLine, VehicleLine};
 use crate::rows::{CountLine, RowLine};
 use mds_device::{WriteFault, add_line, put_out};
 use mds_table::Row;
+use mds_trace::{Opening, Report, VehicleEnd, Verdict};
 use std::alloc::Global;
 use std::io::Write;
 
-/// Prints the report: a line an item, a line a vehicle, and the totals.
+/// Prints the report of a replay with this opening: a line an item, a line a vehicle, and the totals.
 ///
 /// At an error a front of its text went out: `Memory` where there was none to lay a line out, `Device` where the writer
 /// failed.
@@ -19,13 +20,14 @@ pub fn print_report<W: Write>(
     alloc: Global,
     writer: &mut W,
     report: &Report,
+    opening: Opening,
 ) -> Result<(), WriteFault>
-    ensures ok { OnOk result (Appends (W.contents writer.old) (W.contents writer.new) (report_text report.now)) }
-    ensures err { OnErr result (AppendsFront (W.contents writer.old) (W.contents writer.new) (report_text report.now)) }
+    ensures ok { OnOk result (Appends (W.contents writer.old) (W.contents writer.new) (report_text opening report.now)) }
+    ensures err { OnErr result (AppendsFront (W.contents writer.old) (W.contents writer.new) (report_text opening report.now)) }
 {
     let mut page = String::new(alloc);
     add_items(writer, &mut page, &report.lines)?;
-    add_vehicles(writer, &mut page, &report.vehicles)?;
+    add_vehicles(writer, &mut page, &report.vehicles, opening)?;
     let total = TotalLine {
         accepted: report.accepted,
         refused: report.refused,
@@ -58,12 +60,13 @@ fn add_vehicles<W: Write>(
     writer: &mut W,
     page: &mut String,
     ends: &[VehicleEnd],
+    opening: Opening,
 ) -> Result<(), WriteFault>
-    ensures ok { OnOk result (Passes (W.contents writer.old) (W.contents writer.new) (string_bytes page.old ++ vehicle_lines ends.now) (string_bytes page.new)) }
-    ensures err { OnErr result (AppendsFront (W.contents writer.old) (W.contents writer.new) (string_bytes page.old ++ vehicle_lines ends.now)) }
+    ensures ok { OnOk result (Passes (W.contents writer.old) (W.contents writer.new) (string_bytes page.old ++ vehicle_lines opening ends.now) (string_bytes page.new)) }
+    ensures err { OnErr result (AppendsFront (W.contents writer.old) (W.contents writer.new) (string_bytes page.old ++ vehicle_lines opening ends.now)) }
 {
     for end in ends {
-        add_line(writer, page, end)?;
+        add_line(writer, page, &VehicleLine { end, opening })?;
     }
     Ok(())
 }

@@ -3,15 +3,16 @@ ghost use Rattle.std.specs.Prelude.{◌≡◌, ◌≢◌, ◌↔◌, ℕ, List, 
 ghost use Rattle.std.specs.IoError.{error_kind};
 ghost use Rattle.clap.specs.Words.{kind_of};
 ghost use Rattle.mds_city.specs.Problem.{Tells};
-ghost use Rattle.mds_city.specs.Program.{Carries, Explains, IsFileNamed, IsFileOf, Runs, answer_to};
+ghost use Rattle.mds_city.specs.Program.{Carries, Explains, IsFileNamed, IsFileOf, Runs, answer_to, opening_if};
 
 use crate::commands::{replay_to, table_to};
 use crate::problem::{Problem, tell};
 use crate::source::Source;
 use crate::status::Status;
-use mds_words::{Command, parse_words};
 use clap::error::ErrorKind;
 use mds_device::write_all_of;
+use mds_trace::Opening;
+use mds_words::{Command, parse_words};
 use std::alloc::Global;
 use std::convert::AsStr;
 use std::env::Args;
@@ -153,13 +154,26 @@ fn carry_out<O: Opens, I: Read + Drop, W: Write, E: Write>(
 {
     match command {
         Command::Table { table } => table_to(alloc, file_if_named(files, table), out, faults),
-        Command::Replay { file, table } => {
+        Command::Replay { file, table, any } => {
             let table = file_if_named(files, table);
+            let opening = opening_if(any);
             if is_standard_input(file) {
-                return replay_to(alloc, table, open_file(file, input), out, faults);
+                let file = open_file(file, input);
+                return replay_to(alloc, table, file, opening, out, faults);
             }
-            replay_to(alloc, table, file_of(files, file), out, faults)
+            replay_to(alloc, table, file_of(files, file), opening, out, faults)
         }
+    }
+}
+
+/// What the vehicles of a replay hold at first: with the flag `--any` nothing is taken for given.
+fn opening_if(any: bool) -> Opening
+    ensures { result ≡ opening_if any }
+{
+    if any {
+        Opening::Any
+    } else {
+        Opening::Removed
     }
 }
 

@@ -56,6 +56,25 @@ fn least_chains(rt: HostRuntime) -> Result<(), Fail> {
 }
 
 #[test]
+fn least_chain_succeeds_after_a_refused_growth(rt: HostRuntime) -> Result<(), Fail> {
+    let alloc = rt.alloc();
+    let table = match Table::profile(alloc) {
+        Ok(table) => table,
+        Err(_) => Table::profile(alloc)?,
+    };
+    let types = [type_name("trip_end")?];
+    let chain = match least_chain(alloc, &table, OnTrip, &types, Available) {
+        Ok(chain) => chain,
+        Err(_) => least_chain(alloc, &table, OnTrip, &types, Available)?,
+    };
+    assert_eq!(rt;
+        chain.ok_or("a chain")?.as_slice(),
+        [OnTrip, Available].as_slice()
+    );
+    Ok(())
+}
+
+#[test]
 fn sets_of_states(rt: HostRuntime) {
     expect_states(&rt, &StateSet::empty(), &[]);
     expect_states(&rt, &StateSet::all(), &State::ALL);

@@ -303,3 +303,49 @@ fn faults_and_halts_have_texts(rt: HostRuntime) -> Result<(), Fail> {
     }
     Ok(())
 }
+
+/// The profile's table, asked for again where a growth is refused.
+fn profile(alloc: Global) -> Result<Table, Fail> {
+    Ok(match Table::profile(alloc) {
+        Ok(table) => table,
+        Err(_) => Table::profile(alloc)?,
+    })
+}
+
+/// An empty list with room for one event, asked for again where a growth is refused.
+fn room_for_one(alloc: Global) -> Result<Vec<Event>, Fail> {
+    Ok(match Vec::with_capacity(alloc, 1) {
+        Ok(events) => events,
+        Err(_) => Vec::with_capacity(alloc, 1)?,
+    })
+}
+
+/// A session over the end of a trip.
+fn trip_end_session(alloc: Global) -> Result<Result<Session, SessionFault>, Fail> {
+    let types = [TypeName::new("trip_end")?];
+    let key = Key {
+        provider: Uuid::parse_str(PROVIDER)?,
+        device: Uuid::parse_str(A)?,
+    };
+    let mut events = room_for_one(alloc)?;
+    events.push(Event::new(key, Uuid::parse_str(E1)?, Available, &types, 1000, None)?)?;
+    Ok(Session::open(alloc, profile(alloc)?, OnTrip, events))
+}
+
+#[test]
+fn session_succeeds_after_a_refused_growth(rt: HostRuntime) -> Result<(), Fail> {
+    let alloc = rt.alloc();
+    let session = match trip_end_session(alloc)? {
+        Ok(session) => session,
+        Err(_) => trip_end_session(alloc)??,
+    };
+    let chain = match session.chain(alloc) {
+        Ok(chain) => chain,
+        Err(_) => session.chain(alloc)?,
+    };
+    assert_eq!(rt;
+        chain.ok_or("an event")?.as_slice(),
+        [OnTrip, Available].as_slice()
+    );
+    Ok(())
+}

@@ -1,6 +1,7 @@
 //! Readers and writers that fail.
 use super::{replay_to, table_to};
 use crate::source::Source;
+use mds_trace::Opening;
 use std::io;
 use std::io::{ErrorKind, Read, Write};
 use std::test::Fail;
@@ -57,7 +58,7 @@ fn file_that_cannot_be_read(rt: HostRuntime) -> Result<(), Fail> {
             reader: Some(Breaks { left }),
         };
         let table: Option<Source<'_, &[u8]>> = None;
-        let status = replay_to(alloc, table, source, &mut out, &mut faults);
+        let status = replay_to(alloc, table, source, Opening::Removed, &mut out, &mut faults);
         assert_eq!(rt; status, 3);
         assert!(rt; out.is_empty());
         assert_eq!(rt;
@@ -81,7 +82,7 @@ fn table_that_was_not_opened_comes_first(rt: HostRuntime) -> Result<(), Fail> {
         path: "events.json",
         reader: Some(Breaks { left: 0 }),
     };
-    let status = replay_to(alloc, Some(table), file, &mut out, &mut faults);
+    let status = replay_to(alloc, Some(table), file, Opening::Removed, &mut out, &mut faults);
     assert_eq!(rt; status, 3);
     assert_eq!(rt; faults.as_slice(), b"mds_city: cannot read -\n".as_slice());
     Ok(())
@@ -98,7 +99,7 @@ fn output_that_fails(rt: HostRuntime) -> Result<(), Fail> {
             reader: Some(b"[]".as_slice()),
         };
         let table: Option<Source<'_, &[u8]>> = None;
-        let status = replay_to(alloc, table, source, &mut out, &mut faults);
+        let status = replay_to(alloc, table, source, Opening::Removed, &mut out, &mut faults);
         assert_eq!(rt; status, 3);
         assert_eq!(rt; faults.as_slice(), b"mds_city: output\n".as_slice());
     }

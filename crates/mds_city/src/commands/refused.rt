@@ -2,6 +2,7 @@
 use super::tests::{FIVE_EVENTS, FIVE_LINES, ONE_ROW, file};
 use super::{replay_to, table_to};
 use crate::source::Source;
+use mds_trace::Opening;
 use std::alloc::Global;
 use std::io;
 use std::io::{ErrorKind, Write};
@@ -52,7 +53,7 @@ fn replayed(alloc: Global) -> Came {
         rest: b"mds_city: out of memory\n",
     };
     let table: Option<Source<'_, &[u8]>> = None;
-    let status = replay_to(alloc, table, file("F", FIVE_EVENTS), &mut out, &mut faults);
+    let status = replay_to(alloc, table, file("F", FIVE_EVENTS), Opening::Removed, &mut out, &mut faults);
     Came {
         status,
         printed: out.rest.is_empty(),

@@ -1,6 +1,7 @@
 //! The worked cases, from bytes to bytes, and what no clause says: that each call can succeed.
 use super::{replay_to, table_to};
 use crate::source::Source;
+use mds_trace::Opening;
 use std::alloc::Global;
 
 /// The five-event run, and the lines that it prints.
@@ -72,7 +73,7 @@ fn replays(alloc: Global, case: &Replay) -> bool {
     let mut printed = Vec::new(alloc);
     let mut told = Vec::new(alloc);
     let table = table.map(|rows| file("T", rows));
-    let code = replay_to(alloc, table, file("F", text), &mut printed, &mut told);
+    let code = replay_to(alloc, table, file("F", text), Opening::Removed, &mut printed, &mut told);
     code == status && printed.as_slice() == out.as_bytes() && told.as_slice() == faults.as_bytes()
 }
 

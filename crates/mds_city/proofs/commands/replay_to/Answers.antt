@@ -1,5 +1,6 @@
 use Rattle.std.proofs.Common.{◌≡◌, ℕ, List, Option, inl, inr, ap, ◌∙◌}
 use Rattle.std.proofs.KnownBytes.{Keeps-refl}
+use Rattle.mds_trace.specs.declared.report.Opening.{Opening}
 use Rattle.mds_city.specs.declared.source.Source.{Source}
 use Rattle.mds_city.specs.declared.problem.Problem.{Problem}
 use Rattle.mds_city.specs.declared.problem.Problem.TheVariants.{CannotRead, NotATable, NotABatch, Output, Memory}
@@ -8,13 +9,13 @@ use Rattle.mds_city.specs.Status.{code_of}
 use Rattle.mds_city.proofs.commands.replay_to.Goals as goal
 
 -- whatever the problem, nothing went out before it, or a front of the report's text
-out_before : {T R : Type 0} (table_bytes : T → Option (List ℕ)) (table : Option (Source T)) (file_bytes : R → Option (List ℕ)) (file : Source R)
-    (problem : Problem) (old new : Option (List ℕ)) → WentOut table_bytes table file_bytes file problem old new → WentOut table_bytes table file_bytes file Memory old new
-out_before table_bytes table file_bytes file (CannotRead path) old new out = inl out
-out_before table_bytes table file_bytes file (NotATable fault) old new out = inl out
-out_before table_bytes table file_bytes file (NotABatch fault) old new out = inl out
-out_before table_bytes table file_bytes file Output old new out = inr out
-out_before table_bytes table file_bytes file Memory old new out = out
+out_before : {T R : Type 0} (begins : Opening) (table_bytes : T → Option (List ℕ)) (table : Option (Source T)) (file_bytes : R → Option (List ℕ)) (file : Source R)
+    (problem : Problem) (old new : Option (List ℕ)) → WentOut begins table_bytes table file_bytes file problem old new → WentOut begins table_bytes table file_bytes file Memory old new
+out_before begins table_bytes table file_bytes file (CannotRead path) old new out = inl out
+out_before begins table_bytes table file_bytes file (NotATable fault) old new out = inl out
+out_before begins table_bytes table file_bytes file (NotABatch fault) old new out = inl out
+out_before begins table_bytes table file_bytes file Output old new out = inr out
+out_before begins table_bytes table file_bytes file Memory old new out = out
 
 pub returns-in-Ok-clause-ran : goal.returns-in-Ok-clause-ran
 returns-in-Ok-clause-ran g c _ =
@@ -31,7 +32,7 @@ returns-in-Err-clause-told g c _ =
         Memory,
         c.code-in-Err.ensures ∙ ap code_of told.0,
         tt,
-        out_before g.T.Read.remaining c.args.table g.R.Read.remaining c.args.file c.in-Err.problem
+        out_before c.args.opening g.T.Read.remaining c.args.table g.R.Read.remaining c.args.file c.in-Err.problem
             (g.W.Write.contents c.args.out.now) (g.W.Write.contents c.replay_into.new.out) failed.1,
         told.1,
       )

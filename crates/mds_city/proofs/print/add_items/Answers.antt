@@ -1,6 +1,6 @@
 use Rattle.std.proofs.Common.{rules, ◌+◌, ◌++◌, List, get_or, drop, subst, string_bytes}
-use Rattle.mds_city.specs.declared.report.Verdict.{Verdict}
-use Rattle.mds_city.specs.declared.report.Verdict.TheVariants.{Accepted}
+use Rattle.mds_trace.specs.declared.report.Verdict.{Verdict}
+use Rattle.mds_trace.specs.declared.report.Verdict.TheVariants.{Accepted}
 use Rattle.mds_table.specs.declared.state.State.TheVariants.{Removed}
 use Rattle.mds_device.specs.Device.{AppendsFront, Passes, with_newline}
 use Rattle.mds_city.specs.Text.{item_line, item_lines}

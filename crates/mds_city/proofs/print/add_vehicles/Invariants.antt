@@ -6,5 +6,5 @@ use Rattle.mds_city.proofs.print.add_vehicles.Given as goal
 -- what is left waiting is the page, and the lines of the vehicles that are left
 abbrev pub invariant-loop-end : goal.invariant-loop-end
 invariant-loop-end g l =
-    Passes (g.W.Write.contents l.initial.writer) (g.W.Write.contents l.writer) (string_bytes l.initial.page ++ vehicle_lines l.ends)
-    (string_bytes l.page ++ vehicle_lines (drop l.end-index l.ends))
+    Passes (g.W.Write.contents l.initial.writer) (g.W.Write.contents l.writer) (string_bytes l.initial.page ++ vehicle_lines l.opening l.ends)
+    (string_bytes l.page ++ vehicle_lines l.opening (drop l.end-index l.ends))
