@@ -14,7 +14,7 @@ use Rattle.mds_city.specs.declared.source.Source.{Source}
 use Rattle.mds_city.specs.declared.status.Status.{Status}
 use Rattle.mds_city.specs.declared.status.Status.TheVariants as status
 use Rattle.mds_words.specs.declared.words.Command.{Command}
-use Rattle.mds_words.specs.declared.words.Command.TheVariants.{Replay, Debug, Table}
+use Rattle.mds_words.specs.declared.words.Command.TheVariants.{Replay, Table}
 use Rattle.mds_city.specs.Command.{Replayed, Told, Tabled, TableTold}
 use Rattle.mds_city.specs.Problem.{Tells}
 use Rattle.mds_city.specs.Status.{code_of}

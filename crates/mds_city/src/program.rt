@@ -170,11 +170,7 @@ fn carry_out<O: Opens, I: Read + Drop, W: Write, E: Write>(
 fn opening_if(any: bool) -> Opening
     ensures { result ≡ opening_if any }
 {
-    if any {
-        Opening::Any
-    } else {
-        Opening::Removed
-    }
+    if any { Opening::Any } else { Opening::Removed }
 }
 
 /// Whether the file of a replay is standard input.

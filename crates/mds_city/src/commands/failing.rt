@@ -58,7 +58,14 @@ fn file_that_cannot_be_read(rt: HostRuntime) -> Result<(), Fail> {
             reader: Some(Breaks { left }),
         };
         let table: Option<Source<'_, &[u8]>> = None;
-        let status = replay_to(alloc, table, source, Opening::Removed, &mut out, &mut faults);
+        let status = replay_to(
+            alloc,
+            table,
+            source,
+            Opening::Removed,
+            &mut out,
+            &mut faults,
+        );
         assert_eq!(rt; status, 3);
         assert!(rt; out.is_empty());
         assert_eq!(rt;
@@ -82,7 +89,14 @@ fn table_that_was_not_opened_comes_first(rt: HostRuntime) -> Result<(), Fail> {
         path: "events.json",
         reader: Some(Breaks { left: 0 }),
     };
-    let status = replay_to(alloc, Some(table), file, Opening::Removed, &mut out, &mut faults);
+    let status = replay_to(
+        alloc,
+        Some(table),
+        file,
+        Opening::Removed,
+        &mut out,
+        &mut faults,
+    );
     assert_eq!(rt; status, 3);
     assert_eq!(rt; faults.as_slice(), b"mds_city: cannot read -\n".as_slice());
     Ok(())
@@ -99,7 +113,14 @@ fn output_that_fails(rt: HostRuntime) -> Result<(), Fail> {
             reader: Some(b"[]".as_slice()),
         };
         let table: Option<Source<'_, &[u8]>> = None;
-        let status = replay_to(alloc, table, source, Opening::Removed, &mut out, &mut faults);
+        let status = replay_to(
+            alloc,
+            table,
+            source,
+            Opening::Removed,
+            &mut out,
+            &mut faults,
+        );
         assert_eq!(rt; status, 3);
         assert_eq!(rt; faults.as_slice(), b"mds_city: output\n".as_slice());
     }

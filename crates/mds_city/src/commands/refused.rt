@@ -53,7 +53,14 @@ fn replayed(alloc: Global) -> Came {
         rest: b"mds_city: out of memory\n",
     };
     let table: Option<Source<'_, &[u8]>> = None;
-    let status = replay_to(alloc, table, file("F", FIVE_EVENTS), Opening::Removed, &mut out, &mut faults);
+    let status = replay_to(
+        alloc,
+        table,
+        file("F", FIVE_EVENTS),
+        Opening::Removed,
+        &mut out,
+        &mut faults,
+    );
     Came {
         status,
         printed: out.rest.is_empty(),

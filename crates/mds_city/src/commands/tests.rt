@@ -73,7 +73,14 @@ fn replays(alloc: Global, case: &Replay) -> bool {
     let mut printed = Vec::new(alloc);
     let mut told = Vec::new(alloc);
     let table = table.map(|rows| file("T", rows));
-    let code = replay_to(alloc, table, file("F", text), Opening::Removed, &mut printed, &mut told);
+    let code = replay_to(
+        alloc,
+        table,
+        file("F", text),
+        Opening::Removed,
+        &mut printed,
+        &mut told,
+    );
     code == status && printed.as_slice() == out.as_bytes() && told.as_slice() == faults.as_bytes()
 }
 

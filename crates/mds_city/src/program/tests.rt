@@ -125,7 +125,7 @@ fn help_and_mistakes_go_to_their_streams(rt: HostRuntime) {
         (&["mds_city", "table", "-h"], 0),
         (&["mds_city"], 2),
         (&["mds_city", "replay"], 2),
-        (&["mds_city", "replay", "events", "--any"], 2),
+        (&["mds_city", "replay", "events", "--all"], 2),
     ];
     for (words, code) in cases {
         assert!(rt; answers(rt.alloc(), words, code), "{words:?}");
