@@ -5,4 +5,6 @@ pub mod Verdicts
 pub mod Keeping
 pub mod Replaying
 pub mod Ends
+pub mod Turns
 pub mod Runs
+pub mod OneVerdict

@@ -1,10 +1,15 @@
 //! What holds of the definitions alone: of verdicts and runs, whoever computes them. Each law is a function that does
 //! nothing; its contract is the law.
-ghost use Rattle.mds_trace.specs.Laws.{ReplaysAreRuns};
+ghost use Rattle.mds_trace.specs.Laws.{ReplaysAreRuns, VerdictsAreOne};
 
 /// The verdicts of a replay with [`Opening::Removed`](crate::Opening::Removed) are the outcomes of the machine's run over
 /// any requests that report the same events in the same order, each behind a registration of its vehicle, whatever else
 /// is asked between.
 pub fn replays_are_runs()
     ensures { ReplaysAreRuns }
+{}
+
+/// Two lists of verdicts on the same items, over the same table and with the same opening, are equal.
+pub fn verdicts_are_one()
+    ensures { VerdictsAreOne }
 {}
