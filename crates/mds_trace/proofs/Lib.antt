@@ -6,6 +6,8 @@ pub mod Verdicts
 pub mod Keeping
 pub mod Replaying
 pub mod Ends
+pub mod Turns
 pub mod Runs
 pub mod SessionLemmas
 pub mod Lawful
+pub mod OneVerdict

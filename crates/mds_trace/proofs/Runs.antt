@@ -1,5 +1,5 @@
 -- A replay in which each vehicle begins with a registration is a run of the machine.
-use Rattle.std.proofs.Common.{◌≡◌, ◌≢◌, ◌⊎◌, inl, inr, ℕ, zero, suc, List, [], ◌∷◌, ◌++◌, length, take, map, slice_get, Contains, Some, None, Bool, true, false, append_assoc, refl, sym, ◌∙◌, ap, subst, arith}
+use Rattle.std.proofs.Common.{◌≡◌, ◌≢◌, ◌⊎◌, inl, inr, ℕ, zero, suc, List, [], ◌∷◌, ◌++◌, length, take, map, slice_get, Contains, Some, None, Bool, true, false, append_assoc, refl, sym, ◌∙◌, ap, subst}
 use Rattle.std.specs.List.{filter_map}
 use Rattle.std.proofs.lemmas.Bool.{true≢false}
 use Rattle.std.proofs.lemmas.List.{append-nil}
@@ -25,8 +25,9 @@ use Rattle.mds_trace.specs.declared.report.Opening.TheVariants.{Removed}
 use Rattle.mds_trace.specs.declared.report.Verdict.{Verdict}
 use Rattle.mds_trace.specs.declared.report.Verdict.TheVariants.{Accepted, Refused, NoOpening, Fault}
 use Rattle.mds_trace.specs.Items.{events_of}
-use Rattle.mds_trace.specs.Replay.{accepted_by, accepted_of, prior_of, requests_of, IsOutcome, IsVerdict, AreVerdicts}
+use Rattle.mds_trace.specs.Replay.{accepted_by, prior_of, requests_of, IsOutcome, AreVerdicts}
 use Rattle.mds_trace.specs.Laws.{outcome_told, outcome_of_report, outcomes_of_reports, AreOutcomes}
+use Rattle.mds_trace.proofs.Turns.{InTurn, in_turn}
 use Rattle.mds_trace.proofs.Following.{requests-push}
 use Rattle.mds_trace.proofs.Verdicts.{prior_same, prior_other}
 
@@ -35,27 +36,6 @@ abbrev told_of : List (Reported × Verdict) → List Outcome
 told_of judged = filter_map (λ one. outcome_told one.1) judged
 
 module _ (rows : List Row) where
-  -- the verdicts one after the other, from these accepted events on
-  abbrev InTurn : List Reported → List EventItem → List Verdict → Type 0
-  InTurn accepted [] [] = Unit {0}
-  InTurn accepted (item ∷ items) (line ∷ lines) = IsVerdict Removed rows accepted item line × InTurn (accepted ++ accepted_by item line) items lines
-  InTurn accepted [] (line ∷ lines) = ⊥
-  InTurn accepted (item ∷ items) [] = ⊥
-
-  in_turn : (accepted : List Reported) (items : List EventItem) (lines : List Verdict) → length lines ≡ length items
-      → ((i : ℕ) (item : EventItem) (line : Verdict) → slice_get items i ≡ Some item → slice_get lines i ≡ Some line
-      → IsVerdict Removed rows (accepted ++ accepted_of (take i items) (take i lines)) item line)
-      → InTurn accepted items lines
-  in_turn accepted [] [] count each = tt
-  in_turn accepted [] (line ∷ lines) count each = absurd (omega (arith, count))
-  in_turn accepted (item ∷ items) [] count each = absurd (omega (arith, count))
-  in_turn accepted (item ∷ items) (line ∷ lines) count each = (
-    subst (λ events. IsVerdict Removed rows events item line) (append-nil accepted) (each zero item line refl refl),
-    in_turn (accepted ++ accepted_by item line) items lines (omega (arith, count)) (λ i other said at_item at_line.
-        subst (λ events. IsVerdict Removed rows events other said) (sym (append_assoc accepted (accepted_by item line) (accepted_of (take i items) (take i lines))))
-        (each (suc i) other said at_item at_line)),
-  )
-
   -- the same over the events alone
   abbrev EventsInTurn : List Reported → List (Reported × Verdict) → Type 0
   EventsInTurn accepted [] = Unit {0}
@@ -67,7 +47,7 @@ module _ (rows : List Row) where
   AreJudged accepted items lines =
       (judged : List (Reported × Verdict)) × EventsInTurn accepted judged × (map (λ one. one.0) judged ≡ events_of items) × (told_of judged ≡ filter_map outcome_told lines)
 
-  without_faults : (accepted : List Reported) (items : List EventItem) (lines : List Verdict) → InTurn accepted items lines → AreJudged accepted items lines
+  without_faults : (accepted : List Reported) (items : List EventItem) (lines : List Verdict) → InTurn Removed rows accepted items lines → AreJudged accepted items lines
   without_faults accepted [] [] are = ([], tt, refl, refl)
   without_faults accepted [] (line ∷ lines) are = absurd are
   without_faults accepted (item ∷ items) [] are = absurd are
@@ -80,7 +60,7 @@ module _ (rows : List Row) where
   without_faults accepted (Event event ∷ items) (NoOpening at ∷ lines) are = absurd are.0
   without_faults accepted (Event event ∷ items) (Fault fault ∷ lines) are = absurd are.0
   without_faults accepted (Faulty fault ∷ items) (line ∷ lines) are =
-      let rest = without_faults accepted items lines (subst (λ events. InTurn events items lines) (append-nil accepted) are.1) in
+      let rest = without_faults accepted items lines (subst (λ events. InTurn Removed rows events items lines) (append-nil accepted) are.1) in
       (rest.0, rest.1, rest.2, rest.3 ∙ sym (ap (λ one. filter_map outcome_told (one ∷ lines)) are.0))
 
 -- nothing is known of a vehicle, which wasn't registered
@@ -253,7 +233,7 @@ module _ (rows : List Row) where
 
   pub replayed_run : (items : List EventItem) (lines : List Verdict) → AreVerdicts Removed rows items lines → AreOutcomes rows items lines
   replayed_run items lines are requests same first =
-      let judged = without_faults rows [] items lines (in_turn rows [] items lines are.count are.each) in
+      let judged = without_faults rows [] items lines (in_turn Removed rows [] items lines are.count are.each) in
       let run = runs_on requests [] [] [] judged.0 (λ key. inl (record { own_list = refl; prior = refl; absent = none_in_empty (Register key) })) judged.1 (same ∙ sym judged.2) first in
       record {
         replies = run.0;

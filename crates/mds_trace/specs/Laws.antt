@@ -11,6 +11,7 @@ use Rattle.mds_core.specs.Reported.{Reported}
 use Rattle.mds_core.specs.History.{reports}
 use Rattle.mds_core.specs.Run.{IsRun}
 use Rattle.mds_batch.specs.declared.item.EventItem.{EventItem}
+use Rattle.mds_trace.specs.declared.report.Opening.{Opening}
 use Rattle.mds_trace.specs.declared.report.Opening.TheVariants.{Removed}
 use Rattle.mds_trace.specs.declared.report.Verdict.{Verdict}
 use Rattle.mds_trace.specs.declared.report.Verdict.TheVariants.{Accepted, Refused, NoOpening, Fault}
@@ -54,3 +55,7 @@ AreOutcomes rows items lines = (requests : List Request) → reports requests �
 -- the verdicts of a replay in which each vehicle begins with a registration are the outcomes of a run of the machine
 abbrev pub ReplaysAreRuns : Type 0
 ReplaysAreRuns = (rows : List Row) (items : List EventItem) (lines : List Verdict) → AreVerdicts Removed rows items lines → AreOutcomes rows items lines
+
+-- items have one list of verdicts
+abbrev pub VerdictsAreOne : Type 0
+VerdictsAreOne = (opening : Opening) (rows : List Row) (items : List EventItem) (a b : List Verdict) → AreVerdicts opening rows items a → AreVerdicts opening rows items b → a ≡ b

@@ -1,6 +1,6 @@
-//! What holds of the definitions alone: of verdicts and runs, and of sessions, whoever computes them. Each law is a function that does
-//! nothing; its contract is the law.
-ghost use Rattle.mds_trace.specs.Laws.{ReplaysAreRuns};
+//! What holds of the definitions alone: of verdicts and runs, and of sessions, whoever computes them. Each law is a
+//! function that does nothing; its contract is the law.
+ghost use Rattle.mds_trace.specs.Laws.{ReplaysAreRuns, VerdictsAreOne};
 ghost use Rattle.mds_trace.specs.SessionLaws.{LawfulReportsOpen};
 
 /// The verdicts of a replay with [`Opening::Removed`](crate::Opening::Removed) are the outcomes of the machine's run over
@@ -14,4 +14,9 @@ pub fn replays_are_runs()
 /// states that the vehicle held: before each event, and after the last, the one held after as many reports.
 pub fn lawful_reports_open()
     ensures { LawfulReportsOpen }
+{}
+
+/// Two lists of verdicts on the same items, over the same table and with the same opening, are equal.
+pub fn verdicts_are_one()
+    ensures { VerdictsAreOne }
 {}
