@@ -1,8 +1,8 @@
 //! Sets of possible states, and whether an event of several types may lead from one state to another.
 //!
 //! An event leads from the state held to the state reported where some chain does: a state after each of its types,
-//! each step by a row of the table. No chain is looked for here: the set of states that are possible after each type is
-//! enough, and has eight states at most.
+//! each step by a row of the table. To admit an event no chain is looked for: the set of states that are possible after
+//! each type is enough, and has eight states at most. The least chain is found by such sets too.
 #![tactic(auto)]
 
 mod admission;

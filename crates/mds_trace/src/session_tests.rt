@@ -32,9 +32,10 @@ struct Told<'a> {
     time: u64,
 }
 
-/// A call of a session.
+/// A call of a session, or none.
 #[derive(Clone, Copy)]
 enum Call {
+    Stay,
     Step,
     Back,
     Next,
@@ -90,6 +91,7 @@ fn fault_of(
 /// Makes a call of a session.
 fn made(session: &mut Session, call: Call) -> Result<(), Halt> {
     match call {
+        Call::Stay => Ok(()),
         Call::Step => session.step(),
         Call::Back => session.back(),
         Call::Next => session.next_event(),
@@ -164,6 +166,7 @@ fn debugger_script(rt: HostRuntime) -> Result<(), Fail> {
         Elsewhere,
     ];
     let script = [
+        (Call::Stay, (Ok(()), 0, 0, Removed, &[Removed][..])),
         (
             Call::Next,
             (Ok(()), 1, 0, NonContactable, &[NonContactable][..]),
@@ -258,6 +261,8 @@ fn no_events(rt: HostRuntime) -> Result<(), Fail> {
         ),
     ];
     let other = first_other(rt.alloc(), Removed, &[], &script)?;
+    let session = opened(rt.alloc(), Removed, &[])??;
+    assert!(rt; session.chain(rt.alloc())?.is_none());
     assert_eq!(rt; other, None);
     Ok(())
 }
