@@ -19,6 +19,7 @@ FAULTS = [
     ("[1,]", "not_json"),
     ("[] []", "not_json"),
     ("[NaN]", "not_json"),
+    ("[1e999]", "not_json"),
     ("['available']", "not_json"),
     (b'["\xff"]', "not_json"),
     (b'["\xc0\x80"]', "not_json"),
@@ -59,22 +60,44 @@ def batches():
 
 NAMES = list(MEMBERS)
 SEVENTEEN = json.dumps(["trip_end"] * 17)
+# Texts of JSON that no member that has to be there takes.
+OTHERS = ["null", "true", "7.5", '""', '"-"', "[]", "[7]", "{}"]
+# Texts that are no ten-millionths of a degree.
+NO_DEGREES = ["52.52", "1.0", "1e1", "-0", '"0"', "null", "9223372036854775808", "18446744073709551616"]
+
+
+def first_of(name, behind):
+    """A member that isn't there or is bad, with the members behind it bad or not there, and its own fault."""
+    return [
+        ({name: None, **dict.fromkeys(behind, "7")}, f"missing_param {name}"),
+        ({name: "7.5", **dict.fromkeys(behind)}, f"bad_param {name}"),
+        ({name: "{}", **dict.fromkeys(behind, "false")}, f"bad_param {name}"),
+    ]
+
+
 # Members of an item that are changed, and its fault.
 FAULTY = [
     *[({name: None}, f"missing_param {name}") for name in NAMES],
-    *[({name: "null"}, f"bad_param {name}") for name in NAMES],
+    *[({name: text}, f"bad_param {name}") for name in NAMES for text in OTHERS],
     ({"provider_id": '"00000000-0000-4000-8000"'}, "bad_param provider_id"),
-    ({"provider_id": '""'}, "bad_param provider_id"),
     ({"device_id": "12"}, "bad_param device_id"),
     ({"device_id": f'"{A[:-1]}g"'}, "bad_param device_id"),
     ({"event_id": f'"{A}0"'}, "bad_param event_id"),
+    ({"event_id": f'"{A[:-1]}"'}, "bad_param event_id"),
+    ({"event_id": f'" {A}"'}, "bad_param event_id"),
+    ({"event_id": '"{%s"' % A}, "bad_param event_id"),
+    ({"event_id": f'"{A.replace("-", "", 1)}"'}, "bad_param event_id"),
     ({"event_id": '"{%s}"' % A.replace("-", "")}, "bad_param event_id"),
     ({"vehicle_state": '"Available"'}, "bad_param vehicle_state"),
-    ({"vehicle_state": '""'}, "bad_param vehicle_state"),
+    ({"vehicle_state": '"available "'}, "bad_param vehicle_state"),
+    ({"vehicle_state": '"flying"'}, "bad_param vehicle_state"),
     ({"vehicle_state": "1"}, "bad_param vehicle_state"),
-    ({"event_types": "[]"}, "bad_param event_types"),
+    ({"vehicle_state": '["available"]'}, "bad_param vehicle_state"),
     ({"event_types": SEVENTEEN}, "bad_param event_types"),
     ({"event_types": '["trip-end"]'}, "bad_param event_types"),
+    ({"event_types": '["trip end"]'}, "bad_param event_types"),
+    ({"event_types": '["Trip"]'}, "bad_param event_types"),
+    ({"event_types": '["tripé"]'}, "bad_param event_types"),
     ({"event_types": '["trip_end", ""]'}, "bad_param event_types"),
     ({"event_types": '["trip_end", 7]'}, "bad_param event_types"),
     ({"event_types": f'["{"k" * 33}"]'}, "bad_param event_types"),
@@ -82,18 +105,24 @@ FAULTY = [
     ({"timestamp": "1000.0"}, "bad_param timestamp"),
     ({"timestamp": "1000.5"}, "bad_param timestamp"),
     ({"timestamp": "1e3"}, "bad_param timestamp"),
+    ({"timestamp": "1E3"}, "bad_param timestamp"),
     ({"timestamp": "-0"}, "bad_param timestamp"),
     ({"timestamp": "-1"}, "bad_param timestamp"),
     ({"timestamp": '"1000"'}, "bad_param timestamp"),
     ({"timestamp": "[1000]"}, "bad_param timestamp"),
     ({"timestamp": "9007199254740992"}, "bad_param timestamp"),
+    ({"timestamp": "18446744073709551615"}, "bad_param timestamp"),
+    ({"timestamp": "18446744073709551616"}, "bad_param timestamp"),
     ({"timestamp": "18446744073709552616"}, "bad_param timestamp"),
+    ({"timestamp": "-9223372036854775808"}, "bad_param timestamp"),
     ({"location_e7": "[0, 0]"}, "bad_param location_e7"),
     ({"location_e7": "0"}, "bad_param location_e7"),
+    ({"location_e7": '"0,0"'}, "bad_param location_e7"),
+    ({"location_e7": "false"}, "bad_param location_e7"),
     ({"location_e7": "{}"}, "bad_param location_e7"),
     ({"location_e7": '{"lat": 0}'}, "bad_param location_e7"),
     ({"location_e7": '{"lng": 0}'}, "bad_param location_e7"),
-    ({"location_e7": '{"lat": 52.52, "lng": 0}'}, "bad_param location_e7"),
+    *[({"location_e7": f'{{"lat": {text}, "lng": 0}}'}, "bad_param location_e7") for text in NO_DEGREES],
     ({"location_e7": '{"lat": 0, "lng": null}'}, "bad_param location_e7"),
     ({"location_e7": '{"lat": 900000001, "lng": 0}'}, "bad_param location_e7"),
     ({"location_e7": '{"lat": -900000001, "lng": 0}'}, "bad_param location_e7"),
@@ -101,7 +130,7 @@ FAULTY = [
     ({"location_e7": '{"lat": 0, "lng": -1800000001}'}, "bad_param location_e7"),
     # of two faulty members the first in the order of the formats
     *[(dict.fromkeys(NAMES[at:]), f"missing_param {NAMES[at]}") for at in range(len(NAMES))],
-    ({"provider_id": "7", "device_id": None}, "bad_param provider_id"),
+    *[fault for at in range(len(NAMES) - 1) for fault in first_of(NAMES[at], NAMES[at + 1 :])],
     ({"device_id": None, "timestamp": "-1"}, "missing_param device_id"),
     ({"timestamp": "-1", "location_e7": "7"}, "bad_param timestamp"),
     ({"timestamp": None, "location_e7": "7"}, "missing_param timestamp"),
@@ -112,6 +141,7 @@ ACCEPTED = [
     {"location_e7": "null"},
     {"location_e7": '{"lat": 900000000, "lng": 1800000000}'},
     {"location_e7": '{"lat": -900000000, "lng": -1800000000, "more": 1.5}'},
+    {"location_e7": '{"lng": 0, "lat": 52.52, "lat": 0}'},
     {"location": '{"lat": 52.52, "lng": 13.405}', "battery_percent": "88", "trip_ids": "[]"},
     {"publication_time": "1700000000500", "location": "7"},
     # members written twice, of which the last counts
@@ -124,7 +154,7 @@ ACCEPTED = [
 SIXTEEN = json.dumps(["provider_drop_off"] + 7 * ["battery_low", "battery_charged"] + ["comms_lost"])
 # No faults of the item: its event is refused.
 REFUSED = [
-    ({"event_types": '["never_heard_of"]'}, "refused no_chain removed 0"),
+    *[({"event_types": f'["{name}"]'}, "refused no_chain removed 0") for name in ("never_heard_of", "_", "0", "a")],
     ({"event_types": f'["{"k" * 32}"]'}, "refused no_chain removed 0"),
     ({"event_types": SIXTEEN}, "refused no_chain removed 16"),
 ]
@@ -136,7 +166,7 @@ def items():
         yield replayed(batch([item(**changed)]), [f"fault {fault}"], [], name=str(changed))
     twice = item(timestamp='3000, "timestamp": -1')
     yield replayed(twice, ["fault bad_param timestamp"], [], name="a time twice, the last one bad")
-    for text in ("7", "null", "[]", '"text"', "false"):
+    for text in ("7", "null", "[]", '"text"', "false", '["provider_id"]'):
         yield replayed(f"[{text}]", ["fault not_object"], [], name=text)
     for changed, verdict in REFUSED:
         yield replayed(item(**changed), [verdict], [(A, "removed", 0)], name=str(changed))

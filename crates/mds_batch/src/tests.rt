@@ -1,140 +1,79 @@
 //! What no clause says: values from outside, and that each call can succeed.
-mod batches;
-mod forms;
-mod order;
-mod positions;
+mod events;
+mod texts;
 
-use crate::{EventItem, ItemFault, Member, VehicleItem, read_events, read_vehicles};
-use mds_core::Event;
-use std::alloc::{AllocError, Global};
+use crate::{BatchFault, ItemFault, Member, VehicleItem, read_events, read_vehicles};
+use mds_core::Key;
 use std::test::Fail;
 use uuid::Uuid;
 
-/// The provider of each item.
-const PROVIDER: &str = "00000000-0000-4000-8000-000000000001";
+/// Registrations of one vehicle, alone and with members that are ignored, and items at fault.
+const REGISTRATIONS: &[u8] = br#"[
+{"provider_id":"00000000-0000-4000-8000-000000000001","device_id":"00000000-0000-4000-8000-00000000000a"},
+{"device_id":"0000000000004000800000000000000A","provider_id":"00000000-0000-4000-8000-000000000001","timestamp":1.5},
+{"provider_id":"00000000-0000-4000-8000-000000000001"},
+{"provider_id":"00000000-0000-4000-8000-000000000001","device_id":1},
+{},
+null,
+[]]"#;
 
-/// The vehicle of each item.
-const DEVICE: &str = "00000000-0000-4000-8000-00000000000a";
-
-/// The identifier of each event.
-const EVENT: &str = "00000000-0000-4000-8000-0000000000e1";
-
-/// The members that an event has to have, with values that serve.
-const MEMBERS: [(Member, &str); 6] = [
-    (
-        Member::ProviderId,
-        "\"00000000-0000-4000-8000-000000000001\"",
-    ),
-    (Member::DeviceId, "\"00000000-0000-4000-8000-00000000000a\""),
-    (Member::EventId, "\"00000000-0000-4000-8000-0000000000e1\""),
-    (Member::VehicleState, "\"available\""),
-    (Member::EventTypes, "[\"provider_drop_off\"]"),
-    (Member::Timestamp, "1000"),
-];
-
-/// The text of an event, with this value of the member in the place of its own, or without the member where there is
-/// no text.
-fn event_with(alloc: Global, changed: Member, value: &str) -> Result<String, AllocError> {
-    let mut text = String::from_str(alloc, "{\"x\":0")?;
-    for (member, usual) in MEMBERS {
-        if member != changed {
-            push_member(&mut text, member.name(), usual)?;
-        }
-    }
-    push_member(&mut text, changed.name(), value)?;
-    text.push_str("}")?;
-    Ok(text)
-}
-
-/// The text of an event with this behind its members.
-fn event_and(alloc: Global, more: &str) -> Result<String, AllocError> {
-    let mut text = String::from_str(alloc, "{\"x\":0")?;
-    for (member, usual) in MEMBERS {
-        push_member(&mut text, member.name(), usual)?;
-    }
-    text.push_str(more)?;
-    text.push_str("}")?;
-    Ok(text)
-}
-
-/// Writes a member behind others, unless its value is no text.
-fn push_member(text: &mut String, name: &str, value: &str) -> Result<(), AllocError> {
-    if value.is_empty() {
-        return Ok(());
-    }
-    text.push_str(",\"")?;
-    text.push_str(name)?;
-    text.push_str("\":")?;
-    text.push_str(value)
-}
-
-/// The piece, so many times.
-fn repeated(alloc: Global, piece: &str, count: usize) -> Result<String, AllocError> {
-    let mut text = String::new(alloc);
-    for _ in 0..count {
-        text.push_str(piece)?;
-    }
-    Ok(text)
-}
-
-/// A list of the item, so many times.
-fn list_of(alloc: Global, item: &str, count: usize) -> Result<String, AllocError> {
-    let mut text = String::from_str(alloc, "[")?;
-    for i in 0..count {
-        if i > 0 {
-            text.push_str(",")?;
-        }
-        text.push_str(item)?;
-    }
-    text.push_str("]")?;
-    Ok(text)
-}
-
-/// The one event that the text is.
-fn event_of(alloc: Global, text: &str) -> Result<Event, Fail> {
-    let mut items = read_events(alloc, text.as_bytes())?;
-    let only = items.len() == 1;
-    match items.pop() {
-        Some(EventItem::Event(event)) if only => Ok(event),
-        _ => Err("no single event")?,
-    }
-}
-
-/// The fault of the one item that the text is, if it is at fault.
-fn fault_of(alloc: Global, text: &str) -> Result<Option<ItemFault>, Fail> {
-    let items = read_events(alloc, text.as_bytes())?;
-    match items.as_slice() {
-        [EventItem::Event(_)] => Ok(None),
-        [EventItem::Fault(fault)] => Ok(Some(*fault)),
-        _ => Err("no single item")?,
-    }
-}
-
-/// The one item of a registration that the text is.
-fn vehicle_of(alloc: Global, text: &str) -> Result<VehicleItem, Fail> {
-    let items = read_vehicles(alloc, text.as_bytes())?;
-    match items.as_slice() {
-        [item] => Ok(*item),
-        _ => Err("no single item")?,
-    }
-}
-
-fn uuid(text: &str) -> Result<Uuid, Fail> {
-    Ok(Uuid::parse_str(text)?)
+/// The vehicle that they name.
+fn vehicle() -> VehicleItem {
+    VehicleItem::Vehicle(Key {
+        provider: Uuid::from_u128(0x00000000_0000_4000_8000_000000000001),
+        device: Uuid::from_u128(0x00000000_0000_4000_8000_00000000000a),
+    })
 }
 
 #[test]
-fn members_have_names(rt: HostRuntime) {
+fn registrations(rt: HostRuntime) -> Result<(), Fail> {
     let expected = [
-        (Member::ProviderId, "provider_id"),
-        (Member::DeviceId, "device_id"),
-        (Member::EventId, "event_id"),
-        (Member::VehicleState, "vehicle_state"),
-        (Member::EventTypes, "event_types"),
-        (Member::Timestamp, "timestamp"),
-        (Member::LocationE7, "location_e7"),
+        vehicle(),
+        vehicle(),
+        VehicleItem::Fault(ItemFault::Missing(Member::DeviceId)),
+        VehicleItem::Fault(ItemFault::Bad(Member::DeviceId)),
+        VehicleItem::Fault(ItemFault::Missing(Member::ProviderId)),
+        VehicleItem::Fault(ItemFault::NotObject),
+        VehicleItem::Fault(ItemFault::NotObject),
     ];
-    for (member, name) in expected {
-        assert_eq!(rt; member.name(), name);
-    }
+    let items = read_vehicles(rt.alloc(), REGISTRATIONS)?;
+    assert_eq!(rt; items.as_slice(), expected.as_slice());
+    Ok(())
+}
+
+#[test]
+fn names_and_texts(rt: HostRuntime) -> Result<(), Fail> {
+    let alloc = rt.alloc();
+    let member = Member::LocationE7;
+    let (batch, item) = (BatchFault::TooMany, ItemFault::Bad(member));
+    let text = format!(in alloc; "{batch}, {item}")?;
+    let expected = ("location_e7", "too_many, bad_param location_e7");
+    assert_eq!(rt; (member.name(), text.as_str()), expected);
+    Ok(())
+}
+
+/// An event of two types with a position, and an item that is at fault.
+const TWO_ITEMS: &[u8] = br#"[
+{"provider_id":"00000000-0000-4000-8000-000000000001","device_id":"00000000-0000-4000-8000-00000000000a",
+"event_id":"00000000-0000-4000-8000-0000000000e1","vehicle_state":"on_trip",
+"event_types":["provider_drop_off","trip_start"],"timestamp":1000,"location_e7":{"lat":525200000,"lng":134050000}},
+{"provider_id":"00000000-0000-4000-8000-000000000001"}]"#;
+
+/// Each call, made again where its growth is refused (by `tests/refused-growths`).
+#[test]
+fn call_succeeds_after_a_refused_growth(rt: HostRuntime) {
+    let alloc = rt.alloc();
+    let vehicles = match read_vehicles(alloc, TWO_ITEMS) {
+        Err(BatchFault::Memory) => read_vehicles(alloc, TWO_ITEMS),
+        other => other,
+    };
+    let events = match read_events(alloc, TWO_ITEMS) {
+        Err(BatchFault::Memory) => read_events(alloc, TWO_ITEMS),
+        other => other,
+    };
+    let counts = (
+        vehicles.map(|items| items.len()),
+        events.map(|items| items.len()),
+    );
+    assert_eq!(rt; counts, (Ok(2), Ok(2)));
 }

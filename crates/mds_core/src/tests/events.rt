@@ -1,115 +1,88 @@
 //! Positions, events and requests.
-use super::{A, E1, Told, event_of, key, told_of_a};
-use crate::{Event, EventFault, MAX_TIME, Position, Refusal, Request};
+use super::{A, E1, key, types_of, uuid};
+use crate::{Event, EventFault, MAX_TIME, Position, Refusal};
 use mds_table::{State, TypeName};
 use std::test::Fail;
-use uuid::Uuid;
+
+/// Latitudes and longitudes, and whether they are on Earth.
+const PLACES: [(i64, i64, bool); 7] = [
+    (525_200_000, 134_050_000, true),
+    (900_000_000, 1_800_000_000, true),
+    (-900_000_000, -1_800_000_000, true),
+    (900_000_001, 0, false),
+    (-900_000_001, 0, false),
+    (0, 1_800_000_001, false),
+    (0, -1_800_000_001, false),
+];
 
 #[test]
-fn positions_end_at_their_limits(rt: HostRuntime) -> Result<(), Fail> {
-    let expected = [
-        (900_000_000, 1_800_000_000, true),
-        (-900_000_000, -1_800_000_000, true),
-        (900_000_001, 0, false),
-        (-900_000_001, 0, false),
-        (0, 1_800_000_001, false),
-        (0, -1_800_000_001, false),
-    ];
-    for (lat, lng, on_earth) in expected {
-        assert_eq!(rt; Position::new(lat, lng).is_some(), on_earth, "{lat} {lng}");
+fn positions_end_at_their_limits(rt: HostRuntime) {
+    for (lat, lng, on_earth) in PLACES {
+        let found = match Position::new(lat, lng) {
+            Some(place) => (place.lat(), place.lng(), true),
+            None => (lat, lng, false),
+        };
+        assert_eq!(rt; found, (lat, lng, on_earth));
     }
-    let berlin = Position::new(525_200_000, 134_050_000).ok_or("on Earth")?;
-    assert_eq!(rt; berlin.lat(), 525_200_000);
-    assert_eq!(rt; berlin.lng(), 134_050_000);
-    Ok(())
-}
-
-/// An event that has everything.
-fn whole_event(rt: &HostRuntime) -> Result<Event, Fail> {
-    let both = told_of_a(
-        E1,
-        &["comms_restored", "trip_end"],
-        State::Available,
-        MAX_TIME,
-    );
-    let position = Position::new(1, -2);
-    event_of(rt.alloc(), Told { position, ..both })
 }
 
 #[test]
 fn event_gives_back_what_went_in(rt: HostRuntime) -> Result<(), Fail> {
-    let event = whole_event(&rt)?;
-    let id = Uuid::parse_str(E1)?;
-    let found = (*event.key(), event.id(), event.state(), event.time());
-    assert_eq!(rt;
-        found,
-        (key(A)?, id, State::Available, 9_007_199_254_740_991)
+    let types = [TypeName::new("battery_low")?];
+    let place = Position::new(1, -2);
+    let event = Event::new(key(A), uuid(E1), State::Missing, &types, MAX_TIME, place)?.copy();
+    let found = (
+        *event.key(),
+        event.id(),
+        event.state(),
+        event.types(),
+        event.time(),
     );
-    assert_eq!(rt; event.position(), Position::new(1, -2));
+    let expected = (
+        key(A),
+        uuid(E1),
+        State::Missing,
+        types.as_slice(),
+        9_007_199_254_740_991,
+    );
+    assert_eq!(rt; (found, event.position()), (expected, place));
     Ok(())
 }
 
-#[test]
-fn event_gives_back_its_types(rt: HostRuntime) -> Result<(), Fail> {
-    let event = whole_event(&rt)?.copy();
-    let types = [TypeName::new("comms_restored")?, TypeName::new("trip_end")?];
-    assert_eq!(rt; event.types(), types.as_slice());
-    Ok(())
-}
+const NO_TYPES: &[&str] = &[];
 
-/// The fault of an event with this many types at this time.
-fn fault_of(rt: &HostRuntime, count: usize, time: u64) -> Result<Option<EventFault>, Fail> {
-    let mut types = Vec::new(rt.alloc());
-    for _ in 0..count {
-        types.push(TypeName::new("located")?)?;
-    }
-    let id = Uuid::parse_str(E1)?;
-    Ok(Event::new(key(A)?, id, State::Missing, &types, time, None).err())
-}
+const SIXTEEN: &[&str] = &["located"; 16];
+
+const SEVENTEEN: &[&str] = &["located"; 17];
+
+/// Types and times of an event, and its fault.
+const FAULTS: [(&[&str], u64, Option<EventFault>); 6] = [
+    (NO_TYPES, MAX_TIME + 1, Some(EventFault::NoTypes)),
+    (SEVENTEEN, MAX_TIME + 1, Some(EventFault::TooManyTypes)),
+    (SEVENTEEN, 0, Some(EventFault::TooManyTypes)),
+    (SIXTEEN, MAX_TIME + 1, Some(EventFault::BadTime)),
+    (SIXTEEN, MAX_TIME, None),
+    (&["located"], 0, None),
+];
 
 #[test]
 fn event_faults_come_in_order(rt: HostRuntime) -> Result<(), Fail> {
-    let expected = [
-        (0, MAX_TIME + 1, Some(EventFault::NoTypes)),
-        (17, MAX_TIME + 1, Some(EventFault::TooManyTypes)),
-        (17, 0, Some(EventFault::TooManyTypes)),
-        (16, MAX_TIME + 1, Some(EventFault::BadTime)),
-        (16, MAX_TIME, None),
-        (1, 0, None),
-    ];
-    for (count, time, fault) in expected {
-        assert_eq!(rt; fault_of(&rt, count, time)?, fault, "{count} {time}");
+    for (names, time, expected) in &FAULTS {
+        let types = types_of(rt.alloc(), names)?;
+        let fault = Event::new(key(A), uuid(E1), State::Missing, &types, *time, None).err();
+        assert_eq!(rt; (names.len(), time, &fault), (names.len(), time, expected));
     }
     Ok(())
 }
 
 #[test]
-fn request_is_about_its_vehicle(rt: HostRuntime) -> Result<(), Fail> {
-    let about = key(A)?;
-    let report = Request::Report(whole_event(&rt)?);
-    for request in [Request::Register(about), report, Request::Look(about)] {
-        assert_eq!(rt; *request.key(), about);
-        assert_eq!(rt; request.copy(), request);
-    }
-    Ok(())
-}
-
-#[test]
-fn event_faults_print_their_words(rt: HostRuntime) -> Result<(), Fail> {
-    let word = EventFault::TooManyTypes.to_string(rt.alloc())?;
-    assert_eq!(rt; word.as_str(), "too_many_types");
-    Ok(())
-}
-
-#[test]
-fn refusals_print_their_words(rt: HostRuntime) -> Result<(), Fail> {
-    let alloc = rt.alloc();
-    let late = Refusal::Late { last: 2000 };
-    assert_eq!(rt; late.to_string(alloc)?.as_str(), "late 2000");
+fn faults_and_refusals_print_their_words(rt: HostRuntime) -> Result<(), Fail> {
+    let fault = EventFault::TooManyTypes;
     let stuck = Refusal::NoChain {
         held: State::OnTrip,
         at: 0,
     };
-    assert_eq!(rt; stuck.to_string(alloc)?.as_str(), "no_chain on_trip 0");
+    let words = format!(in rt.alloc(); "{fault}, {stuck}")?;
+    assert_eq!(rt; words.as_str(), "too_many_types, no_chain on_trip 0");
     Ok(())
 }

@@ -1,178 +1,291 @@
-//! The worked cases on events of one type, through a fleet.
-use super::{
-    A, Asked, B, E0, E1, E2, E3, Told, done, key, last_outcome, ran, refused, replies, report,
-    requests_of, standing, told_of_a,
-};
-use crate::{Fleet, Outcome, Position, Refusal, Reply, answer};
-use mds_table::{State, Table};
+//! The worked cases: requests over the profile, and their replies.
+use super::Asked::{self, Look, Register, Report, ReportAt};
+use super::{A, B, E0, E1, E2, E3, key, request_of};
+use crate::Outcome::{self, Done, Refused, Seen};
+use crate::{Fleet, Position, Refusal, Reply, Request, Standing, answer, run};
+use mds_table::State::{Available, NonContactable, NonOperational, OnTrip};
+use mds_table::Table;
+use std::alloc::{AllocError, Global};
 use std::test::Fail;
 
+/// A request, and its reply: how many were accepted before, and what became of it.
+type Step = (Asked, usize, Outcome);
+
+const LATE: Outcome = Refused(Refusal::Late { last: 1000 });
+
+const REPEATED: Outcome = Refused(Refusal::Repeated);
+
+const REGISTERED: Outcome = Refused(Refusal::AlreadyRegistered);
+
+const UNREGISTERED: Outcome = Refused(Refusal::Unregistered);
+
+const STUCK_AT_0: Outcome = Refused(Refusal::NoChain {
+    held: Available,
+    at: 0,
+});
+
+const STUCK_AT_1: Outcome = Refused(Refusal::NoChain {
+    held: Available,
+    at: 1,
+});
+
+/// Available, after one event.
+const AVAILABLE: Standing = Standing {
+    state: Available,
+    events: 1,
+    last: Some(1000),
+    position: None,
+};
+
+/// Out of operation, after two events at one time.
+const LOW_BATTERY: Standing = Standing {
+    state: NonOperational,
+    events: 2,
+    ..AVAILABLE
+};
+
+/// Types of events.
 const DROP_OFF: &[&str] = &["provider_drop_off"];
 
-#[test]
-fn first_event(rt: HostRuntime) -> Result<(), Fail> {
-    let asked = [
-        Asked::Register(A),
-        report(E1, DROP_OFF, State::Available, 1000),
-        Asked::Look(A),
-    ];
-    let seen = Reply {
-        place: 2,
-        outcome: Outcome::Seen(standing(State::Available, 1, Some(1000))),
-    };
-    let found = replies(rt.alloc(), &asked)?;
-    assert_eq!(rt; found.as_slice(), [done(0), done(1), seen].as_slice());
-    Ok(())
+const TO_TRIP: &[&str] = &["provider_drop_off", "trip_start"];
+
+const LOST: &[&str] = &["comms_lost"];
+
+const LOW: &[&str] = &["battery_low"];
+
+const CHARGED: &[&str] = &["battery_charged"];
+
+const FIRST_EVENT: &[Step] = &[
+    (Register(A), 0, Done),
+    (Report(A, E1, DROP_OFF, Available, 1000), 1, Done),
+    (Look(A), 2, Seen(AVAILABLE)),
+];
+
+const TRIP_ENDS_WITH_A_LOW_BATTERY: &[Step] = &[
+    (Register(A), 0, Done),
+    (Report(A, E0, TO_TRIP, OnTrip, 1000), 1, Done),
+    (
+        Report(A, E1, &["trip_end", "battery_low"], NonOperational, 2000),
+        2,
+        Done,
+    ),
+];
+
+const COMMS_BACK_THEN_TRIP_END: &[Step] = &[
+    (Register(A), 0, Done),
+    (Report(A, E0, LOST, NonContactable, 1000), 1, Done),
+    (
+        Report(A, E1, &["comms_restored", "trip_end"], Available, 2000),
+        2,
+        Done,
+    ),
+];
+
+const COMMS_BACK_AND_LOST_AGAIN: &[Step] = &[
+    (Register(A), 0, Done),
+    (Report(A, E0, LOST, NonContactable, 1000), 1, Done),
+    (
+        Report(
+            A,
+            E1,
+            &["comms_restored", "comms_lost"],
+            NonContactable,
+            2000,
+        ),
+        2,
+        Done,
+    ),
+];
+
+const ORDER_OF_TYPES_MATTERS: &[Step] = &[
+    (Register(A), 0, Done),
+    (Report(A, E0, DROP_OFF, Available, 1000), 1, Done),
+    (
+        Report(A, E1, &["battery_charged", "battery_low"], Available, 2000),
+        2,
+        STUCK_AT_0,
+    ),
+    (
+        Report(A, E1, &["battery_low", "battery_charged"], Available, 2000),
+        2,
+        Done,
+    ),
+];
+
+const SAME_TYPE_TWICE: &[Step] = &[
+    (Register(A), 0, Done),
+    (Report(A, E0, DROP_OFF, Available, 1000), 1, Done),
+    (
+        Report(A, E1, &["battery_low", "battery_low"], NonOperational, 2000),
+        2,
+        STUCK_AT_1,
+    ),
+    (Report(A, E1, LOW, Available, 2000), 2, STUCK_AT_1),
+];
+
+const A_TYPE_THAT_STANDS_IN_NO_ROW: &[Step] = &[
+    (Register(A), 0, Done),
+    (Report(A, E0, DROP_OFF, Available, 1000), 1, Done),
+    (
+        Report(
+            A,
+            E3,
+            &["battery_low", "charging_start"],
+            NonOperational,
+            3000,
+        ),
+        2,
+        STUCK_AT_1,
+    ),
+];
+
+/// As many types as an event can have.
+const ROUND: &[&str] = &[
+    "battery_low",
+    "battery_charged",
+    "battery_low",
+    "battery_charged",
+    "battery_low",
+    "battery_charged",
+    "battery_low",
+    "battery_charged",
+    "battery_low",
+    "battery_charged",
+    "battery_low",
+    "battery_charged",
+    "battery_low",
+    "battery_charged",
+    "battery_low",
+    "battery_charged",
+];
+
+const SIXTEEN_TYPES_LEAD_ROUND: &[Step] = &[
+    (Register(A), 0, Done),
+    (Report(A, E0, DROP_OFF, Available, 1000), 1, Done),
+    (Report(A, E1, ROUND, Available, 2000), 2, Done),
+];
+
+const IDENTIFIERS_PER_VEHICLE: &[Step] = &[
+    (Register(A), 0, Done),
+    (Register(B), 1, Done),
+    (Report(A, E1, DROP_OFF, Available, 1000), 2, Done),
+    (Report(B, E1, DROP_OFF, Available, 1000), 3, Done),
+    (Report(A, E1, DROP_OFF, Available, 1000), 4, REPEATED),
+    (Report(A, E1, DROP_OFF, Available, 999), 4, REPEATED),
+];
+
+const EQUAL_AND_LATE_TIMES: &[Step] = &[
+    (Register(A), 0, Done),
+    (Report(A, E0, DROP_OFF, Available, 1000), 1, Done),
+    (Report(A, E1, LOW, NonOperational, 1000), 2, Done),
+    (Report(A, E2, CHARGED, Available, 999), 3, LATE),
+    (Look(A), 3, Seen(LOW_BATTERY)),
+];
+
+const SIX_REQUESTS_IN_A_RUN: &[Step] = &[
+    (Look(A), 0, UNREGISTERED),
+    (Register(A), 0, Done),
+    (Register(A), 1, REGISTERED),
+    (Report(A, E1, DROP_OFF, Available, 1000), 1, Done),
+    (Report(B, E2, DROP_OFF, Available, 1000), 2, UNREGISTERED),
+    (Look(A), 2, Seen(AVAILABLE)),
+];
+
+const CASES: &[(&str, &[Step])] = &[
+    ("first event", FIRST_EVENT),
+    ("trip ends with a low battery", TRIP_ENDS_WITH_A_LOW_BATTERY),
+    ("comms back, then trip end", COMMS_BACK_THEN_TRIP_END),
+    ("comms back and lost again", COMMS_BACK_AND_LOST_AGAIN),
+    ("order of types matters", ORDER_OF_TYPES_MATTERS),
+    ("same type twice", SAME_TYPE_TWICE),
+    ("a type that stands in no row", A_TYPE_THAT_STANDS_IN_NO_ROW),
+    ("sixteen types lead round", SIXTEEN_TYPES_LEAD_ROUND),
+    ("identifiers per vehicle", IDENTIFIERS_PER_VEHICLE),
+    ("equal and late times", EQUAL_AND_LATE_TIMES),
+    ("six requests in a run", SIX_REQUESTS_IN_A_RUN),
+];
+
+/// The requests of the steps, and their replies.
+fn requests_of(alloc: Global, steps: &[Step]) -> Result<(Vec<Request>, Vec<Reply>), Fail> {
+    let (mut requests, mut replies) = (Vec::new(alloc), Vec::new(alloc));
+    for (asked, place, outcome) in steps {
+        requests.push(request_of(alloc, asked)?)?;
+        replies.push(Reply {
+            place: *place,
+            outcome: *outcome,
+        })?;
+    }
+    Ok((requests, replies))
 }
 
-#[test]
-fn what_a_fleet_tells_after_its_first_event(rt: HostRuntime) -> Result<(), Fail> {
-    let alloc = rt.alloc();
-    let drop_off = report(E1, DROP_OFF, State::Available, 1000);
-    let (fleet, _) = ran(alloc, &[Asked::Register(A), drop_off])?;
-    let stands = standing(State::Available, 1, Some(1000));
-    assert_eq!(rt; fleet.standing(&key(A)?), Some(stands));
-    assert_eq!(rt; fleet.standing(&key(B)?), None);
-    assert_eq!(rt; fleet.history().len(), 2);
-    Ok(())
-}
-
-#[test]
-fn events_of_a_vehicle_and_of_nobody(rt: HostRuntime) -> Result<(), Fail> {
-    let alloc = rt.alloc();
-    let drop_off = report(E1, DROP_OFF, State::Available, 1000);
-    let (fleet, _) = ran(alloc, &[Asked::Register(A), drop_off])?;
-    let events = fleet.events(alloc, &key(A)?)?.ok_or("registered")?;
-    assert_eq!(rt; events.len(), 1);
-    assert_eq!(rt; events[0].time(), 1000);
-    assert!(rt; fleet.events(alloc, &key(B)?)?.is_none());
-    Ok(())
-}
-
-#[test]
-fn identifiers_per_vehicle(rt: HostRuntime) -> Result<(), Fail> {
-    let first = told_of_a(E1, DROP_OFF, State::Available, 1000);
-    let asked = [
-        Asked::Register(A),
-        Asked::Register(B),
-        Asked::Report(first),
-        Asked::Report(Told { device: B, ..first }),
-        Asked::Report(first),
-        Asked::Report(Told { time: 999, ..first }),
-    ];
-    let repeated = refused(4, Refusal::Repeated);
-    let expected = [done(0), done(1), done(2), done(3), repeated, repeated];
-    let found = replies(rt.alloc(), &asked)?;
-    assert_eq!(rt; found.as_slice(), expected.as_slice());
-    Ok(())
-}
-
-#[test]
-fn equal_and_late_times(rt: HostRuntime) -> Result<(), Fail> {
-    let asked = [
-        Asked::Register(A),
-        report(E0, DROP_OFF, State::Available, 1000),
-        report(E1, &["battery_low"], State::NonOperational, 1000),
-        report(E2, &["battery_charged"], State::Available, 999),
-        Asked::Look(A),
-    ];
-    let seen = Reply {
-        place: 3,
-        outcome: Outcome::Seen(standing(State::NonOperational, 2, Some(1000))),
-    };
-    let late = refused(3, Refusal::Late { last: 1000 });
-    let expected = [done(0), done(1), done(2), late, seen];
-    let found = replies(rt.alloc(), &asked)?;
-    assert_eq!(rt; found.as_slice(), expected.as_slice());
-    Ok(())
-}
-
-/// Six requests, of which two are accepted.
-fn six_requests<'a>() -> [Asked<'a>; 6] {
-    let drop_off = told_of_a(E1, DROP_OFF, State::Available, 1000);
-    [
-        Asked::Look(A),
-        Asked::Register(A),
-        Asked::Register(A),
-        Asked::Report(drop_off),
-        Asked::Report(Told {
-            device: B,
-            id: E2,
-            ..drop_off
-        }),
-        Asked::Look(A),
-    ]
-}
-
-/// The replies to them.
-fn six_replies() -> [Reply; 6] {
-    [
-        refused(0, Refusal::Unregistered),
-        done(0),
-        refused(1, Refusal::AlreadyRegistered),
-        done(1),
-        refused(2, Refusal::Unregistered),
-        Reply {
-            place: 2,
-            outcome: Outcome::Seen(standing(State::Available, 1, Some(1000))),
-        },
-    ]
-}
-
-#[test]
-fn six_requests_in_a_run(rt: HostRuntime) -> Result<(), Fail> {
-    let (fleet, found) = ran(rt.alloc(), &six_requests())?;
-    assert_eq!(rt; found.as_slice(), six_replies().as_slice());
-    assert_eq!(rt; fleet.history().len(), 2);
-    Ok(())
-}
-
-#[test]
-fn six_requests_answered_one_by_one(rt: HostRuntime) -> Result<(), Fail> {
-    let alloc = rt.alloc();
-    let requests = requests_of(alloc, &six_requests())?;
+/// The replies to the steps' requests, each after those of the accepted requests that came before it.
+fn answers(alloc: Global, accepted: &[Request], steps: &[Step]) -> Result<Vec<Reply>, Fail> {
     let table = Table::profile(alloc)?;
-    let mut fleet = Fleet::open(alloc, Table::profile(alloc)?);
-    for (request, reply) in requests.iter().zip(&six_replies()) {
-        assert_eq!(rt; answer(&table, fleet.history(), request), *reply);
-        fleet.step(request)?;
+    let mut replies = Vec::new(alloc);
+    for (asked, place, _) in steps {
+        let history = accepted.get(..*place).unwrap_or(accepted);
+        replies.push(answer(&table, history, &request_of(alloc, asked)?))?;
+    }
+    Ok(replies)
+}
+
+/// The replies of a run, the same one by one, and those that are expected.
+fn replies(alloc: Global, steps: &[Step]) -> Result<(Vec<Reply>, Vec<Reply>, Vec<Reply>), Fail> {
+    let (requests, expected) = requests_of(alloc, steps)?;
+    let (fleet, found) = run(alloc, Table::profile(alloc)?, &requests)?;
+    let answered = answers(alloc, fleet.history(), steps)?;
+    Ok((found, answered, expected))
+}
+
+#[test]
+fn worked_cases(rt: HostRuntime) -> Result<(), Fail> {
+    for (name, steps) in CASES {
+        let (found, answered, expected) = replies(rt.alloc(), steps)?;
+        assert_eq!(rt; (name, &found, &answered), (name, &expected, &expected));
     }
     Ok(())
 }
 
-#[test]
-fn standing_with_a_position(rt: HostRuntime) -> Result<(), Fail> {
-    let berlin = Position::new(525_200_000, 134_050_000);
-    let low = told_of_a(E1, &["battery_low"], State::NonOperational, 2000);
-    let asked = [
-        Asked::Register(A),
-        report(E0, DROP_OFF, State::Available, 1000),
-        Asked::Report(Told {
-            position: berlin,
-            ..low
-        }),
-        report(E2, &["battery_charged"], State::Available, 3000),
-        Asked::Look(A),
-    ];
-    let mut stands = standing(State::Available, 3, Some(3000));
-    stands.position = berlin;
-    assert_eq!(rt; last_outcome(rt.alloc(), &asked)?, Outcome::Seen(stands));
-    Ok(())
+/// The second of three events has a position.
+const WITH_A_POSITION: &[Step] = &[
+    (Register(A), 0, Done),
+    (Report(A, E0, DROP_OFF, Available, 1000), 1, Done),
+    (
+        ReportAt(A, E1, LOW, NonOperational, 2000, (525_200_000, 134_050_000)),
+        2,
+        Done,
+    ),
+    (Report(A, E2, CHARGED, Available, 3000), 3, Done),
+];
+
+/// The standing of a vehicle, and how many events the machine gives of it.
+fn seen(
+    alloc: Global,
+    fleet: &Fleet,
+    device: u64,
+) -> Result<(Option<Standing>, usize), AllocError> {
+    let count = match fleet.events(alloc, &key(device))? {
+        Some(events) => events.len(),
+        None => 0,
+    };
+    Ok((fleet.standing(&key(device)), count))
+}
+
+/// What is seen of A and of nobody.
+fn both_seen(alloc: Global) -> Result<[(Option<Standing>, usize); 2], Fail> {
+    let (requests, _) = requests_of(alloc, WITH_A_POSITION)?;
+    let (fleet, _) = run(alloc, Table::profile(alloc)?, &requests)?;
+    Ok([seen(alloc, &fleet, A)?, seen(alloc, &fleet, B)?])
 }
 
 #[test]
-fn a_type_that_stands_in_no_row(rt: HostRuntime) -> Result<(), Fail> {
-    let charging = ["battery_low", "charging_start"];
-    let asked = [
-        Asked::Register(A),
-        report(E0, DROP_OFF, State::Available, 1000),
-        report(E3, &charging, State::NonOperational, 3000),
-    ];
-    let stuck = Refusal::NoChain {
-        held: State::Available,
-        at: 1,
+fn standing_with_a_position(rt: HostRuntime) -> Result<(), Fail> {
+    let standing = Standing {
+        events: 3,
+        last: Some(3000),
+        position: Position::new(525_200_000, 134_050_000),
+        ..AVAILABLE
     };
-    let found = last_outcome(rt.alloc(), &asked)?;
-    assert_eq!(rt; found, Outcome::Refused(stuck));
+    assert_eq!(rt; both_seen(rt.alloc())?, [(Some(standing), 3), (None, 0)]);
     Ok(())
 }

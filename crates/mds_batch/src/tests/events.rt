@@ -1,0 +1,153 @@
+//! Events: what is read of their members, or the first fault.
+use crate::ItemFault::{self, Bad, Missing, NotObject};
+use crate::Member::{EventId, EventTypes, LocationE7, ProviderId, Timestamp, VehicleState};
+use crate::{EventItem, read_events};
+use mds_core::{Event, Key, Position};
+use mds_table::{State, TypeName};
+use std::alloc::Global;
+use std::test::Fail;
+use uuid::Uuid;
+
+/// An event of three types, with a position.
+const EVENT: &str = r#"{"provider_id":"00000000-0000-4000-8000-000000000001",
+"device_id":"00000000-0000-4000-8000-00000000000a","event_id":"00000000-0000-4000-8000-0000000000e1",
+"vehicle_state":"on_trip","event_types":["trip_end","battery_low","trip_end"],
+"timestamp":1000,"location_e7":{"lat":525200000,"lng":134050000}}"#;
+
+/// Pieces of the event, what stands in their place, and the fault that is then found.
+const FAULTS: [(&str, &str, ItemFault); 21] = [
+    // numbers and names of types
+    (
+        r#""trip_end","battery_low""#,
+        r#""a","b","c","d","e","f","g","h","i","j","k","l","m","n","o","p""#,
+        Bad(EventTypes),
+    ),
+    (
+        r#""trip_end","battery_low","trip_end""#,
+        "",
+        Bad(EventTypes),
+    ),
+    (
+        "battery_low",
+        "abcdefghijklmnopqrstuvwxyz_012893",
+        Bad(EventTypes),
+    ),
+    ("battery_low", "battery-low", Bad(EventTypes)),
+    // times
+    ("1000", "9007199254740992", Bad(Timestamp)),
+    ("1000", "18446744073709552616", Bad(Timestamp)),
+    ("1000", "1000.0", Bad(Timestamp)),
+    ("1000", "-1", Bad(Timestamp)),
+    ("1000", r#"1000,"timestamp":-1"#, Bad(Timestamp)),
+    // positions
+    ("525200000", "900000001", Bad(LocationE7)),
+    ("525200000", "-900000001", Bad(LocationE7)),
+    ("134050000", "1800000001", Bad(LocationE7)),
+    ("134050000", "-1800000001", Bad(LocationE7)),
+    ("525200000", "9223372036854775808", Bad(LocationE7)),
+    ("525200000", "1.0", Bad(LocationE7)),
+    ("134050000", "null", Bad(LocationE7)),
+    (r#""lat":525200000,"#, "", Bad(LocationE7)),
+    // the first of several faults
+    ("_id", "_ids", Missing(ProviderId)),
+    ("event_id", "id", Missing(EventId)),
+    (
+        r#""on_trip","event_types""#,
+        r#""flying","types""#,
+        Bad(VehicleState),
+    ),
+    (
+        r#"1000,"location_e7":"#,
+        r#"1e3,"location_e7":7,"x":"#,
+        Bad(Timestamp),
+    ),
+];
+
+/// Pieces of the event, what stands in their place, and the time and the position that are then read.
+const EVENTS: [(&str, &str, u64, Option<(i64, i64)>); 10] = [
+    // times
+    ("1000", "0", 0, BERLIN),
+    ("1000", "9007199254740991", 9007199254740991, BERLIN),
+    ("1000", r#"-1,"timestamp":2000"#, 2000, BERLIN),
+    ("timestamp", r"time\u0073tamp", 1000, BERLIN),
+    // positions
+    (
+        "525200000,\"lng\":134050000",
+        "900000000,\"lng\":1800000000",
+        1000,
+        Some((900000000, 1800000000)),
+    ),
+    (
+        "525200000,\"lng\":134050000",
+        "-900000000,\"lng\":-1800000000",
+        1000,
+        Some((-900000000, -1800000000)),
+    ),
+    ("\"lat\"", r#""x":1,"lat":5,"lat""#, 1000, BERLIN),
+    ("\"location_e7\":", r#""location_e7":null,"x":"#, 1000, None),
+    // members that are ignored
+    ("location_e7", "location", 1000, None),
+    (
+        "\"location_e7\"",
+        r#""location":{"lat":1.5,"lng":2},"publication_time":1700000000500,"battery_percent":88,"trip_ids":[],"location_e7""#,
+        1000,
+        BERLIN,
+    ),
+];
+
+/// The position of the event.
+const BERLIN: Option<(i64, i64)> = Some((525200000, 134050000));
+
+/// The event, at this time and place.
+fn event(time: u64, place: Option<(i64, i64)>) -> Result<Event, Fail> {
+    let key = Key {
+        provider: Uuid::from_u128(0x00000000_0000_4000_8000_000000000001),
+        device: Uuid::from_u128(0x00000000_0000_4000_8000_00000000000a),
+    };
+    let id = Uuid::from_u128(0x00000000_0000_4000_8000_0000000000e1);
+    let (end, low) = (TypeName::new("trip_end")?, TypeName::new("battery_low")?);
+    let types = [end.copy(), low, end];
+    let position = match place {
+        Some((lat, lng)) => Position::new(lat, lng),
+        None => None,
+    };
+    Ok(Event::new(key, id, State::OnTrip, &types, time, position)?)
+}
+
+/// What is read of the event, with the other text in the piece's place.
+fn item_with(alloc: Global, piece: &str, other: &str) -> Result<Option<EventItem>, Fail> {
+    let text = EVENT.replace(alloc, piece, other)?;
+    Ok(read_events(alloc, text.as_bytes())?.pop())
+}
+
+#[test]
+fn faults(rt: HostRuntime) -> Result<(), Fail> {
+    for (piece, other, fault) in &FAULTS {
+        let item = item_with(rt.alloc(), piece, other)?;
+        assert_eq!(rt; (other, item), (other, Some(EventItem::Fault(*fault))));
+    }
+    Ok(())
+}
+
+#[test]
+fn events(rt: HostRuntime) -> Result<(), Fail> {
+    for (piece, other, time, place) in &EVENTS {
+        let item = item_with(rt.alloc(), piece, other)?;
+        let expected = EventItem::Event(event(*time, *place)?);
+        assert_eq!(rt; (other, item), (other, Some(expected)));
+    }
+    Ok(())
+}
+
+#[test]
+fn faulty_items_among_good_ones(rt: HostRuntime) -> Result<(), Fail> {
+    let text = format!(in rt.alloc(); "[7,{EVENT},{{\"provider_id\":8}}]")?;
+    let expected = [
+        EventItem::Fault(NotObject),
+        EventItem::Event(event(1000, BERLIN)?),
+        EventItem::Fault(Bad(ProviderId)),
+    ];
+    let items = read_events(rt.alloc(), text.as_bytes())?;
+    assert_eq!(rt; items.as_slice(), expected.as_slice());
+    Ok(())
+}
