@@ -18,6 +18,9 @@ def examples():
     """The files of examples/ that have beside them what is printed of them; those of events as standard input, too."""
     for printed in sorted(EXAMPLES.glob("*.out")):
         path, out = printed.with_suffix(".json"), printed.read_text()
+        if printed.name == "begins-midway.out":
+            yield Case(["replay", "--any", str(path)], status=1, out=out)
+            continue
         if "rows" in json.loads(path.read_text()):
             yield Case(["table", "--table", str(path)], out=out)
             continue
@@ -41,6 +44,12 @@ def commands():
         "replay --table table.json -",
     ):
         yield replayed(EVENTS, ["ok available"], [(A, "available", 1)], words=words, files=files)
+    for words in (
+        "replay --any events.json --table table.json",
+        "replay --any --table table.json -",
+        "replay - --table=table.json --any",
+    ):
+        yield replayed(EVENTS, ["ok available"], [(A, "available", 1, "removed")], words=words, files=files)
 
 
 def help_asked_for():
@@ -85,7 +94,10 @@ WRONG = [
     ["replay", "--table", "table.json"],
     ["replay", "-x"],
     # commands and options that aren't there yet
-    ["replay", "events.json", "--any"],
+    ["replay", "events.json", "--all"],
+    ["replay", "events.json", "--any", "--any"],
+    ["replay", "events.json", "--any=yes"],
+    ["table", "--any"],
     ["replay", "events.json", "--lines"],
     ["replay", "events.json", "--workers", "4"],
     ["serve"],

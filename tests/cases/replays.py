@@ -40,10 +40,12 @@ def batch(items):
 
 
 def replayed(text, verdicts, vehicles, words="replay -", **more):
-    """A replay, of this standard input, with these verdicts; a vehicle is its device, the state held, its events."""
+    """A replay, of this standard input, with these verdicts; a vehicle is its device, the state held, its events, and
+    where it may have opened, if that is printed."""
     accepted = sum(verdict.startswith("ok ") for verdict in verdicts)
     lines = [f"{index} {verdict}" for index, verdict in enumerate(verdicts)]
-    lines += [f"vehicle {P} {device} {state} {events}" for device, state, events in vehicles]
+    for device, state, events, *openings in vehicles:
+        lines.append(" from ".join([f"vehicle {P} {device} {state} {events}", *openings]))
     lines += [f"accepted {accepted} refused {len(verdicts) - accepted}", ""]
     status = 0 if accepted == len(verdicts) else 1
     return Case(words, status=status, out="\n".join(lines), given=text, **more)
@@ -107,6 +109,41 @@ RUNS = [
         [(B, "available", 1), (A, "available", 1)],
     ),
 ]
+EVERY_STATE = "removed,available,non_operational,reserved,on_trip,elsewhere,non_contactable,missing"
+# The same of vehicles that may hold any state at first, each with the states in which it may have opened.
+ANY_RUNS = [
+    (
+        "the five-event run",
+        [
+            ((A, "e1", "provider_drop_off", "available", 1000), "ok available"),
+            ((A, "e2", "trip_start", "on_trip", 2000), "ok on_trip"),
+            ((B, "e1", "agency_drop_off", "available", 1500), "ok available"),
+            ((A, "e3", "battery_low", "non_operational", 3000), "refused no_chain on_trip 0"),
+            ((A, "e4", "trip_end", "available", 1999), "refused late 2000"),
+        ],
+        [(A, "on_trip", 2, "removed"), (B, "available", 1, "removed")],
+    ),
+    (
+        "openings without registration",
+        [
+            ((A, "e1", "trip_end", "available", 1000), "ok available"),
+            ((A, "e2", "changed_geographies", "elsewhere", 2000), "ok elsewhere"),
+            ((B, "e3", "trip_end", "reserved", 1000), "refused no_opening 1"),
+        ],
+        [(A, "elsewhere", 2, "on_trip"), (B, "unknown", 0, EVERY_STATE)],
+    ),
+    (
+        "the machine's rules, after the first event that is accepted",
+        [
+            ((A, "e1", "wake", "available", 9000), "refused no_opening 0"),
+            ((A, "e1", "trip_end", "available", 1000), "ok available"),
+            ((A, "e1", "battery_low", "non_operational", 2000), "refused repeated"),
+            ((A, "e2", "battery_low", "non_operational", 999), "refused late 1000"),
+            ((A, "e2", "battery_charged", "available", 1000), "refused no_chain available 0"),
+        ],
+        [(A, "available", 1, "on_trip")],
+    ),
+]
 
 
 def replays():
@@ -118,6 +155,9 @@ def replays():
     for name, events, vehicles in RUNS:
         text = batch(event(*of_event) for of_event, _ in events)
         yield replayed(text, [verdict for _, verdict in events], vehicles, name=name)
+    for name, events, vehicles in ANY_RUNS:
+        text = batch(event(*of_event) for of_event, _ in events)
+        yield replayed(text, [verdict for _, verdict in events], vehicles, words="replay --any -", name=f"{name}, any")
     devices = [f"00000000-0000-4000-8001-{number:012x}" for number in range(MAX_ITEMS)]
     text = batch(event(device, "e1", "provider_drop_off", "available", 1000) for device in devices)
     vehicles = [(device, "available", 1) for device in devices]
