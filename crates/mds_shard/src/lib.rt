@@ -6,6 +6,8 @@
 #![tactic(auto)]
 
 mod shard;
+#[cfg(test)]
+mod tests;
 mod vehicle;
 
 pub use shard::Shard;
