@@ -4,6 +4,8 @@
 mod book;
 mod seat;
 mod slot;
+#[cfg(test)]
+mod tests;
 
 pub use book::{Book, OpenFault};
 pub use seat::{Keep, Note, Seat};
