@@ -4,6 +4,7 @@ ghost use Rattle.std.specs.Prelude.{◌≡◌};
 use super::{A, Asked, B, C, DROP_OFF, E1, available_once, requests_of};
 use crate::{Book, Keep, OpenFault, Seat, ShardLedger};
 use mds_core::{Outcome, Request};
+use mds_shard::Shard;
 use mds_table::{State, Table};
 use std::alloc::{AllocError, Global};
 use std::marker::Brand;
@@ -129,6 +130,13 @@ fn two_seats_two_threads(rt: HostRuntime) -> Result<(), Fail> {
     Ok(())
 }
 
+/// What two threads tell each other.
+#[derive(Drop)]
+struct Flags {
+    locked: AtomicBool,
+    answered: AtomicBool,
+}
+
 /// How many turns of one millisecond it took until the flag was set, at most 10000.
 fn turns_until<C: Clock>(clock: &C, flag: &AtomicBool) -> usize {
     for turn in 0..10_000 {
@@ -138,6 +146,26 @@ fn turns_until<C: Clock>(clock: &C, flag: &AtomicBool) -> usize {
         thread::sleep(clock, Duration::from_millis(1));
     }
     10_000
+}
+
+/// Tells that the shard is locked: its length, and the turns until the other request was answered.
+fn hold<C: Clock>(clock: &C, shard: &Shard, flags: &Flags) -> (usize, usize) {
+    flags.locked.store(true, Ordering::SeqCst);
+    (shard.len(), turns_until(clock, &flags.answered))
+}
+
+/// Asks one request once the other shard is locked, and tells that it was answered.
+fn answer_and_tell<L: ShardLedger, M: ShardLedger, R: Wait + Clock>(
+    rt: &R,
+    book: &Book<L, M>,
+    mut seat: Seat<L, M>,
+    request: &Request,
+    flags: &Flags,
+) -> Result<(), AllocError> {
+    turns_until(rt, &flags.locked);
+    book.call(rt, &mut seat, request)?;
+    flags.answered.store(true, Ordering::SeqCst);
+    Ok(())
 }
 
 /// Registers a vehicle of shard 0; then, while that shard is locked until another vehicle was registered in shard 1,
@@ -161,29 +189,19 @@ fn two_locks<
     let (book, mut seats) = Book::<L, M>::open(alloc, table, 1, Keep::All, first, second)?;
     let mut seat = seats.pop().ok_or("a seat")?;
     book.call(rt, &mut seat, &requests[0])?;
-    let answered = AtomicBool::new(false);
-    let (flag, shared) = (&answered, &book);
+    let flags = Flags {
+        locked: AtomicBool::new(false),
+        answered: AtomicBool::new(false),
+    };
+    let (shared, told) = (&book, &flags);
     let other = &requests[1];
     let (found, called) = thread::join(
         rt,
-        move || shared.with_shard(rt, 0, |shard| (shard.len(), turns_until(rt, flag))),
-        move || answer_and_tell(rt, shared, seat, other, flag),
+        move || shared.with_shard(rt, 0, |shard| hold(rt, shard, told)),
+        move || answer_and_tell(rt, shared, seat, other, told),
     );
     called?;
     Ok(found)
-}
-
-/// Asks one request, then sets the flag.
-fn answer_and_tell<L: ShardLedger, M: ShardLedger, R: Wait>(
-    rt: &R,
-    book: &Book<L, M>,
-    mut seat: Seat<L, M>,
-    request: &Request,
-    flag: &AtomicBool,
-) -> Result<(), AllocError> {
-    book.call(rt, &mut seat, request)?;
-    flag.store(true, Ordering::SeqCst);
-    Ok(())
 }
 
 /// The same with ledgers of their own.
