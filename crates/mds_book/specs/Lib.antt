@@ -1,0 +1,4 @@
+pub use Rattle.mds_core.specs.Machine
+pub mod Shards
+pub mod Seats
+pub mod Books

@@ -1,0 +1,129 @@
+//! What stands behind a lock: a shard, and the ledger that counts what it accepted.
+ghost use Rattle.std.specs.Prelude.{◌≡◌, [], ◌<◌, ◌≤◌, ◌+◌, ◌^◌, IfOk, OnErr};
+ghost use Rattle.mds_core.specs.History.{key_of};
+ghost use Rattle.mds_core.specs.Answer.{Answers, MayBeDone, next};
+ghost use Rattle.mds_core.specs.Lawful.{IsLawful};
+ghost use Rattle.mds_book.specs.Shards.{shard_of as number_of, AreOfShard, count_of};
+
+use mds_core::{Key, Outcome, Reply, Request};
+use mds_shard::Shard;
+use mds_table::Table;
+use std::alloc::{AllocError, Global};
+use std::marker::{Brand, Model};
+use std::sync::ledger::{Blank, Book, Ledger, Share};
+
+/// A ledger that counts what a shard accepted, cut into a part for each seat of the book.
+pub trait ShardLedger: Ledger {
+    ghost use Rattle.std.specs.Prelude.{List};
+    ghost use Rattle.mds_table.specs.declared.row.Row.{Row};
+
+    /// The table of the book.
+    ghost rows: { List Row };
+}
+
+impl ShardLedger for Brand {
+    ghost use Rattle.std.specs.Prelude.{[]};
+
+    ghost rows = { [] };
+}
+
+/// The number of the shard that holds a vehicle.
+pub(crate) fn shard_of(key: &Key) -> usize
+    ensures number { result ≡ number_of key.now }
+    ensures small { result < 2 }
+{
+    (key.device.as_u128() % 2) as usize
+}
+
+/// Moves one into the share, in the ledger, where a request was accepted.
+fn count<L: Ledger>(accepted: &mut Book<L>, share: &mut Share<L>, outcome: &Outcome)
+    requires { 0 < share.old.parts }
+    ensures total { accepted.new.total ≡ accepted.old.total + count_of outcome.now }
+    ensures amount { share.new.amount ≡ share.old.amount + count_of outcome.now }
+    ensures parts { share.new.parts ≡ share.old.parts }
+{
+    if let Outcome::Done = outcome {
+        accepted.add(share, 1);
+    }
+}
+
+/// What stands behind a lock of a book: the shard of number `N`, whose vehicles all have this number, and the ledger that
+/// has counted each request that it accepted.
+#[derive(Drop)]
+pub struct Slot<L: ShardLedger, const N: usize> {
+    shard: Shard,
+    accepted: Book<L>,
+}
+
+impl<L: ShardLedger, const N: usize> Model for Slot<L, N> {
+    ghost use Rattle.std.specs.Prelude.{◌≡◌, length};
+    ghost use Rattle.mds_core.specs.Machine.{Machine};
+    ghost use Rattle.mds_book.specs.Shards.{AreOfShard};
+
+    ghost Value = { Machine };
+
+    ghost view = { λ slot. slot.shard };
+
+    ghost invariant = { λ slot. (slot.shard.rows ≡ L.rows) × AreOfShard N slot.shard.history × (slot.accepted.total ≡ length slot.shard.history) };
+}
+
+impl<L: ShardLedger, const N: usize> Slot<L, N> {
+    /// A slot with nothing accepted, and the share of its ledger that has every part.
+    pub(crate) fn open(alloc: Global, table: Table, blank: Blank) -> (Slot<L, N>, Share<L>)
+        requires blank { (blank.name ≡ L.name) × (blank.parts ≡ L.parts) }
+        requires table { table ≡ L.rows }
+        ensures slot { result.0 ≡ record { rows = table; history = [] } }
+        ensures parts { result.1.parts ≡ L.parts }
+        ensures amount { result.1.amount ≡ 0 }
+    {
+        let (accepted, all) = blank.open::<L>();
+        let shard = Shard::open(alloc, table);
+        (Slot { shard, accepted }, all)
+    }
+
+    /// The shard.
+    pub fn shard(&self) -> &Shard
+        ensures shard { result.now ≡ self.now }
+        ensures rows { self.now.rows ≡ L.rows }
+        ensures lawful { IsLawful self.now.rows self.now.history }
+        ensures of_shard { AreOfShard N self.now.history }
+    {
+        // This call's contract says that the history is lawful.
+        let _ = self.shard.len();
+        &self.shard
+    }
+
+    /// Answers a request about a vehicle of this shard, as [`Shard::step`] does. Exactly where it is accepted, the ledger
+    /// moves one into the share that is handed in, a seat's in this shard.
+    ///
+    /// # Errors
+    ///
+    /// `AllocError` where the request would be accepted and there is no memory to keep it; nothing has changed then.
+    #[tactic(auto, using(crate::proofs::Slots::slot_steps))]
+    pub fn step(&mut self, share: &mut Share<L>, request: &Request) -> Result<Reply, AllocError>
+        requires part { 0 < share.old.parts }
+        requires number { number_of (key_of request.now) ≡ N }
+        ensures answer { IfOk result (Answers self.old.rows self.old.history request.now) }
+        ensures rows { (self.old.rows ≡ L.rows) × (self.new.rows ≡ self.old.rows) }
+        ensures lawful { IsLawful self.old.rows self.old.history }
+        ensures of_shard { AreOfShard N self.old.history }
+        ensures next { IfOk result (λ reply. self.new.history ≡ next self.old.history request.now reply.outcome) }
+        ensures share { IfOk result (λ reply. share.new.amount ≡ share.old.amount + count_of reply.outcome) }
+        ensures place { IfOk result (λ reply. share.old.amount ≤ reply.place) }
+        ensures room { IfOk result (λ reply. reply.place + 1 < 2 ^ 64) }
+        ensures parts { share.new.parts ≡ share.old.parts }
+        ensures memory { OnErr result (MayBeDone self.old.rows self.old.history request.now) }
+        ensures unchanged { OnErr result (self.new ≡ self.old) }
+        ensures share_unchanged { OnErr result (share.new.amount ≡ share.old.amount) }
+    {
+        let Slot { shard, accepted } = self;
+        // The contracts of these calls say that the history is lawful, and that the share is no more than its length.
+        let _ = shard.len();
+        accepted.audit(share);
+        let Ok(reply) = shard.step(request) else {
+            return Err(AllocError);
+        };
+        count(accepted, share, &reply.outcome);
+        Ok(reply)
+    }
+}

@@ -1,0 +1,263 @@
+//! Callers in two threads.
+ghost use Rattle.std.specs.Prelude.{◌≡◌};
+
+use super::{A, Asked, B, C, DROP_OFF, E1, available_once, requests_of};
+use crate::{Book, Keep, OpenFault, Seat, ShardLedger};
+use mds_core::{Outcome, Request};
+use mds_shard::Shard;
+use mds_table::{State, Table};
+use std::alloc::{AllocError, Global};
+use std::marker::Brand;
+use std::sync::Wait;
+use std::sync::atomic::{AtomicBool, Ordering};
+use std::sync::ledger::Blank;
+use std::test::Fail;
+use std::thread;
+use std::thread::Threads;
+use std::time::{Clock, Duration};
+
+/// What came of the calls of one caller.
+#[derive(Debug, PartialEq, Drop)]
+struct Told {
+    last: Option<Outcome>,
+    events: Option<usize>,
+    accepted: u64,
+    notes: usize,
+}
+
+/// Asks the requests in turn, then for the events of the last one's vehicle.
+fn ask_all<L: ShardLedger, M: ShardLedger, R: Wait>(
+    rt: &R,
+    alloc: Global,
+    book: &Book<L, M>,
+    mut seat: Seat<L, M>,
+    requests: &[Request],
+) -> Result<Told, AllocError> {
+    let mut last = None;
+    let mut events = None;
+    for request in requests {
+        last = Some(book.call(rt, &mut seat, request)?.outcome);
+        events = book
+            .vehicle_events(rt, alloc, request.key())?
+            .map(|events| events.len());
+    }
+    Ok(Told {
+        last,
+        events,
+        accepted: seat.accepted(0),
+        notes: seat.notes().len(),
+    })
+}
+
+/// What is told to two callers in threads of their own, and how long the histories are then.
+fn two_callers<
+    L: ShardLedger + Send + Sync,
+    M: ShardLedger + Send + Sync,
+    R: Threads + Wait + Sync,
+>(
+    rt: &R,
+    alloc: Global,
+    table: Table,
+    requests: (&[Request], &[Request]),
+    first: Blank,
+    second: Blank,
+) -> Result<([Told; 2], [usize; 2]), Fail>
+    requires first { (first.name ≡ L.name) × (first.parts ≡ L.parts) × (first.parts ≡ 2) }
+    requires second { (second.name ≡ M.name) × (second.parts ≡ M.parts) × (second.parts ≡ 2) }
+    requires table { (table ≡ L.rows) × (table ≡ M.rows) }
+{
+    let (book, mut seats) = Book::<L, M>::open(alloc, table, 2, Keep::All, first, second)?;
+    let one = seats.pop().ok_or("a seat")?;
+    let other = seats.pop().ok_or("a seat")?;
+    let shared = &book;
+    let (left, right) = requests;
+    let (a, b) = thread::join(
+        rt,
+        move || ask_all(rt, alloc, shared, one, left),
+        move || ask_all(rt, alloc, shared, other, right),
+    );
+    let lengths = [
+        book.with_shard(rt, 0, |shard| shard.len()),
+        book.with_shard(rt, 1, |shard| shard.len()),
+    ];
+    Ok(([a?, b?], lengths))
+}
+
+/// The same with ledgers of their own.
+fn told_to_two<R: Threads + Wait + Sync>(
+    rt: &R,
+    alloc: Global,
+    table: Table,
+    left: &[Request],
+    right: &[Request],
+) -> Result<([Told; 2], [usize; 2]), Fail> {
+    two_callers::<Brand, Brand, R>(
+        rt,
+        alloc,
+        table,
+        (left, right),
+        Blank::new(2),
+        Blank::new(2),
+    )
+}
+
+/// A registration of a vehicle, its first event, and a look.
+fn three_calls<'a>(device: &'a str) -> [Asked<'a>; 3] {
+    [
+        Asked::Register(device),
+        Asked::Report(device, E1, DROP_OFF, State::Available, 1000),
+        Asked::Look(device),
+    ]
+}
+
+/// What is told of such calls.
+fn told_of_three() -> Told {
+    Told {
+        last: Some(Outcome::Seen(available_once())),
+        events: Some(1),
+        accepted: 2,
+        notes: 3,
+    }
+}
+
+#[test]
+fn two_seats_two_threads(rt: HostRuntime) -> Result<(), Fail> {
+    let alloc = rt.alloc();
+    let left = requests_of(alloc, &three_calls(A))?;
+    let right = requests_of(alloc, &three_calls(C))?;
+    let found = told_to_two(&rt, alloc, Table::profile(alloc)?, &left, &right)?;
+    assert_eq!(rt; found, ([told_of_three(), told_of_three()], [4, 0]));
+    Ok(())
+}
+
+/// What two threads tell each other.
+#[derive(Drop)]
+struct Flags {
+    locked: AtomicBool,
+    answered: AtomicBool,
+}
+
+/// How many turns of one millisecond it took until the flag was set, at most 10000.
+fn turns_until<C: Clock>(clock: &C, flag: &AtomicBool) -> usize {
+    for turn in 0..10_000 {
+        if flag.load(Ordering::SeqCst) {
+            return turn;
+        }
+        thread::sleep(clock, Duration::from_millis(1));
+    }
+    10_000
+}
+
+/// Tells that the shard is locked: its length, and the turns until the other request was answered.
+fn hold<C: Clock>(clock: &C, shard: &Shard, flags: &Flags) -> (usize, usize) {
+    flags.locked.store(true, Ordering::SeqCst);
+    (shard.len(), turns_until(clock, &flags.answered))
+}
+
+/// Asks one request once the other shard is locked, and tells that it was answered.
+fn answer_and_tell<L: ShardLedger, M: ShardLedger, R: Wait + Clock>(
+    rt: &R,
+    book: &Book<L, M>,
+    mut seat: Seat<L, M>,
+    request: &Request,
+    flags: &Flags,
+) -> Result<(), AllocError> {
+    turns_until(rt, &flags.locked);
+    book.call(rt, &mut seat, request)?;
+    flags.answered.store(true, Ordering::SeqCst);
+    Ok(())
+}
+
+/// Registers a vehicle of shard 0; then, while that shard is locked until another vehicle was registered in shard 1,
+/// registers that one: the length of the locked history, and the turns that were waited.
+fn two_locks<
+    L: ShardLedger + Send + Sync,
+    M: ShardLedger + Send + Sync,
+    R: Threads + Wait + Clock + Sync,
+>(
+    rt: &R,
+    alloc: Global,
+    table: Table,
+    requests: &[Request; 2],
+    first: Blank,
+    second: Blank,
+) -> Result<(usize, usize), Fail>
+    requires first { (first.name ≡ L.name) × (first.parts ≡ L.parts) × (first.parts ≡ 1) }
+    requires second { (second.name ≡ M.name) × (second.parts ≡ M.parts) × (second.parts ≡ 1) }
+    requires table { (table ≡ L.rows) × (table ≡ M.rows) }
+{
+    let (book, mut seats) = Book::<L, M>::open(alloc, table, 1, Keep::All, first, second)?;
+    let mut seat = seats.pop().ok_or("a seat")?;
+    book.call(rt, &mut seat, &requests[0])?;
+    let flags = Flags {
+        locked: AtomicBool::new(false),
+        answered: AtomicBool::new(false),
+    };
+    let (shared, told) = (&book, &flags);
+    let other = &requests[1];
+    let (found, called) = thread::join(
+        rt,
+        move || shared.with_shard(rt, 0, |shard| hold(rt, shard, told)),
+        move || answer_and_tell(rt, shared, seat, other, told),
+    );
+    called?;
+    Ok(found)
+}
+
+/// The same with ledgers of their own.
+fn turns_of_two_locks<R: Threads + Wait + Clock + Sync>(
+    rt: &R,
+    alloc: Global,
+    table: Table,
+    requests: &[Request; 2],
+) -> Result<(usize, usize), Fail> {
+    two_locks::<Brand, Brand, R>(rt, alloc, table, requests, Blank::new(1), Blank::new(1))
+}
+
+#[test]
+fn two_locks_at_once(rt: HostRuntime) -> Result<(), Fail> {
+    let alloc = rt.alloc();
+    let requests = [
+        Request::Register(super::key(A)?),
+        Request::Register(super::key(B)?),
+    ];
+    let (length, turns) = turns_of_two_locks(&rt, alloc, Table::profile(alloc)?, &requests)?;
+    assert_eq!(rt; length, 1);
+    assert!(rt; turns < 10_000);
+    Ok(())
+}
+
+/// The fault of a book of this many seats.
+fn fault_of<L: ShardLedger, M: ShardLedger>(
+    alloc: Global,
+    table: Table,
+    seats: usize,
+    first: Blank,
+    second: Blank,
+) -> Option<OpenFault>
+    requires first { (first.name ≡ L.name) × (first.parts ≡ L.parts) × (first.parts ≡ seats) }
+    requires second { (second.name ≡ M.name) × (second.parts ≡ M.parts) × (second.parts ≡ seats) }
+    requires table { (table ≡ L.rows) × (table ≡ M.rows) }
+{
+    Book::<L, M>::open(alloc, table, seats, Keep::All, first, second).err()
+}
+
+/// The same with ledgers of their own.
+fn open_fault(alloc: Global, table: Table, seats: usize) -> Option<OpenFault> {
+    let parts = seats as u64;
+    fault_of::<Brand, Brand>(alloc, table, seats, Blank::new(parts), Blank::new(parts))
+}
+
+#[test]
+fn seats_of_a_book(rt: HostRuntime) -> Result<(), Fail> {
+    let alloc = rt.alloc();
+    let bad = Some(OpenFault::BadSeats);
+    for (seats, expected) in [(0, bad), (1, None), (64, None), (65, bad)] {
+        assert_eq!(rt;
+            open_fault(alloc, Table::profile(alloc)?, seats),
+            expected,
+            "{seats}"
+        );
+    }
+    Ok(())
+}

@@ -1,0 +1,292 @@
+//! The worked cases of vehicles, each asked of a fresh book and a fresh fleet.
+ghost use Rattle.std.specs.Prelude.{◌≡◌};
+
+use super::{A, Asked, B, C, DROP_OFF, E0, E1, E2, available_once, copies, requests_of};
+use crate::slot::shard_of;
+use crate::{Book, Keep, ShardLedger, Slot};
+use mds_core::{Fleet, Outcome, Reply, Request};
+use mds_table::{State, Table};
+use std::alloc::{AllocError, Global};
+use std::marker::Brand;
+use std::sync::Wait;
+use std::sync::ledger::Blank;
+use std::test::Fail;
+
+/// What came of a list of requests.
+#[derive(Debug, PartialEq, Drop)]
+struct Found {
+    outcomes: Vec<Outcome>,
+    noted: Vec<Request>,
+    first: Vec<Request>,
+    second: Vec<Request>,
+    counts: [u64; 3],
+}
+
+/// What comes of the requests in a book of one seat.
+fn in_a_book<L: ShardLedger, M: ShardLedger, R: Wait>(
+    rt: &R,
+    alloc: Global,
+    table: Table,
+    keep: Keep,
+    requests: &[Request],
+    first: Blank,
+    second: Blank,
+) -> Result<Found, Fail>
+    requires first { (first.name ≡ L.name) × (first.parts ≡ L.parts) × (first.parts ≡ 1) }
+    requires second { (second.name ≡ M.name) × (second.parts ≡ M.parts) × (second.parts ≡ 1) }
+    requires table { (table ≡ L.rows) × (table ≡ M.rows) }
+{
+    let (book, mut seats) = Book::<L, M>::open(alloc, table, 1, keep, first, second)?;
+    let mut seat = seats.pop().ok_or("a seat")?;
+    let mut outcomes = Vec::new(alloc);
+    for request in requests {
+        outcomes.push(book.call(rt, &mut seat, request)?.outcome)?;
+    }
+    let mut noted = Vec::new(alloc);
+    for note in seat.notes() {
+        noted.push(note.request.copy())?;
+    }
+    Ok(Found {
+        outcomes,
+        noted,
+        first: book.with_shard(rt, 0, |shard| copies(alloc, shard.history()))?,
+        second: book.with_shard(rt, 1, |shard| copies(alloc, shard.history()))?,
+        counts: [seat.accepted(0), seat.accepted(1), seat.accepted(2)],
+    })
+}
+
+/// The same with ledgers of its own.
+fn found_in_a_book<R: Wait>(
+    rt: &R,
+    alloc: Global,
+    table: Table,
+    keep: Keep,
+    requests: &[Request],
+) -> Result<Found, Fail> {
+    in_a_book::<Brand, Brand, R>(
+        rt,
+        alloc,
+        table,
+        keep,
+        requests,
+        Blank::new(1),
+        Blank::new(1),
+    )
+}
+
+/// The requests about vehicles of the shard of this number.
+fn of_shard(alloc: Global, requests: &[Request], number: u128) -> Result<Vec<Request>, AllocError> {
+    let mut found = Vec::new(alloc);
+    for request in requests {
+        if request.key().device.as_u128() % 2 == number {
+            found.push(request.copy())?;
+        }
+    }
+    Ok(found)
+}
+
+/// What comes of the requests in a fleet.
+fn in_a_fleet(alloc: Global, requests: &[Request]) -> Result<Found, Fail> {
+    let mut fleet = Fleet::open(alloc, Table::profile(alloc)?);
+    let mut outcomes = Vec::new(alloc);
+    for request in requests {
+        outcomes.push(fleet.step(request)?.outcome)?;
+    }
+    let first = of_shard(alloc, fleet.history(), 0)?;
+    let second = of_shard(alloc, fleet.history(), 1)?;
+    let counts = [first.len() as u64, second.len() as u64, 0];
+    Ok(Found {
+        outcomes,
+        noted: copies(alloc, requests)?,
+        first,
+        second,
+        counts,
+    })
+}
+
+/// What is asked in the worked cases, in turn.
+const CASES: [&[Asked<'static>]; 11] = [
+    // First event.
+    &[
+        Asked::Register(A),
+        Asked::Report(A, E1, DROP_OFF, State::Available, 1000),
+        Asked::Look(A),
+    ],
+    // Trip ends with a low battery.
+    &[
+        Asked::Register(A),
+        Asked::Report(
+            A,
+            E0,
+            &["provider_drop_off", "trip_start"],
+            State::OnTrip,
+            1000,
+        ),
+        Asked::Report(
+            A,
+            E1,
+            &["trip_end", "battery_low"],
+            State::NonOperational,
+            2000,
+        ),
+    ],
+    // Comms back, then trip end.
+    &[
+        Asked::Register(A),
+        Asked::Report(A, E0, &["comms_lost"], State::NonContactable, 1000),
+        Asked::Report(
+            A,
+            E1,
+            &["comms_restored", "trip_end"],
+            State::Available,
+            2000,
+        ),
+    ],
+    // Comms back and lost again.
+    &[
+        Asked::Register(A),
+        Asked::Report(A, E0, &["comms_lost"], State::NonContactable, 1000),
+        Asked::Report(
+            A,
+            E1,
+            &["comms_restored", "comms_lost"],
+            State::NonContactable,
+            2000,
+        ),
+    ],
+    // Order of types matters.
+    &[
+        Asked::Register(A),
+        Asked::Report(A, E0, DROP_OFF, State::Available, 1000),
+        Asked::Report(
+            A,
+            E1,
+            &["battery_charged", "battery_low"],
+            State::Available,
+            2000,
+        ),
+    ],
+    &[
+        Asked::Register(A),
+        Asked::Report(A, E0, DROP_OFF, State::Available, 1000),
+        Asked::Report(
+            A,
+            E1,
+            &["battery_low", "battery_charged"],
+            State::Available,
+            2000,
+        ),
+    ],
+    // Same type twice.
+    &[
+        Asked::Register(A),
+        Asked::Report(A, E0, DROP_OFF, State::Available, 1000),
+        Asked::Report(
+            A,
+            E1,
+            &["battery_low", "battery_low"],
+            State::NonOperational,
+            2000,
+        ),
+    ],
+    &[
+        Asked::Register(A),
+        Asked::Report(A, E0, DROP_OFF, State::Available, 1000),
+        Asked::Report(A, E1, &["battery_low"], State::Available, 2000),
+    ],
+    // Identifiers per vehicle, of two shards and of one.
+    &[
+        Asked::Register(A),
+        Asked::Register(B),
+        Asked::Report(A, E1, DROP_OFF, State::Available, 1000),
+        Asked::Report(B, E1, DROP_OFF, State::Available, 1000),
+        Asked::Report(A, E1, DROP_OFF, State::Available, 1000),
+        Asked::Report(A, E1, DROP_OFF, State::Available, 999),
+    ],
+    &[
+        Asked::Register(A),
+        Asked::Register(C),
+        Asked::Report(A, E1, DROP_OFF, State::Available, 1000),
+        Asked::Report(C, E1, DROP_OFF, State::Available, 1000),
+        Asked::Report(A, E1, DROP_OFF, State::Available, 1000),
+        Asked::Report(A, E1, DROP_OFF, State::Available, 999),
+    ],
+    // Equal and late times.
+    &[
+        Asked::Register(A),
+        Asked::Report(A, E0, DROP_OFF, State::Available, 1000),
+        Asked::Report(A, E1, &["battery_low"], State::NonOperational, 1000),
+        Asked::Report(A, E2, &["battery_charged"], State::Available, 999),
+        Asked::Look(A),
+    ],
+];
+
+#[test]
+fn book_against_fleet(rt: HostRuntime) -> Result<(), Fail> {
+    let alloc = rt.alloc();
+    for asked in CASES {
+        let requests = requests_of(alloc, asked)?;
+        let found = found_in_a_book(&rt, alloc, Table::profile(alloc)?, Keep::All, &requests)?;
+        assert_eq!(rt; found, in_a_fleet(alloc, &requests)?);
+    }
+    Ok(())
+}
+
+#[test]
+fn accepted_calls_alone_are_noted(rt: HostRuntime) -> Result<(), Fail> {
+    let alloc = rt.alloc();
+    let requests = requests_of(alloc, &[Asked::Look(B), Asked::Register(B), Asked::Look(B)])?;
+    let table = Table::profile(alloc)?;
+    let found = found_in_a_book(&rt, alloc, table, Keep::Accepted, &requests)?;
+    let registered = requests_of(alloc, &[Asked::Register(B)])?;
+    assert_eq!(rt; found.noted, registered);
+    assert_eq!(rt; (found.outcomes.len(), found.counts), (3, [0, 1, 0]));
+    Ok(())
+}
+
+/// The replies of a slot of shard 0 to requests about its vehicles, up to the first that is about another.
+fn in_a_slot<L: ShardLedger>(
+    alloc: Global,
+    table: Table,
+    requests: &[Request],
+    blank: Blank,
+) -> Result<Vec<Reply>, AllocError>
+    requires blank { (blank.name ≡ L.name) × (blank.parts ≡ L.parts) × (blank.parts ≡ 1) }
+    requires table { table ≡ L.rows }
+{
+    let (mut slot, mut share) = Slot::<L, 0>::open(alloc, table, blank);
+    let mut replies = Vec::new(alloc);
+    for request in requests {
+        if shard_of(request.key()) != 0 {
+            break;
+        }
+        replies.push(slot.step(&mut share, request)?)?;
+    }
+    Ok(replies)
+}
+
+#[test]
+fn first_event_in_a_slot(rt: HostRuntime) -> Result<(), Fail> {
+    let alloc = rt.alloc();
+    let requests = requests_of(alloc, CASES[0])?;
+    let replies = slot_replies(alloc, Table::profile(alloc)?, &requests)?;
+    let outcomes = [
+        Outcome::Done,
+        Outcome::Done,
+        Outcome::Seen(available_once()),
+    ];
+    for (place, (reply, outcome)) in replies.iter().zip(&outcomes).enumerate() {
+        assert_eq!(rt; (reply.place, reply.outcome), (place, *outcome));
+    }
+    assert_eq!(rt; replies.len(), 3);
+    Ok(())
+}
+
+/// The same with a ledger of its own.
+fn slot_replies(
+    alloc: Global,
+    table: Table,
+    requests: &[Request],
+) -> Result<Vec<Reply>, AllocError> {
+    in_a_slot::<Brand>(alloc, table, requests, Blank::new(1))
+}

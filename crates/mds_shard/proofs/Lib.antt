@@ -1,0 +1,3 @@
+pub mod Keys
+pub mod Replays
+pub mod Walks

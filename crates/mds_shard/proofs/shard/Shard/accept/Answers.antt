@@ -1,0 +1,28 @@
+use Rattle.std.proofs.Common.{◌≡◌, ◌<◌, ◌∙◌, ◌++◌, ◌∷◌, [], ℕ, length, ap, subst, arith}
+use Rattle.std.specs.Prelude.{option_map}
+use Rattle.std.below.core.specs.declared.int.usize.TheConstants.{MAX}
+use Rattle.mds_core.specs.History.{key_of, own, reports}
+use Rattle.mds_shard.specs.Replay.{PutsVehicle}
+use Rattle.mds_shard.proofs.Replays.{replay_push, standing_kept, few_reports}
+use Rattle.mds_shard.proofs.shard.Shard.accept.Goals as goal
+
+pub invariant_of-self-2 : goal.invariant_of-self-2
+invariant_of-self-2 c =
+    let inside = c.self.inside in
+    let history = inside.history.items in
+    let before = inside.before.items in
+    let request = c.args.request.now in
+    let key = key_of request in
+    let standing = c.standing_after-standing.result in
+    let few : length (reports (own history key)) < MAX = omega (arith, few_reports history key, inside.history.ok, inside.history.small) in
+    let vehicle = rw (← c.self.view_is) at c.requires.vehicle in
+    let may = rw (← c.self.view_is) at c.requires.accepted in
+    let stands = c.standing_after-standing.ensures (own history key) (c.standing_in.ensures ∙ standing_kept history key c.args.vehicle vehicle) few in
+    let Puts : ℕ → Type 0 = λ last. PutsVehicle key (record { standing = standing; last = last }) inside.vehicles c.keep.new.vehicles in
+    let pushed = replay_push inside.table history before inside.vehicles c.keep.new.vehicles inside.identifiers c.keep.new.identifiers request c.args.vehicle
+    standing c.self.invariant may vehicle stands (subst Puts (c.len-last.ensures ∙ inside.history.ok.0) c.in_ok-keep.ensures.vehicles) c.in_ok-keep.ensures.identifiers in
+    let history_is : c.push.new.self.items ≡ history ++ request ∷ [] =
+    c.in_ok-push.ensures.items ∙ ap (λ h. h ++ c.copy.result ∷ []) c.reserve.ensures.items ∙ ap (λ r. history ++ r ∷ []) c.copy.ensures in
+    let before_is : c.push-2.new.self.items ≡ before ++ option_map (λ v. v.last) c.args.vehicle ∷ [] =
+    c.in_ok-push-2.ensures.items ∙ ap (λ b. b ++ c.last_in-before.result ∷ []) c.reserve-2.ensures.items ∙ ap (λ e. before ++ e ∷ []) c.last_in-before.ensures in
+    rw (history_is, before_is) pushed

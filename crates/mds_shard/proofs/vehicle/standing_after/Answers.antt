@@ -1,0 +1,10 @@
+use Rattle.std.proofs.Common.{◌∙◌, sym, ap}
+use Rattle.std.specs.Option.{unwrap_or}
+use Rattle.mds_core.specs.Known.{standing_if}
+use Rattle.mds_core.proofs.Standings.{standing_of-push_none, standing_if-unwrapped}
+use Rattle.mds_shard.proofs.vehicle.standing_after.Goals as goal
+
+pub returns-in-None : goal.returns-in-None
+returns-in-None c = λ requests is few.
+    let before = c.unwrap_or-standing.ensures ∙ ap (λ s. unwrap_or s c.registered.result) is ∙ ap (unwrap_or (standing_if requests)) c.registered.ensures.fields ∙ standing_if-unwrapped requests in
+    before ∙ sym (standing_of-push_none requests c.args.request.now (sym c.in-None.ensures))

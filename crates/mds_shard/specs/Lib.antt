@@ -1,0 +1,3 @@
+pub use Rattle.mds_core.specs.Machine
+pub mod Order
+pub mod Replay

@@ -1,0 +1,13 @@
+//! The vehicles of one shard: the machine of `mds_core` with its vehicles and identifiers looked up in maps, in place of
+//! the history.
+//!
+//! What a shard answers is what [`mds_core::Fleet`] answers. The type of a shard keeps that its history is lawful, and
+//! that its maps are what the history says; so no call looks through the history.
+#![tactic(auto)]
+
+mod shard;
+#[cfg(test)]
+mod tests;
+mod vehicle;
+
+pub use shard::Shard;

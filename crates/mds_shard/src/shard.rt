@@ -1,0 +1,183 @@
+//! A shard: the machine with its vehicles looked up in maps.
+ghost use Rattle.std.specs.Prelude.{◌≡◌, ◌≢◌, ◌<◌, ◌^◌, [], ◌∷◌, ◌++◌, length, IfNone, IfSome, IfOk, OnOk, OnErr, MatchOption};
+ghost use Rattle.mds_core.specs.History.{own, key_of, reports, standing_of};
+ghost use Rattle.mds_core.specs.Answer.{Answers, MayBeDone, next};
+ghost use Rattle.mds_core.specs.Lawful.{IsLawful};
+ghost use Rattle.mds_core.specs.Known.{is_repeated};
+ghost use Rattle.mds_shard.specs.Replay.{IsVehicle};
+
+use crate::vehicle::{Vehicle, events_to, keep, last_in, standing_after, standing_in};
+use mds_core::{Event, Key, Known, Outcome, Reply, Request, Standing, decide};
+use mds_table::Table;
+use std::alloc::{AllocError, Global};
+use std::collections::{BTreeMap, BTreeSet};
+use std::marker::Model;
+use uuid::Uuid;
+
+/// The machine of one shard, over one table. Beside its history it keeps where each vehicle stands, the identifiers that
+/// each vehicle has, and for each entry of the history the place of the vehicle's entry before it; so no call looks
+/// through the history.
+///
+/// Every shard is such that its history could have been accepted, and what it keeps beside it is what the history says.
+#[derive(Debug, Drop)]
+pub struct Shard {
+    table: Table,
+    history: Vec<Request>,
+    before: Vec<Option<usize>>,
+    vehicles: BTreeMap<Key, Vehicle>,
+    identifiers: BTreeSet<(Key, Uuid)>,
+}
+
+impl Model for Shard {
+    ghost use Rattle.mds_core.specs.Machine.{Machine};
+    ghost use Rattle.mds_shard.specs.Replay.{IsReplay};
+
+    ghost Value = { Machine };
+
+    ghost view = { λ shard. record { rows = shard.table; history = shard.history.items } };
+
+    ghost invariant = { λ shard. IsReplay shard.table shard.history.items shard.before.items shard.vehicles shard.identifiers };
+}
+
+impl Shard {
+    /// A shard over the table, with nothing accepted yet. It takes no memory.
+    pub fn open(alloc: Global, table: Table) -> Shard
+        ensures { result ≡ record { rows = table; history = [] } }
+    {
+        Shard {
+            table,
+            history: Vec::new(alloc),
+            before: Vec::new(alloc),
+            vehicles: BTreeMap::new(alloc),
+            identifiers: BTreeSet::new(alloc),
+        }
+    }
+
+    /// Answers one request, and keeps it in the history where it was accepted. It costs the logarithm of what the shard
+    /// holds.
+    ///
+    /// # Errors
+    ///
+    /// `AllocError` where the request would be accepted and there is no memory to keep it; nothing has changed then.
+    pub fn step(&mut self, request: &Request) -> Result<Reply, AllocError>
+        ensures answer { IfOk result (Answers self.old.rows self.old.history request.now) }
+        ensures rows { self.new.rows ≡ self.old.rows }
+        ensures next { IfOk result (λ reply. self.new.history ≡ next self.old.history request.now reply.outcome) }
+        ensures memory { OnErr result (MayBeDone self.old.rows self.old.history request.now) }
+        ensures unchanged { OnErr result (self.new.history ≡ self.old.history) }
+    {
+        let vehicle = self.vehicle(request.key());
+        let known = Known {
+            standing: standing_in(vehicle),
+            has_event: self.has_event(request),
+        };
+        let reply = Reply {
+            place: self.history.len(),
+            outcome: decide(&self.table, &known, request),
+        };
+        if let Outcome::Done = reply.outcome {
+            self.accept(request, vehicle)?;
+        }
+        Ok(reply)
+    }
+
+    /// Whether the request reports an event with the identifier of one of its vehicle's events.
+    fn has_event(&self, request: &Request) -> bool
+        ensures { result ≡ is_repeated (own self.now.history (key_of request.now)) request.now }
+    {
+        match request.event() {
+            Some(event) => self.identifiers.contains(&(*request.key(), event.id())),
+            None => false,
+        }
+    }
+
+    /// What is kept of the vehicle.
+    fn vehicle(&self, key: &Key) -> Option<Vehicle>
+        ensures { IsVehicle self.now.history key.now result }
+    {
+        self.vehicles.get(key).copied()
+    }
+
+    /// Keeps a request that is accepted, where its vehicle stands as told before it.
+    ///
+    /// # Errors
+    ///
+    /// `AllocError` where there is no memory to keep it; nothing has changed then.
+    fn accept(&mut self, request: &Request, vehicle: Option<Vehicle>) -> Result<(), AllocError>
+        requires accepted { MayBeDone self.old.rows self.old.history request.now }
+        requires vehicle { IsVehicle self.old.history (key_of request.now) vehicle }
+        ensures rows { self.new.rows ≡ self.old.rows }
+        ensures history { OnOk result (self.new.history ≡ self.old.history ++ request.now ∷ []) }
+        ensures unchanged { OnErr result (self.new.history ≡ self.old.history) }
+    {
+        let before = last_in(vehicle);
+        let standing = standing_after(standing_in(vehicle), request);
+        let last = self.history.len();
+        self.history.reserve(1)?;
+        self.before.reserve(1)?;
+        keep(
+            &mut self.vehicles,
+            &mut self.identifiers,
+            request,
+            Vehicle { standing, last },
+        )?;
+        self.history.push(request.copy())?;
+        self.before.push(before)?;
+        Ok(())
+    }
+
+    /// The accepted requests, in the order in which they were accepted.
+    pub fn history(&self) -> &[Request]
+        ensures history { result.now ≡ self.now.history }
+        ensures lawful { IsLawful self.now.rows self.now.history }
+    {
+        self.history.as_slice()
+    }
+
+    /// Where the vehicle stands, or `None` where it isn't registered. It costs the logarithm of the number of vehicles.
+    pub fn standing(&self, key: &Key) -> Option<Standing>
+        ensures none { IfNone result (own self.now.history key.now ≡ []) }
+        ensures registered { IfSome result (λ _. own self.now.history key.now ≢ []) }
+        ensures standing { IfSome result (λ standing. standing ≡ standing_of (own self.now.history key.now)) }
+    {
+        standing_in(self.vehicle(key))
+    }
+
+    /// The accepted events of the vehicle in their order, or `None` where it isn't registered. It costs what the vehicle
+    /// has, whatever else the shard has.
+    ///
+    /// # Errors
+    ///
+    /// `AllocError` where there is no memory for the list.
+    pub fn events(&self, alloc: Global, key: &Key) -> Result<Option<Vec<Event>>, AllocError>
+        ensures { IfOk result (λ events. MatchOption events (own self.now.history key.now ≡ []) (λ v. (own self.now.history key.now ≢ []) × (v.items ≡ reports (own self.now.history key.now)))) }
+    {
+        let Some(vehicle) = self.vehicle(key) else {
+            return Ok(None);
+        };
+        let events = events_to(
+            alloc,
+            &self.history,
+            &self.before,
+            vehicle.last,
+            vehicle.standing.events,
+        )?;
+        Ok(Some(events))
+    }
+
+    /// The table that decides.
+    pub fn table(&self) -> &Table
+        ensures { result.now ≡ self.now.rows }
+    {
+        &self.table
+    }
+
+    /// The number of accepted requests.
+    pub fn len(&self) -> usize
+        ensures len { result ≡ length self.now.history }
+        ensures lawful { IsLawful self.now.rows self.now.history }
+        ensures small { result < 2 ^ 63 }
+    {
+        self.history.len()
+    }
+}

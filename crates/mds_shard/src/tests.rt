@@ -1,0 +1,92 @@
+//! What no clause says: the worked cases, that each call can succeed, and that a shard with many vehicles does what a
+//! fleet does.
+mod cases;
+mod growths;
+mod many;
+
+use crate::Shard;
+use mds_core::{Event, Key, Outcome, Request, Standing};
+use mds_table::{State, Table, TypeName};
+use std::alloc::Global;
+use std::test::Fail;
+use uuid::Uuid;
+
+/// The provider of every vehicle here.
+pub const PROVIDER: &str = "00000000-0000-4000-8000-000000000001";
+
+/// Two vehicles whose device identifiers are even.
+pub const A: &str = "00000000-0000-4000-8000-00000000000a";
+
+pub const C: &str = "00000000-0000-4000-8000-00000000000c";
+
+/// Identifiers of events.
+pub const E0: &str = "00000000-0000-4000-8000-0000000000e0";
+
+pub const E1: &str = "00000000-0000-4000-8000-0000000000e1";
+
+pub const E2: &str = "00000000-0000-4000-8000-0000000000e2";
+
+/// What a test asks; an event is told by its vehicle, identifier, types, state and time.
+#[derive(Clone, Copy)]
+pub enum Asked<'a> {
+    Register(&'a str),
+    Report(&'a str, &'a str, &'a [&'a str], State, u64),
+    Look(&'a str),
+}
+
+/// The key of a vehicle, by its device.
+pub fn key(device: &str) -> Result<Key, Fail> {
+    Ok(Key {
+        provider: Uuid::parse_str(PROVIDER)?,
+        device: Uuid::parse_str(device)?,
+    })
+}
+
+/// The types of these names.
+fn types_of(alloc: Global, names: &[&str]) -> Result<Vec<TypeName>, Fail> {
+    let mut types = Vec::new(alloc);
+    for name in names {
+        types.push(TypeName::new(name)?)?;
+    }
+    Ok(types)
+}
+
+/// The request that is asked.
+pub fn request_of(alloc: Global, asked: Asked<'_>) -> Result<Request, Fail> {
+    Ok(match asked {
+        Asked::Register(device) => Request::Register(key(device)?),
+        Asked::Report(device, id, names, state, time) => {
+            let types = types_of(alloc, names)?;
+            let id = Uuid::parse_str(id)?;
+            Request::Report(Event::new(key(device)?, id, state, &types, time, None)?)
+        }
+        Asked::Look(device) => Request::Look(key(device)?),
+    })
+}
+
+/// A shard over the profile that was asked all this, and what became of each request.
+pub fn asked_all(alloc: Global, asked: &[Asked<'_>]) -> Result<(Shard, Vec<Outcome>), Fail> {
+    let mut shard = Shard::open(alloc, Table::profile(alloc)?);
+    let mut outcomes = Vec::new(alloc);
+    for one in asked {
+        let reply = shard.step(&request_of(alloc, *one)?)?;
+        outcomes.push(reply.outcome)?;
+    }
+    Ok((shard, outcomes))
+}
+
+/// What becomes of each of these requests.
+pub fn outcomes(alloc: Global, asked: &[Asked<'_>]) -> Result<Vec<Outcome>, Fail> {
+    let (_, outcomes) = asked_all(alloc, asked)?;
+    Ok(outcomes)
+}
+
+/// A standing without a position.
+pub fn standing(state: State, events: usize, last: Option<u64>) -> Standing {
+    Standing {
+        state,
+        events,
+        last,
+        position: None,
+    }
+}

@@ -1,0 +1,126 @@
+//! What a shard keeps of each vehicle, beside its history.
+ghost use Rattle.std.specs.Prelude.{◌≡◌, ◌≢◌, ◌<◌, ◌++◌, ◌∷◌, List, [], None, IfOk, OnOk, OnErr, length, option_map};
+ghost use Rattle.std.below.core.specs.declared.int.usize.TheConstants.{MAX};
+ghost use Rattle.std.specs.BTreeMap.{get, IsUnchanged};
+ghost use Rattle.mds_core.specs.declared.key.Key.{Key};
+ghost use Rattle.mds_core.specs.declared.request.Request.{Request as Asked};
+ghost use Rattle.mds_core.specs.History.{key_of, own, reports, report_of, standing_of};
+ghost use Rattle.mds_core.specs.Known.{standing_if};
+ghost use Rattle.mds_shard.specs.Order.{key_cmp};
+ghost use Rattle.mds_shard.specs.Replay.{AreBefore, IsLastPlace, PutsVehicle, AddsIdentifier};
+
+use mds_core::{Event, Key, Request, Standing};
+use std::alloc::{AllocError, Global};
+use std::collections::{BTreeMap, BTreeSet};
+use uuid::Uuid;
+
+/// What is kept of a vehicle.
+#[derive(Clone, Copy, Debug, Drop)]
+pub struct Vehicle {
+    /// Where it stands.
+    pub standing: Standing,
+    /// The place in the history of its last request.
+    pub last: usize,
+}
+
+/// Where a vehicle stands, of what is kept of it.
+pub fn standing_in(vehicle: Option<Vehicle>) -> Option<Standing>
+    ensures { result ≡ option_map (λ v. v.standing) vehicle }
+{
+    vehicle.map(|vehicle| vehicle.standing)
+}
+
+/// The place in the history of a vehicle's last request, of what is kept of it.
+pub fn last_in(vehicle: Option<Vehicle>) -> Option<usize>
+    ensures { result ≡ option_map (λ v. v.last) vehicle }
+{
+    vehicle.map(|vehicle| vehicle.last)
+}
+
+/// Where a vehicle stands after one more request about it that was accepted.
+pub fn standing_after(standing: Option<Standing>, request: &Request) -> Standing
+    ensures { (requests : List Asked) → standing ≡ standing_if requests → length (reports requests) < MAX
+        → result ≡ standing_of (requests ++ request.now ∷ []) }
+{
+    let standing = standing.unwrap_or(Standing::registered());
+    match request.event() {
+        Some(event) => standing.after(event),
+        None => standing,
+    }
+}
+
+/// Keeps the identifier of the event that a request reports, if it reports one.
+///
+/// # Errors
+///
+/// `AllocError` where there is no memory for it; nothing has changed then.
+fn keep_identifier(
+    identifiers: &mut BTreeSet<(Key, Uuid)>,
+    request: &Request,
+) -> Result<(), AllocError>
+    ensures identifiers { OnOk result (AddsIdentifier request.now identifiers.old identifiers.new) }
+    ensures none { report_of request.now ≡ None → identifiers.new ≡ identifiers.old }
+    ensures unchanged { OnErr result (identifiers.new ≡ identifiers.old) }
+{
+    if let Some(event) = request.event() {
+        let Ok(_) = identifiers.insert((*request.key(), event.id())) else {
+            return Err(AllocError);
+        };
+    }
+    Ok(())
+}
+
+/// Keeps what is to be kept after a request was accepted: the identifier of its event, and the vehicle. A report's vehicle
+/// is kept already, so the insertion of the identifier or of a new vehicle is the only growth.
+///
+/// # Errors
+///
+/// `AllocError` where there is no memory for it; nothing has changed then.
+pub fn keep(
+    vehicles: &mut BTreeMap<Key, Vehicle>,
+    identifiers: &mut BTreeSet<(Key, Uuid)>,
+    request: &Request,
+    vehicle: Vehicle,
+) -> Result<(), AllocError>
+    requires { report_of request.now ≢ None → get key_cmp vehicles.old (key_of request.now) ≢ None }
+    ensures vehicles { OnOk result (PutsVehicle (key_of request.now) vehicle vehicles.old vehicles.new) }
+    ensures identifiers { OnOk result (AddsIdentifier request.now identifiers.old identifiers.new) }
+    ensures no_vehicle { OnErr result (IsUnchanged vehicles.old vehicles.new) }
+    ensures no_identifier { OnErr result (identifiers.new ≡ identifiers.old) }
+{
+    let Ok(()) = keep_identifier(identifiers, request) else {
+        return Err(AllocError);
+    };
+    let Ok(_) = vehicles.insert(*request.key(), vehicle) else {
+        return Err(AllocError);
+    };
+    Ok(())
+}
+
+/// The events that lead to a place of the history, from one request about a vehicle to the one before it.
+///
+/// # Errors
+///
+/// `AllocError` where there is no memory for the list.
+pub fn events_to(
+    alloc: Global,
+    history: &[Request],
+    before: &[Option<usize>],
+    last: usize,
+    count: usize,
+) -> Result<Vec<Event>, AllocError>
+    requires before { AreBefore history.now before.now }
+    requires last { last < length history.now }
+    ensures { IfOk result (λ events. (key : Key) → IsLastPlace history.now key last → events.items ≡ reports (own history.now key)) }
+{
+    let mut events = Vec::with_capacity(alloc, count)?;
+    let mut at = Some(last);
+    while let Some(place) = at {
+        if let Some(event) = history[place].event() {
+            events.push(event.copy())?;
+        }
+        at = before[place];
+    }
+    events.reverse();
+    Ok(events)
+}
