@@ -51,31 +51,38 @@ fn states_have_codes_and_names(rt: HostRuntime) {
         (State::Missing, 7, "missing"),
     ];
     for (state, code, name) in expected {
-        assert_eq!(rt; state.code(), code);
-        assert_eq!(rt; state.name(), name);
-        assert_eq!(rt; State::of_name(name), Some(state));
+        let found = (State::of_name(name), state.code(), state.name());
+        assert_eq!(rt; found, (Some(state), code, name));
     }
-    assert_eq!(rt; State::of_name("flying"), None);
-    assert_eq!(rt; State::of_name("Removed"), None);
-    assert_eq!(rt; State::of_name(""), None);
+    for name in ["flying", "Removed", ""] {
+        assert_eq!(rt; (name, State::of_name(name)), (name, None));
+    }
 }
+
+/// Names of types, and their faults.
+const NAMES: [(&str, Option<NameFault>); 7] = [
+    ("", Some(NameFault::Empty)),
+    (
+        "abcdefghijklmnopqrstuvwxyzabcdefg",
+        Some(NameFault::TooLong),
+    ),
+    ("Trip", Some(NameFault::BadByte(0))),
+    ("trip-end", Some(NameFault::BadByte(4))),
+    ("abcdefghijklmnopqrstuvwxyz_01289", None),
+    ("a", None),
+    ("a_1", None),
+];
 
 #[test]
 fn type_name_faults(rt: HostRuntime) -> Result<(), Fail> {
-    let letters = "abcdefghijklmnopqrstuvwxyzabcdefg";
-    assert_eq!(rt; letters.len(), 33);
-    assert_eq!(rt; TypeName::new("").err(), Some(NameFault::Empty));
-    assert_eq!(rt; TypeName::new(letters).err(), Some(NameFault::TooLong));
-    assert_eq!(rt; TypeName::new("Trip").err(), Some(NameFault::BadByte(0)));
+    for (name, fault) in &NAMES {
+        assert_eq!(rt; (name, &TypeName::new(name).err()), (name, fault));
+    }
+    let name = type_name("a_1")?.copy();
     assert_eq!(rt;
-        TypeName::new("trip-end").err(),
-        Some(NameFault::BadByte(4))
+        (name.as_str(), name.as_bytes()),
+        ("a_1", b"a_1".as_slice())
     );
-    let longest = "abcdefghijklmnopqrstuvwxyz_01289";
-    assert_eq!(rt; longest.len(), 32);
-    assert_eq!(rt; type_name(longest)?.as_str(), longest);
-    assert_eq!(rt; type_name("a")?.copy().as_str(), "a");
-    assert_eq!(rt; type_name("a_1")?.as_bytes(), b"a_1".as_slice());
     Ok(())
 }
 
