@@ -30,19 +30,12 @@ impl Write for Expects<'_> {
     }
 }
 
-/// What a command came to.
-#[derive(Clone, Copy, Debug, PartialEq)]
-struct Came {
-    status: u8,
-    /// The whole text went out.
-    printed: bool,
-    /// The want of memory was told.
-    told: bool,
-}
+/// What a command came to: its status, whether the whole text went out, and whether the want of memory was told.
+type Came = (u8, bool, bool);
 
 /// The want of memory, and nothing else, was told.
 fn is_refused(came: Came) -> bool {
-    came.status == 4 && came.told
+    came.0 == 4 && came.2
 }
 
 fn replayed(alloc: Global) -> Came {
@@ -61,11 +54,7 @@ fn replayed(alloc: Global) -> Came {
         &mut out,
         &mut faults,
     );
-    Came {
-        status,
-        printed: out.rest.is_empty(),
-        told: faults.rest.is_empty(),
-    }
+    (status, out.rest.is_empty(), faults.rest.is_empty())
 }
 
 fn tabled(alloc: Global) -> Came {
@@ -76,11 +65,7 @@ fn tabled(alloc: Global) -> Came {
         rest: b"mds_city: out of memory\n",
     };
     let status = table_to(alloc, Some(file("T", ONE_ROW)), &mut out, &mut faults);
-    Came {
-        status,
-        printed: out.rest.is_empty(),
-        told: faults.rest.is_empty(),
-    }
+    (status, out.rest.is_empty(), faults.rest.is_empty())
 }
 
 #[test]
@@ -91,12 +76,7 @@ fn replay_succeeds_after_a_refused_growth(rt: HostRuntime) -> Result<(), Fail> {
     } else {
         first
     };
-    let whole = Came {
-        status: 1,
-        printed: true,
-        told: false,
-    };
-    assert_eq!(rt; came, whole);
+    assert_eq!(rt; came, (1, true, false));
     Ok(())
 }
 
@@ -108,11 +88,6 @@ fn table_succeeds_after_a_refused_growth(rt: HostRuntime) -> Result<(), Fail> {
     } else {
         first
     };
-    let whole = Came {
-        status: 0,
-        printed: true,
-        told: false,
-    };
-    assert_eq!(rt; came, whole);
+    assert_eq!(rt; came, (0, true, false));
     Ok(())
 }

@@ -33,45 +33,36 @@ impl Write for Pauses {
     }
 }
 
-fn with_pauses(alloc: Global) -> Pauses {
-    Pauses {
+/// Whether the problem is told by this line, and answered with this status.
+fn is_told(alloc: Global, problem: Problem<'_>, status: Status, line: &[u8]) -> bool {
+    let mut faults = Pauses {
         taken: Vec::new(alloc),
         has_paused: false,
-    }
+    };
+    tell(alloc, &mut faults, problem) == status && faults.taken.as_slice() == line
 }
 
 #[test]
 fn line_goes_out_byte_by_byte(rt: HostRuntime) {
-    let mut faults = with_pauses(rt.alloc());
-    assert_eq!(rt;
-        tell(rt.alloc(), &mut faults, Problem::Output),
-        Status::Fault
-    );
-    assert_eq!(rt; faults.taken.as_slice(), b"mds_city: output\n".as_slice());
-    let mut faults = with_pauses(rt.alloc());
-    assert_eq!(rt;
-        tell(rt.alloc(), &mut faults, Problem::Memory),
-        Status::NoMemory
-    );
-    assert_eq!(rt;
-        faults.taken.as_slice(),
-        b"mds_city: out of memory\n".as_slice()
+    let alloc = rt.alloc();
+    assert!(rt; is_told(alloc, Problem::Output, Status::Fault, b"mds_city: output\n"));
+    assert!(rt;
+        is_told(
+            alloc,
+            Problem::Memory,
+            Status::NoMemory,
+            b"mds_city: out of memory\n"
+        )
     );
 }
 
 #[test]
 fn long_path_is_told_whole(rt: HostRuntime) -> Result<(), Fail> {
-    let mut path = String::new(rt.alloc());
-    for _ in 0..700 {
-        path.push_str("folder/")?;
-    }
-    let mut whole = String::from_str(rt.alloc(), "mds_city: cannot read ")?;
-    whole.push_str(path.as_str())?;
-    whole.push_str("\n")?;
-    let mut faults = with_pauses(rt.alloc());
-    let status = tell(rt.alloc(), &mut faults, Problem::CannotRead(path.as_str()));
-    assert_eq!(rt; status, Status::Fault);
-    assert_eq!(rt; faults.taken.len(), 4_923);
-    assert_eq!(rt; faults.taken.as_slice(), whole.as_bytes());
+    let alloc = rt.alloc();
+    let path = "folder/".repeat(alloc, 700)?;
+    let line = format!(in alloc; "mds_city: cannot read {path}\n")?;
+    assert_eq!(rt; line.len(), 4_923);
+    let problem = Problem::CannotRead(path.as_str());
+    assert!(rt; is_told(alloc, problem, Status::Fault, line.as_bytes()));
     Ok(())
 }

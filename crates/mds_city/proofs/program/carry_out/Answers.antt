@@ -10,12 +10,12 @@ returns-then-is_standard_input g c =
     let out = g.W.Write.contents in
     let faults = g.E.Write.contents in
     let came = subst
-        (λ begins. CameToReplay begins bytes c.file_if_named-table.result g.I.Read.remaining c.open_file-file.result c.replay_to.result
-            (out c.args.out.now) (out c.replay_to.new.out) (faults c.args.faults.now) (faults c.replay_to.new.faults))
-        c.opening_if-opening.ensures (c.replay_to.ensures.ran, c.replay_to.ensures.told) in
+    (λ begins. CameToReplay begins bytes c.file_if_named-table.result g.I.Read.remaining c.open_file-file.result c.replay_to.result
+    (out c.args.out.now) (out c.replay_to.new.out) (faults c.args.faults.now) (faults c.replay_to.new.faults))
+    c.opening_if-opening.ensures (c.replay_to.ensures.ran, c.replay_to.ensures.told) in
     subst
     (λ (command : Command). Carries g.O.Opens.opens c.args.files.now bytes g.I.Read.remaining c.args.input command c.replay_to.result
-        (out c.args.out.now) (out c.replay_to.new.out) (faults c.args.faults.now) (faults c.replay_to.new.faults))
+    (out c.args.out.now) (out c.replay_to.new.out) (faults c.args.faults.now) (faults c.replay_to.new.faults))
     (sym c.in-Replay.is)
     (c.file_if_named-table.result, search rules, inl (search rules, c.open_file-file.result, c.open_file-file.ensures.path, c.open_file-file.ensures.reader, came))
 
@@ -25,11 +25,11 @@ returns g c =
     let out = g.W.Write.contents in
     let faults = g.E.Write.contents in
     let came = subst
-        (λ begins. CameToReplay begins bytes c.file_if_named-table.result bytes c.file_of.result c.replay_to-in-Replay.result
-            (out c.args.out.now) (out c.replay_to-in-Replay.new.out) (faults c.args.faults.now) (faults c.replay_to-in-Replay.new.faults))
-        c.opening_if-opening.ensures (c.replay_to-in-Replay.ensures.ran, c.replay_to-in-Replay.ensures.told) in
+    (λ begins. CameToReplay begins bytes c.file_if_named-table.result bytes c.file_of.result c.replay_to-in-Replay.result
+    (out c.args.out.now) (out c.replay_to-in-Replay.new.out) (faults c.args.faults.now) (faults c.replay_to-in-Replay.new.faults))
+    c.opening_if-opening.ensures (c.replay_to-in-Replay.ensures.ran, c.replay_to-in-Replay.ensures.told) in
     subst
     (λ (command : Command). Carries g.O.Opens.opens c.args.files.now bytes g.I.Read.remaining c.args.input command c.replay_to-in-Replay.result
-        (out c.args.out.now) (out c.replay_to-in-Replay.new.out) (faults c.args.faults.now) (faults c.replay_to-in-Replay.new.faults))
+    (out c.args.out.now) (out c.replay_to-in-Replay.new.out) (faults c.args.faults.now) (faults c.replay_to-in-Replay.new.faults))
     (sym c.in-Replay.is)
     (c.file_if_named-table.result, search rules, inr (search rules, c.file_of.result, c.file_of.ensures, came))
