@@ -8,3 +8,4 @@ pub mod Ends
 pub mod Turns
 pub mod Runs
 pub mod OneVerdict
+pub mod OneReport

@@ -1,6 +1,6 @@
 //! What holds of the definitions alone: of verdicts and runs, whoever computes them. Each law is a function that does
 //! nothing; its contract is the law.
-ghost use Rattle.mds_trace.specs.Laws.{ReplaysAreRuns, VerdictsAreOne};
+ghost use Rattle.mds_trace.specs.Laws.{ReplaysAreRuns, ReportsAreOne};
 
 /// The verdicts of a replay with [`Opening::Removed`](crate::Opening::Removed) are the outcomes of the machine's run over
 /// any requests that report the same events in the same order, each behind a registration of its vehicle, whatever else
@@ -9,7 +9,8 @@ pub fn replays_are_runs()
     ensures { ReplaysAreRuns }
 {}
 
-/// Two lists of verdicts on the same items, over the same table and with the same opening, are equal.
-pub fn verdicts_are_one()
-    ensures { VerdictsAreOne }
+/// Two reports of a replay of the same items, over the same table and with the same opening, have the same verdicts, ends
+/// and counts.
+pub fn reports_are_one()
+    ensures { ReportsAreOne }
 {}
