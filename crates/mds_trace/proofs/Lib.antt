@@ -11,3 +11,4 @@ pub mod Runs
 pub mod SessionLemmas
 pub mod Lawful
 pub mod OneVerdict
+pub mod OneReport

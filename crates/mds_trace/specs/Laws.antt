@@ -13,10 +13,11 @@ use Rattle.mds_core.specs.Run.{IsRun}
 use Rattle.mds_batch.specs.declared.item.EventItem.{EventItem}
 use Rattle.mds_trace.specs.declared.report.Opening.{Opening}
 use Rattle.mds_trace.specs.declared.report.Opening.TheVariants.{Removed}
+use Rattle.mds_trace.specs.declared.report.Report.{Report as Replayed}
 use Rattle.mds_trace.specs.declared.report.Verdict.{Verdict}
 use Rattle.mds_trace.specs.declared.report.Verdict.TheVariants.{Accepted, Refused, NoOpening, Fault}
 use Rattle.mds_trace.specs.Items.{events_of}
-use Rattle.mds_trace.specs.Replay.{AreVerdicts}
+use Rattle.mds_trace.specs.Replay.{AreVerdicts, IsReport}
 
 -- the outcome that a verdict tells; of a faulty item there is none
 abbrev pub outcome_told : Verdict → Option Outcome
@@ -56,6 +57,13 @@ AreOutcomes rows items lines = (requests : List Request) → reports requests �
 abbrev pub ReplaysAreRuns : Type 0
 ReplaysAreRuns = (rows : List Row) (items : List EventItem) (lines : List Verdict) → AreVerdicts Removed rows items lines → AreOutcomes rows items lines
 
--- items have one list of verdicts
-abbrev pub VerdictsAreOne : Type 0
-VerdictsAreOne = (opening : Opening) (rows : List Row) (items : List EventItem) (a b : List Verdict) → AreVerdicts opening rows items a → AreVerdicts opening rows items b → a ≡ b
+-- the same verdicts, ends and counts
+pub record AreSameReport (a b : Replayed) : Type 0 where
+  pub lines : a.lines.items ≡ b.lines.items
+  pub vehicles : a.vehicles.items ≡ b.vehicles.items
+  pub accepted : a.accepted ≡ b.accepted
+  pub refused : a.refused ≡ b.refused
+
+-- items have one report
+abbrev pub ReportsAreOne : Type 0
+ReportsAreOne = (opening : Opening) (rows : List Row) (items : List EventItem) (a b : Replayed) → IsReport opening rows items a → IsReport opening rows items b → AreSameReport a b

@@ -1,6 +1,6 @@
 //! What holds of the definitions alone: of verdicts and runs, and of sessions, whoever computes them. Each law is a
 //! function that does nothing; its contract is the law.
-ghost use Rattle.mds_trace.specs.Laws.{ReplaysAreRuns, VerdictsAreOne};
+ghost use Rattle.mds_trace.specs.Laws.{ReplaysAreRuns, ReportsAreOne};
 ghost use Rattle.mds_trace.specs.SessionLaws.{LawfulReportsOpen};
 
 /// The verdicts of a replay with [`Opening::Removed`](crate::Opening::Removed) are the outcomes of the machine's run over
@@ -16,7 +16,8 @@ pub fn lawful_reports_open()
     ensures { LawfulReportsOpen }
 {}
 
-/// Two lists of verdicts on the same items, over the same table and with the same opening, are equal.
-pub fn verdicts_are_one()
-    ensures { VerdictsAreOne }
+/// Two reports of a replay of the same items, over the same table and with the same opening, have the same verdicts, ends
+/// and counts.
+pub fn reports_are_one()
+    ensures { ReportsAreOne }
 {}

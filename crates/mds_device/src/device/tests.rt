@@ -100,52 +100,36 @@ impl Write for Sips {
     }
 }
 
-#[test]
-fn reads_in_drops_with_pauses(rt: HostRuntime) -> Result<(), Fail> {
+/// What becomes of reading these bytes, one a call, with a pause before each call or none, to such an end: the fault, if one
+/// comes, and the number of calls.
+fn read_to(alloc: Global, bytes: &[u8], has_pauses: bool, last: Last) -> (Option<ReadFault>, u32) {
     let mut reader = Drops {
-        bytes: b"seven b",
+        bytes,
         calls: 0,
-        has_pauses: true,
-        last: Last::Zero,
-    };
-    let bytes = read_front(rt.alloc(), &mut reader)?;
-    assert_eq!(rt; bytes.as_slice(), b"seven b".as_slice());
-    assert_eq!(rt; reader.calls, 16);
-    Ok(())
-}
-
-/// The fault of reading a stream of three bytes that ends so, and the number of calls.
-fn read_to(alloc: Global, last: Last) -> (Option<ReadFault>, u32) {
-    let mut reader = Drops {
-        bytes: b"abc",
-        calls: 0,
-        has_pauses: false,
+        has_pauses,
         last,
     };
-    let fault = read_front(alloc, &mut reader).err();
-    (fault, reader.calls)
-}
-
-#[test]
-fn a_read_that_fails_is_not_made_again(rt: HostRuntime) {
-    for last in [Last::Failure, Last::Block, Last::Timeout] {
-        assert_eq!(rt; read_to(rt.alloc(), last), (Some(ReadFault::Device), 4));
+    match read_front(alloc, &mut reader) {
+        Ok(read) if read.as_slice() == bytes => (None, reader.calls),
+        Ok(_) => (Some(ReadFault::Memory), reader.calls),
+        Err(fault) => (Some(fault), reader.calls),
     }
 }
 
 #[test]
-fn reads_run_out(rt: HostRuntime) {
-    let mut reader = Drops {
-        bytes: b"ab",
-        calls: 0,
-        has_pauses: false,
-        last: Last::Pause,
-    };
-    assert_eq!(rt;
-        read_front(rt.alloc(), &mut reader).err(),
-        Some(ReadFault::Device)
-    );
-    assert_eq!(rt; reader.calls, 5_000_000);
+fn reads_end_as_the_reader_does(rt: HostRuntime) {
+    let device = Some(ReadFault::Device);
+    let cases = [
+        (b"seven b".as_slice(), true, Last::Zero, (None, 16u32)),
+        (b"", false, Last::Zero, (None, 1)),
+        (b"abc", false, Last::Failure, (device, 4)),
+        (b"abc", false, Last::Block, (device, 4)),
+        (b"abc", false, Last::Timeout, (device, 4)),
+        (b"ab", false, Last::Pause, (device, 5_000_000)),
+    ];
+    for (bytes, has_pauses, last, ended) in cases {
+        assert_eq!(rt; read_to(rt.alloc(), bytes, has_pauses, last), ended);
+    }
 }
 
 fn file_of(alloc: Global, length: usize) -> Result<Vec<u8>, AllocError> {
@@ -156,93 +140,61 @@ fn file_of(alloc: Global, length: usize) -> Result<Vec<u8>, AllocError> {
 fn reads_no_more_than_the_limit(rt: HostRuntime) -> Result<(), Fail> {
     let file = file_of(rt.alloc(), 4_194_306)?;
     let mut reader = file.as_slice();
-    assert_eq!(rt; read_front(rt.alloc(), &mut reader)?.len(), 4_194_305);
-    assert_eq!(rt; reader.len(), 1);
-    let file = file_of(rt.alloc(), 4_194_304)?;
-    let mut reader = file.as_slice();
-    assert_eq!(rt; read_front(rt.alloc(), &mut reader)?.len(), 4_194_304);
-    let mut reader = b"".as_slice();
-    assert_eq!(rt; read_front(rt.alloc(), &mut reader)?.len(), 0);
+    let read = read_front(rt.alloc(), &mut reader)?;
+    assert_eq!(rt; (read.len(), reader.len()), (4_194_305, 1));
     Ok(())
 }
 
-/// A writer that is interrupted before each byte that it takes.
-fn with_pauses(alloc: Global) -> Sips {
-    Sips {
+/// What becomes of writing these bytes, one a call, `room` of them, with a pause before each call or none, to such an end:
+/// how many went out where not all did, and the number of calls.
+fn written_to(
+    alloc: Global,
+    bytes: &[u8],
+    room: usize,
+    has_pauses: bool,
+    last: Last,
+) -> (Option<usize>, u32) {
+    let mut writer = Sips {
         taken: Vec::new(alloc),
-        room: 3_000_000,
+        room,
         calls: 0,
-        has_pauses: true,
-        last: Last::Zero,
-    }
+        has_pauses,
+        last,
+    };
+    let sent = write_all_of(&mut writer, bytes).err();
+    (sent, writer.calls)
 }
 
 #[test]
-fn writes_in_sips_with_pauses(rt: HostRuntime) -> Result<(), Fail> {
-    let mut writer = with_pauses(rt.alloc());
-    assert_eq!(rt; write_all_of(&mut writer, b""), Ok(()));
-    assert_eq!(rt; writer.calls, 0);
-    assert_eq!(rt; write_all_of(&mut writer, b"abc"), Ok(()));
-    assert_eq!(rt; writer.taken.as_slice(), b"abc".as_slice());
-    assert_eq!(rt; writer.calls, 6);
-    Ok(())
+fn writes_end_as_the_writer_does(rt: HostRuntime) {
+    let cases = [
+        (b"".as_slice(), 9usize, true, Last::Zero, (None, 0u32)),
+        (b"abc", 9, true, Last::Zero, (None, 6)),
+        (b"abc", 2, false, Last::Zero, (Some(2), 3)),
+        (b"abc", 2, false, Last::Pause, (Some(2), MAX_CALLS)),
+        (b"abc", 1, false, Last::Failure, (Some(1), 2)),
+        (b"abc", 1, false, Last::Block, (Some(1), 2)),
+        (b"abc", 1, false, Last::Timeout, (Some(1), 2)),
+    ];
+    for (bytes, room, has_pauses, last, ended) in cases {
+        assert_eq!(rt;
+            written_to(rt.alloc(), bytes, room, has_pauses, last),
+            ended
+        );
+    }
 }
 
 /// The last call that is allowed may be the one that takes the last byte.
 #[test]
 fn writes_run_out(rt: HostRuntime) -> Result<(), Fail> {
-    let text = file_of(rt.alloc(), 2_500_000)?;
-    let mut writer = with_pauses(rt.alloc());
-    assert_eq!(rt; write_all_of(&mut writer, &text), Ok(()));
-    assert_eq!(rt; writer.calls, 5_000_000);
-    let longer = file_of(rt.alloc(), 2_500_001)?;
-    let mut writer = with_pauses(rt.alloc());
-    assert_eq!(rt; write_all_of(&mut writer, &longer), Err(2_500_000));
-    assert_eq!(rt; writer.calls, 5_000_000);
+    let alloc = rt.alloc();
+    let most = file_of(alloc, 2_500_000)?;
+    let whole = written_to(alloc, &most, 3_000_000, true, Last::Zero);
+    assert_eq!(rt; whole, (None, 5_000_000));
+    let more = file_of(alloc, 2_500_001)?;
+    let front = written_to(alloc, &more, 3_000_000, true, Last::Zero);
+    assert_eq!(rt; front, (Some(2_500_000), 5_000_000));
     Ok(())
-}
-
-#[test]
-fn writes_that_stop(rt: HostRuntime) {
-    let mut full = Sips {
-        taken: Vec::new(rt.alloc()),
-        room: 2,
-        calls: 0,
-        has_pauses: false,
-        last: Last::Zero,
-    };
-    assert_eq!(rt; write_all_of(&mut full, b"abc"), Err(2));
-    assert_eq!(rt; full.calls, 3);
-    let mut paused = Sips {
-        taken: Vec::new(rt.alloc()),
-        room: 2,
-        calls: 0,
-        has_pauses: false,
-        last: Last::Pause,
-    };
-    assert_eq!(rt; write_all_of(&mut paused, b"abc"), Err(2));
-    assert_eq!(rt; paused.calls, MAX_CALLS);
-    assert_eq!(rt; paused.calls, 5_000_000);
-}
-
-/// What comes of writing three bytes to a stream that takes one and ends so, and the number of calls.
-fn written_to(alloc: Global, last: Last) -> (Result<(), usize>, u32) {
-    let mut writer = Sips {
-        taken: Vec::new(alloc),
-        room: 1,
-        calls: 0,
-        has_pauses: false,
-        last,
-    };
-    let sent = write_all_of(&mut writer, b"abc");
-    (sent, writer.calls)
-}
-
-#[test]
-fn a_write_that_fails_is_not_made_again(rt: HostRuntime) {
-    for last in [Last::Failure, Last::Block, Last::Timeout] {
-        assert_eq!(rt; written_to(rt.alloc(), last), (Err(1), 2));
-    }
 }
 
 #[test]
@@ -252,11 +204,9 @@ fn lines_share_a_write(rt: HostRuntime) -> Result<(), Fail> {
     for _ in 0..10_922 {
         add_line(&mut out, &mut page, &10_001)?;
     }
-    assert_eq!(rt; out.len(), 0);
-    assert_eq!(rt; page.len(), 65_532);
+    assert_eq!(rt; (out.len(), page.len()), (0, 65_532));
     add_line(&mut out, &mut page, &10_001)?;
-    assert_eq!(rt; out.len(), 65_538);
-    assert_eq!(rt; page.len(), 0);
+    assert_eq!(rt; (out.len(), page.len()), (65_538, 0));
     Ok(())
 }
 

@@ -5,51 +5,55 @@ use mds_batch::{EventItem, ItemFault, Member};
 use mds_core::{Event, Key, Refusal};
 use mds_table::{State, Table, TypeName};
 use std::alloc::{AllocError, Global};
+use std::process::Abort;
 use std::test::Fail;
 use uuid::Uuid;
 
-/// The provider of every vehicle here, and two vehicles of it.
-const PROVIDER: &str = "00000000-0000-4000-8000-000000000001";
+/// The identifier 00000000-0000-4000-8000-000000000000: each one here is some more than it.
+const FIRST: u128 = 0x4000_8000_0000_0000_0000;
 
-const A: &str = "00000000-0000-4000-8000-00000000000a";
+/// Two vehicles.
+const A: u128 = 0x0a;
 
-const B: &str = "00000000-0000-4000-8000-00000000000b";
+const B: u128 = 0x0b;
 
-/// Identifiers of events.
-const E1: &str = "00000000-0000-4000-8000-0000000000e1";
+/// Events.
+const E1: u128 = 0xe1;
 
-const E2: &str = "00000000-0000-4000-8000-0000000000e2";
+const E2: u128 = 0xe2;
 
-const E3: &str = "00000000-0000-4000-8000-0000000000e3";
+const E3: u128 = 0xe3;
 
-const E4: &str = "00000000-0000-4000-8000-0000000000e4";
+const E4: u128 = 0xe4;
 
 /// An event of one type: its vehicle, its identifier, the state that it reports, its type and its time.
-type Told<'a> = (&'a str, &'a str, State, &'a str, u64);
+type Told<'a> = (u128, u128, State, &'a str, u64);
 
 /// An end: the vehicle, the states in which it may have opened, and, where one is known, its state and its events.
 type End = (Key, ArrayVec<State, 8>, Option<(State, usize)>);
 
-/// The key of a vehicle.
-fn key(device: &str) -> Result<Key, Fail> {
-    Ok(Key {
-        provider: Uuid::parse_str(PROVIDER)?,
-        device: Uuid::parse_str(device)?,
-    })
+/// What a replay comes to: its verdicts, its ends, and how many items were accepted and how many were not.
+#[derive(Clone, Copy)]
+struct Expected<'a> {
+    lines: &'a [Verdict],
+    ends: &'a [End],
+    counts: (usize, usize),
+}
+
+/// The key of a vehicle of the provider 00000000-0000-4000-8000-000000000001.
+fn key(device: u128) -> Key {
+    Key {
+        provider: Uuid::from_u128(FIRST + 1),
+        device: Uuid::from_u128(FIRST.wrapping_add(device)),
+    }
 }
 
 /// The item of an event.
 fn item(told: Told<'_>) -> Result<EventItem, Fail> {
     let (device, id, state, kind, time) = told;
     let types = [TypeName::new(kind)?];
-    let event = Event::new(
-        key(device)?,
-        Uuid::parse_str(id)?,
-        state,
-        &types,
-        time,
-        None,
-    )?;
+    let id = Uuid::from_u128(FIRST.wrapping_add(id));
+    let event = Event::new(key(device), id, state, &types, time, None)?;
     Ok(EventItem::Event(event))
 }
 
@@ -90,6 +94,29 @@ fn ends(alloc: Global, report: &Report) -> Result<Vec<End>, AllocError> {
     Ok(ends)
 }
 
+/// The end of a vehicle that opened in one state, and where it stands.
+fn end(device: u128, opened: State, state: State, events: usize) -> End {
+    let mut openings = ArrayVec::new();
+    openings.push(opened);
+    (key(device), openings, Some((state, events)))
+}
+
+/// Replays these events, and stops the test unless that comes to what is expected.
+fn expect(
+    rt: &impl Abort,
+    alloc: Global,
+    told: &[Told<'_>],
+    opening: Opening,
+    expected: Expected<'_>,
+) -> Result<(), Fail> {
+    let report = replayed(alloc, &items(alloc, told)?, opening)?;
+    let ends = ends(alloc, &report)?;
+    assert_eq!(rt; report.lines.as_slice(), expected.lines);
+    assert_eq!(rt; ends.as_slice(), expected.ends);
+    assert_eq!(rt; (report.accepted, report.refused), expected.counts);
+    Ok(())
+}
+
 /// Five events of two vehicles, of which the fourth has no chain and the last comes late.
 const FIVE: [Told<'static>; 5] = [
     (A, E1, State::Available, "provider_drop_off", 1000),
@@ -99,91 +126,73 @@ const FIVE: [Told<'static>; 5] = [
     (A, E4, State::Available, "trip_end", 1999),
 ];
 
-/// The verdicts on them.
-const FIVE_LINES: [Verdict; 5] = [
-    Verdict::Accepted(State::Available),
-    Verdict::Accepted(State::OnTrip),
-    Verdict::Accepted(State::Available),
-    Verdict::Refused(Refusal::NoChain {
-        held: State::OnTrip,
-        at: 0,
-    }),
-    Verdict::Refused(Refusal::Late { last: 2000 }),
-];
-
-/// The set of one state.
-fn only(state: State) -> ArrayVec<State, 8> {
-    let mut states = ArrayVec::new();
-    states.push(state);
-    states
-}
-
-/// A run of events that names every vehicle's state: two of A, and one of B that gets stuck from any state.
+/// Three events without a registration: two of A, and one of B that gets stuck from any state.
 const UNREGISTERED: [Told<'static>; 3] = [
     (A, E1, State::Available, "trip_end", 1000),
     (A, E2, State::Elsewhere, "changed_geographies", 2000),
     (B, E3, State::Reserved, "trip_end", 1000),
 ];
 
-/// What a replay of these events comes to.
-fn case(
-    alloc: Global,
-    told: &[Told<'_>],
-    opening: Opening,
-) -> Result<(Vec<Verdict>, Vec<End>, usize, usize), Fail> {
-    let report = replayed(alloc, &items(alloc, told)?, opening)?;
-    let ends = ends(alloc, &report)?;
-    Ok((report.lines, ends, report.accepted, report.refused))
+/// A refusal for want of a chain at the first type.
+fn no_chain(held: State) -> Verdict {
+    Verdict::Refused(Refusal::NoChain { held, at: 0 })
 }
 
 #[test]
 fn five_event_run(rt: HostRuntime) -> Result<(), Fail> {
+    let lines = [
+        Verdict::Accepted(State::Available),
+        Verdict::Accepted(State::OnTrip),
+        Verdict::Accepted(State::Available),
+        no_chain(State::OnTrip),
+        Verdict::Refused(Refusal::Late { last: 2000 }),
+    ];
+    let ends = [
+        end(A, State::Removed, State::OnTrip, 2),
+        end(B, State::Removed, State::Available, 1),
+    ];
     for opening in [Opening::Removed, Opening::Any] {
-        let (lines, ends, accepted, refused) = case(rt.alloc(), &FIVE, opening)?;
-        let expected = [
-            (key(A)?, only(State::Removed), Some((State::OnTrip, 2))),
-            (key(B)?, only(State::Removed), Some((State::Available, 1))),
-        ];
-        assert_eq!(rt; lines.as_slice(), FIVE_LINES.as_slice());
-        assert_eq!(rt; ends.as_slice(), expected.as_slice());
-        assert_eq!(rt; (accepted, refused), (3, 2));
+        let expected = Expected {
+            lines: &lines,
+            ends: &ends,
+            counts: (3, 2),
+        };
+        expect(&rt, rt.alloc(), &FIVE, opening, expected)?;
     }
     Ok(())
 }
 
 #[test]
 fn openings_without_registration(rt: HostRuntime) -> Result<(), Fail> {
-    let (lines, ends, accepted, refused) = case(rt.alloc(), &UNREGISTERED, Opening::Any)?;
-    let verdicts = [
+    let lines = [
         Verdict::Accepted(State::Available),
         Verdict::Accepted(State::Elsewhere),
         Verdict::NoOpening { at: 1 },
     ];
-    let expected = [
-        (key(A)?, only(State::OnTrip), Some((State::Elsewhere, 2))),
-        (key(B)?, ArrayVec::from(State::ALL), None),
+    let ends = [
+        end(A, State::OnTrip, State::Elsewhere, 2),
+        (key(B), ArrayVec::from(State::ALL), None),
     ];
-    assert_eq!(rt; lines.as_slice(), verdicts.as_slice());
-    assert_eq!(rt; ends.as_slice(), expected.as_slice());
-    assert_eq!(rt; (accepted, refused), (2, 1));
-    Ok(())
+    let expected = Expected {
+        lines: &lines,
+        ends: &ends,
+        counts: (2, 1),
+    };
+    expect(&rt, rt.alloc(), &UNREGISTERED, Opening::Any, expected)
 }
 
 #[test]
 fn removed_before_the_first_event(rt: HostRuntime) -> Result<(), Fail> {
-    let (lines, ends, accepted, refused) = case(rt.alloc(), &UNREGISTERED, Opening::Removed)?;
-    let no_chain = Verdict::Refused(Refusal::NoChain {
-        held: State::Removed,
-        at: 0,
-    });
-    let expected = [
-        (key(A)?, only(State::Removed), Some((State::Removed, 0))),
-        (key(B)?, only(State::Removed), Some((State::Removed, 0))),
+    let ends = [
+        end(A, State::Removed, State::Removed, 0),
+        end(B, State::Removed, State::Removed, 0),
     ];
-    assert_eq!(rt; lines.as_slice(), [no_chain; 3].as_slice());
-    assert_eq!(rt; ends.as_slice(), expected.as_slice());
-    assert_eq!(rt; (accepted, refused), (0, 3));
-    Ok(())
+    let expected = Expected {
+        lines: &[no_chain(State::Removed); 3],
+        ends: &ends,
+        counts: (0, 3),
+    };
+    expect(&rt, rt.alloc(), &UNREGISTERED, Opening::Removed, expected)
 }
 
 /// An event of A, repeated for B and then, at an earlier time, for A, with a faulty item between.
@@ -198,17 +207,13 @@ fn identifiers_per_vehicle(rt: HostRuntime) -> Result<(), Fail> {
         item((A, E1, state, "provider_drop_off", 999))?,
     ];
     let report = replayed(rt.alloc(), &items, Opening::Removed)?;
-    let verdicts = [
+    let lines = [
         Verdict::Accepted(state),
         Verdict::Fault(fault),
         Verdict::Accepted(state),
         Verdict::Refused(Refusal::Repeated),
     ];
-    assert_eq!(rt; report.lines.as_slice(), verdicts.as_slice());
-    assert_eq!(rt;
-        (report.accepted, report.refused, report.vehicles.len()),
-        (2, 2, 2)
-    );
+    assert_eq!(rt; report.lines.as_slice(), lines.as_slice());
     Ok(())
 }
 
@@ -216,11 +221,6 @@ fn identifiers_per_vehicle(rt: HostRuntime) -> Result<(), Fail> {
 fn replay_succeeds_after_a_refused_growth(rt: HostRuntime) -> Result<(), Fail> {
     let items = [item(FIVE[0])?, item(FIVE[2])?, item(FIVE[1])?];
     let report = replayed(rt.alloc(), &items, Opening::Any)?;
-    let states = [State::Available, State::Available, State::OnTrip];
-    assert_eq!(rt;
-        report.lines.as_slice(),
-        states.map(Verdict::Accepted).as_slice()
-    );
     assert_eq!(rt;
         (report.accepted, report.refused, report.vehicles.len()),
         (3, 0, 2)
