@@ -5,7 +5,7 @@ mod growths;
 mod many;
 
 use crate::Shard;
-use mds_core::{Event, Key, Outcome, Request, Standing};
+use mds_core::{Event, Key, Outcome, Request};
 use mds_table::{State, Table, TypeName};
 use std::alloc::Global;
 use std::test::Fail;
@@ -25,6 +25,8 @@ pub const E0: &str = "00000000-0000-4000-8000-0000000000e0";
 pub const E1: &str = "00000000-0000-4000-8000-0000000000e1";
 
 pub const E2: &str = "00000000-0000-4000-8000-0000000000e2";
+
+pub const DROP_OFF: &[&str] = &["provider_drop_off"];
 
 /// What a test asks; an event is told by its vehicle, identifier, types, state and time.
 #[derive(Clone, Copy)]
@@ -73,20 +75,4 @@ pub fn asked_all(alloc: Global, asked: &[Asked<'_>]) -> Result<(Shard, Vec<Outco
         outcomes.push(reply.outcome)?;
     }
     Ok((shard, outcomes))
-}
-
-/// What becomes of each of these requests.
-pub fn outcomes(alloc: Global, asked: &[Asked<'_>]) -> Result<Vec<Outcome>, Fail> {
-    let (_, outcomes) = asked_all(alloc, asked)?;
-    Ok(outcomes)
-}
-
-/// A standing without a position.
-pub fn standing(state: State, events: usize, last: Option<u64>) -> Standing {
-    Standing {
-        state,
-        events,
-        last,
-        position: None,
-    }
 }

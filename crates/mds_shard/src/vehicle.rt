@@ -15,7 +15,7 @@ use std::collections::{BTreeMap, BTreeSet};
 use uuid::Uuid;
 
 /// What is kept of a vehicle.
-#[derive(Clone, Copy, Debug, Drop)]
+#[derive(Clone, Copy, Debug)]
 pub struct Vehicle {
     /// Where it stands.
     pub standing: Standing,
