@@ -23,7 +23,7 @@ use std::sync::ledger::{Blank, Share};
 use std::sync::{Mutex, Wait};
 
 /// The most seats of a book.
-pub const MAX_SEATS: usize = 64;
+const MAX_SEATS: usize = 64;
 
 /// Why no book was opened.
 #[derive(Clone, Copy, Debug, PartialEq, Eq, Hash)]
