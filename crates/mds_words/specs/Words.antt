@@ -1,11 +1,11 @@
 -- What the words of the command line ask for.
-use Rattle.std.specs.Prelude.{◌≡◌, ◌⊎◌, ◌↔◌, List, [], Option, Some, None, true, codes, option_map, IsTrue}
+use Rattle.std.specs.Prelude.{◌≡◌, ◌⊎◌, ◌↔◌, List, [], ◌∷◌, Option, Some, None, true, codes, option_map, IsTrue}
 use Rattle.clap.specs.declared.builder.action.ArgAction.TheVariants.{SetTrue}
 use Rattle.clap.specs.Words.{App, HasKind, Row, Rule, Text, fault_of, first_of, kind_of, new_app, new_rule, with_rule, subcommand_of, with_subcommand}
 use Rattle.clap.specs.declared.error.Error.{Error}
 use Rattle.clap.specs.declared.error.kind.ErrorKind.TheVariants.{MissingSubcommand}
 use Rattle.mds_words.specs.declared.words.Command.{Command}
-use Rattle.mds_words.specs.declared.words.Command.TheVariants.{Replay, Table}
+use Rattle.mds_words.specs.declared.words.Command.TheVariants.{Replay, Debug, Table}
 
 -- a positional word of this name, which must be there
 abbrev pub word_rule : Text → Rule
@@ -23,6 +23,11 @@ any_rule = record (new_rule (codes "any")) { long = Some (codes "any"); action =
 abbrev pub replay_app : App
 replay_app = with_rule (with_rule (with_rule (new_app (codes "replay")) (word_rule (codes "FILE"))) table_rule) any_rule
 
+-- the command `debug`, with its file, its vehicle's provider and device, and the option
+abbrev pub debug_app : App
+debug_app =
+    with_rule (with_rule (with_rule (with_rule (new_app (codes "debug")) (word_rule (codes "FILE"))) (word_rule (codes "PROVIDER"))) (word_rule (codes "DEVICE"))) table_rule
+
 -- the command `table`, with the option
 abbrev pub table_app : App
 table_app = with_rule (new_app (codes "table")) table_rule
@@ -33,11 +38,12 @@ bare_app = record { top = record (new_app (codes "mds_city")).top { subcommand_r
 
 -- the program with its commands
 abbrev pub program_app : App
-program_app = with_subcommand (with_subcommand bare_app replay_app.top) table_app.top
+program_app = with_subcommand (with_subcommand (with_subcommand bare_app replay_app.top) debug_app.top) table_app.top
 
 -- the name of a command
 abbrev pub name_of : Command → Text
 name_of (Replay file table any) = codes "replay"
+name_of (Debug file provider device table) = codes "debug"
 name_of (Table table) = codes "table"
 
 -- the values that were found are those of this command; it has no table where none was given, and a flag that is set is true
@@ -45,7 +51,15 @@ abbrev pub HasValues : List Row → Command → Type 0
 HasValues values (Replay file table any) =
     (first_of (codes "FILE") values ≡ Some file.now) × (first_of (codes "table") values ≡ option_map (λ path. path.now) table)
     × (IsTrue any ↔ (first_of (codes "any") values ≡ Some (codes "true")))
+HasValues values (Debug file provider device table) =
+    (first_of (codes "FILE") values ≡ Some file.now) × (first_of (codes "PROVIDER") values ≡ Some provider.now)
+    × (first_of (codes "DEVICE") values ≡ Some device.now) × (first_of (codes "table") values ≡ option_map (λ path. path.now) table)
 HasValues values (Table table) = first_of (codes "table") values ≡ option_map (λ path. path.now) table
+
+-- one of these arguments has no value
+abbrev pub LacksOneOf : List Text → List Row → Type 0
+LacksOneOf [] values = ⊥
+LacksOneOf (name ∷ names) values = (first_of name values ≡ None) ⊎ LacksOneOf names values
 
 -- a command's name and the values of its arguments are those of this command
 abbrev pub Asks : Option (Text × List Row) → Command → Type 0

@@ -1,7 +1,7 @@
 //! The words of the command line, read by `clap`.
-ghost use Rattle.std.specs.Prelude.{◌≡◌, ◌↔◌, [], None, Some, true, false, codes, map, IsTrue, IfOk, IfErr, MatchOption};
+ghost use Rattle.std.specs.Prelude.{◌≡◌, ◌↔◌, ◌∷◌, [], None, Some, true, false, codes, map, IsTrue, IfOk, IfErr, MatchOption};
 ghost use Rattle.clap.specs.Words.{app_of, fault_of, first_of, found_of, kind_of, rows_of, rule_of, subcommand_of, subcommand_rows_of, takes, with_subcommand};
-ghost use Rattle.mds_words.specs.Words.{Asks, AsksNothing, HasValues, IsErrorOf, name_of, any_rule, program_app, replay_app, table_app, table_rule, word_rule};
+ghost use Rattle.mds_words.specs.Words.{Asks, AsksNothing, HasValues, IsErrorOf, LacksOneOf, name_of, any_rule, debug_app, program_app, replay_app, table_app, table_rule, word_rule};
 
 use clap::error::ErrorKind;
 use clap::{Arg, ArgAction, ArgMatches, Error};
@@ -20,6 +20,17 @@ pub enum Command<'a> {
         table: Option<&'a str>,
         /// Whether a vehicle may hold any state before its first event.
         any: bool,
+    },
+    /// Step through the accepted events of a vehicle.
+    Debug {
+        /// The path of a file of events. Here `-` is a file of that name.
+        file: &'a str,
+        /// The vehicle's provider, as it was written.
+        provider: &'a str,
+        /// The vehicle's device, as it was written.
+        device: &'a str,
+        /// As for `Replay`.
+        table: Option<&'a str>,
     },
     /// Print a table of transitions.
     Table {
@@ -60,6 +71,9 @@ fn command_of<'a>(matches: &ArgMatches<'a>) -> Option<Command<'a>>
     if name == "replay" {
         return replay_of(values);
     }
+    if name == "debug" {
+        return debug_of(values);
+    }
     if name == "table" {
         return Some(table_of(values));
     }
@@ -96,6 +110,22 @@ fn is_true(value: &str) -> bool
     value == "true"
 }
 
+/// The command `debug` with these values, or `None` where the file, the provider or the device is missing.
+fn debug_of<'a>(values: &ArgMatches<'a>) -> Option<Command<'a>>
+    ensures { MatchOption result (LacksOneOf (codes "FILE" ∷ codes "PROVIDER" ∷ codes "DEVICE" ∷ []) (rows_of (found_of values.now)))
+        (λ command. (name_of command ≡ codes "debug") × HasValues (rows_of (found_of values.now)) command) }
+{
+    let file = values.get_str("FILE")?;
+    let provider = values.get_str("PROVIDER")?;
+    let device = values.get_str("DEVICE")?;
+    Some(Command::Debug {
+        file,
+        provider,
+        device,
+        table: values.get_str("table"),
+    })
+}
+
 /// The command `table` with these values.
 fn table_of<'a>(values: &ArgMatches<'a>) -> Command<'a>
     ensures { (name_of result ≡ codes "table") × HasValues (rows_of (found_of values.now)) result }
@@ -112,7 +142,7 @@ fn program_form<'a>(alloc: Global) -> Result<clap::Command<'a>, AllocError>
     let form = clap::Command::new(alloc, "mds_city")
         .about("Keeps the states of shared vehicles")
         .subcommand_required(true);
-    with_table(alloc, with_replay(alloc, form)?)
+    with_table(alloc, with_debug(alloc, with_replay(alloc, form)?)?)
 }
 
 /// Tells `form` of the command `replay`. It fails only for want of memory.
@@ -126,6 +156,21 @@ fn with_replay<'a>(alloc: Global, form: clap::Command<'a>) -> Result<clap::Comma
     let with_table = with_file.arg(table_option(alloc))?;
     let replay = with_table.arg(any_option(alloc))?;
     form.subcommand(replay)
+}
+
+/// Tells `form` of the command `debug`. It fails only for want of memory.
+fn with_debug<'a>(alloc: Global, form: clap::Command<'a>) -> Result<clap::Command<'a>, AllocError>
+    ensures { IfOk result (λ more.
+        app_of more ≡ with_subcommand (app_of form.entry) debug_app.top) }
+{
+    let bare = clap::Command::new(alloc, "debug").about(
+        "Steps through the accepted events of a vehicle, as standard input says",
+    );
+    let with_file = bare.arg(word(alloc, "FILE", "The file of events"))?;
+    let with_provider = with_file.arg(word(alloc, "PROVIDER", "The provider's identifier"))?;
+    let with_device = with_provider.arg(word(alloc, "DEVICE", "The vehicle's identifier"))?;
+    let debug = with_device.arg(table_option(alloc))?;
+    form.subcommand(debug)
 }
 
 /// The flag `--any`.

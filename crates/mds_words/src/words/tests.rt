@@ -16,6 +16,17 @@ fn replay_any<'a>(file: &'a str, table: Option<&'a str>) -> Option<Command<'a>> 
     Some(Command::Replay { file, table, any })
 }
 
+/// The debugger on the vehicle `b` of the provider `a`.
+fn debug<'a>(file: &'a str, table: Option<&'a str>) -> Option<Command<'a>> {
+    let (provider, device) = ("a", "b");
+    Some(Command::Debug {
+        file,
+        provider,
+        device,
+        table,
+    })
+}
+
 /// The print of a table.
 fn table(table: Option<&str>) -> Option<Command<'_>> {
     Some(Command::Table { table })
@@ -24,7 +35,7 @@ fn table(table: Option<&str>) -> Option<Command<'_>> {
 #[test]
 fn words_ask_for_commands(rt: HostRuntime) {
     let rows = Some("rows.json");
-    let cases: [Case<'_>; 21] = [
+    let cases: [Case<'_>; 25] = [
         (&["mds_city", "replay", "-"], replay("-", None)),
         (
             &["mds_city", "replay", "a b/events.json"],
@@ -55,6 +66,13 @@ fn words_ask_for_commands(rt: HostRuntime) {
             &["mds_city", "replay", "--any", "--table", "rows.json", "F"],
             replay_any("F", rows),
         ),
+        (&["mds_city", "debug", "F", "a", "b"], debug("F", None)),
+        (
+            &["mds_city", "debug", "-", "--table=rows.json", "a", "b"],
+            debug("-", rows),
+        ),
+        (&["mds_city", "debug", "F", "a"], None),
+        (&["mds_city", "debug", "F", "a", "b", "--any"], None),
         (&["mds_city", "replay", "-", "--any=true"], None),
         (&[], None),
         (&["mds_city"], None),
