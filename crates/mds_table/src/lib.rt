@@ -15,8 +15,6 @@ mod state;
 mod table;
 mod table_file;
 #[cfg(test)]
-mod table_file_tests;
-#[cfg(test)]
 mod tests;
 mod type_name;
 

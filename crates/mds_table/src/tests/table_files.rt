@@ -1,0 +1,147 @@
+//! Table files: how many rows a file stands for, or its first fault.
+use crate::Table;
+use crate::TableFault::{
+    self, BadRow, Empty, NotJson, NotRows, TooLong, TooManyRows, TooManyTypes,
+};
+use std::alloc::{AllocError, Global};
+
+/// One state, and each of the states.
+const ONE: &str = r#""removed""#;
+
+const EACH: &str =
+    r#"["removed","available","non_operational","reserved","on_trip","elsewhere","non_contactable","missing"]"#;
+
+/// Files: a text; so many entries, each of a type of its own (`t0`, `t1` ..), and the states that they lead from and to;
+/// a text; so many spaces. And how many rows the file stands for, or its first fault.
+const FILES: [(&str, (usize, &str), &str, usize, Result<usize, TableFault>); 18] = [
+    // whole files
+    ("{", (0, ""), "", 0, Err(NotJson)),
+    ("[]", (0, ""), "", 0, Err(NotRows)),
+    (r#"{"row":[7]}"#, (0, ""), "", 0, Err(NotRows)),
+    (r#"{"rows":["#, (0, ""), "]}", 0, Err(Empty)),
+    // entries
+    (
+        r#"{"rows":["#,
+        (0, ""),
+        r#"{"from":["available","available"],"type":"x","to":"on_trip"},{"from":"available","type":"x","to":["on_trip"]}]}"#,
+        0,
+        Ok(1),
+    ),
+    (
+        r#"{"rows":["#,
+        (0, ""),
+        r#"{"from":"flying","type":"x","to":"available"}]}"#,
+        0,
+        Err(BadRow(0)),
+    ),
+    (
+        r#"{"rows":["#,
+        (0, ""),
+        r#"{"from":[["removed"]],"type":"x","to":"available"}]}"#,
+        0,
+        Err(BadRow(0)),
+    ),
+    (
+        r#"{"rows":["#,
+        (1, ONE),
+        r#"{"from":"removed","type":"x","to":null},7]}"#,
+        0,
+        Err(BadRow(1)),
+    ),
+    // most types
+    (
+        r#"{"rows":["#,
+        (63, ONE),
+        r#"{"from":"removed","type":"x","to":"removed"}]}"#,
+        0,
+        Ok(64),
+    ),
+    (
+        r#"{"rows":["#,
+        (64, ONE),
+        r#"{"from":"removed","type":"t63","to":"missing"}]}"#,
+        0,
+        Ok(65),
+    ),
+    (
+        r#"{"rows":["#,
+        (64, ONE),
+        r#"{"from":"removed","type":"x","to":"removed"}]}"#,
+        0,
+        Err(TooManyTypes),
+    ),
+    // most rows
+    (
+        r#"{"rows":["#,
+        (64, EACH),
+        r#"{"from":"removed","type":"t63","to":"missing"}]}"#,
+        0,
+        Ok(4096),
+    ),
+    (
+        r#"{"rows":["#,
+        (64, EACH),
+        r#"{"from":"removed","type":"x","to":"removed"}]}"#,
+        0,
+        Err(TooManyRows),
+    ),
+    (
+        r#"{"rows":["#,
+        (64, EACH),
+        r#"{"from":"flying","type":"x","to":"removed"}]}"#,
+        0,
+        Err(BadRow(64)),
+    ),
+    // most bytes
+    (
+        r#"{"rows":[{"from":"removed","type":"x","to":"available"}]}"#,
+        (0, ""),
+        "",
+        4194247,
+        Ok(1),
+    ),
+    (
+        r#"{"rows":[{"from":"removed","type":"x","to":"available"}]}"#,
+        (0, ""),
+        "",
+        4194248,
+        Err(TooLong),
+    ),
+    ("", (0, ""), "", 4194304, Err(NotJson)),
+    ("", (0, ""), "", 4194305, Err(TooLong)),
+];
+
+/// The front and so many entries, each of a type of its own, from and to these states, and a comma behind it.
+fn entries(alloc: Global, front: &str, types: usize, states: &str) -> Result<String, AllocError> {
+    let mut text = String::new(alloc);
+    text.push_str(front)?;
+    for number in 0..types {
+        let entry = format!(in alloc;
+            "{{\"from\":{states},\"type\":\"t{number}\",\"to\":{states}}},"
+        )?;
+        text.push_str(entry.as_str())?;
+    }
+    Ok(text)
+}
+
+/// How many rows the file of these parts stands for.
+fn row_count(
+    alloc: Global,
+    front: &str,
+    (types, states): (usize, &str),
+    back: &str,
+    spaces: usize,
+) -> Result<usize, TableFault> {
+    let mut text = entries(alloc, front, types, states)?;
+    text.push_str(back)?;
+    text.push_str(" ".repeat(alloc, spaces)?.as_str())?;
+    Ok(Table::from_json(alloc, text.as_bytes())?.row_count())
+}
+
+#[test]
+fn table_file_faults(rt: HostRuntime) {
+    for (front, of_types, back, spaces, count) in &FILES {
+        let found = row_count(rt.alloc(), front, *of_types, back, *spaces);
+        assert_eq!(rt; (front, back, &found), (front, back, count));
+    }
+}
