@@ -93,6 +93,15 @@ module _ (rows : List Row) (key registered : Key) where
       let not_late : ltb event.time last.time ≡ false = sym (ap (λ (one : Option Reported). is_late (option_map (λ (event : Reported). event.time) one) event.time) ends) ∙ in_time in
       record { key = theirs ∙ sym same; time = ltb-false event.time last.time not_late }
 
+  -- over one event more that is open and leads on, a session may be opened
+  pub open_next : (done : List Reported) (event : Reported) → All (λ (one : Reported). one.key ≡ key) done → event.key ≡ key → AreOpenFrom rows Removed done
+      → IsOpen (told done) event → Leads rows (held (told done)) event.types event.state → AreOpenFrom rows Removed (done ++ event ∷ [])
+  open_next done event theirs same before is_open leads =
+      let new : IsNewAfter done event = new_to event.id done (sym (ap (list_any (λ (one : Reported). bytes_eq one.id event.id)) (reports_of done)) ∙ is_open.new) in
+      open_push rows Removed done event before (order_more done event before.order new (comes_next done event theirs same is_open))
+      (subst (λ state. Leads rows state event.types event.state)
+      (ap (λ events. option_map_or (λ (one : Reported). one.state) (last_or None events) Removed) (reports_of done) ∙ held_is done) leads)
+
   -- from a list over which a session may be opened, the rest of a career goes on
   goes_on : (rest done : List Reported) → All (λ (one : Reported). one.key ≡ key) (done ++ rest) → AreOpenFrom rows Removed done
       → IsCareer rows (told done) (map Report rest) → AreOpenFrom rows Removed (done ++ rest)
@@ -101,12 +110,7 @@ module _ (rows : List Row) (key registered : Key) where
       let all : done ++ (event ∷ rest) ≡ (done ++ event ∷ []) ++ rest = sym (append_assoc done (event ∷ []) rest) in
       let theirs : All (λ (one : Reported). one.key ≡ key) done = All-front (λ (one : Reported). one.key ≡ key) done (event ∷ rest) keys in
       let same : event.key ≡ key = All-middle (λ (one : Reported). one.key ≡ key) done rest event keys in
-      let new : IsNewAfter done event = new_to event.id done (sym (ap (list_any (λ (one : Reported). bytes_eq one.id event.id)) (reports_of done)) ∙ career.0.new) in
-      let leads : Leads rows (held_at Removed done (length done)) event.types event.state =
-      subst (λ state. Leads rows state event.types event.state)
-      (ap (λ events. option_map_or (λ (one : Reported). one.state) (last_or None events) Removed) (reports_of done) ∙ held_is done) career.1 in
-      let next : AreOpenFrom rows Removed (done ++ event ∷ []) =
-      open_push rows Removed done event before (order_more done event before.order new (comes_next done event theirs same career.0)) leads in
+      let next : AreOpenFrom rows Removed (done ++ event ∷ []) = open_next done event theirs same before career.0 career.1 in
       let grown : told done ++ Report event ∷ [] ≡ told (done ++ event ∷ []) = ap (λ more. Register registered ∷ more) (sym (map-append Report done (event ∷ []))) in
       subst (λ events. AreOpenFrom rows Removed events) (sym all)
       (goes_on rest (done ++ event ∷ []) (subst (λ events. All (λ (one : Reported). one.key ≡ key) events) all keys) next

@@ -10,5 +10,6 @@ pub mod Turns
 pub mod Runs
 pub mod SessionLemmas
 pub mod Lawful
+pub mod Accepted
 pub mod OneVerdict
 pub mod OneReport

@@ -1,7 +1,7 @@
 //! What holds of the definitions alone: of verdicts and runs, and of sessions, whoever computes them. Each law is a
 //! function that does nothing; its contract is the law.
 ghost use Rattle.mds_trace.specs.Laws.{ReplaysAreRuns, ReportsAreOne};
-ghost use Rattle.mds_trace.specs.SessionLaws.{LawfulReportsOpen};
+ghost use Rattle.mds_trace.specs.SessionLaws.{LawfulReportsOpen, AcceptedEventsOpen};
 
 /// The verdicts of a replay with [`Opening::Removed`](crate::Opening::Removed) are the outcomes of the machine's run over
 /// any requests that report the same events in the same order, each behind a registration of its vehicle, whatever else
@@ -14,6 +14,12 @@ pub fn replays_are_runs()
 /// states that the vehicle held: before each event, and after the last, the one held after as many reports.
 pub fn lawful_reports_open()
     ensures { LawfulReportsOpen }
+{}
+
+/// In a replay with [`Opening::Removed`](crate::Opening::Removed), a session over the accepted events of any vehicle may be
+/// opened from removed: only want of memory keeps it from being opened.
+pub fn accepted_events_open()
+    ensures { AcceptedEventsOpen }
 {}
 
 /// Two reports of a replay of the same items, over the same table and with the same opening, have the same verdicts, ends
