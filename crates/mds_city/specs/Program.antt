@@ -14,8 +14,9 @@ use Rattle.mds_city.specs.declared.source.Source.{Source}
 use Rattle.mds_city.specs.declared.status.Status.{Status}
 use Rattle.mds_city.specs.declared.status.Status.TheVariants as status
 use Rattle.mds_words.specs.declared.words.Command.{Command}
-use Rattle.mds_words.specs.declared.words.Command.TheVariants.{Replay, Table}
+use Rattle.mds_words.specs.declared.words.Command.TheVariants.{Replay, Debug, Table}
 use Rattle.mds_city.specs.Command.{Replayed, Told, Tabled, TableTold}
+use Rattle.mds_city.specs.Debug.{Debugs}
 use Rattle.mds_city.specs.Problem.{Tells}
 use Rattle.mds_city.specs.Status.{code_of}
 use Rattle.mds_words.specs.Words.{Asks, IsErrorOf, program_app}
@@ -86,6 +87,10 @@ module _ {O F : Type 0} (opens : O → List ℕ → Option F → Type 0) (files 
         (table : Option (Source F)) × IsFileNamed (option_map (λ named. named.now) path) table × CameToTable file_bytes table code out out_new faults faults_new
     Carries (Replay file path any) code out out_new faults faults_new =
         (table : Option (Source F)) × IsFileNamed (option_map (λ named. named.now) path) table × CarriesReplay (opening_if any) file.now table code out out_new faults faults_new
+    Carries (Debug file provider device path) code out out_new faults faults_new =
+        (table : Option (Source F)) × IsFileNamed (option_map (λ named. named.now) path) table × (events : Source F) × IsFileOf file.now events
+        × (input_new : Option (List ℕ))
+        × Debugs file_bytes table file_bytes events (record { provider = provider; device = device }) code (input_bytes input) input_new out out_new faults faults_new
 
     -- what the program did with words: it carried out the command that they ask for, or explained why they give none
     abbrev pub Runs : List Text → ℕ → Option (List ℕ) → Option (List ℕ) → Option (List ℕ) → Option (List ℕ) → Type 0

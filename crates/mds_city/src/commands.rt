@@ -39,7 +39,7 @@ pub fn replay_to<T: Read + Drop, R: Read + Drop, W: Write, E: Write>(
 }
 
 /// The status of a replay that refused so many items.
-fn status_on(refused: usize) -> Status
+pub(crate) fn status_on(refused: usize) -> Status
     ensures { result ≡ status_on refused }
 {
     if refused == 0 {

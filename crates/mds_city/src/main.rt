@@ -2,6 +2,7 @@
 #![tactic(auto)]
 
 mod commands;
+mod debug;
 mod lines;
 mod print;
 mod problem;

@@ -6,6 +6,7 @@ ghost use Rattle.mds_city.specs.Problem.{Tells};
 ghost use Rattle.mds_city.specs.Program.{Carries, Explains, IsFileNamed, IsFileOf, Runs, answer_to, opening_if};
 
 use crate::commands::{replay_to, table_to};
+use crate::debug::{Named, debug_to};
 use crate::problem::{Problem, tell};
 use crate::source::Source;
 use crate::status::Status;
@@ -153,6 +154,25 @@ fn carry_out<O: Opens, I: Read + Drop, W: Write, E: Write>(
         (W.contents out.old) (W.contents out.new) (E.contents faults.old) (E.contents faults.new) }
 {
     match command {
+        Command::Debug {
+            file,
+            provider,
+            device,
+            table,
+        } => {
+            let table = file_if_named(files, table);
+            let named = Named { provider, device };
+            let mut script = input;
+            debug_to(
+                alloc,
+                table,
+                file_of(files, file),
+                named,
+                &mut script,
+                out,
+                faults,
+            )
+        }
         Command::Table { table } => table_to(alloc, file_if_named(files, table), out, faults),
         Command::Replay { file, table, any } => {
             let table = file_if_named(files, table);

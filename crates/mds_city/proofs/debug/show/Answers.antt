@@ -1,0 +1,41 @@
+use Rattle.std.proofs.Common.{◌≡◌, ◌≤◌, ◌∙◌, length, inl, inr, refl, ap, sym, subst}
+use Rattle.std.proofs.KnownBytes.{Appends-trans}
+use Rattle.mds_device.specs.declared.device.WriteFault.{WriteFault}
+use Rattle.mds_device.specs.declared.device.WriteFault.TheVariants as write
+use Rattle.mds_walk.specs.Input.{max_script}
+use Rattle.mds_walk.specs.Printed.{PrintsScript}
+use Rattle.mds_walk.specs.Script.{IsScript}
+use Rattle.mds_city.specs.declared.debug.DebugProblem.TheVariants.{Other}
+use Rattle.mds_city.specs.Debug.{DebugsFront, IsOfShowing}
+use Rattle.mds_city.specs.Problem.{written_problem}
+use Rattle.mds_city.proofs.ErrorLemmas.{passed_on}
+use Rattle.mds_city.proofs.debug.show.Goals as goal
+
+-- a text that could not be written is a problem of showing
+of_writing : (fault : WriteFault) → IsOfShowing (Other (written_problem fault))
+of_writing write.Memory = inr refl
+of_writing write.Device = inl refl
+
+pub returns-in_err-print_walk-clause-err : goal.returns-in_err-print_walk-clause-err
+returns-in_err-print_walk-clause-err g c =
+    let start = c.in_ok-print_start.ensures.ok in
+    let contents = g.W.Write.contents in
+    let front : DebugsFront c.args.opened.session c.args.opened.counts (contents c.args.out.now) (contents c.print_walk.new.writer) =
+    (start.0, start.1, inr (contents c.print_start.new.writer, start.2, inr (c.deref-2.result.now, c.in_err-print_walk.ensures.err))) in
+    passed_on _ _ _ c.from_residual-in_err-print_walk.ensures.1 (of_writing c.in_err-print_walk.field-0.0, front)
+
+pub returns-clause-ok : goal.returns-clause-ok
+returns-clause-ok g c =
+    let start = c.in_ok-print_start.ensures.ok in
+    let walk = c.in_ok-print_walk.ensures.ok in
+    let commands = c.in_ok-commands.commands.items in
+    let to = c.print_walk.new.session.place in
+    let short = subst (λ count. count ≤ max_script) (sym (sym (ap length c.deref.ensures.value) ∙ c.deref.ensures.len)) c.in_ok-bytes.ensures.short in
+    let script = subst (λ bytes. IsScript bytes commands) c.deref.ensures.value c.in_ok-commands.ensures in
+    let printed = subst (λ script. PrintsScript c.args.opened.session script to walk.0) c.deref-2.ensures.value walk.1 in
+    (
+      c.in_ok-bytes.bytes.items,
+      c.in_ok-bytes.ensures.taken,
+      short,
+      (start.0, commands, to, walk.0, start.1, script, printed, Appends-trans _ _ _ _ _ start.2 walk.2),
+    )

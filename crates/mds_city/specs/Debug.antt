@@ -1,0 +1,122 @@
+-- What the debugger's command does.
+use Rattle.std.specs.Prelude.{◌≡◌, ◌≢◌, ◌⊎◌, ◌+◌, ◌≤◌, ℕ, List, ◌++◌, length, codes, Option, Some}
+use Rattle.std.specs.Io.KnownBytes.{Appends, Consumes, Keeps}
+use Rattle.uuid.specs.Text.{parsed}
+use Rattle.mds_table.specs.declared.state.State.TheVariants as state
+use Rattle.mds_table.specs.declared.row.Row.{Row}
+use Rattle.mds_core.specs.declared.key.Key.{Key}
+use Rattle.mds_batch.specs.declared.item.EventItem.{EventItem}
+use Rattle.mds_trace.specs.declared.report.Opening.TheVariants.{Removed}
+use Rattle.mds_trace.specs.declared.report.Verdict.{Verdict}
+use Rattle.mds_trace.specs.declared.session.Place.{Place}
+use Rattle.mds_trace.specs.Replay.{AreVerdicts, accepted_of, prior_of}
+use Rattle.mds_trace.specs.Walk.{Walk}
+use Rattle.mds_walk.specs.declared.line.CountsLine.{CountsLine}
+use Rattle.mds_walk.specs.declared.script.ScriptCommand.{ScriptCommand}
+use Rattle.mds_walk.specs.Input.{max_script}
+use Rattle.mds_walk.specs.Printed.{PrintsStart, PrintsScript, PrintsFront}
+use Rattle.mds_walk.specs.Script.{IsScript}
+use Rattle.mds_walk.specs.Vehicle.{told_of}
+use Rattle.mds_device.specs.Device.{AppendsFront, with_newline}
+use Rattle.mds_city.specs.declared.debug.Named.{Named}
+use Rattle.mds_city.specs.declared.debug.DebugProblem.{DebugProblem}
+use Rattle.mds_city.specs.declared.debug.DebugProblem.TheVariants.{BadIdentifier, NotInFile, Other}
+use Rattle.mds_city.specs.declared.problem.Problem.TheVariants as problem
+use Rattle.mds_city.specs.declared.source.Source.{Source}
+use Rattle.mds_city.specs.declared.status.Status.{Status}
+use Rattle.mds_city.specs.declared.status.Status.TheVariants as status
+use Rattle.mds_city.specs.Command.{ExplainsReplay, status_on}
+use Rattle.mds_city.specs.Problem.{Tells, status_of}
+use Rattle.mds_city.specs.Source.{HasTableIn, HasItemsIn}
+use Rattle.mds_city.specs.Status.{code_of}
+
+-- two words are the identifiers of a vehicle
+abbrev pub IsNamed : Named → Key → Type 0
+IsNamed named key = (parsed named.provider.now ≡ Some key.provider) × (parsed named.device.now ≡ Some key.device)
+
+-- the status that the program ends with
+abbrev pub debug_status_of : DebugProblem → Status
+debug_status_of BadIdentifier = status.BadWords
+debug_status_of NotInFile = status.Refused
+debug_status_of (Other problem) = status_of problem
+
+-- the problem is one that other commands may have
+abbrev pub IsOther : DebugProblem → Type 0
+IsOther BadIdentifier = ⊥
+IsOther NotInFile = ⊥
+IsOther (Other problem) = Unit {0}
+
+-- the problem is one that may come while a session is shown
+abbrev pub IsOfShowing : DebugProblem → Type 0
+IsOfShowing told = (told ≡ Other problem.Output) ⊎ (told ≡ Other problem.Memory)
+
+-- what is said of the problem went out, or a front of it
+abbrev pub TellsDebug : Option (List ℕ) → Option (List ℕ) → DebugProblem → Type 0
+TellsDebug old new BadIdentifier = AppendsFront old new (with_newline (codes "mds_city: bad identifier"))
+TellsDebug old new NotInFile = AppendsFront old new (with_newline (codes "mds_city: vehicle not in file"))
+TellsDebug old new (Other problem) = Tells old new problem
+
+-- the session over the events of a vehicle that a replay of these items accepts, before the first of them, and how many of the
+-- vehicle's events are accepted and refused; there are some
+pub record IsOpened (rows : List Row) (items : List EventItem) (key : Key) (walk : Walk) (counts : CountsLine) : Type 0 where
+  pub lines : List Verdict
+  pub verdicts : AreVerdicts Removed rows items lines
+  pub walk_is : walk ≡ record { rows = rows; opening = state.Removed; events = prior_of key (accepted_of items lines); place = record { event = 0; passed = 0 } }
+  pub events : counts.events ≡ length (prior_of key (accepted_of items lines))
+  pub all : counts.events + counts.refused ≡ told_of key items
+  pub some_told : told_of key items ≢ 0
+
+-- what a session's start and a script print went out
+abbrev pub Debugged : Walk → CountsLine → List ℕ → Option (List ℕ) → Option (List ℕ) → Type 0
+Debugged walk counts bytes old new =
+    (start : List ℕ) × (script : List (Option ScriptCommand)) × (to : Place) × (text : List ℕ)
+    × PrintsStart walk counts start × IsScript bytes script × PrintsScript walk script to text × Appends old new (start ++ text)
+
+-- besides, the script that was read, a front of what the reader had
+abbrev pub Shown : Walk → CountsLine → Option (List ℕ) → Option (List ℕ) → Option (List ℕ) → Option (List ℕ) → Type 0
+Shown walk counts input input_new old new = (bytes : List ℕ) × Consumes input input_new bytes × (length bytes ≤ max_script) × Debugged walk counts bytes old new
+
+-- a front of what a session's start and a script print went out
+abbrev pub DebugsFront : Walk → CountsLine → Option (List ℕ) → Option (List ℕ) → Type 0
+DebugsFront walk counts old new =
+    (start : List ℕ) × PrintsStart walk counts start
+    × (AppendsFront old new start
+    ⊎ ((middle : Option (List ℕ)) × Appends old middle start × (Keeps middle new ⊎ ((script : List (Option ScriptCommand)) × PrintsFront walk script middle new))))
+
+-- of the debugger: the known bytes of a table file's reader, the table file if one is given, the same of the file of events, and
+-- the words that name a vehicle
+module _ {T R : Type 0} (table_bytes : T → Option (List ℕ)) (table : Option (Source T)) (file_bytes : R → Option (List ℕ)) (file : Source R) (named : Named) where
+  -- the words name this vehicle, and these are the rows and the items of the files
+  abbrev pub HasFiles : Key → List Row → List EventItem → Type 0
+  HasFiles key rows items = IsNamed named key × HasTableIn table_bytes table rows × HasItemsIn file_bytes file items
+
+  -- the session on the vehicle that the words name
+  abbrev pub HasSession : Walk → CountsLine → Type 0
+  HasSession walk counts = (key : Key) × (rows : List Row) × (items : List EventItem) × HasFiles key rows items × IsOpened rows items key walk counts
+
+  -- the problem's cause; the words are looked at first, then the table file, the file, and the vehicle
+  abbrev pub ExplainsDebug : DebugProblem → Type 0
+  ExplainsDebug BadIdentifier = (key : Key) → IsNamed named key → ⊥
+  ExplainsDebug NotInFile = (key : Key) × (rows : List Row) × (items : List EventItem) × HasFiles key rows items × (told_of key items ≡ 0)
+  ExplainsDebug (Other problem) = ExplainsReplay Removed table_bytes table file_bytes file problem
+
+  -- a front of what the debugger prints went out
+  abbrev pub DebugPrintsFront : Option (List ℕ) → Option (List ℕ) → Type 0
+  DebugPrintsFront old new = (walk : Walk) × (counts : CountsLine) × HasSession walk counts × DebugsFront walk counts old new
+
+  -- what went out before a problem: a front where the output failed or memory was wanting, else nothing
+  abbrev pub DebugWentOut : DebugProblem → Option (List ℕ) → Option (List ℕ) → Type 0
+  DebugWentOut (Other problem.Output) old new = DebugPrintsFront old new
+  DebugWentOut (Other problem.Memory) old new = Keeps old new ⊎ DebugPrintsFront old new
+  DebugWentOut problem old new = Keeps old new
+
+  -- the session was shown, as the script that was read says, and the status tells whether an event of the vehicle was refused
+  abbrev pub Shows : ℕ → Option (List ℕ) → Option (List ℕ) → Option (List ℕ) → Option (List ℕ) → Type 0
+  Shows code input input_new old new =
+      (walk : Walk) × (counts : CountsLine) × HasSession walk counts × Shown walk counts input input_new old new × (code ≡ code_of (status_on counts.refused))
+
+  -- what the debugger did: it showed a session, or told why it couldn't
+  abbrev pub Debugs : ℕ → Option (List ℕ) → Option (List ℕ) → Option (List ℕ) → Option (List ℕ) → Option (List ℕ) → Option (List ℕ) → Type 0
+  Debugs code input input_new old new faults faults_new =
+      (Shows code input input_new old new × Keeps faults faults_new)
+      ⊎ ((problem : DebugProblem) × (code ≡ code_of (debug_status_of problem)) × ExplainsDebug problem × DebugWentOut problem old new × TellsDebug faults faults_new problem)
