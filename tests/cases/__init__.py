@@ -2,6 +2,7 @@
 
 from cases.batches import batches, items
 from cases.commands import commands, examples, help_asked_for, orders, paths, wrong_words
+from cases.debugging import faults, scripts
 from cases.replays import replays
 from cases.streams import memory, streams
 from cases.tables import table_files
@@ -17,6 +18,8 @@ SUBJECTS = [
     batches,
     items,
     replays,
+    scripts,
+    faults,
     streams,
     memory,
 ]

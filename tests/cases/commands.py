@@ -15,9 +15,12 @@ NOTHING = "accepted 0 refused 0\n"
 
 
 def examples():
-    """The files of examples/ that have beside them what is printed of them; those of events as standard input, too."""
+    """The files of examples/ that have beside them what is printed of them, but for those with a debugger's script; those of
+    events as standard input, too."""
     for printed in sorted(EXAMPLES.glob("*.out")):
         path, out = printed.with_suffix(".json"), printed.read_text()
+        if printed.with_suffix(".script").exists():
+            continue
         if printed.name == "begins-midway.out":
             yield Case(["replay", "--any", str(path)], status=1, out=out)
             continue
@@ -54,9 +57,9 @@ def commands():
 
 def help_asked_for():
     """Help, which goes to standard output."""
-    for words in ("--help", "-h", "help", "help help", "help replay", "help table"):
+    for words in ("--help", "-h", "help", "help help", "help replay", "help debug", "help table"):
         yield Case(words, out=SOME)
-    for words in ("replay --help", "replay -h", "table --help", "table -h", "replay events.json --help"):
+    for words in ("replay --help", "replay -h", "debug --help", "table --help", "table -h", "replay events.json --help"):
         yield Case(words, out=SOME)
     for stdout in (FULL, GONE, CLOSED):
         yield told("--help", OUTPUT, stdout=stdout)
@@ -102,7 +105,12 @@ WRONG = [
     ["replay", "events.json", "--workers", "4"],
     ["serve"],
     ["serve", "--port", "0", "--each", "1"],
-    ["debug", "events.json", P, A],
+    ["debug"],
+    ["debug", "events.json"],
+    ["debug", "events.json", P],
+    ["debug", "events.json", P, A, "more"],
+    ["debug", "events.json", P, A, "--any"],
+    ["debug", "events.json", P, A, "--table"],
 ]
 NO_TEXTS = [
     [b"\xff"],

@@ -1,0 +1,100 @@
+"""The debugger: scripts, and what they print of a session."""
+
+from pathlib import Path
+
+from cases.case import CLOSED, FOLDER, FULL, GONE, OUTPUT, Case, cannot_read, not_a_batch, not_a_table, told
+from cases.replays import A, ANY_RUNS, B, P, batch, event
+from cases.tables import ONE_ROW
+
+EXAMPLE = Path(__file__).resolve().parent.parent.parent / "examples" / "lost-and-back"
+EVENTS = batch(
+    [
+        event(A, "e1", "comms_lost", "non_contactable", 1000),
+        event(A, "e2", "comms_restored trip_end", "available", 2000),
+    ]
+)
+MAX_SCRIPT = 1048576
+START = "0 0 removed possible removed\n"
+WITHIN = "1 1 non_contactable possible removed,available,non_operational,reserved,on_trip,elsewhere\n"
+SECOND = "1 0 non_contactable possible non_contactable\n"
+PASSED = "1 2 non_contactable possible available\n"
+STEPPED = "0 1 removed possible non_contactable\n"
+END = "2 0 available possible available\n"
+UNKNOWN = "unknown command\n"
+NOBODY = "mds_city: vehicle not in file\n"
+BAD = "mds_city: bad identifier\n"
+WORDS = ["debug", "events.json", P, A]
+
+# A script, and what it prints of the two events behind the first place.
+SCRIPTS = [
+    ("", ""),
+    ("quit\nstep\n", ""),
+    ("quit", ""),
+    ("\n", UNKNOWN),
+    ("\n\n", UNKNOWN * 2),
+    ("step", STEPPED),
+    ("step\nback\nback\n", f"{STEPPED}{START}at start\n"),
+    ("back\nchain\n", "at start\nremoved non_contactable\n"),
+    ("next\nstep\nback\n", f"{SECOND}{WITHIN}{SECOND}"),
+    ("next\nstep\nnext\nnext\n", f"{SECOND}{WITHIN}{END}at end\n"),
+    ("next\nnext\nchain\nstep\nback\n", f"{SECOND}{END}at end\nat end\n{PASSED}"),
+    ("run available\nrun non_contactable\n", f"{END}at end\n"),
+    ("step\nrun non_contactable\n", f"{STEPPED}{SECOND}"),
+    ("run removed\n", "at end\n"),
+    ("run\nrun \nrun flying\nrun  available\nrun Available\nruns\n", UNKNOWN * 6),
+    ("step \n step\nSTEP\nstep\tx\nsteps\nste\n", UNKNOWN * 6),
+    ("step\r\nquit\r\nchain\r\n", UNKNOWN * 3),
+    (b"\xff\nst\xc3ep\nback\x00\nquit", UNKNOWN * 3),
+    (f"{'x' * (MAX_SCRIPT - 6)}\nchain", f"{UNKNOWN}removed non_contactable\n"),
+    (f"{'x' * (MAX_SCRIPT - 5)}\nchain", UNKNOWN * 2),
+    ("x\n" * (MAX_SCRIPT // 2) + "quit\n", UNKNOWN * (MAX_SCRIPT // 2)),
+]
+
+
+def debugged(script, lines, events=EVENTS, counts=(2, 0), **more):
+    """The debugger on the first vehicle: how many of its events are accepted and refused, and what the script prints."""
+    out = "events {} refused {}\n".format(*counts) + START + lines
+    files = {"events.json": events, **more.pop("files", {})}
+    return Case(more.pop("words", WORDS), status=1 if counts[1] else 0, out=out, given=script, files=files, **more)
+
+
+def scripts():
+    """Each command, and lines that are none."""
+    script, out = EXAMPLE.with_suffix(".script").read_text(), EXAMPLE.with_suffix(".out").read_text()
+    words = ["debug", str(EXAMPLE.with_suffix(".json")), P, A]
+    yield Case(words, out=out, given=script, name="the debugger script")
+    for script, lines in SCRIPTS:
+        yield debugged(script, lines, name=repr(script[:40]))
+    five = batch(event(*of_event) for of_event, _ in ANY_RUNS[0][1])
+    yield debugged("run on_trip", "2 0 on_trip possible on_trip\n", five, (2, 2), name="the five-event run")
+    others = ["7", event(A, "e1", "comms_lost", "non_contactable", 1000), event(B, "e1", "wake", "available", 1)]
+    yield debugged("next", SECOND, batch(others), (1, 0), name="other items")
+    refused = batch([event(A, "e1", "wake", "available", 1000)])
+    yield debugged("step\nchain\nback", "at end\nat end\nat start\n", refused, (0, 1), name="nothing accepted")
+    words = [*WORDS, "--table", "rows"]
+    yield debugged("chain", "removed available\n", refused, (1, 0), words=words, files={"rows": ONE_ROW})
+    yield debugged("step", STEPPED, words=["debug", "-", P, A], files={"-": EVENTS})
+    for provider, device in ((P.upper(), A.replace("-", "")), (f"urn:uuid:{P}", "{%s}" % A)):
+        yield debugged("quit", "", words=["debug", "events.json", provider, device])
+    yield debugged("", "", stdin=CLOSED)
+
+
+def faults():
+    """Each fault, in the order in which they are looked for."""
+    files = {"events.json": EVENTS, "bad": "{", "rows": ONE_ROW, "folder": FOLDER}
+    for provider, device in (("P", A), (P, "a"), ("", ""), (P, A[:-1]), (f" {P}", A)):
+        for file, table in (("events.json", "rows"), ("none", "none"), ("bad", "bad")):
+            words = ["debug", file, provider, device, "--table", table]
+            yield Case(words, status=2, faults=BAD, files=files)
+    for file in ("none", "bad", "folder"):
+        yield told(["debug", file, P, A, "--table", "none"], cannot_read("none"), files=files)
+        yield told(["debug", file, P, B, "--table", "bad"], not_a_table("not_json"), files=files)
+    yield told(["debug", "none", P, B], cannot_read("none"), files=files)
+    yield told(["debug", "folder", P, B], cannot_read("folder"), files=files)
+    yield told(["debug", "bad", P, B], not_a_batch("not_json"), files=files)
+    yield told(["debug", "-", P, A], cannot_read("-"), given=EVENTS, files=files)
+    for words in (["debug", "events.json", P, B], ["debug", "events.json", A, A]):
+        yield Case(words, status=1, faults=NOBODY, given="step\n", files=files)
+    yield Case(["debug", "empty", P, A], status=1, faults=NOBODY, files={"empty": "[7]"})
+    for stdout in (FULL, GONE, CLOSED):
+        yield told(WORDS, OUTPUT, given="step\n", files=files, stdout=stdout)
