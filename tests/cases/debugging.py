@@ -52,7 +52,7 @@ SCRIPTS = [
 
 
 def debugged(script, lines, events=EVENTS, counts=(2, 0), **more):
-    """The debugger on the first vehicle: how many of its events are accepted and refused, and what the script prints."""
+    """The debugger on the first vehicle: how many of its events are accepted and refused, what the script prints."""
     out = "events {} refused {}\n".format(*counts) + START + lines
     files = {"events.json": events, **more.pop("files", {})}
     return Case(more.pop("words", WORDS), status=1 if counts[1] else 0, out=out, given=script, files=files, **more)
