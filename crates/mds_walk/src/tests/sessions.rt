@@ -1,6 +1,6 @@
 //! Sessions: what scripts print.
 use crate::{CountsLine, print_start, print_walk, script_of, vehicle_events};
-use mds_batch::{EventItem, ItemFault, Member};
+use mds_batch::{EventItem, ItemFault};
 use mds_core::{Event, Key, Refusal};
 use mds_device::WriteFault;
 use mds_table::State::{Available, NonContactable, OnTrip, Removed};
