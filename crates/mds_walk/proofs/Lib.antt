@@ -1,0 +1,5 @@
+-- Lemmas of this crate.
+pub mod ScriptLemmas
+pub mod MoveLemmas
+pub mod WalkLemmas
+pub mod VehicleLemmas

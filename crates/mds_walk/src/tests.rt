@@ -1,0 +1,3 @@
+//! What no clause says: the worked cases, and how reading a script ends.
+mod scripts;
+mod sessions;
