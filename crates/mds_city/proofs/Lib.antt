@@ -1,3 +1,2 @@
 -- Lemmas of this crate.
-pub mod PageLemmas
 pub mod ErrorLemmas

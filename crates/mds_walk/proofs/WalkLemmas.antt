@@ -1,21 +1,16 @@
 -- Scripts that are carried out command by command.
-use Rattle.std.proofs.Common.{◌≡◌, ◌≢◌, ◌+◌, ◌<◌, ◌≤◌, ℕ, List, [], ◌∷◌, ◌++◌, length, get_or, drop, true, false, Option, Some, None, refl, sym, ap, subst, ◌∙◌, append_assoc, append-nil, add-one, cond}
-use Rattle.std.proofs.Math.Seq.{drop-cons}
+use Rattle.std.proofs.Common.{◌≡◌, ◌≢◌, ◌+◌, ◌<◌, ◌≤◌, ℕ, List, [], ◌∷◌, ◌++◌, length, get_or, drop, true, false, Option, Some, None, refl, sym, ap, subst, ◌∙◌, append_assoc, append-nil, cond}
 use Rattle.std.specs.Io.KnownBytes.{Appends, Keeps}
-use Rattle.std.proofs.KnownBytes.{Appends-trans}
 use Rattle.std.proofs.lemmas.Bool.{true≢false}
 use Rattle.std.proofs.lemmas.List.{drop_all}
 use Rattle.std.proofs.lemmas.List.Sums.{take_while-cons}
 use Rattle.mds_trace.specs.declared.session.Place.{Place}
 use Rattle.mds_trace.specs.Walk.{Walk}
 use Rattle.mds_device.specs.Device.{AppendsFront, Passes, with_newline}
+use Rattle.mds_device.proofs.PageLemmas.{next_item_or, passes_all, passes_front, passes_out, passes_then}
 use Rattle.mds_walk.specs.declared.script.ScriptCommand.{ScriptCommand}
 use Rattle.mds_walk.specs.declared.script.ScriptCommand.TheVariants.{Quit}
 use Rattle.mds_walk.specs.Printed.{before_quit, goes_on, moved_to, Prints, PrintsAll, PrintsFront, PrintsScript}
-
--- what is left of a list begins with the item at the place reached
-pub next_item : {X : Type 0} (xs : List X) (i : ℕ) (d : X) → i < length xs → drop i xs ≡ get_or xs i d ∷ drop (i + 1) xs
-next_item xs i d within = rw add-one (drop-cons xs i d within)
 
 -- a command that goes on isn't quit
 pub not_quit : (command : Option ScriptCommand) → goes_on command ≡ true → command ≢ Some Quit
@@ -29,37 +24,8 @@ none_left script i past = ap before_quit (drop_all i script past)
 pub quit_left : (script : List (Option ScriptCommand)) (i : ℕ) → i < length script → goes_on (get_or script i None) ≡ false → before_quit (drop i script) ≡ []
 quit_left script i within off =
     let rest = drop (i + 1) script in
-    ap before_quit (next_item script i None within) ∙ take_while-cons goes_on (get_or script i None) rest
+    ap before_quit (next_item_or script i None within) ∙ take_while-cons goes_on (get_or script i None) rest
     ∙ ap (λ b. cond b (get_or script i None ∷ before_quit rest) []) off
-
--- a text went out but for what was left, and of that and more all but the new rest
-pub passes_then : (a b c : Option (List ℕ)) (text left more rest : List ℕ) → Passes a b text left → Passes b c (left ++ more) rest → Passes a c (text ++ more) rest
-passes_then a b c text left more rest first second =
-    let joined : text ++ more ≡ (first.0 ++ second.0) ++ rest =
-    ap (λ t. t ++ more) first.1 ∙ append_assoc first.0 left more ∙ ap (λ t. first.0 ++ t) second.1 ∙ sym (append_assoc first.0 second.0 rest) in
-    (first.0 ++ second.0, joined, Appends-trans a b c first.0 second.0 first.2 second.2)
-
--- a text went out but for what was left, and of that and more a front
-pub passes_front : (a b c : Option (List ℕ)) (text left more : List ℕ) → Passes a b text left → AppendsFront b c (left ++ more) → AppendsFront a c (text ++ more)
-passes_front a b c text left more first second =
-    let whole = passes_then a b c text left more second.1 first (second.0, second.2, second.3) in
-    (whole.0, second.1, whole.1, whole.2)
-
--- a front of a text is a front of a longer one
-pub front_of_more : (a b : Option (List ℕ)) (text more : List ℕ) → AppendsFront a b text → AppendsFront a b (text ++ more)
-front_of_more a b text more front =
-    (front.0, front.1 ++ more, ap (λ t. t ++ more) front.2 ∙ append_assoc front.0 front.1 more, front.3)
-
--- a text went out but for what was left, and then that too
-pub passes_all : (a b c : Option (List ℕ)) (text left : List ℕ) → Passes a b text left → Appends b c left → Appends a c text
-passes_all a b c text left first second = subst (λ t. Appends a c t) (sym first.1) (Appends-trans a b c first.0 left first.2 second)
-
--- a text went out but for what was left, and a front of that
-pub passes_out : (a b c : Option (List ℕ)) (text left : List ℕ) → Passes a b text left → AppendsFront b c left → AppendsFront a c text
-passes_out a b c text left first second =
-    let joined : text ≡ (first.0 ++ second.0) ++ second.1 =
-    first.1 ∙ ap (λ t. first.0 ++ t) second.2 ∙ sym (append_assoc first.0 second.0 second.1) in
-    (first.0 ++ second.0, second.1, joined, Appends-trans a b c first.0 second.0 first.2 second.3)
 
 -- one more command behind others
 prints_push : (walk : Walk) (done : List (Option ScriptCommand)) (command : Option ScriptCommand) (at to : Place) (text line : List ℕ)

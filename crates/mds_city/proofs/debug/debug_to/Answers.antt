@@ -1,4 +1,4 @@
-use Rattle.std.proofs.Common.{◌≡◌, ◌∙◌, ℕ, List, Option, inl, inr, ap}
+use Rattle.std.proofs.Common.{◌∙◌, ℕ, List, Option, inl, inr, ap}
 use Rattle.std.proofs.KnownBytes.{Keeps-refl}
 use Rattle.mds_city.specs.declared.debug.Named.{Named}
 use Rattle.mds_city.specs.declared.debug.DebugProblem.{DebugProblem}

@@ -1,4 +1,4 @@
-use Rattle.std.proofs.Common.{◌≡◌, ◌≤◌, ◌∙◌, length, inl, inr, refl, ap, sym, subst}
+use Rattle.std.proofs.Common.{◌≤◌, ◌∙◌, length, inl, inr, refl, ap, sym, subst}
 use Rattle.std.proofs.KnownBytes.{Appends-trans}
 use Rattle.mds_device.specs.declared.device.WriteFault.{WriteFault}
 use Rattle.mds_device.specs.declared.device.WriteFault.TheVariants as write
@@ -32,8 +32,7 @@ returns-clause-ok g c =
     let to = c.print_walk.new.session.place in
     let short = subst (λ count. count ≤ max_script) (sym (sym (ap length c.deref.ensures.value) ∙ c.deref.ensures.len)) c.in_ok-bytes.ensures.short in
     let script = subst (λ bytes. IsScript bytes commands) c.deref.ensures.value c.in_ok-commands.ensures in
-    let printed = subst (λ script. PrintsScript c.args.opened.session script to walk.0) c.deref-2.ensures.value walk.1 in
-    (
+    let printed = subst (λ script. PrintsScript c.args.opened.session script to walk.0) c.deref-2.ensures.value walk.1 in (
       c.in_ok-bytes.bytes.items,
       c.in_ok-bytes.ensures.taken,
       short,

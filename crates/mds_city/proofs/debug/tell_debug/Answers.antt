@@ -1,4 +1,4 @@
-use Rattle.std.proofs.Common.{codes, inl, rules}
+use Rattle.std.proofs.Common.{codes, rules}
 use Rattle.mds_device.specs.Device.{AppendsFront, with_newline}
 use Rattle.mds_device.proofs.DeviceLemmas.{front_either}
 use Rattle.mds_city.proofs.debug.tell_debug.Goals as goal

@@ -2,7 +2,7 @@ use Rattle.std.proofs.Common.{rules, ◌++◌, string_bytes}
 use Rattle.std.proofs.lemmas.Result.{on_err_weaker}
 use Rattle.mds_device.specs.Device.{AppendsFront, Passes, with_newline}
 use Rattle.mds_city.specs.Text.{item_lines, vehicle_lines, total_line}
-use Rattle.mds_city.proofs.PageLemmas.{passes_then, passes_front, passes_out, front_of_more}
+use Rattle.mds_device.proofs.PageLemmas.{passes_then, passes_front, passes_out, front_of_more}
 use Rattle.mds_city.proofs.print.print_report.Goals as goal
 
 pub returns-in_err-add_items-clause-err : goal.returns-in_err-add_items-clause-err

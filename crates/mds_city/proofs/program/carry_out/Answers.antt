@@ -41,6 +41,6 @@ returns-in-Debug g c =
     let faults = g.E.Write.contents in
     subst
     (λ (command : Command). Carries g.O.Opens.opens c.args.files.now bytes input c.args.input command c.debug_to.result
-        (out c.args.out.now) (out c.debug_to.new.out) (faults c.args.faults.now) (faults c.debug_to.new.faults))
+    (out c.args.out.now) (out c.debug_to.new.out) (faults c.args.faults.now) (faults c.debug_to.new.faults))
     (sym c.in-Debug.is)
     (c.file_if_named-table.result, search rules, c.file_of.result, c.file_of.ensures, input c.debug_to.new.script, c.debug_to.ensures)

@@ -2,7 +2,7 @@ use Rattle.std.proofs.Common.{ℕ, List, ◌++◌, refl, rules, string_bytes}
 use Rattle.std.proofs.lemmas.Result.{on_err_weaker, on_ok_weaker}
 use Rattle.mds_device.specs.Device.{AppendsFront, Passes, with_newline}
 use Rattle.mds_walk.specs.Printed.{counts_line, line_text, PrintsStart}
-use Rattle.mds_walk.proofs.WalkLemmas.{front_of_more, passes_all, passes_front, passes_out, passes_then}
+use Rattle.mds_device.proofs.PageLemmas.{front_of_more, passes_all, passes_front, passes_out, passes_then}
 use Rattle.mds_walk.proofs.walk.print_start.Goals as goal
 
 pub returns-in_err-add_line-clause-err : goal.returns-in_err-add_line-clause-err

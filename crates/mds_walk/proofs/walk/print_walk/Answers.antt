@@ -3,7 +3,8 @@ use Rattle.std.proofs.Common.{rules, inl, inr, subst, string_bytes}
 use Rattle.std.proofs.lemmas.Result.{on_err_weaker, on_ok_weaker}
 use Rattle.mds_walk.specs.Printed.{before_quit, goes_on, Prints, PrintsFront}
 use Rattle.mds_walk.proofs.MoveLemmas.{kept_is, kept_on}
-use Rattle.mds_walk.proofs.WalkLemmas.{IsUnderway, next_item, none_left, not_quit, quit_left, front_of_kept, one_more, stops_at, stops, ends}
+use Rattle.mds_device.proofs.PageLemmas.{next_item_or}
+use Rattle.mds_walk.proofs.WalkLemmas.{IsUnderway, none_left, not_quit, quit_left, front_of_kept, one_more, stops_at, stops, ends}
 use Rattle.mds_walk.proofs.walk.print_walk.Goals as goal
 use Rattle.mds_walk.proofs.walk.print_walk.Goals.{else-loop-command-test, then-loop-command-test+then-not-goes_on}
 
@@ -17,7 +18,7 @@ loop-command-preserved g c =
     let rest = drop (here.command-index + 1) script in
     let on : goes_on item ≡ true = search rules in
     let under = subst (λ left. IsUnderway walk script left here.session.place (contents c.args.writer.now) (contents here.writer) (string_bytes here.page))
-    (next_item script here.command-index None c.loop-command-test.true) here.invariant.underway in
+    (next_item_or script here.command-index None c.loop-command-test.true) here.invariant.underway in
     let said = c.in_ok-add_answer.ensures.ok (not_quit item on) in
     let prints = subst (λ from. Prints from item c.add_answer.new.session.place said.0) (kept_is walk here.session here.invariant.kept) said.1 in
     record {
@@ -36,7 +37,7 @@ returns-in_err-add_answer-clause-err g c =
     let rest = drop (here.command-index + 1) script in
     let on : goes_on item ≡ true = search rules in
     let under = subst (λ left. IsUnderway walk script left here.session.place (contents c.args.writer.now) (contents here.writer) (string_bytes here.page))
-    (next_item script here.command-index None c.loop-command-test.true) here.invariant.underway in
+    (next_item_or script here.command-index None c.loop-command-test.true) here.invariant.underway in
     let same = kept_is walk here.session here.invariant.kept in
     let front : PrintsFront walk script (contents c.args.writer.now) (contents c.add_answer.new.writer) =
     elim (c.in_err-add_answer.ensures.err (not_quit item on)) [

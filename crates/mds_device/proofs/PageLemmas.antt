@@ -1,6 +1,7 @@
 -- How texts go out page by page.
-use Rattle.std.proofs.Common.{◌≡◌, ℕ, ◌+◌, ◌<◌, List, ◌∷◌, ◌++◌, length, get_or, drop, Option, sym, ap, ◌∙◌, append_assoc, add-one}
+use Rattle.std.proofs.Common.{◌≡◌, ℕ, ◌+◌, ◌<◌, List, ◌∷◌, ◌++◌, length, get_or, drop, Option, subst, sym, ap, ◌∙◌, append_assoc, add-one}
 use Rattle.std.proofs.Math.Seq.{drop-cons}
+use Rattle.std.specs.Io.KnownBytes.{Appends}
 use Rattle.std.proofs.KnownBytes.{Appends-trans}
 use Rattle.mds_device.specs.Device.{AppendsFront, Passes}
 
@@ -49,3 +50,7 @@ passes_out a b c text left first second =
     let joined : text ≡ (first.0 ++ second.0) ++ second.1 =
     first.1 ∙ ap (λ t. first.0 ++ t) second.2 ∙ sym (append_assoc first.0 second.0 second.1) in
     (first.0 ++ second.0, second.1, joined, Appends-trans a b c first.0 second.0 first.2 second.3)
+
+-- a text went out but for what was left, and then that too
+pub passes_all : (a b c : Option (List ℕ)) (text left : List ℕ) → Passes a b text left → Appends b c left → Appends a c text
+passes_all a b c text left first second = subst (λ t. Appends a c t) (sym first.1) (Appends-trans a b c first.0 left first.2 second)
