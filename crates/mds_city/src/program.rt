@@ -161,17 +161,10 @@ fn carry_out<O: Opens, I: Read + Drop, W: Write, E: Write>(
             table,
         } => {
             let table = file_if_named(files, table);
+            let file = file_of(files, file);
             let named = Named { provider, device };
             let mut script = input;
-            debug_to(
-                alloc,
-                table,
-                file_of(files, file),
-                named,
-                &mut script,
-                out,
-                faults,
-            )
+            debug_to(alloc, table, file, named, &mut script, out, faults)
         }
         Command::Table { table } => table_to(alloc, file_if_named(files, table), out, faults),
         Command::Replay { file, table, any } => {

@@ -63,46 +63,49 @@ const NOTHING: &str = "accepted 0 refused 0\n";
 
 const CANNOT_READ: &str = "mds_city: cannot read none\n";
 
+const NO_TABLE: &str = "mds_city: not a table: not_rows\n";
+
+/// What comes of the files that words name.
+const FILES: [Case<'static>; 9] = [
+    (&["mds_city", "replay", "events"], 1, FIVE_LINES, ""),
+    (
+        &["mds_city", "replay", "events", "--table", "rows"],
+        1,
+        FIVE_BY_ONE_ROW,
+        "",
+    ),
+    (
+        &["mds_city", "replay", "-", "--table", "rows"],
+        0,
+        NOTHING,
+        "",
+    ),
+    (
+        &["mds_city", "replay", "--table", "-", "events"],
+        1,
+        FIVE_BY_ONE_ROW,
+        "",
+    ),
+    (&["mds_city", "replay", "none"], 3, "", CANNOT_READ),
+    (
+        &["mds_city", "replay", "-", "--table", "none"],
+        3,
+        "",
+        CANNOT_READ,
+    ),
+    (&["mds_city", "table", "--table", "-"], 0, ONE_ROW_LINES, ""),
+    (&["mds_city", "table", "--table", "events"], 3, "", NO_TABLE),
+    (
+        &["mds_city", "table", "--table", "none"],
+        3,
+        "",
+        CANNOT_READ,
+    ),
+];
+
 #[test]
 fn files_are_those_that_are_named(rt: HostRuntime) {
-    let no_table = "mds_city: not a table: not_rows\n";
-    let cases: [Case<'_>; 9] = [
-        (&["mds_city", "replay", "events"], 1, FIVE_LINES, ""),
-        (
-            &["mds_city", "replay", "events", "--table", "rows"],
-            1,
-            FIVE_BY_ONE_ROW,
-            "",
-        ),
-        (
-            &["mds_city", "replay", "-", "--table", "rows"],
-            0,
-            NOTHING,
-            "",
-        ),
-        (
-            &["mds_city", "replay", "--table", "-", "events"],
-            1,
-            FIVE_BY_ONE_ROW,
-            "",
-        ),
-        (&["mds_city", "replay", "none"], 3, "", CANNOT_READ),
-        (
-            &["mds_city", "replay", "-", "--table", "none"],
-            3,
-            "",
-            CANNOT_READ,
-        ),
-        (&["mds_city", "table", "--table", "-"], 0, ONE_ROW_LINES, ""),
-        (&["mds_city", "table", "--table", "events"], 3, "", no_table),
-        (
-            &["mds_city", "table", "--table", "none"],
-            3,
-            "",
-            CANNOT_READ,
-        ),
-    ];
-    for case in &cases {
+    for case in &FILES {
         assert!(rt; comes_to(rt.alloc(), case), "{case:?}");
     }
 }

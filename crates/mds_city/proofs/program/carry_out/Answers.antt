@@ -24,14 +24,14 @@ returns-else-is_standard_input g c =
     let out = g.W.Write.contents in
     let faults = g.E.Write.contents in
     let came = subst
-    (λ begins. CameToReplay begins bytes c.file_if_named-table-in-Replay.result bytes c.file_of-in-Replay.result c.replay_to-in-Replay.result
+    (λ begins. CameToReplay begins bytes c.file_if_named-table-in-Replay.result bytes c.file_of.result c.replay_to-in-Replay.result
     (out c.args.out.now) (out c.replay_to-in-Replay.new.out) (faults c.args.faults.now) (faults c.replay_to-in-Replay.new.faults))
     c.opening_if-opening.ensures (c.replay_to-in-Replay.ensures.ran, c.replay_to-in-Replay.ensures.told) in
     subst
     (λ (command : Command). Carries g.O.Opens.opens c.args.files.now bytes g.I.Read.remaining c.args.input command c.replay_to-in-Replay.result
     (out c.args.out.now) (out c.replay_to-in-Replay.new.out) (faults c.args.faults.now) (faults c.replay_to-in-Replay.new.faults))
     (sym c.in-Replay.is)
-    (c.file_if_named-table-in-Replay.result, search rules, inr (search rules, c.file_of-in-Replay.result, c.file_of-in-Replay.ensures, came))
+    (c.file_if_named-table-in-Replay.result, search rules, inr (search rules, c.file_of.result, c.file_of.ensures, came))
 
 pub returns-in-Debug : goal.returns-in-Debug
 returns-in-Debug g c =
@@ -43,4 +43,4 @@ returns-in-Debug g c =
     (λ (command : Command). Carries g.O.Opens.opens c.args.files.now bytes input c.args.input command c.debug_to.result
     (out c.args.out.now) (out c.debug_to.new.out) (faults c.args.faults.now) (faults c.debug_to.new.faults))
     (sym c.in-Debug.is)
-    (c.file_if_named-table.result, search rules, c.file_of.result, c.file_of.ensures, input c.debug_to.new.script, c.debug_to.ensures)
+    (c.file_if_named-table.result, search rules, c.file_of-file.result, c.file_of-file.ensures, input c.debug_to.new.script, c.debug_to.ensures)
