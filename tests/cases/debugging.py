@@ -2,7 +2,8 @@
 
 from pathlib import Path
 
-from cases.case import CLOSED, FOLDER, FULL, GONE, OUTPUT, Case, cannot_read, not_a_batch, not_a_table, told
+from cases.case import CLOSED, FOLDER, FULL, GONE, MAX_BYTES, MAX_ITEMS, OUTPUT, Case
+from cases.case import cannot_read, not_a_batch, not_a_table, told
 from cases.replays import A, ANY_RUNS, B, P, batch, event
 from cases.tables import ONE_ROW
 
@@ -92,9 +93,16 @@ def faults():
     yield told(["debug", "none", P, B], cannot_read("none"), files=files)
     yield told(["debug", "folder", P, B], cannot_read("folder"), files=files)
     yield told(["debug", "bad", P, B], not_a_batch("not_json"), files=files)
+    for fault, text in (("not_list", "7"), ("too_many", batch(["0"] * (MAX_ITEMS + 1))), ("too_long", " " * (MAX_BYTES + 1))):
+        yield told(["debug", "events.json", P, A], not_a_batch(fault), files={"events.json": text})
+    for fault, text in (("not_rows", "[]"), ("empty", '{"rows": []}'), ("bad_row 0", '{"rows": [7]}')):
+        yield told([*WORDS, "--table", "rows"], not_a_table(fault), files={**files, "rows": text})
     yield told(["debug", "-", P, A], cannot_read("-"), given=EVENTS, files=files)
     for words in (["debug", "events.json", P, B], ["debug", "events.json", A, A]):
         yield Case(words, status=1, faults=NOBODY, given="step\n", files=files)
     yield Case(["debug", "empty", P, A], status=1, faults=NOBODY, files={"empty": "[7]"})
+    for stderr in (FULL, GONE, CLOSED):
+        yield Case(["debug", "events.json", P, B], status=1, files=files, stderr=stderr)
+        yield Case(["debug", "events.json", "P", B], status=2, files=files, stderr=stderr)
     for stdout in (FULL, GONE, CLOSED):
         yield told(WORDS, OUTPUT, given="step\n", files=files, stdout=stdout)

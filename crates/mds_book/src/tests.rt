@@ -2,6 +2,7 @@
 mod callers;
 mod cases;
 mod growths;
+mod seats;
 
 use mds_core::{Event, Key, Request, Standing};
 use mds_table::{State, TypeName};

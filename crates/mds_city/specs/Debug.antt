@@ -1,5 +1,5 @@
 -- What the debugger's command does.
-use Rattle.std.specs.Prelude.{◌≡◌, ◌≢◌, ◌⊎◌, ◌+◌, ◌≤◌, ℕ, List, ◌++◌, length, codes, Option, Some}
+use Rattle.std.specs.Prelude.{◌≡◌, ◌≢◌, ◌⊎◌, ◌+◌, ◌≤◌, ℕ, List, [], ◌++◌, length, codes, Option, Some}
 use Rattle.std.specs.Io.KnownBytes.{Appends, Consumes, Keeps}
 use Rattle.uuid.specs.Text.{parsed}
 use Rattle.mds_table.specs.declared.state.State.TheVariants as state
@@ -76,12 +76,18 @@ Debugged walk counts bytes old new =
 abbrev pub Shown : Walk → CountsLine → Option (List ℕ) → Option (List ℕ) → Option (List ℕ) → Option (List ℕ) → Type 0
 Shown walk counts input input_new old new = (bytes : List ℕ) × Consumes input input_new bytes × (length bytes ≤ max_script) × Debugged walk counts bytes old new
 
+-- the start of a session went out, and then a front of what the script that was read prints
+abbrev pub DebugsPart : Walk → CountsLine → Option (List ℕ) → Option (List ℕ) → Option (List ℕ) → Option (List ℕ) → Type 0
+DebugsPart walk counts input input_new old new =
+    (start : List ℕ) × PrintsStart walk counts start × (middle : Option (List ℕ)) × Appends old middle start
+    × (Keeps middle new
+    ⊎ ((bytes : List ℕ) × Consumes input input_new bytes × (length bytes ≤ max_script) × (script : List (Option ScriptCommand)) × IsScript bytes script
+    × PrintsFront walk script middle new))
+
 -- a front of what a session's start and a script print went out
-abbrev pub DebugsFront : Walk → CountsLine → Option (List ℕ) → Option (List ℕ) → Type 0
-DebugsFront walk counts old new =
-    (start : List ℕ) × PrintsStart walk counts start
-    × (AppendsFront old new start
-    ⊎ ((middle : Option (List ℕ)) × Appends old middle start × (Keeps middle new ⊎ ((script : List (Option ScriptCommand)) × PrintsFront walk script middle new))))
+abbrev pub DebugsFront : Walk → CountsLine → Option (List ℕ) → Option (List ℕ) → Option (List ℕ) → Option (List ℕ) → Type 0
+DebugsFront walk counts input input_new old new =
+    ((start : List ℕ) × PrintsStart walk counts start × AppendsFront old new start) ⊎ DebugsPart walk counts input input_new old new
 
 -- of the debugger: the known bytes of a table file's reader, the table file if one is given, the same of the file of events, and
 -- the words that name a vehicle
@@ -98,17 +104,19 @@ module _ {T R : Type 0} (table_bytes : T → Option (List ℕ)) (table : Option 
   abbrev pub ExplainsDebug : DebugProblem → Type 0
   ExplainsDebug BadIdentifier = (key : Key) → IsNamed named key → ⊥
   ExplainsDebug NotInFile = (key : Key) × (rows : List Row) × (items : List EventItem) × HasFiles key rows items × (told_of key items ≡ 0)
-  ExplainsDebug (Other problem) = ExplainsReplay Removed table_bytes table file_bytes file problem
+  ExplainsDebug (Other problem) = ((key : Key) × IsNamed named key) × ExplainsReplay Removed table_bytes table file_bytes file problem
 
   -- a front of what the debugger prints went out
-  abbrev pub DebugPrintsFront : Option (List ℕ) → Option (List ℕ) → Type 0
-  DebugPrintsFront old new = (walk : Walk) × (counts : CountsLine) × HasSession walk counts × DebugsFront walk counts old new
+  abbrev pub DebugPrintsFront : Option (List ℕ) → Option (List ℕ) → Option (List ℕ) → Option (List ℕ) → Type 0
+  DebugPrintsFront input input_new old new =
+      (walk : Walk) × (counts : CountsLine) × HasSession walk counts × DebugsFront walk counts input input_new old new
 
-  -- what went out before a problem: a front where the output failed or memory was wanting, else nothing
-  abbrev pub DebugWentOut : DebugProblem → Option (List ℕ) → Option (List ℕ) → Type 0
-  DebugWentOut (Other problem.Output) old new = DebugPrintsFront old new
-  DebugWentOut (Other problem.Memory) old new = Keeps old new ⊎ DebugPrintsFront old new
-  DebugWentOut problem old new = Keeps old new
+  -- what went out before a problem: a front where the output failed or memory was wanting; else nothing, and nothing of the
+  -- script was read
+  abbrev pub DebugWentOut : DebugProblem → Option (List ℕ) → Option (List ℕ) → Option (List ℕ) → Option (List ℕ) → Type 0
+  DebugWentOut (Other problem.Output) input input_new old new = DebugPrintsFront input input_new old new
+  DebugWentOut (Other problem.Memory) input input_new old new = Keeps old new ⊎ DebugPrintsFront input input_new old new
+  DebugWentOut problem input input_new old new = Consumes input input_new [] × Keeps old new
 
   -- the session was shown, as the script that was read says, and the status tells whether an event of the vehicle was refused
   abbrev pub Shows : ℕ → Option (List ℕ) → Option (List ℕ) → Option (List ℕ) → Option (List ℕ) → Type 0
@@ -119,4 +127,4 @@ module _ {T R : Type 0} (table_bytes : T → Option (List ℕ)) (table : Option 
   abbrev pub Debugs : ℕ → Option (List ℕ) → Option (List ℕ) → Option (List ℕ) → Option (List ℕ) → Option (List ℕ) → Option (List ℕ) → Type 0
   Debugs code input input_new old new faults faults_new =
       (Shows code input input_new old new × Keeps faults faults_new)
-      ⊎ ((problem : DebugProblem) × (code ≡ code_of (debug_status_of problem)) × ExplainsDebug problem × DebugWentOut problem old new × TellsDebug faults faults_new problem)
+      ⊎ ((problem : DebugProblem) × (code ≡ code_of (debug_status_of problem)) × ExplainsDebug problem × DebugWentOut problem input input_new old new × TellsDebug faults faults_new problem)

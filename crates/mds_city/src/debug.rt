@@ -147,7 +147,8 @@ fn debug_into<'a, T: Read + Drop, R: Read + Drop, I: Read, W: Write>(
     ensures ok { IfOk result (λ refused. (walk : Walk) × (counts : Counts) × HasSession T.remaining table.entry R.remaining file.entry named.entry walk counts
         × Shown walk counts (I.remaining script.old) (I.remaining script.new) (W.contents out.old) (W.contents out.new) × (refused ≡ counts.refused)) }
     ensures err { IfErr result (λ problem. ExplainsDebug T.remaining table.entry R.remaining file.entry named.entry problem
-        × DebugWentOut T.remaining table.entry R.remaining file.entry named.entry problem (W.contents out.old) (W.contents out.new)) }
+        × DebugWentOut T.remaining table.entry R.remaining file.entry named.entry problem (I.remaining script.old) (I.remaining script.new)
+        (W.contents out.old) (W.contents out.new)) }
 {
     let opened = session_on(alloc, table, file, named)?;
     let refused = opened.counts.refused;
@@ -227,7 +228,8 @@ fn show<'a, I: Read, W: Write>(
     out: &mut W,
 ) -> Result<(), DebugProblem<'a>>
     ensures ok { OnOk result (Shown opened.session opened.counts (I.remaining script.old) (I.remaining script.new) (W.contents out.old) (W.contents out.new)) }
-    ensures err { IfErr result (λ problem. IsOfShowing problem × DebugsFront opened.session opened.counts (W.contents out.old) (W.contents out.new)) }
+    ensures err { IfErr result (λ problem. IsOfShowing problem × DebugsFront opened.session opened.counts
+        (I.remaining script.old) (I.remaining script.new) (W.contents out.old) (W.contents out.new)) }
 {
     let mut session = opened.session;
     print_start(alloc, out, &session, opened.counts)?;
@@ -238,4 +240,4 @@ fn show<'a, I: Read, W: Write>(
 }
 
 #[cfg(test)]
-mod tests;
+pub(crate) mod tests;

@@ -1,4 +1,5 @@
-//! Keeps the states of a city's shared vehicles: replays files of events, and prints tables of transitions.
+//! Keeps the states of a city's shared vehicles: replays files of events, steps through a vehicle's events, and prints
+//! tables of transitions.
 #![tactic(auto)]
 
 mod commands;

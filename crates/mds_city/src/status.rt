@@ -6,9 +6,9 @@ ghost use Rattle.std.specs.Prelude.{◌≡◌};
 pub enum Status {
     /// All went well, or help was asked for.
     Done,
-    /// An item of a replay was not accepted.
+    /// An item of a replay was not accepted, or an event of the debugger's vehicle, or no event is of that vehicle.
     Refused,
-    /// The words of the command line don't parse.
+    /// The words of the command line don't parse, or don't name a vehicle by identifiers.
     BadWords,
     /// A file can't be read, is no table or is no batch, or an output failed.
     Fault,

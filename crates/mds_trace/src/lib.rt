@@ -1,8 +1,8 @@
 //! What becomes of a provider's file: the replayer, and the debugger's sessions.
 //!
 //! The replayer says what becomes of each item, one after the other, and where the vehicles end. A verdict on an item rests
-//! on the accepted items of its vehicle that stand before it, and on nothing else. The same verdicts are the outcomes of the
-//! machine, whatever it is asked between.
+//! on the accepted items of its vehicle that stand before it, and on nothing else. Where each vehicle is taken as registered
+//! first, the verdicts are the outcomes of the machine, whatever it is asked between.
 //!
 //! A session walks through a vehicle's events, type by type, with the states possible at each place.
 #![tactic(auto)]

@@ -21,8 +21,8 @@ use std::alloc::{AllocError, Global};
 /// Replays the items of a provider's file over a table, one after the other.
 ///
 /// The verdict on an event is the machine's outcome after a registration of its vehicle and the accepted events of the
-/// vehicle before it. With [`Opening::Any`] the first event of a vehicle is accepted where it leads from some state to
-/// the one that it reports. A faulty item is passed over, and mentions no vehicle.
+/// vehicle before it. With [`Opening::Any`] an event of a vehicle with no accepted one is accepted where it leads from some
+/// state to the one that it reports. A faulty item is passed over, and mentions no vehicle.
 ///
 /// # Errors
 ///

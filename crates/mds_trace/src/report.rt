@@ -13,7 +13,7 @@ use std::fmt;
 pub enum Opening {
     /// It is registered, and holds `removed`.
     Removed,
-    /// Nobody knows: its first event may begin in any state that leads to the one reported.
+    /// Nobody knows: its first accepted event may begin in any state that leads to the one reported.
     Any,
 }
 

@@ -1,6 +1,8 @@
 //! Each command, carried out again where a growth is refused (by `tests/refused-growths`).
 use super::tests::{FIVE_EVENTS, FIVE_LINES, ONE_ROW, file};
 use super::{replay_to, table_to};
+use crate::debug::tests::{FIRST, PROVIDER, SCRIPT, SCRIPT_LINES, TWO_EVENTS};
+use crate::debug::{Named, debug_to};
 use crate::source::Source;
 use mds_trace::Opening;
 use std::alloc::Global;
@@ -85,6 +87,44 @@ fn table_succeeds_after_a_refused_growth(rt: HostRuntime) -> Result<(), Fail> {
     let first = tabled(rt.alloc());
     let came = if is_refused(first) {
         tabled(rt.alloc())
+    } else {
+        first
+    };
+    assert_eq!(rt; came, (0, true, false));
+    Ok(())
+}
+
+fn debugged(alloc: Global) -> Came {
+    let mut out = Expects {
+        rest: SCRIPT_LINES.as_bytes(),
+    };
+    let mut faults = Expects {
+        rest: b"mds_city: out of memory\n",
+    };
+    let named = Named {
+        provider: PROVIDER,
+        device: FIRST,
+    };
+    let mut script = SCRIPT.as_bytes();
+    let table: Option<Source<'_, &[u8]>> = None;
+    let file = file("F", TWO_EVENTS);
+    let status = debug_to(
+        alloc,
+        table,
+        file,
+        named,
+        &mut script,
+        &mut out,
+        &mut faults,
+    );
+    (status, out.rest.is_empty(), faults.rest.is_empty())
+}
+
+#[test]
+fn debug_succeeds_after_a_refused_growth(rt: HostRuntime) -> Result<(), Fail> {
+    let first = debugged(rt.alloc());
+    let came = if is_refused(first) {
+        debugged(rt.alloc())
     } else {
         first
     };

@@ -5,21 +5,21 @@ use crate::source::Source;
 use std::alloc::Global;
 
 /// The provider, the first vehicle, and one that no event names.
-const PROVIDER: &str = "00000000-0000-4000-8000-000000000001";
+pub const PROVIDER: &str = "00000000-0000-4000-8000-000000000001";
 
-const FIRST: &str = "00000000-0000-4000-8000-00000000000a";
+pub const FIRST: &str = "00000000-0000-4000-8000-00000000000a";
 
 const NOBODY: &str = "00000000-0000-4000-8000-00000000000c";
 
 /// The events of the worked script.
-const TWO_EVENTS: &str = r#"[
+pub const TWO_EVENTS: &str = r#"[
 {"provider_id":"00000000-0000-4000-8000-000000000001","device_id":"00000000-0000-4000-8000-00000000000a","event_id":"00000000-0000-4000-8000-0000000000e1","vehicle_state":"non_contactable","event_types":["comms_lost"],"timestamp":1000},
 {"provider_id":"00000000-0000-4000-8000-000000000001","device_id":"00000000-0000-4000-8000-00000000000a","event_id":"00000000-0000-4000-8000-0000000000e2","vehicle_state":"available","event_types":["comms_restored","trip_end"],"timestamp":2000}
 ]"#;
 
-const SCRIPT: &str = "next\nstep\nchain\nstep\nstep\nstep\nback\nrun removed\n";
+pub const SCRIPT: &str = "next\nstep\nchain\nstep\nstep\nstep\nback\nrun removed\n";
 
-const SCRIPT_LINES: &str = "events 2 refused 0
+pub const SCRIPT_LINES: &str = "events 2 refused 0
 0 0 removed possible removed
 1 0 non_contactable possible non_contactable
 1 1 non_contactable possible removed,available,non_operational,reserved,on_trip,elsewhere

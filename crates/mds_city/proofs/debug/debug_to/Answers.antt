@@ -6,21 +6,29 @@ use Rattle.mds_city.specs.declared.debug.DebugProblem.TheVariants.{BadIdentifier
 use Rattle.mds_city.specs.declared.problem.Problem.TheVariants.{CannotRead, NotATable, NotABatch, Output, Memory}
 use Rattle.mds_city.specs.declared.source.Source.{Source}
 use Rattle.mds_city.specs.Command.{status_on}
-use Rattle.mds_city.specs.Debug.{DebugWentOut, IsOther}
+use Rattle.mds_city.specs.Debug.{DebugWentOut, ExplainsDebug, IsOther}
 use Rattle.mds_city.specs.Status.{code_of}
 use Rattle.mds_city.proofs.debug.debug_to.Goals as goal
 
--- whatever the problem, nothing went out before it, or a front of what is printed
-out_before : {T R : Type 0} (table_bytes : T → Option (List ℕ)) (table : Option (Source T)) (file_bytes : R → Option (List ℕ)) (file : Source R) (named : Named)
-    (problem : DebugProblem) (old new : Option (List ℕ)) → IsOther problem → DebugWentOut table_bytes table file_bytes file named problem old new
-    → DebugWentOut table_bytes table file_bytes file named (Other Memory) old new
-out_before table_bytes table file_bytes file named BadIdentifier old new other out = absurd other
-out_before table_bytes table file_bytes file named NotInFile old new other out = absurd other
-out_before table_bytes table file_bytes file named (Other (CannotRead path)) old new other out = inl out
-out_before table_bytes table file_bytes file named (Other (NotATable fault)) old new other out = inl out
-out_before table_bytes table file_bytes file named (Other (NotABatch fault)) old new other out = inl out
-out_before table_bytes table file_bytes file named (Other Output) old new other out = inr out
-out_before table_bytes table file_bytes file named (Other Memory) old new other out = out
+module _ {T R : Type 0} (table_bytes : T → Option (List ℕ)) (table : Option (Source T)) (file_bytes : R → Option (List ℕ)) (file : Source R) (named : Named) where
+  -- whatever the problem, nothing went out before it, or a front of what is printed
+  out_before : (problem : DebugProblem) (input input_new old new : Option (List ℕ)) → IsOther problem
+      → DebugWentOut table_bytes table file_bytes file named problem input input_new old new
+      → DebugWentOut table_bytes table file_bytes file named (Other Memory) input input_new old new
+  out_before BadIdentifier input input_new old new other out = absurd other
+  out_before NotInFile input input_new old new other out = absurd other
+  out_before (Other (CannotRead path)) input input_new old new other out = inl out.1
+  out_before (Other (NotATable fault)) input input_new old new other out = inl out.1
+  out_before (Other (NotABatch fault)) input input_new old new other out = inl out.1
+  out_before (Other Output) input input_new old new other out = inr out
+  out_before (Other Memory) input input_new old new other out = out
+
+  -- where memory is wanting to tell a problem, that explains the want of memory as well
+  explained_before : (problem : DebugProblem) → IsOther problem → ExplainsDebug table_bytes table file_bytes file named problem
+      → ExplainsDebug table_bytes table file_bytes file named (Other Memory)
+  explained_before BadIdentifier other why = absurd other
+  explained_before NotInFile other why = absurd other
+  explained_before (Other problem) other why = (why.0, tt)
 
 pub returns-in-Ok : goal.returns-in-Ok
 returns-in-Ok g c =
@@ -36,9 +44,9 @@ returns-in-Err g c =
       | inr told ↦ inr (
         Other Memory,
         c.code-in-Err.ensures ∙ ap code_of told.1,
-        tt,
+        explained_before g.T.Read.remaining c.args.table g.R.Read.remaining c.args.file c.args.named c.in-Err.problem told.0 failed.0,
         out_before g.T.Read.remaining c.args.table g.R.Read.remaining c.args.file c.args.named c.in-Err.problem
-            (g.W.Write.contents c.args.out.now) (g.W.Write.contents c.debug_into.new.out) told.0 failed.1,
+            (g.I.Read.remaining c.args.script.now) (g.I.Read.remaining c.debug_into.new.script) (g.W.Write.contents c.args.out.now) (g.W.Write.contents c.debug_into.new.out) told.0 failed.1,
         told.2,
       )
     ]

@@ -1,12 +1,12 @@
 use Rattle.std.proofs.Common.{◌≤◌, ◌∙◌, length, inl, inr, refl, ap, sym, subst}
-use Rattle.std.proofs.KnownBytes.{Appends-trans}
+use Rattle.std.proofs.KnownBytes.{Appends-trans, Keeps-refl}
 use Rattle.mds_device.specs.declared.device.WriteFault.{WriteFault}
 use Rattle.mds_device.specs.declared.device.WriteFault.TheVariants as write
 use Rattle.mds_walk.specs.Input.{max_script}
-use Rattle.mds_walk.specs.Printed.{PrintsScript}
+use Rattle.mds_walk.specs.Printed.{PrintsFront, PrintsScript}
 use Rattle.mds_walk.specs.Script.{IsScript}
 use Rattle.mds_city.specs.declared.debug.DebugProblem.TheVariants.{Other}
-use Rattle.mds_city.specs.Debug.{DebugsFront, IsOfShowing}
+use Rattle.mds_city.specs.Debug.{DebugsPart, IsOfShowing}
 use Rattle.mds_city.specs.Problem.{written_problem}
 use Rattle.mds_city.proofs.ErrorLemmas.{passed_on}
 use Rattle.mds_city.proofs.debug.show.Goals as goal
@@ -16,13 +16,34 @@ of_writing : (fault : WriteFault) → IsOfShowing (Other (written_problem fault)
 of_writing write.Memory = inr refl
 of_writing write.Device = inl refl
 
+pub returns-in_err-bytes-clause-err : goal.returns-in_err-bytes-clause-err
+returns-in_err-bytes-clause-err g c =
+    let started = g.W.Write.contents c.print_start.new.writer in
+    let start = c.in_ok-print_start.ensures.ok in
+    let part : DebugsPart c.args.opened.session c.args.opened.counts (g.I.Read.remaining c.args.script.now) (g.I.Read.remaining c.read_script.new.reader) (g.W.Write.contents c.args.out.now) started =
+    (start.0, start.1, started, start.2, inl (Keeps-refl started)) in
+    passed_on _ _ _ c.from_residual-in_err-bytes.ensures.1 (inr refl, inr part)
+
+pub returns-in_err-commands-clause-err : goal.returns-in_err-commands-clause-err
+returns-in_err-commands-clause-err g c =
+    let started = g.W.Write.contents c.print_start.new.writer in
+    let start = c.in_ok-print_start.ensures.ok in
+    let part : DebugsPart c.args.opened.session c.args.opened.counts (g.I.Read.remaining c.args.script.now) (g.I.Read.remaining c.read_script.new.reader) (g.W.Write.contents c.args.out.now) started =
+    (start.0, start.1, started, start.2, inl (Keeps-refl started)) in
+    passed_on _ _ _ c.from_residual-in_err-commands.ensures.1 (inr refl, inr part)
+
 pub returns-in_err-print_walk-clause-err : goal.returns-in_err-print_walk-clause-err
 returns-in_err-print_walk-clause-err g c =
-    let start = c.in_ok-print_start.ensures.ok in
     let contents = g.W.Write.contents in
-    let front : DebugsFront c.args.opened.session c.args.opened.counts (contents c.args.out.now) (contents c.print_walk.new.writer) =
-    (start.0, start.1, inr (contents c.print_start.new.writer, start.2, inr (c.deref-2.result.now, c.in_err-print_walk.ensures.err))) in
-    passed_on _ _ _ c.from_residual-in_err-print_walk.ensures.1 (of_writing c.in_err-print_walk.field-0.0, front)
+    let remaining = g.I.Read.remaining in
+    let start = c.in_ok-print_start.ensures.ok in
+    let commands = c.in_ok-commands.commands.items in
+    let short = subst (λ count. count ≤ max_script) (sym (sym (ap length c.deref.ensures.value) ∙ c.deref.ensures.len)) c.in_ok-bytes.ensures.short in
+    let script = subst (λ bytes. IsScript bytes commands) c.deref.ensures.value c.in_ok-commands.ensures in
+    let front = subst (λ script. PrintsFront c.args.opened.session script (contents c.print_start.new.writer) (contents c.print_walk.new.writer)) c.deref-2.ensures.value c.in_err-print_walk.ensures.err in
+    let part : DebugsPart c.args.opened.session c.args.opened.counts (remaining c.args.script.now) (remaining c.read_script.new.reader) (contents c.args.out.now) (contents c.print_walk.new.writer) =
+    (start.0, start.1, contents c.print_start.new.writer, start.2, inr (c.in_ok-bytes.bytes.items, c.in_ok-bytes.ensures.taken, short, commands, script, front)) in
+    passed_on _ _ _ c.from_residual-in_err-print_walk.ensures.1 (of_writing c.in_err-print_walk.field-0.0, inr part)
 
 pub returns-clause-ok : goal.returns-clause-ok
 returns-clause-ok g c =
