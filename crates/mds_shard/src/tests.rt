@@ -5,7 +5,7 @@ mod growths;
 mod many;
 
 use crate::Shard;
-use mds_core::{Event, Key, Outcome, Request};
+use mds_core::{Event, Key, Reply, Request};
 use mds_table::{State, Table, TypeName};
 use std::alloc::Global;
 use std::test::Fail;
@@ -66,13 +66,12 @@ pub fn request_of(alloc: Global, asked: Asked<'_>) -> Result<Request, Fail> {
     })
 }
 
-/// A shard over the profile that was asked all this, and what became of each request.
-pub fn asked_all(alloc: Global, asked: &[Asked<'_>]) -> Result<(Shard, Vec<Outcome>), Fail> {
+/// A shard over the profile that was asked all this, and the reply to each request.
+pub fn asked_all(alloc: Global, asked: &[Asked<'_>]) -> Result<(Shard, Vec<Reply>), Fail> {
     let mut shard = Shard::open(alloc, Table::profile(alloc)?);
-    let mut outcomes = Vec::new(alloc);
+    let mut replies = Vec::new(alloc);
     for one in asked {
-        let reply = shard.step(&request_of(alloc, *one)?)?;
-        outcomes.push(reply.outcome)?;
+        replies.push(shard.step(&request_of(alloc, *one)?)?)?;
     }
-    Ok((shard, outcomes))
+    Ok((shard, replies))
 }

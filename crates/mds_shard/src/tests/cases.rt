@@ -2,8 +2,9 @@
 use super::{A, Asked, C, DROP_OFF, E0, E1, E2, asked_all, key, request_of};
 use mds_core::Outcome::{self, Done, Refused, Seen};
 use mds_core::Refusal::{Late, NoChain, Repeated};
-use mds_core::Standing;
+use mds_core::{Reply, Request, Standing};
 use mds_table::State::{Available, NonContactable, NonOperational, OnTrip};
+use std::alloc::{AllocError, Global};
 use std::test::Fail;
 
 /// Where A stands after one event that brings it out, and after a second that tells of a low battery.
@@ -121,11 +122,25 @@ const CASES: [(&[Asked<'static>], &[Outcome]); 8] = [
     ),
 ];
 
+/// The replies with these outcomes: each has as its place the number of requests that were done before.
+fn in_turn(alloc: Global, outcomes: &[Outcome]) -> Result<Vec<Reply>, AllocError> {
+    let mut place = 0usize;
+    let mut replies = Vec::new(alloc);
+    for outcome in outcomes {
+        let outcome = *outcome;
+        replies.push(Reply { place, outcome })?;
+        if outcome == Done {
+            place = place.saturating_add(1);
+        }
+    }
+    Ok(replies)
+}
+
 #[test]
 fn cases_of_vehicles(rt: HostRuntime) -> Result<(), Fail> {
-    for (asked, expected) in CASES {
+    for (asked, outcomes) in CASES {
         let (_, found) = asked_all(rt.alloc(), asked)?;
-        assert_eq!(rt; found.as_slice(), expected);
+        assert_eq!(rt; found, in_turn(rt.alloc(), outcomes)?);
     }
     Ok(())
 }
@@ -150,11 +165,14 @@ fn what_a_shard_tells_of_a_first_event(rt: HostRuntime) -> Result<(), Fail> {
 #[test]
 fn events_of_a_vehicle_and_of_nobody(rt: HostRuntime) -> Result<(), Fail> {
     let alloc = rt.alloc();
-    let (asked, _) = CASES[7];
+    let (asked, _) = CASES[0];
     let (shard, _) = asked_all(alloc, asked)?;
-    let events = shard.events(alloc, &key(A)?)?.ok_or("registered")?;
-    let states: Vec<_> = events.iter().map(|event| event.state()).collect(alloc)?;
-    assert_eq!(rt; states.as_slice(), [Available, NonOperational].as_slice());
-    assert!(rt; shard.events(alloc, &key(C)?)?.is_none());
+    let mut events = shard.events(alloc, &key(A)?)?.ok_or("registered")?;
+    let only = events.pop().map(Request::Report);
+    assert_eq!(rt; only, Some(request_of(alloc, asked[1])?));
+    assert_eq!(rt;
+        (events.len(), shard.events(alloc, &key(C)?)?.is_none()),
+        (0, true)
+    );
     Ok(())
 }
