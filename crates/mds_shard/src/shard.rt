@@ -54,7 +54,7 @@ impl Shard {
     }
 
     /// Answers one request, and keeps it in the history where it was accepted. It costs the logarithm of what the shard
-    /// holds.
+    /// holds, but for an accepted one for which the history has no room left: its growth moves it.
     ///
     /// # Errors
     ///
