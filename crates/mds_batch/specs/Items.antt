@@ -80,8 +80,14 @@ unfoldable pub IsEventItem : Data → EventItem → Type 0
 IsEventItem value (event.Event reported) = IsEventOf value reported
 IsEventItem value (event.Fault fault) = fault_of event_members value ≡ Some fault
 
--- the words for a fault
+-- the word for a fault
+abbrev pub item_fault_word : ItemFault → List ℕ
+item_fault_word NotObject = codes "not_object"
+item_fault_word (Missing member) = codes "missing_param"
+item_fault_word (Bad member) = codes "bad_param"
+
+-- the words for a fault: its own, and the name of the member that is at fault
 abbrev pub item_fault_text : ItemFault → List ℕ
-item_fault_text NotObject = codes "not_object"
-item_fault_text (Missing member) = codes "missing_param " ++ member_name member
-item_fault_text (Bad member) = codes "bad_param " ++ member_name member
+item_fault_text NotObject = item_fault_word NotObject
+item_fault_text (Missing member) = item_fault_word (Missing member) ++ codes " " ++ member_name member
+item_fault_text (Bad member) = item_fault_word (Bad member) ++ codes " " ++ member_name member

@@ -1,6 +1,6 @@
 //! The items of a batch.
-ghost use Rattle.std.specs.Prelude.{Some};
-ghost use Rattle.mds_batch.specs.Items.{item_fault_text};
+ghost use Rattle.std.specs.Prelude.{◌≡◌, Some};
+ghost use Rattle.mds_batch.specs.Items.{item_fault_text, item_fault_word};
 
 use crate::Member;
 use mds_core::{Event, Key};
@@ -18,14 +18,28 @@ pub enum ItemFault {
     Bad(Member),
 }
 
+impl ItemFault {
+    /// The word for the fault.
+    pub fn word(self) -> &'static str
+        ensures { result.now ≡ item_fault_word self }
+    {
+        match self {
+            ItemFault::NotObject => "not_object",
+            ItemFault::Missing(_) => "missing_param",
+            ItemFault::Bad(_) => "bad_param",
+        }
+    }
+}
+
+/// As the word, and the name of the member that is at fault, with a space between.
 impl fmt::Display for ItemFault {
     ghost output = { λ fault. Some (item_fault_text fault) };
 
     fn fmt<W: fmt::Write>(&self, f: &mut fmt::Formatter<W>) -> fmt::Result {
+        let word = self.word();
         match self {
-            ItemFault::NotObject => write!(f, "not_object"),
-            ItemFault::Missing(member) => write!(f, "missing_param {member}"),
-            ItemFault::Bad(member) => write!(f, "bad_param {member}"),
+            ItemFault::NotObject => f.write_str(word),
+            ItemFault::Missing(member) | ItemFault::Bad(member) => write!(f, "{word} {member}"),
         }
     }
 }

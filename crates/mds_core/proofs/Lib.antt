@@ -3,3 +3,4 @@ pub mod Stuck
 pub mod Outcomes
 pub mod Histories
 pub mod RunLaws
+pub mod OfTheirKind

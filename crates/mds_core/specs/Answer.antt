@@ -43,6 +43,20 @@ pub record Answers (rows : List Row) (history : List Request) (request : Request
   pub place : reply.place ≡ length history
   pub outcome : Gives rows (own history (key_of request)) request reply.outcome
 
+-- the rules have such an outcome for such a request, after one history or another
+abbrev pub IsOutcomeFor : Request → Outcome → Type 0
+IsOutcomeFor (Register key) Done = Unit {0}
+IsOutcomeFor (Register key) (Refused AlreadyRegistered) = Unit {0}
+IsOutcomeFor (Look key) (Seen standing) = Unit {0}
+IsOutcomeFor (Look key) (Refused Unregistered) = Unit {0}
+IsOutcomeFor (Report event) Done = Unit {0}
+IsOutcomeFor (Report event) (Refused Unregistered) = Unit {0}
+IsOutcomeFor (Report event) (Refused Repeated) = Unit {0}
+IsOutcomeFor (Report event) (Refused (Late last)) = Unit {0}
+IsOutcomeFor (Report event) (Refused (NoChain state at)) = Unit {0}
+-- no other outcome comes
+IsOutcomeFor request outcome = ⊥
+
 -- the history after an outcome
 abbrev pub next : List Request → Request → Outcome → List Request
 next history request Done = history ++ request ∷ []

@@ -10,7 +10,7 @@ use Rattle.mds_core.specs.declared.reply.Outcome.TheVariants.{Done}
 use Rattle.mds_core.specs.declared.reply.Reply.{Reply}
 use Rattle.mds_core.specs.Reported.{Reported}
 use Rattle.mds_core.specs.History.{key_of, own, same_key, held}
-use Rattle.mds_core.specs.Answer.{Answers, next}
+use Rattle.mds_core.specs.Answer.{Answers, IsOutcomeFor, next}
 use Rattle.mds_core.specs.Run.{IsRun}
 use Rattle.mds_core.specs.Lawful.{IsLawful}
 use Rattle.mds_core.specs.Headline.{AcceptsExactly}
@@ -24,6 +24,10 @@ DependsOnOwn =
 -- a request has one answer
 abbrev pub AnswersAreOne : Type 0
 AnswersAreOne = (rows : List Row) (history : List Request) (request : Request) (a b : Reply) → Answers rows history request a → Answers rows history request b → a ≡ b
+
+-- an answer has an outcome that there is for such a request
+abbrev pub AnswersAreOfTheirKind : Type 0
+AnswersAreOfTheirKind = (rows : List Row) (history : List Request) (request : Request) (reply : Reply) → Answers rows history request reply → IsOutcomeFor request reply.outcome
 
 -- a list of requests has one run
 abbrev pub RunsAreOne : Type 0

@@ -56,6 +56,18 @@ impl Fleet {
         Ok(reply)
     }
 
+    /// The table of the machine.
+    pub fn table(&self) -> &Table
+        ensures { result.now ≡ self.now.rows }
+    {
+        &self.table
+    }
+
+    /// The allocator from which the machine has the memory for its history.
+    pub fn allocator(&self) -> Global {
+        *self.history.allocator()
+    }
+
     /// The accepted requests, in the order in which they were accepted.
     pub fn history(&self) -> &[Request]
         ensures { result.now ≡ self.now.history }

@@ -1,6 +1,6 @@
 //! What holds of the definitions alone: of the answers, the histories and the runs, whoever computes them. Each law is
 //! a function that does nothing; its contract is the law.
-ghost use Rattle.mds_core.specs.Laws.{DependsOnOwn, AnswersAreOne, RunsAreOne, KeepsOthers, RunsAreLawful, JoinsApart, RunsAcceptExactly, HoldsReported, SchedulesAgree};
+ghost use Rattle.mds_core.specs.Laws.{DependsOnOwn, AnswersAreOne, AnswersAreOfTheirKind, RunsAreOne, KeepsOthers, RunsAreLawful, JoinsApart, RunsAcceptExactly, HoldsReported, SchedulesAgree};
 
 /// Histories that agree on a vehicle give its requests the same outcomes.
 pub fn outcomes_depend_on_own_lists()
@@ -10,6 +10,12 @@ pub fn outcomes_depend_on_own_lists()
 /// Two replies that both answer a request after a history are equal.
 pub fn answers_are_one()
     ensures { AnswersAreOne }
+{}
+
+/// The outcome of an answer is one that there is for such a request: a registration is done or refused as one of a
+/// registered vehicle, a look is seen or refused, and an event is done or refused otherwise than as a registration.
+pub fn answers_are_of_their_kind()
+    ensures { AnswersAreOfTheirKind }
 {}
 
 /// Two runs of a list of requests have the same replies and leave the same history.

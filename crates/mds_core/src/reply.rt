@@ -5,7 +5,7 @@ ghost use Rattle.std.specs.Option.{option_or};
 ghost use Rattle.mds_core.specs.declared.key.Key.{Key};
 ghost use Rattle.mds_core.specs.declared.request.Request.TheVariants.{Register, Report};
 ghost use Rattle.mds_core.specs.History.{reports, standing_of};
-ghost use Rattle.mds_core.specs.Refusal.{refusal_text};
+ghost use Rattle.mds_core.specs.Refusal.{refusal_text, refusal_word};
 
 use crate::{Event, Position};
 use mds_table::State;
@@ -94,16 +94,33 @@ pub enum Refusal {
     },
 }
 
+impl Refusal {
+    /// The word for the refusal.
+    pub fn word(self) -> &'static str
+        ensures { result.now ≡ refusal_word self }
+    {
+        match self {
+            Refusal::AlreadyRegistered => "already_registered",
+            Refusal::Unregistered => "unregistered",
+            Refusal::Repeated => "repeated",
+            Refusal::Late { .. } => "late",
+            Refusal::NoChain { .. } => "no_chain",
+        }
+    }
+}
+
+/// As the word, and what the refusal tells, with a space between.
 impl fmt::Display for Refusal {
     ghost output = { λ refusal. Some (refusal_text refusal) };
 
     fn fmt<W: fmt::Write>(&self, f: &mut fmt::Formatter<W>) -> fmt::Result {
+        let word = self.word();
         match self {
-            Refusal::AlreadyRegistered => f.write_str("already_registered"),
-            Refusal::Unregistered => f.write_str("unregistered"),
-            Refusal::Repeated => f.write_str("repeated"),
-            Refusal::Late { last } => write!(f, "late {last}"),
-            Refusal::NoChain { held, at } => write!(f, "no_chain {held} {at}"),
+            Refusal::AlreadyRegistered | Refusal::Unregistered | Refusal::Repeated => {
+                f.write_str(word)
+            }
+            Refusal::Late { last } => write!(f, "{word} {last}"),
+            Refusal::NoChain { held, at } => write!(f, "{word} {held} {at}"),
         }
     }
 }

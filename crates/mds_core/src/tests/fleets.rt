@@ -289,3 +289,10 @@ fn standing_with_a_position(rt: HostRuntime) -> Result<(), Fail> {
     assert_eq!(rt; both_seen(rt.alloc())?, [(Some(standing), 3), (None, 0)]);
     Ok(())
 }
+
+#[test]
+fn fleet_has_the_table_handed_in(rt: HostRuntime) -> Result<(), Fail> {
+    let fleet = Fleet::open(rt.alloc(), Table::profile(rt.alloc())?);
+    assert_eq!(rt; fleet.table().row_count(), 74);
+    Ok(())
+}
