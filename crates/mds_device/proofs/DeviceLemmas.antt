@@ -1,5 +1,5 @@
 -- Lemmas on fronts of texts that were read or written.
-use Rattle.std.proofs.Common.{◌≡◌, ℕ, ◌+◌, ◌-◌, ◌<◌, ◌≤◌, List, [], ◌++◌, length, take, drop, None, Some, IfSome, inl, inr, sym, ap, ◌∙◌, subst, arith, append-nil, length-append, length-drop, take-append-drop}
+use Rattle.std.proofs.Common.{◌≡◌, ℕ, ◌+◌, ◌-◌, ◌<◌, ◌≤◌, List, [], ◌++◌, length, take, drop, None, Some, IfSome, inl, inr, sym, ap, ◌∙◌, subst, arith, append-nil, append_assoc, length-append, length-drop, take-append-drop}
 use Rattle.std.proofs.Math.Seq.{take-add, take-append_seam, take-length}
 use Rattle.std.proofs.lemmas.Bool.{cases_lt}
 use Rattle.std.proofs.lemmas.List.{take_min}
@@ -7,8 +7,9 @@ use Rattle.std.specs.Io.KnownBytes.{Appends, Consumes, IsAtEnd}
 use Rattle.std.proofs.KnownBytes.{Appends-trans, Consumes-trans}
 use Rattle.std.specs.Prelude.{Option, Result, Ok, Err, OnOk, IfErr}
 use Rattle.mds_device.specs.declared.device.ReadFault.{ReadFault}
-use Rattle.mds_device.specs.declared.device.ReadFault.TheVariants.{Memory, Device}
-use Rattle.mds_device.specs.Device.{AppendsFront, ConsumesUpTo, HasFront, LosesAt, front_of}
+use Rattle.mds_device.specs.declared.device.ReadFault.TheVariants.{Memory, Device, TooManyTurns}
+use Rattle.mds_device.specs.declared.device.WriteStop.{WriteStop}
+use Rattle.mds_device.specs.Device.{AppendsFront, Gains, HasFront, StopsAt, front_of}
 
 -- what went out first, and then the front of the slice that was left, is a longer front
 pub appends_next : (a b c : Option (List ℕ)) (text : List ℕ) (n m : ℕ) → Appends a b (take n text) → Appends b c (take m (take (length text - n) (drop n text))) → Appends a c (take (n + m) text)
@@ -22,25 +23,38 @@ pub front_of_sent : (a b : Option (List ℕ)) (text : List ℕ) (n : ℕ) → Ap
 front_of_sent a b text n p = (take n text, drop n text, sym (take-append-drop n text), p)
 
 -- all the bytes went out, or the first of them
-pub front_either : (result : Result (Unit {0}) ℕ) (a b : Option (List ℕ)) (text : List ℕ) → OnOk result (Appends a b text)
-    → IfErr result (λ sent. (sent < length text) × Appends a b (take sent text)) → AppendsFront a b text
+pub front_either : (result : Result (Unit {0}) WriteStop) (a b : Option (List ℕ)) (text : List ℕ) → OnOk result (Appends a b text)
+    → IfErr result (λ stop. (stop.sent < length text) × Appends a b (take stop.sent text)) → AppendsFront a b text
 front_either (Ok done) a b text all some = (text, [], sym (append-nil text), all)
-front_either (Err sent) a b text all some = front_of_sent a b text sent some.1
+front_either (Err stop) a b text all some = front_of_sent a b text stop.sent some.1
+
+-- a call that gave nothing
+pub gains_nothing : (most : ℕ) (a b : Option (List ℕ)) (held : List ℕ) → Consumes a b [] → Gains most a b held held
+gains_nothing most a b held lost = ([], omega arith, sym (append-nil held), lost)
+
+-- a call that gave some bytes, for which there was no memory
+pub loses_given : (most : ℕ) (a b : Option (List ℕ)) (held grown given : List ℕ) → 0 < length given → length given ≤ most → grown ≡ held → Consumes a b given
+    → StopsAt Memory most a b held grown
+loses_given most a b held grown given some fits same lost = ([], given, some, omega (arith, fits), same ∙ sym (append-nil held), lost)
 
 -- one read after others
-pub reads_next : (a b c : Option (List ℕ)) (held more grown : List ℕ) → Consumes a b held → grown ≡ held ++ more → Consumes b c more → Consumes a c grown
-reads_next a b c held more grown p e q = rw e (Consumes-trans a b c held more p q)
+pub gains_then : (limit : ℕ) (a b c : Option (List ℕ)) (held grown all : List ℕ) → Gains (limit - length held) a b held grown
+    → Gains (limit - length grown) b c grown all → Gains (limit - length held) a c held all
+gains_then limit a b c held grown all p q =
+    let counted : length grown ≡ length held + length p.0 = ap length p.2 ∙ length-append held p.0 in
+    let joined : length (p.0 ++ q.0) ≤ limit - length held = rw length-append (omega (arith, p.1, q.1)) in
+    (p.0 ++ q.0, joined, q.2 ∙ ap (λ l. l ++ q.0) p.2 ∙ append_assoc held p.0 q.0, Consumes-trans a b c p.0 q.0 p.3 q.3)
 
--- a front of what was left after other bytes, within what the limit leaves, is a front within the limit
-pub consumes_next : (a b c : Option (List ℕ)) (limit count : ℕ) (held : List ℕ) → length held ≡ count → count ≤ limit → Consumes a b held → ConsumesUpTo (limit - count) b c → ConsumesUpTo limit a c
-consumes_next a b c limit count held counted fits p q =
-    let joined : length (held ++ q.0) ≤ limit = rw length-append (omega (arith, q.1)) in
-    (held ++ q.0, joined, Consumes-trans a b c held q.0 p q.2)
-
--- reading that stopped lost a front within the limit
-pub loses_front : (fault : ReadFault) (limit : ℕ) (a b : Option (List ℕ)) → LosesAt fault limit a b → ConsumesUpTo limit a b
-loses_front Device limit a b lost = ([], omega arith, lost)
-loses_front Memory limit a b lost = (lost.0, lost.2, lost.3)
+-- reading that stopped after others
+pub stops_then : (fault : ReadFault) (limit : ℕ) (a b c : Option (List ℕ)) (held grown all : List ℕ) → Gains (limit - length held) a b held grown
+    → StopsAt fault (limit - length grown) b c grown all → StopsAt fault (limit - length held) a c held all
+stops_then Device limit a b c held grown all p q = gains_then limit a b c held grown all p q
+stops_then TooManyTurns limit a b c held grown all p q = gains_then limit a b c held grown all p q
+stops_then Memory limit a b c held grown all p q =
+    let counted : length grown ≡ length held + length p.0 = ap length p.2 ∙ length-append held p.0 in
+    let joined : length (p.0 ++ q.0) + length q.1 ≤ limit - length held = rw length-append (omega (arith, p.1, q.2, q.3)) in
+    let whole : Consumes a c ((p.0 ++ q.0) ++ q.1) = rw append_assoc (Consumes-trans a b c p.0 (q.0 ++ q.1) p.3 q.5) in
+    (p.0 ++ q.0, q.1, q.2, joined, q.4 ∙ ap (λ l. l ++ q.0) p.2 ∙ append_assoc held p.0 q.0, whole)
 
 -- a list within the limit is all up to the limit
 take_whole : (limit : ℕ) (bytes : List ℕ) → length bytes ≤ limit → take limit bytes ≡ bytes
@@ -60,10 +74,19 @@ read_to_limit limit None b bytes p fits end = tt
 read_to_limit limit (Some x) None bytes p fits end = absurd p
 read_to_limit limit (Some x) (Some y) bytes p fits end = take_front limit x bytes y p fits end
 
--- reading that stopped at the limit or at the reader's end has the front
-pub front_of_read : (a b : Option (List ℕ)) (bytes : List ℕ) → Consumes a b bytes → length bytes ≤ 4194305 → (length bytes < 4194305 → IsAtEnd b) → HasFront a bytes
+-- reading from none that stopped at the limit or at the reader's end has all up to the limit
+pub read_from_none : (limit : ℕ) (a b : Option (List ℕ)) (held bytes : List ℕ) → held ≡ [] → Gains (limit - length held) a b held bytes → (length bytes < limit → IsAtEnd b)
+    → IfSome a (λ xs. bytes ≡ take limit xs)
+read_from_none limit a b held bytes none gains end =
+    let same : bytes ≡ gains.0 = gains.2 ∙ ap (λ l. l ++ gains.0) none in
+    let fits : length gains.0 ≤ limit = omega (arith, gains.1) in
+    let at_end : length gains.0 < limit → IsAtEnd b = rw same at end in
+    rw same (read_to_limit limit a b gains.0 gains.3 fits at_end)
+
+-- so read, a file has its front
+pub front_of_read : (a b : Option (List ℕ)) (held bytes : List ℕ) → held ≡ [] → Gains (4194305 - length held) a b held bytes → (length bytes < 4194305 → IsAtEnd b) → HasFront a bytes
 unfolding front_of
-front_of_read a b bytes p fits end = read_to_limit 4194305 a b bytes p fits end
+front_of_read a b held bytes none gains end = read_from_none 4194305 a b held bytes none gains end
 
 -- a file within the limit is its own front
 pub front_of_short : (file : List ℕ) → length file ≤ 4194305 → front_of file ≡ file

@@ -3,7 +3,7 @@ use Rattle.std.specs.Prelude.{◌≡◌, ℕ, ◌+◌, ◌<◌, ◌≤◌, Bool,
 use Rattle.std.specs.Io.KnownBytes.{Appends, Consumes, IsAtEnd, Keeps}
 use Rattle.mds_table.specs.Json.{max_bytes}
 use Rattle.mds_device.specs.declared.device.ReadFault.{ReadFault}
-use Rattle.mds_device.specs.declared.device.ReadFault.TheVariants.{Memory, Device}
+use Rattle.mds_device.specs.declared.device.ReadFault.TheVariants.{Memory, Device, TooManyTurns}
 use Rattle.mds_device.specs.declared.device.Call.{Call}
 use Rattle.mds_device.specs.declared.device.Call.TheVariants.{Moved, Nothing, Again, Failed}
 
@@ -27,11 +27,17 @@ HasFront known bytes = IfSome known (λ file. bytes ≡ front_of file)
 abbrev pub ConsumesUpTo : ℕ → Option (List ℕ) → Option (List ℕ) → Type 0
 ConsumesUpTo limit old new = (front : List ℕ) × (length front ≤ limit) × Consumes old new front
 
--- what the reader lost of its known bytes by a call after which reading stopped: nothing where the call failed, and where there
--- was no memory for what it gave, some bytes, at most `limit` of them
-abbrev pub LosesAt : ReadFault → ℕ → Option (List ℕ) → Option (List ℕ) → Type 0
-LosesAt Device limit old new = Consumes old new []
-LosesAt Memory limit old new = (front : List ℕ) × (0 < length front) × (length front ≤ limit) × Consumes old new front
+-- the bytes held grew by what the reader lost of its known bytes, at most so many
+abbrev pub Gains : ℕ → Option (List ℕ) → Option (List ℕ) → List ℕ → List ℕ → Type 0
+Gains most old new held grown = (more : List ℕ) × (length more ≤ most) × (grown ≡ held ++ more) × Consumes old new more
+
+-- what reading that stopped left: the bytes held grew by what the reader lost, at most so many; for want of memory the last of
+-- them were lost
+abbrev pub StopsAt : ReadFault → ℕ → Option (List ℕ) → Option (List ℕ) → List ℕ → List ℕ → Type 0
+StopsAt Memory most old new held grown = (more : List ℕ) × (lost : List ℕ) × (0 < length lost) × (length more + length lost ≤ most)
+    × (grown ≡ held ++ more) × Consumes old new (more ++ lost)
+StopsAt Device most old new held grown = Gains most old new held grown
+StopsAt TooManyTurns most old new held grown = Gains most old new held grown
 
 -- a call that answered a count came to this
 abbrev pub moved : ℕ → Call
@@ -50,11 +56,6 @@ Writes (Moved count) old new bytes = (0 < count) × (count ≤ length bytes) × 
 Writes Nothing old new bytes = Keeps old new
 Writes Again old new bytes = Keeps old new
 Writes Failed old new bytes = Keeps old new
-
--- the bytes held grew by what the reader lost; reading is done at the limit or at the reader's end, and else below the limit
-abbrev pub ReadsMore : Bool → Option (List ℕ) → Option (List ℕ) → List ℕ → List ℕ → Type 0
-ReadsMore is_done old new held grown = (more : List ℕ) × (grown ≡ held ++ more) × Consumes old new more × (length grown ≤ max_read)
-    × MatchBool is_done (length grown < max_read → IsAtEnd new) (length grown < max_read)
 
 -- a front of the text went to the writer
 abbrev pub AppendsFront : Option (List ℕ) → Option (List ℕ) → List ℕ → Type 0

@@ -1,16 +1,16 @@
 //! Reading and writing in a bounded number of calls.
-ghost use Rattle.std.specs.Prelude.{◌≡◌, ◌+◌, ◌-◌, ◌*◌, ◌<◌, ◌≤◌, ◌++◌, ◌∷◌, [], ◌≢◌, ◌↔◌, take, length, vec_len, string_bytes, string_len, IsTrue, IsErrOf, OnOk, OnErr, IfOk, IfErr, IfSome};
+ghost use Rattle.std.specs.Prelude.{◌≡◌, ◌+◌, ◌-◌, ◌*◌, ◌<◌, ◌≤◌, ◌++◌, ◌∷◌, [], ◌≢◌, ◌↔◌, take, length, vec_len, string_bytes, string_len, IsTrue, IsErrOf, OnOk, OnErr, IfOk, IfErr, IfSome, MatchBool, MatchResult};
 ghost use Rattle.std.specs.IoError.{error_kind};
-ghost use Rattle.std.specs.Io.KnownBytes.{Appends, Consumes, Keeps};
-ghost use Rattle.mds_device.specs.Device.{AppendsFront, ConsumesUpTo, HasFront, LosesAt, Passes, Reads, ReadsMore, Writes, moved, with_newline};
+ghost use Rattle.std.specs.Io.KnownBytes.{Appends, Consumes, IsAtEnd, Keeps};
+ghost use Rattle.mds_device.specs.Device.{AppendsFront, ConsumesUpTo, Gains, HasFront, Passes, Reads, StopsAt, Writes, moved, with_newline};
 
 use mds_table::MAX_BYTES;
 use std::alloc::Global;
 use std::fmt::{Display, Write as _};
 use std::io::{self, ErrorKind, Read, Write};
 
-/// The number of calls of `read` for a file, and of `write` for a page, at most. Interrupted calls
-/// count too.
+/// The number of calls of `read` for a file or a request, and of `write` for a page or an answer, at
+/// most. Interrupted calls count too.
 pub const MAX_CALLS: u32 = 5_000_000;
 
 /// How many bytes of a file are read at most: one more than is taken, so that a longer file is seen
@@ -23,13 +23,15 @@ pub const PAGE_BYTES: usize = 65_536;
 /// How many bytes one call of `read` asks for at most.
 const CHUNK_BYTES: usize = 65_536;
 
-/// Why a file could not be read.
+/// Why reading stopped before its end.
 #[derive(Debug, Clone, Copy, PartialEq, Eq)]
 pub enum ReadFault {
     /// There was no memory for the bytes.
     Memory,
-    /// A read failed otherwise than by an interruption, or the calls ran out.
+    /// A read failed otherwise than by an interruption.
     Device,
+    /// The calls ran out.
+    TooManyTurns,
 }
 
 /// Why a text could not be written.
@@ -39,6 +41,24 @@ pub enum WriteFault {
     Memory,
     /// A write failed otherwise than by an interruption or took no byte, or the calls ran out.
     Device,
+}
+
+/// Why writing stopped before all the bytes went out.
+#[derive(Debug, Clone, Copy, PartialEq, Eq)]
+pub enum WriteCause {
+    /// A write failed otherwise than by an interruption or took no byte.
+    Device,
+    /// The calls ran out.
+    TooManyTurns,
+}
+
+/// Where writing stopped, and why.
+#[derive(Debug, Clone, Copy, PartialEq, Eq)]
+pub struct WriteStop {
+    /// How many of the bytes went out, fewer than all.
+    pub sent: usize,
+    /// Why no more did.
+    pub cause: WriteCause,
 }
 
 /// What one call of `read` or `write` came to.
@@ -56,9 +76,13 @@ enum Call {
 
 /// The bytes that `reader` gives, to its end, or the first `MAX_READ` of them.
 ///
-/// It calls `read` at most `MAX_CALLS` times; an interrupted call is made again. `Memory` comes
-/// where there is no memory for the bytes, `Device` where a call fails otherwise or the calls run
-/// out. After an `Err` the reader has lost a front of its bytes, at most `MAX_READ` of them.
+/// It calls `read` at most `MAX_CALLS` times; an interrupted call is made again.
+///
+/// # Errors
+///
+/// `Memory` where there is no memory for the bytes, `Device` where a call fails otherwise,
+/// `TooManyTurns` where the calls run out. The reader has then lost a front of its bytes, at most
+/// `MAX_READ` of them.
 pub fn read_front<R: Read>(alloc: Global, reader: &mut R) -> Result<Vec<u8>, ReadFault>
     ensures front { IfOk result (λ bytes. HasFront (R.remaining reader.old) bytes.items) }
     ensures short { IfOk result (λ bytes. vec_len bytes ≤ MAX_READ) }
@@ -69,44 +93,107 @@ pub fn read_front<R: Read>(alloc: Global, reader: &mut R) -> Result<Vec<u8>, Rea
 {
     let mut bytes = Vec::new(alloc);
     let mut room = [0u8; CHUNK_BYTES];
-    for _ in 0..MAX_CALLS {
-        if read_more(reader, &mut bytes, &mut room)? {
-            return Ok(bytes);
-        }
-    }
-    Err(ReadFault::Device)
+    let mut calls = MAX_CALLS;
+    read_up_to(reader, &mut bytes, &mut room, MAX_READ, &mut calls)?;
+    Ok(bytes)
 }
 
-/// Puts what one call of `read` gives behind `bytes`, and says whether nothing is left to be read:
-/// the reader is at its end, or `bytes` has `MAX_READ` bytes.
+/// Reads behind `bytes` until it has `limit` bytes or the reader is at its end.
 ///
-/// `Device` comes where the call failed, and then the reader lost nothing by it; `Memory` where
-/// there is none for the bytes that it gave.
-fn read_more<R: Read>(
+/// `room` is where the calls of `read` lay what they give: each asks for as much as `room` holds and
+/// `limit` leaves, no more. So `bytes` takes memory as its bytes come. `calls` is how many calls may
+/// be made; those that were made are taken off it, and interrupted ones, which are made again, count
+/// too. Where `bytes` has `limit` bytes already, no call is made.
+///
+/// # Errors
+///
+/// `Memory` where there was none for bytes that the reader gave, and they are lost; `Device` where a
+/// call failed, and `TooManyTurns` where no call was left: then `bytes` has all that the reader gave.
+pub fn read_up_to<R: Read>(
     reader: &mut R,
     bytes: &mut Vec<u8>,
     room: &mut [u8],
-) -> Result<bool, ReadFault>
-    requires more { vec_len bytes.old < MAX_READ }
-    requires room { 0 < length room.old }
-    ensures ok { IfOk result (λ is_done.
-        ReadsMore is_done (R.remaining reader.old) (R.remaining reader.new)
+    limit: usize,
+    calls: &mut u32,
+) -> Result<(), ReadFault>
+    requires { 0 < length room.old }
+    ensures ok { OnOk result (Gains (limit - length bytes.old.items) (R.remaining reader.old) (R.remaining reader.new)
         bytes.old.items bytes.new.items) }
-    ensures err { IfErr result (λ fault.
-        LosesAt fault (MAX_READ - vec_len bytes.old) (R.remaining reader.old) (R.remaining reader.new)) }
+    ensures whole { OnOk result (length bytes.new.items < limit → IsAtEnd (R.remaining reader.new)) }
+    ensures err { IfErr result (λ fault. StopsAt fault (limit - length bytes.old.items)
+        (R.remaining reader.old) (R.remaining reader.new) bytes.old.items bytes.new.items) }
+    ensures counted { calls.new ≤ calls.old }
+    ensures made { IfErr result (λ fault. fault ≢ ReadFault.TooManyTurns → calls.new < calls.old) }
+    ensures turns { IsErrOf result ReadFault.TooManyTurns → calls.new ≡ 0 }
 {
-    let asked = room.len().min(MAX_READ - bytes.len());
-    match read_once(reader, &mut room[..asked]) {
+    while bytes.len() < limit {
+        if read_more(reader, bytes, room, limit, calls)? {
+            return Ok(());
+        }
+    }
+    Ok(())
+}
+
+/// Puts what the next call of `read` gives behind `bytes`, and says whether the reader is at its end,
+/// so that it gave nothing. A call that is interrupted is made again.
+///
+/// `room`, `limit` and `calls` are as for `read_up_to`.
+///
+/// # Errors
+///
+/// Those of `read_up_to`.
+#[tactic(auto, using(crate::proofs::DeviceLemmas::gains_nothing))]
+pub fn read_more<R: Read>(
+    reader: &mut R,
+    bytes: &mut Vec<u8>,
+    room: &mut [u8],
+    limit: usize,
+    calls: &mut u32,
+) -> Result<bool, ReadFault>
+    requires more { length bytes.old.items < limit }
+    requires room { 0 < length room.old }
+    ensures ok { IfOk result (λ is_end. Gains (limit - length bytes.old.items) (R.remaining reader.old) (R.remaining reader.new)
+        bytes.old.items bytes.new.items) }
+    ensures end { IfOk result (λ is_end. MatchBool is_end (IsAtEnd (R.remaining reader.new) × (bytes.new.items ≡ bytes.old.items))
+        (length bytes.old.items < length bytes.new.items)) }
+    ensures err { IfErr result (λ fault. StopsAt fault (limit - length bytes.old.items)
+        (R.remaining reader.old) (R.remaining reader.new) bytes.old.items bytes.new.items) }
+    ensures counted { calls.new ≤ calls.old }
+    ensures made { MatchResult result (λ _. calls.new < calls.old)
+        (λ fault. fault ≢ ReadFault.TooManyTurns → calls.new < calls.old) }
+    ensures turns { IsErrOf result ReadFault.TooManyTurns → calls.new ≡ 0 }
+{
+    let asked = room.len().min(limit - bytes.len());
+    match read_again(reader, &mut room[..asked], calls) {
         Call::Moved(count) => {
             if bytes.extend_from_slice(&room[..count]).is_err() {
                 return Err(ReadFault::Memory);
             }
-            Ok(bytes.len() == MAX_READ)
+            Ok(false)
         }
         Call::Nothing => Ok(true),
-        Call::Again => Ok(false),
+        Call::Again => Err(ReadFault::TooManyTurns),
         Call::Failed => Err(ReadFault::Device),
     }
+}
+
+/// The first call of `read` into `room` that isn't interrupted, or `Again` where no call was left
+/// before it.
+fn read_again<R: Read>(reader: &mut R, room: &mut [u8], calls: &mut u32) -> Call
+    requires { 0 < length room.old }
+    ensures read { Reads result (R.remaining reader.old) (R.remaining reader.new) room.new }
+    ensures counted { calls.new ≤ calls.old }
+    ensures made { result ≢ Call.Again → calls.new < calls.old }
+    ensures turns { result ≡ Call.Again → calls.new ≡ 0 }
+{
+    while *calls > 0 {
+        *calls -= 1;
+        match read_once(reader, room) {
+            Call::Again => {}
+            call => return call,
+        }
+    }
+    Call::Again
 }
 
 /// One call of `read` into `room`.
@@ -147,24 +234,32 @@ fn is_made_again(kind: ErrorKind) -> bool
 
 /// Writes all of `bytes`, by at most `MAX_CALLS` calls of `write`.
 ///
-/// An interrupted call is made again. `Err` holds the number of bytes that went out, fewer than all:
-/// it comes where a call fails otherwise or takes no byte, or the calls run out.
-pub fn write_all_of<W: Write>(writer: &mut W, bytes: &[u8]) -> Result<(), usize>
+/// An interrupted call is made again.
+///
+/// # Errors
+///
+/// A `WriteStop` with the number of bytes that went out, fewer than all: `Device` where a call fails
+/// otherwise or takes no byte, `TooManyTurns` where the calls run out.
+pub fn write_all_of<W: Write>(writer: &mut W, bytes: &[u8]) -> Result<(), WriteStop>
     ensures ok { OnOk result (Appends (W.contents writer.old) (W.contents writer.new) bytes.now) }
-    ensures err { IfErr result (λ sent. (sent < length bytes.now)
-        × Appends (W.contents writer.old) (W.contents writer.new) (take sent bytes.now)) }
+    ensures err { IfErr result (λ stop. (stop.sent < length bytes.now)
+        × Appends (W.contents writer.old) (W.contents writer.new) (take stop.sent bytes.now)) }
 {
     let mut sent = 0;
     let mut left = MAX_CALLS;
     while sent < bytes.len() {
         if left == 0 {
-            return Err(sent);
+            let cause = WriteCause::TooManyTurns;
+            return Err(WriteStop { sent, cause });
         }
         left -= 1;
         match write_once(writer, &bytes[sent..]) {
             Call::Moved(taken) => sent += taken,
             Call::Again => {}
-            Call::Nothing | Call::Failed => return Err(sent),
+            Call::Nothing | Call::Failed => {
+                let cause = WriteCause::Device;
+                return Err(WriteStop { sent, cause });
+            }
         }
     }
     Ok(())
@@ -181,10 +276,13 @@ fn write_once<W: Write>(writer: &mut W, bytes: &[u8]) -> Call
 /// Lays `line` and a line feed out behind what `page` holds, and writes the page out and empties it
 /// where it then has at least `PAGE_BYTES` bytes.
 ///
-/// So several lines share a call of `write`, and each is written within `MAX_CALLS` calls. `Memory`
-/// comes where the page could not grow, and then nothing was written; `Device` where a page of
-/// `PAGE_BYTES` bytes or more could not be written whole, and then a front of it went out. After an
-/// `Err` the page may hold any part of the text: nothing more should be written by it.
+/// So several lines share a call of `write`, and each is written within `MAX_CALLS` calls.
+///
+/// # Errors
+///
+/// `Memory` where the page could not grow, and then nothing was written; `Device` where a page of
+/// `PAGE_BYTES` bytes or more could not be written whole, and then a front of it went out. The page
+/// may then hold any part of the text: nothing more should be written by it.
 pub fn add_line<W: Write, D: Display>(
     writer: &mut W,
     page: &mut String,
@@ -211,8 +309,10 @@ pub fn add_line<W: Write, D: Display>(
 
 /// Writes out what `page` holds, by at most `MAX_CALLS` calls of `write`, and empties it.
 ///
-/// `Device`, the only fault, comes where it could not be written whole: a front of it went out, and
-/// the page is as it was.
+/// # Errors
+///
+/// `Device`, the only fault, where it could not be written whole: a front of it went out, and the
+/// page is as it was.
 pub fn put_out<W: Write>(writer: &mut W, page: &mut String) -> Result<(), WriteFault>
     ensures ok { OnOk result
         (Appends (W.contents writer.old) (W.contents writer.new) (string_bytes page.old)) }

@@ -3,3 +3,4 @@ pub mod ScriptLemmas
 pub mod MoveLemmas
 pub mod WalkLemmas
 pub mod VehicleLemmas
+pub mod InputLemmas

@@ -12,7 +12,7 @@ mod tests;
 mod vehicle;
 mod walk;
 
-pub use input::{MAX_SCRIPT, read_script};
+pub use input::{MAX_SCRIPT, ScriptBytes, ScriptEnd, read_script};
 pub use line::CountsLine;
 pub use script::{Move, ScriptCommand, script_of};
 pub use vehicle::{VehicleEvents, vehicle_events};

@@ -1,7 +1,10 @@
 //! Readers and writers that give little, pause, stop and fail.
 ghost use Rattle.std.specs.Prelude.{◌≡◌, IfOk};
 
-use super::{MAX_CALLS, ReadFault, WriteFault, add_line, put_out, read_front, write_all_of};
+use super::{
+    MAX_CALLS, ReadFault, WriteCause, WriteFault, WriteStop, add_line, put_out, read_front,
+    read_more, read_up_to, write_all_of,
+};
 use std::alloc::{AllocError, Global};
 use std::io::{self, Error, ErrorKind, Read, Write};
 use std::test::Fail;
@@ -119,13 +122,14 @@ fn read_to(alloc: Global, bytes: &[u8], has_pauses: bool, last: Last) -> (Option
 #[test]
 fn reads_end_as_the_reader_does(rt: HostRuntime) {
     let device = Some(ReadFault::Device);
+    let turns = Some(ReadFault::TooManyTurns);
     let cases = [
         (b"seven b".as_slice(), true, Last::Zero, (None, 16u32)),
         (b"", false, Last::Zero, (None, 1)),
         (b"abc", false, Last::Failure, (device, 4)),
         (b"abc", false, Last::Block, (device, 4)),
         (b"abc", false, Last::Timeout, (device, 4)),
-        (b"ab", false, Last::Pause, (device, 5_000_000)),
+        (b"ab", false, Last::Pause, (turns, 5_000_000)),
     ];
     for (bytes, has_pauses, last, ended) in cases {
         assert_eq!(rt; read_to(rt.alloc(), bytes, has_pauses, last), ended);
@@ -145,15 +149,54 @@ fn reads_no_more_than_the_limit(rt: HostRuntime) -> Result<(), Fail> {
     Ok(())
 }
 
+/// Reads of several kinds share the calls, and each asks for no more than is wanted.
+#[test]
+fn reads_share_the_calls(rt: HostRuntime) -> Result<(), Fail> {
+    let mut reader = Drops {
+        bytes: b"abcdefg",
+        calls: 0,
+        has_pauses: true,
+        last: Last::Pause,
+    };
+    let mut bytes = Vec::new(rt.alloc());
+    let mut room = [0u8; 4];
+    let mut calls = 10;
+    let first = read_more(&mut reader, &mut bytes, &mut room, 9, &mut calls);
+    assert_eq!(rt; (first, bytes.len(), calls), (Ok(false), 1, 8));
+    let third = read_up_to(&mut reader, &mut bytes, &mut room, 3, &mut calls);
+    assert_eq!(rt; (third, bytes.len(), calls), (Ok(()), 3, 4));
+    let all = read_up_to(&mut reader, &mut bytes, &mut room, 9, &mut calls);
+    assert_eq!(rt;
+        (all, reader.calls, calls),
+        (Err(ReadFault::TooManyTurns), 10, 0)
+    );
+    assert_eq!(rt; bytes.as_slice(), b"abcde".as_slice());
+    Ok(())
+}
+
+/// A reader that gives what is asked for, and at its end nothing, is asked for what is wanted.
+#[test]
+fn reads_ask_for_what_is_wanted(rt: HostRuntime) -> Result<(), Fail> {
+    let mut reader = b"abcdefg".as_slice();
+    let mut bytes = Vec::new(rt.alloc());
+    let mut room = [0u8; 4];
+    let mut calls = 9;
+    read_up_to(&mut reader, &mut bytes, &mut room, 5, &mut calls)?;
+    assert_eq!(rt; (bytes.len(), reader.len(), calls), (5, 2, 7));
+    read_up_to(&mut reader, &mut bytes, &mut room, 9, &mut calls)?;
+    assert_eq!(rt; (bytes.len(), reader.len(), calls), (7, 0, 5));
+    Ok(())
+}
+
 /// What becomes of writing these bytes, one a call, `room` of them, with a pause before each call or none, to such an end:
-/// how many went out where not all did, and the number of calls.
+/// where it stopped and why if not all went out, and the number of calls.
 fn written_to(
     alloc: Global,
     bytes: &[u8],
     room: usize,
     has_pauses: bool,
     last: Last,
-) -> (Option<usize>, u32) {
+) -> (Option<WriteStop>, u32) {
     let mut writer = Sips {
         taken: Vec::new(alloc),
         room,
@@ -161,8 +204,18 @@ fn written_to(
         has_pauses,
         last,
     };
-    let sent = write_all_of(&mut writer, bytes).err();
-    (sent, writer.calls)
+    let stop = write_all_of(&mut writer, bytes).err();
+    (stop, writer.calls)
+}
+
+fn failed_at(sent: usize) -> Option<WriteStop> {
+    let cause = WriteCause::Device;
+    Some(WriteStop { sent, cause })
+}
+
+fn out_of_turns_at(sent: usize) -> Option<WriteStop> {
+    let cause = WriteCause::TooManyTurns;
+    Some(WriteStop { sent, cause })
 }
 
 #[test]
@@ -170,11 +223,17 @@ fn writes_end_as_the_writer_does(rt: HostRuntime) {
     let cases = [
         (b"".as_slice(), 9usize, true, Last::Zero, (None, 0u32)),
         (b"abc", 9, true, Last::Zero, (None, 6)),
-        (b"abc", 2, false, Last::Zero, (Some(2), 3)),
-        (b"abc", 2, false, Last::Pause, (Some(2), MAX_CALLS)),
-        (b"abc", 1, false, Last::Failure, (Some(1), 2)),
-        (b"abc", 1, false, Last::Block, (Some(1), 2)),
-        (b"abc", 1, false, Last::Timeout, (Some(1), 2)),
+        (b"abc", 2, false, Last::Zero, (failed_at(2), 3)),
+        (
+            b"abc",
+            2,
+            false,
+            Last::Pause,
+            (out_of_turns_at(2), MAX_CALLS),
+        ),
+        (b"abc", 1, false, Last::Failure, (failed_at(1), 2)),
+        (b"abc", 1, false, Last::Block, (failed_at(1), 2)),
+        (b"abc", 1, false, Last::Timeout, (failed_at(1), 2)),
     ];
     for (bytes, room, has_pauses, last, ended) in cases {
         assert_eq!(rt;
@@ -193,7 +252,7 @@ fn writes_run_out(rt: HostRuntime) -> Result<(), Fail> {
     assert_eq!(rt; whole, (None, 5_000_000));
     let more = file_of(alloc, 2_500_001)?;
     let front = written_to(alloc, &more, 3_000_000, true, Last::Zero);
-    assert_eq!(rt; front, (Some(2_500_000), 5_000_000));
+    assert_eq!(rt; front, (out_of_turns_at(2_500_000), 5_000_000));
     Ok(())
 }
 

@@ -1,7 +1,7 @@
 //! Scripts: how they are read, and what their lines say.
 ghost use Rattle.std.specs.Prelude.{◌≡◌, IfOk};
 
-use crate::{MAX_SCRIPT, Move, ScriptCommand, read_script, script_of};
+use crate::{MAX_SCRIPT, Move, ScriptCommand, ScriptEnd, read_script, script_of};
 use mds_device::MAX_CALLS;
 use mds_table::State;
 use std::alloc::Global;
@@ -111,41 +111,43 @@ impl Read for Feeds {
     }
 }
 
-/// How many bytes are read of a stream of so many that goes on so, how many are left, and the number of calls.
-fn read_of(alloc: Global, length: usize, last: Last) -> Result<(usize, usize, u32), Fail> {
+/// How many bytes are read of a stream of so many that goes on so, how many are left, the number of calls, and how reading
+/// ended.
+fn read_of(
+    alloc: Global,
+    length: usize,
+    last: Last,
+) -> Result<(usize, usize, u32, ScriptEnd), Fail> {
     let mut reader = Feeds {
         byte: b'\n',
         left: length,
         calls: 0,
         last,
     };
-    let bytes = read_script(alloc, &mut reader)?;
-    Ok((bytes.len(), reader.left, reader.calls))
+    let script = read_script(alloc, &mut reader)?;
+    Ok((script.bytes.len(), reader.left, reader.calls, script.end))
 }
 
-#[test]
-fn reading_ends_at_the_end_or_a_fault(rt: HostRuntime) -> Result<(), Fail> {
-    assert_eq!(rt; read_of(rt.alloc(), 70_000, Last::End)?, (70_000, 0, 6));
-    assert_eq!(rt; read_of(rt.alloc(), 70_000, Last::Failure)?, (70_000, 0, 6));
-    assert_eq!(rt; read_of(rt.alloc(), 0, Last::Failure)?, (0, 0, 2));
-    assert_eq!(rt; read_of(rt.alloc(), 5, Last::Pause)?, (5, 0, MAX_CALLS));
-    Ok(())
-}
+/// Lengths of streams and how they go on; and what is read of them.
+const STREAMS: [(usize, Last, (usize, usize, u32, ScriptEnd)); 7] = [
+    (70_000, Last::End, (70_000, 0, 6, ScriptEnd::Whole)),
+    (70_000, Last::Failure, (70_000, 0, 6, ScriptEnd::Broken)),
+    (0, Last::Failure, (0, 0, 2, ScriptEnd::Broken)),
+    (5, Last::Pause, (5, 0, MAX_CALLS, ScriptEnd::Broken)),
+    (
+        1_048_576,
+        Last::Failure,
+        (1_048_576, 0, 32, ScriptEnd::Whole),
+    ),
+    (1_048_577, Last::End, (1_048_576, 1, 32, ScriptEnd::Whole)),
+    (1_048_575, Last::End, (1_048_575, 0, 34, ScriptEnd::Whole)),
+];
 
 #[test]
-fn reading_ends_at_the_limit(rt: HostRuntime) -> Result<(), Fail> {
-    assert_eq!(rt;
-        read_of(rt.alloc(), MAX_SCRIPT, Last::Failure)?,
-        (MAX_SCRIPT, 0, 32)
-    );
-    assert_eq!(rt;
-        read_of(rt.alloc(), MAX_SCRIPT + 1, Last::End)?,
-        (MAX_SCRIPT, 1, 32)
-    );
-    assert_eq!(rt;
-        read_of(rt.alloc(), MAX_SCRIPT - 1, Last::End)?,
-        (MAX_SCRIPT - 1, 0, 34)
-    );
+fn reading_ends_at_the_end_the_limit_or_a_fault(rt: HostRuntime) -> Result<(), Fail> {
+    for (length, last, read) in &STREAMS {
+        assert_eq!(rt; read_of(rt.alloc(), *length, *last)?, *read);
+    }
     Ok(())
 }
 
@@ -157,7 +159,7 @@ fn the_longest_script_has_a_line_a_byte(rt: HostRuntime) -> Result<(), Fail> {
         calls: 0,
         last: Last::End,
     };
-    let bytes = read_script(rt.alloc(), &mut reader)?;
-    assert_eq!(rt; script_of(rt.alloc(), &bytes)?.len(), MAX_SCRIPT);
+    let script = read_script(rt.alloc(), &mut reader)?;
+    assert_eq!(rt; script_of(rt.alloc(), &script.bytes)?.len(), MAX_SCRIPT);
     Ok(())
 }
