@@ -1,0 +1,5 @@
+pub mod Lowering
+pub mod Orders
+pub mod Entries
+pub mod Counts
+pub mod Judged

@@ -1,0 +1,84 @@
+//! What no clause says: the worked cases, and that each call can succeed.
+mod cases;
+mod many;
+
+use crate::Note;
+use mds_core::{Event, Key, Outcome, Reply, Request};
+use mds_table::{State, TypeName};
+use std::alloc::Global;
+use std::test::Fail;
+use uuid::Uuid;
+
+/// Vehicles, by the lower half of their devices' identifiers: A and C are in shard 0, B in shard 1.
+const A: u64 = 0x8000_0000_0000_000a;
+
+const B: u64 = 0x8000_0000_0000_000b;
+
+const C: u64 = 0x8000_0000_0000_000c;
+
+/// Identifiers of events, by their lower halves.
+const E1: u64 = 0x8000_0000_0000_00e1;
+
+const E2: u64 = 0x8000_0000_0000_00e2;
+
+/// What is asked; an event is told by its vehicle, identifier, type, state and time.
+#[derive(Clone, Copy)]
+enum Asked {
+    Register(u64),
+    Report(u64, u64, &'static str, State, u64),
+    Look(u64),
+}
+
+/// A note: the shard that was asked, what was asked, and the place and the outcome of the reply.
+type Noted = (usize, Asked, usize, Outcome);
+
+/// The identifier with this lower half.
+fn uuid(lower: u64) -> Uuid {
+    Uuid::from_u64_pair(0x0000_0000_0000_4000, lower)
+}
+
+/// The key of a vehicle.
+fn key(device: u64) -> Key {
+    Key {
+        provider: uuid(0x8000_0000_0000_0001),
+        device: uuid(device),
+    }
+}
+
+/// The request that is asked.
+fn request_of(asked: Asked) -> Result<Request, Fail> {
+    Ok(match asked {
+        Asked::Register(device) => Request::Register(key(device)),
+        Asked::Report(device, id, kind, state, time) => {
+            let types = [TypeName::new(kind)?];
+            Request::Report(Event::new(key(device), uuid(id), state, &types, time, None)?)
+        }
+        Asked::Look(device) => Request::Look(key(device)),
+    })
+}
+
+/// The requests that are asked.
+fn requests_of(alloc: Global, asked: &[Asked]) -> Result<Vec<Request>, Fail> {
+    let mut requests = Vec::new(alloc);
+    for one in asked {
+        requests.push(request_of(*one)?)?;
+    }
+    Ok(requests)
+}
+
+/// The notes of one caller.
+fn notes_of(alloc: Global, noted: &[Noted]) -> Result<Vec<Note>, Fail> {
+    let mut notes = Vec::new(alloc);
+    for (shard, asked, place, outcome) in noted {
+        let note = Note {
+            shard: *shard,
+            request: request_of(*asked)?,
+            reply: Reply {
+                place: *place,
+                outcome: *outcome,
+            },
+        };
+        notes.push(note)?;
+    }
+    Ok(notes)
+}

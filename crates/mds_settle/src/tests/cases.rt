@@ -1,0 +1,374 @@
+//! Histories of a shard, what its callers noted, and the verdict.
+use super::Asked::{self, Look, Register, Report};
+use super::{A, B, C, E1, E2, Noted, notes_of, requests_of};
+use crate::{Note, judge, judge_lawful};
+use mds_core::Outcome::{self, Done, Refused, Seen};
+use mds_core::{Refusal, Standing, run};
+use mds_table::State::{Available, NonOperational, Removed};
+use mds_table::Table;
+use std::alloc::Global;
+use std::test::Fail;
+
+/// What a shard holds, what its callers noted, and the verdict.
+struct Case {
+    name: &'static str,
+    shard: usize,
+    history: &'static [Asked],
+    lists: &'static [&'static [Noted]],
+    verdict: Result<(), usize>,
+}
+
+const UNREGISTERED: Outcome = Refused(Refusal::Unregistered);
+
+/// Registered, and nothing more.
+const NEW: Standing = Standing {
+    state: Removed,
+    events: 0,
+    last: None,
+    position: None,
+};
+
+/// Available, after one event at 1000.
+const AVAILABLE: Standing = Standing {
+    state: Available,
+    events: 1,
+    last: Some(1000),
+    position: None,
+};
+
+const DROP_OFF: Asked = Report(A, E1, "provider_drop_off", Available, 1000);
+
+/// One vehicle is registered.
+const A_ALONE: &[Asked] = &[Register(A)];
+
+/// Two are.
+const A_AND_C: &[Asked] = &[Register(A), Register(C)];
+
+/// One has an event too.
+const A_DROPPED_OFF: &[Asked] = &[Register(A), DROP_OFF];
+
+/// The accepted registration of A, the first in its shard.
+const A_FIRST: Noted = (0, Register(A), 0, Done);
+
+const JUDGING_NOTES: &[Case] = &[
+    Case {
+        name: "the one entry is noted",
+        shard: 0,
+        history: A_ALONE,
+        lists: &[&[A_FIRST]],
+        verdict: Ok(()),
+    },
+    Case {
+        name: "a look that didn't see the entry before it",
+        shard: 0,
+        history: A_ALONE,
+        lists: &[&[A_FIRST, (0, Look(A), 1, UNREGISTERED)]],
+        verdict: Err(1),
+    },
+    Case {
+        name: "the entry isn't noted",
+        shard: 0,
+        history: A_ALONE,
+        lists: &[&[]],
+        verdict: Err(0),
+    },
+    Case {
+        name: "a look from before its caller's own call",
+        shard: 0,
+        history: A_ALONE,
+        lists: &[&[A_FIRST, (0, Look(A), 0, UNREGISTERED)]],
+        verdict: Err(0),
+    },
+    Case {
+        name: "a look that was made before the call",
+        shard: 0,
+        history: A_ALONE,
+        lists: &[&[(0, Look(A), 0, UNREGISTERED), A_FIRST]],
+        verdict: Ok(()),
+    },
+];
+
+/// Each of the five reasons alone, and some together.
+const REASONS: &[Case] = &[
+    Case {
+        name: "nothing was accepted, and nothing noted",
+        shard: 0,
+        history: &[],
+        lists: &[],
+        verdict: Ok(()),
+    },
+    Case {
+        name: "another caller's look is from before the call",
+        shard: 0,
+        history: A_ALONE,
+        lists: &[&[A_FIRST], &[(0, Look(A), 0, UNREGISTERED)]],
+        verdict: Ok(()),
+    },
+    Case {
+        name: "two accepted notes at one place",
+        shard: 0,
+        history: A_AND_C,
+        lists: &[
+            &[A_FIRST, (0, Register(C), 1, Done)],
+            &[(0, Register(C), 1, Done)],
+        ],
+        verdict: Err(1),
+    },
+    Case {
+        name: "a look past the end",
+        shard: 0,
+        history: A_ALONE,
+        lists: &[
+            &[A_FIRST],
+            &[(0, Look(A), 1, Seen(NEW)), (0, Look(A), 2, Seen(NEW))],
+        ],
+        verdict: Err(2),
+    },
+    Case {
+        name: "an accepted note past the end",
+        shard: 0,
+        history: A_ALONE,
+        lists: &[&[A_FIRST, (0, Register(C), 1, Done)]],
+        verdict: Err(1),
+    },
+    Case {
+        name: "an accepted note with another request, whose reply would be right",
+        shard: 0,
+        history: A_AND_C,
+        lists: &[&[(0, Register(C), 0, Done)], &[(0, Register(C), 1, Done)]],
+        verdict: Err(0),
+    },
+    Case {
+        name: "the second entry isn't noted",
+        shard: 0,
+        history: A_AND_C,
+        lists: &[&[A_FIRST], &[(0, Look(C), 2, Seen(NEW))]],
+        verdict: Err(1),
+    },
+    Case {
+        name: "a place that falls",
+        shard: 0,
+        history: A_ALONE,
+        lists: &[&[(0, Look(A), 1, Seen(NEW)), A_FIRST]],
+        verdict: Err(0),
+    },
+    Case {
+        name: "the least of several: an entry that isn't noted before one that is twice",
+        shard: 0,
+        history: A_AND_C,
+        lists: &[&[(0, Register(C), 1, Done)], &[(0, Register(C), 1, Done)]],
+        verdict: Err(0),
+    },
+    Case {
+        name: "the least of several: an entry noted twice before one that isn't noted, and a wrong look",
+        shard: 0,
+        history: A_AND_C,
+        lists: &[&[A_FIRST], &[A_FIRST, (0, Look(A), 2, UNREGISTERED)]],
+        verdict: Err(0),
+    },
+    Case {
+        name: "the least of several: a late look before a wrong one",
+        shard: 0,
+        history: A_AND_C,
+        lists: &[
+            &[
+                A_FIRST,
+                (0, Register(C), 1, Done),
+                (0, Look(A), 1, Seen(NEW)),
+            ],
+            &[(0, Look(A), 2, UNREGISTERED)],
+        ],
+        verdict: Err(1),
+    },
+];
+
+/// What a reply tells is judged to the last number.
+const REPLIES: &[Case] = &[
+    Case {
+        name: "a look after an event, and two refusals",
+        shard: 0,
+        history: A_DROPPED_OFF,
+        lists: &[
+            &[
+                A_FIRST,
+                (0, DROP_OFF, 1, Done),
+                (0, Look(A), 2, Seen(AVAILABLE)),
+            ],
+            &[
+                (0, DROP_OFF, 2, Refused(Refusal::Repeated)),
+                (
+                    0,
+                    Report(A, E2, "battery_low", NonOperational, 999),
+                    2,
+                    Refused(Refusal::Late { last: 1000 }),
+                ),
+            ],
+        ],
+        verdict: Ok(()),
+    },
+    Case {
+        name: "another time of the last event",
+        shard: 0,
+        history: A_DROPPED_OFF,
+        lists: &[
+            &[A_FIRST, (0, DROP_OFF, 1, Done)],
+            &[(
+                0,
+                Report(A, E2, "battery_low", NonOperational, 999),
+                2,
+                Refused(Refusal::Late { last: 1001 }),
+            )],
+        ],
+        verdict: Err(2),
+    },
+    Case {
+        name: "an event of another time than the entry",
+        shard: 0,
+        history: A_DROPPED_OFF,
+        lists: &[&[
+            A_FIRST,
+            (
+                0,
+                Report(A, E1, "provider_drop_off", Available, 1001),
+                1,
+                Done,
+            ),
+        ]],
+        verdict: Err(1),
+    },
+    Case {
+        name: "an event of another type than the entry",
+        shard: 0,
+        history: A_DROPPED_OFF,
+        lists: &[&[
+            A_FIRST,
+            (
+                0,
+                Report(A, E1, "agency_drop_off", Available, 1000),
+                1,
+                Done,
+            ),
+        ]],
+        verdict: Err(1),
+    },
+];
+
+const SHARDS: &[Case] = &[
+    Case {
+        name: "notes of the other shard don't count, right or wrong",
+        shard: 0,
+        history: A_ALONE,
+        lists: &[&[
+            (1, Register(B), 0, Done),
+            (1, Register(B), 0, Done),
+            (1, Look(B), 9, UNREGISTERED),
+            A_FIRST,
+        ]],
+        verdict: Ok(()),
+    },
+    Case {
+        name: "a note of the other shard stands for no entry",
+        shard: 0,
+        history: A_ALONE,
+        lists: &[&[(1, Register(A), 0, Done)]],
+        verdict: Err(0),
+    },
+    Case {
+        name: "the other shard",
+        shard: 1,
+        history: &[Register(B)],
+        lists: &[&[
+            A_FIRST,
+            (1, Register(B), 0, Done),
+            (0, Look(A), 0, UNREGISTERED),
+        ]],
+        verdict: Ok(()),
+    },
+];
+
+/// Histories that are not lawful.
+const UNLAWFUL: &[Case] = &[
+    Case {
+        name: "a vehicle registered twice",
+        shard: 0,
+        history: &[Register(A), Register(A)],
+        lists: &[&[A_FIRST, (0, Register(A), 1, Done)]],
+        verdict: Err(1),
+    },
+    Case {
+        name: "an event of nobody",
+        shard: 0,
+        history: &[DROP_OFF],
+        lists: &[&[(0, DROP_OFF, 0, Done)]],
+        verdict: Err(0),
+    },
+    Case {
+        name: "a look as an entry",
+        shard: 0,
+        history: &[Look(A)],
+        lists: &[&[(0, Look(A), 0, Done)]],
+        verdict: Err(0),
+    },
+    Case {
+        name: "a look as an entry that nobody noted",
+        shard: 0,
+        history: &[Register(A), Look(A)],
+        lists: &[&[A_FIRST, (0, Look(A), 1, Seen(NEW))]],
+        verdict: Err(1),
+    },
+];
+
+const LAWFUL: &[&[Case]] = &[JUDGING_NOTES, REASONS, REPLIES, SHARDS];
+
+/// The lists of a case.
+fn lists_of(alloc: Global, case: &Case) -> Result<Vec<Vec<Note>>, Fail> {
+    let mut lists = Vec::new(alloc);
+    for noted in case.lists {
+        lists.push(notes_of(alloc, noted)?)?;
+    }
+    Ok(lists)
+}
+
+/// The verdict on a case.
+fn verdict(alloc: Global, case: &Case) -> Result<Result<(), usize>, Fail> {
+    let history = requests_of(alloc, case.history)?;
+    let lists = lists_of(alloc, case)?;
+    Ok(judge(&Table::profile(alloc)?, case.shard, &history, &lists))
+}
+
+/// The verdict on a case whose history is what a machine accepts of it.
+fn lawful_verdict(alloc: Global, case: &Case) -> Result<Result<(), usize>, Fail> {
+    let requests = requests_of(alloc, case.history)?;
+    let lists = lists_of(alloc, case)?;
+    let table = Table::profile(alloc)?;
+    let (fleet, _) = run(alloc, table.copy(alloc)?, &requests)?;
+    Ok(judge_lawful(&table, case.shard, fleet.history(), &lists))
+}
+
+#[test]
+fn lawful_cases(rt: HostRuntime) -> Result<(), Fail> {
+    for cases in LAWFUL {
+        for case in *cases {
+            let found = (
+                verdict(rt.alloc(), case)?,
+                lawful_verdict(rt.alloc(), case)?,
+            );
+            assert_eq!(rt;
+                (case.name, found),
+                (case.name, (case.verdict, case.verdict))
+            );
+        }
+    }
+    Ok(())
+}
+
+#[test]
+fn unlawful_cases(rt: HostRuntime) -> Result<(), Fail> {
+    for case in UNLAWFUL {
+        assert_eq!(rt;
+            (case.name, verdict(rt.alloc(), case)?),
+            (case.name, case.verdict)
+        );
+    }
+    Ok(())
+}
