@@ -5,7 +5,7 @@ use Rattle.mds_core.specs.declared.request.Request.TheVariants.{Register, Report
 use Rattle.mds_core.specs.declared.reply.Reply.{Reply}
 use Rattle.mds_core.specs.History.{key_of}
 use Rattle.mds_core.specs.Headline.{is_done}
-use Rattle.mds_book.specs.declared.seat.Note.{Note}
+use Rattle.mds_settle.specs.declared.note.Note.{Note}
 use Rattle.mds_book.specs.declared.seat.Keep.{Keep}
 use Rattle.mds_book.specs.declared.seat.Keep.TheVariants.{All, Accepted}
 use Rattle.mds_book.specs.Shards.{shard_of, count_of}

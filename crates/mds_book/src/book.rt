@@ -11,8 +11,9 @@ ghost use Rattle.mds_book.specs.Books.{IsBadCount, IsAnswered, HasNone, HasEvent
 
 use crate::seat::Part;
 use crate::slot::shard_of;
-use crate::{Keep, Note, Seat, ShardLedger, Slot};
+use crate::{Keep, Seat, ShardLedger, Slot};
 use mds_core::{Event, Key, Outcome, Reply, Request};
+use mds_settle::Note;
 use mds_shard::Shard;
 use mds_table::Table;
 use std::alloc::{AllocError, Global};
@@ -50,10 +51,10 @@ impl Error for OpenFault {}
 /// Two shards, each under a lock of its own. A vehicle's calls stand in the shard of its number.
 #[derive(Drop)]
 pub struct Book<L: ShardLedger, M: ShardLedger> {
-    table: Table,
-    seats: usize,
-    first: Mutex<Slot<L, 0>>,
-    second: Mutex<Slot<M, 1>>,
+    pub(crate) table: Table,
+    pub(crate) seats: usize,
+    pub(crate) first: Mutex<Slot<L, 0>>,
+    pub(crate) second: Mutex<Slot<M, 1>>,
 }
 
 impl<L: ShardLedger, M: ShardLedger> Model for Book<L, M> {
@@ -209,6 +210,13 @@ impl<L: ShardLedger, M: ShardLedger> Book<L, M> {
             second: Mutex::new(second_slot),
         };
         Ok((book, list))
+    }
+
+    /// The table of the book.
+    pub fn table(&self) -> &Table
+        ensures { result.now ≡ self.now.rows }
+    {
+        &self.table
     }
 
     /// The number of the shard that holds a vehicle: its device identifier as a number, modulo 2.

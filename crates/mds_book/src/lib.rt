@@ -1,12 +1,20 @@
 //! Shards under locks: what many callers share, a seat for each of them, and the ledgers that count what was accepted.
+//! Once all seats came back, the book is settled: their notes are judged beside what the shards hold.
 #![tactic(auto)]
 
 mod book;
+mod gate;
+mod gathered;
 mod seat;
+mod settling;
 mod slot;
 #[cfg(test)]
 mod tests;
 
 pub use book::{Book, OpenFault};
-pub use seat::{Keep, Note, Seat};
+pub use gate::{Gate, OpenGate};
+pub use gathered::{Gathered, Settled};
+pub use mds_settle::{Note, NoteList, judge};
+pub use seat::{Keep, Seat};
+pub use settling::{SettleFault, reconcile};
 pub use slot::{ShardLedger, Slot};

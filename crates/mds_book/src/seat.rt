@@ -3,7 +3,8 @@ ghost use Rattle.std.specs.Prelude.{◌≡◌, ◌≤◌, ◌+◌, ◌||◌, not
 ghost use Rattle.mds_book.specs.Seats.{accepted_in, is_look, fresh, keeps_all};
 
 use crate::ShardLedger;
-use mds_core::{Reply, Request};
+use mds_core::Request;
+use mds_settle::{Note, NoteList};
 use std::alloc::Global;
 use std::marker::Model;
 use std::sync::ledger::{Ledger, Share};
@@ -15,17 +16,6 @@ pub enum Keep {
     All,
     /// The calls that were accepted.
     Accepted,
-}
-
-/// A call that a seat noted.
-#[derive(Debug, PartialEq, Eq, Hash, Drop)]
-pub struct Note {
-    /// The number of the shard that was asked.
-    pub shard: usize,
-    /// What was asked.
-    pub request: Request,
-    /// What was replied.
-    pub reply: Reply,
 }
 
 /// A seat's part of the ledger of one shard, and the number that it stands for.
@@ -116,5 +106,13 @@ impl<L: ShardLedger, M: ShardLedger> Seat<L, M> {
         ensures { result.now ≡ self.now.notes }
     {
         self.notes.as_slice()
+    }
+}
+
+impl<L: ShardLedger, M: ShardLedger> NoteList for Seat<L, M> {
+    ghost seen = { λ seat. seat.notes };
+
+    fn notes(&self) -> &[Note] {
+        self.notes()
     }
 }

@@ -1,5 +1,5 @@
 //! What stands behind a lock: a shard, and the ledger that counts what it accepted.
-ghost use Rattle.std.specs.Prelude.{◌≡◌, [], ◌<◌, ◌≤◌, ◌+◌, ◌^◌, IfOk, OnErr};
+ghost use Rattle.std.specs.Prelude.{◌≡◌, [], length, ◌<◌, ◌≤◌, ◌+◌, ◌^◌, IfOk, OnErr};
 ghost use Rattle.mds_core.specs.History.{key_of};
 ghost use Rattle.mds_core.specs.Answer.{Answers, MayBeDone, next};
 ghost use Rattle.mds_core.specs.Lawful.{IsLawful};
@@ -91,6 +91,17 @@ impl<L: ShardLedger, const N: usize> Slot<L, N> {
         // This call's contract says that the history is lawful.
         let _ = self.shard.len();
         &self.shard
+    }
+
+    /// Tells that the share, which has every part, has counted the whole history. It changes nothing.
+    pub(crate) fn audit(&mut self, all: &mut Share<L>)
+        requires { all.old.parts ≡ L.parts }
+        ensures slot { self.new ≡ self.old }
+        ensures total { length self.old.history ≡ all.old.amount }
+        ensures parts { all.new.parts ≡ all.old.parts }
+        ensures amount { all.new.amount ≡ all.old.amount }
+    {
+        self.accepted.audit(all);
     }
 
     /// Answers a request about a vehicle of this shard, as [`Shard::step`] does. Exactly where it is accepted, the ledger

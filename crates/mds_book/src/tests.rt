@@ -3,6 +3,7 @@ mod callers;
 mod cases;
 mod growths;
 mod seats;
+mod settling;
 
 use mds_core::{Event, Key, Request, Standing};
 use mds_table::{State, TypeName};

@@ -1,11 +1,11 @@
-//! Callers in two threads.
+//! Two locks at once, and how many seats a book may have.
 ghost use Rattle.std.specs.Prelude.{◌≡◌};
 
-use super::{A, Asked, B, C, DROP_OFF, E1, available_once, requests_of};
+use super::{A, B};
 use crate::{Book, Keep, OpenFault, Seat, ShardLedger};
-use mds_core::{Outcome, Request};
+use mds_core::Request;
 use mds_shard::Shard;
-use mds_table::{State, Table};
+use mds_table::Table;
 use std::alloc::{AllocError, Global};
 use std::marker::Brand;
 use std::sync::Wait;
@@ -15,120 +15,6 @@ use std::test::Fail;
 use std::thread;
 use std::thread::Threads;
 use std::time::{Clock, Duration};
-
-/// What came of the calls of one caller.
-#[derive(Debug, PartialEq, Drop)]
-struct Told {
-    last: Option<Outcome>,
-    events: Option<usize>,
-    accepted: u64,
-    notes: usize,
-}
-
-/// Asks the requests in turn, then for the events of the last one's vehicle.
-fn ask_all<L: ShardLedger, M: ShardLedger, R: Wait>(
-    rt: &R,
-    alloc: Global,
-    book: &Book<L, M>,
-    mut seat: Seat<L, M>,
-    requests: &[Request],
-) -> Result<Told, AllocError> {
-    let mut last = None;
-    let mut events = None;
-    for request in requests {
-        last = Some(book.call(rt, &mut seat, request)?.outcome);
-        events = book
-            .vehicle_events(rt, alloc, request.key())?
-            .map(|events| events.len());
-    }
-    Ok(Told {
-        last,
-        events,
-        accepted: seat.accepted(0),
-        notes: seat.notes().len(),
-    })
-}
-
-/// What is told to two callers in threads of their own, and how long the histories are then.
-fn two_callers<
-    L: ShardLedger + Send + Sync,
-    M: ShardLedger + Send + Sync,
-    R: Threads + Wait + Sync,
->(
-    rt: &R,
-    alloc: Global,
-    table: Table,
-    requests: (&[Request], &[Request]),
-    first: Blank,
-    second: Blank,
-) -> Result<([Told; 2], [usize; 2]), Fail>
-    requires first { (first.name ≡ L.name) × (first.parts ≡ L.parts) × (first.parts ≡ 2) }
-    requires second { (second.name ≡ M.name) × (second.parts ≡ M.parts) × (second.parts ≡ 2) }
-    requires table { (table ≡ L.rows) × (table ≡ M.rows) }
-{
-    let (book, mut seats) = Book::<L, M>::open(alloc, table, 2, Keep::All, first, second)?;
-    let one = seats.pop().ok_or("a seat")?;
-    let other = seats.pop().ok_or("a seat")?;
-    let shared = &book;
-    let (left, right) = requests;
-    let (a, b) = thread::join(
-        rt,
-        move || ask_all(rt, alloc, shared, one, left),
-        move || ask_all(rt, alloc, shared, other, right),
-    );
-    let lengths = [
-        book.with_shard(rt, 0, |shard| shard.len()),
-        book.with_shard(rt, 1, |shard| shard.len()),
-    ];
-    Ok(([a?, b?], lengths))
-}
-
-/// The same with ledgers of their own.
-fn told_to_two<R: Threads + Wait + Sync>(
-    rt: &R,
-    alloc: Global,
-    table: Table,
-    left: &[Request],
-    right: &[Request],
-) -> Result<([Told; 2], [usize; 2]), Fail> {
-    two_callers::<Brand, Brand, R>(
-        rt,
-        alloc,
-        table,
-        (left, right),
-        Blank::new(2),
-        Blank::new(2),
-    )
-}
-
-/// A registration of a vehicle, its first event, and a look.
-fn three_calls<'a>(device: &'a str) -> [Asked<'a>; 3] {
-    [
-        Asked::Register(device),
-        Asked::Report(device, E1, DROP_OFF, State::Available, 1000),
-        Asked::Look(device),
-    ]
-}
-
-/// What is told of such calls.
-fn told_of_three() -> Told {
-    Told {
-        last: Some(Outcome::Seen(available_once())),
-        events: Some(1),
-        accepted: 2,
-        notes: 3,
-    }
-}
-
-#[test]
-fn two_seats_two_threads(rt: HostRuntime) -> Result<(), Fail> {
-    let alloc = rt.alloc();
-    let left = requests_of(alloc, &three_calls(A))?;
-    let right = requests_of(alloc, &three_calls(C))?;
-    let found = told_to_two(&rt, alloc, Table::profile(alloc)?, &left, &right)?;
-    assert_eq!(rt; found, ([told_of_three(), told_of_three()], [4, 0]));
-    Ok(())
-}
 
 /// What two threads tell each other.
 #[derive(Drop)]

@@ -3,7 +3,7 @@ ghost use Rattle.std.specs.Prelude.{◌≡◌};
 
 use super::{A, Asked, B, C, DROP_OFF, E0, E1, E2, available_once, copies, requests_of};
 use crate::slot::shard_of;
-use crate::{Book, Keep, ShardLedger, Slot};
+use crate::{Book, Keep, Seat, ShardLedger, Slot, reconcile};
 use mds_core::{Fleet, Outcome, Reply, Request};
 use mds_table::{State, Table};
 use std::alloc::{AllocError, Global};
@@ -20,6 +20,8 @@ struct Found {
     first: Vec<Request>,
     second: Vec<Request>,
     counts: [u64; 3],
+    rows: usize,
+    settled: [Option<usize>; 3],
 }
 
 /// What comes of the requests in a book of one seat.
@@ -37,10 +39,10 @@ fn in_a_book<L: ShardLedger, M: ShardLedger, R: Wait>(
     requires table { (table ≡ L.rows) × (table ≡ M.rows) }
 {
     let (book, mut seats) = Book::<L, M>::open(alloc, table, 1, keep, first, second)?;
-    let mut seat = seats.pop().ok_or("a seat")?;
+    let seat = seats.first_mut().ok_or("a seat")?;
     let mut outcomes = Vec::new(alloc);
     for request in requests {
-        outcomes.push(book.call(rt, &mut seat, request)?.outcome)?;
+        outcomes.push(book.call(rt, seat, request)?.outcome)?;
     }
     let mut noted = Vec::new(alloc);
     for note in seat.notes() {
@@ -52,7 +54,19 @@ fn in_a_book<L: ShardLedger, M: ShardLedger, R: Wait>(
         first: book.with_shard(rt, 0, |shard| copies(alloc, shard.history()))?,
         second: book.with_shard(rt, 1, |shard| copies(alloc, shard.history()))?,
         counts: [seat.accepted(0), seat.accepted(1), seat.accepted(2)],
+        rows: book.table().row_count(),
+        settled: settled_lengths(book, seats)?,
     })
+}
+
+/// How long each history of a settled book is, and that of a shard that isn't there.
+fn settled_lengths<L: ShardLedger, M: ShardLedger>(
+    book: Book<L, M>,
+    seats: Vec<Seat<L, M>>,
+) -> Result<[Option<usize>; 3], Fail> {
+    let settled = reconcile(book, seats).ok().ok_or("settled")?;
+    let length = |shard: usize| settled.history(shard).map(|history| history.len());
+    Ok([length(0), length(1), length(2)])
 }
 
 /// The same with ledgers of its own.
@@ -95,12 +109,15 @@ fn in_a_fleet(alloc: Global, requests: &[Request]) -> Result<Found, Fail> {
     let first = of_shard(alloc, fleet.history(), 0)?;
     let second = of_shard(alloc, fleet.history(), 1)?;
     let counts = [first.len() as u64, second.len() as u64, 0];
+    let settled = [Some(first.len()), Some(second.len()), None];
     Ok(Found {
         outcomes,
         noted: copies(alloc, requests)?,
         first,
         second,
         counts,
+        rows: fleet.table().row_count(),
+        settled,
     })
 }
 

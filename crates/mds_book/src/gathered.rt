@@ -1,0 +1,160 @@
+//! What is left of a book once all its seats came back.
+ghost use Rattle.std.specs.Prelude.{◌≡◌, ◌+◌, length, MatchOption, MatchResult};
+ghost use Rattle.std.specs.Option.{option_copied};
+ghost use Rattle.mds_settle.specs.Settled.{IsSettled};
+ghost use Rattle.mds_settle.specs.Faults.{IsLeastFault};
+ghost use Rattle.mds_book.specs.Gathering.{IsWhole, history_of, notes_of};
+ghost use Rattle.mds_book.specs.Settling.{IsSettledBook, IsTorn};
+
+use crate::{Seat, ShardLedger, Slot};
+use mds_core::Request;
+use mds_settle::{Note, NoteList, judge_lawful};
+use mds_table::Table;
+use std::marker::Model;
+
+/// The histories of both shards, and the notes of all seats, with nothing judged. What the seats counted is what the
+/// histories hold.
+#[derive(Drop)]
+pub struct Gathered<L: ShardLedger, M: ShardLedger> {
+    pub(crate) table: Table,
+    pub(crate) first: Slot<L, 0>,
+    pub(crate) second: Slot<M, 1>,
+    pub(crate) seats: Vec<Seat<L, M>>,
+}
+
+impl<L: ShardLedger, M: ShardLedger> Model for Gathered<L, M> {
+    ghost use Rattle.std.specs.Prelude.{◌≡◌, length, sum_by};
+    ghost use Rattle.mds_book.specs.Gathering.{Collected};
+
+    ghost Value = { Collected };
+
+    ghost view = { λ all. record { rows = all.table; first = all.first.history; second = all.second.history; seats = all.seats.items } };
+
+    ghost invariant = { λ all. (all.table ≡ L.rows) × (all.table ≡ M.rows) × (length all.first.history ≡ sum_by (λ seat. seat.first) all.seats.items) × (length all.second.history ≡ sum_by (λ seat. seat.second) all.seats.items) };
+}
+
+/// What is left of a book whose seats all came back with notes that fit. The histories are the order in which the
+/// accepted calls took place, shard by shard; each was noted once, and stands in its caller's order.
+#[derive(Drop)]
+pub struct Settled<L: ShardLedger, M: ShardLedger> {
+    gathered: Gathered<L, M>,
+}
+
+impl<L: ShardLedger, M: ShardLedger> Model for Settled<L, M> {
+    ghost use Rattle.mds_book.specs.Gathering.{Collected};
+    ghost use Rattle.mds_book.specs.Settling.{IsSettledBook};
+
+    ghost Value = { Collected };
+
+    ghost view = { λ settled. settled.gathered };
+
+    ghost invariant = { λ settled. IsSettledBook settled.gathered };
+}
+
+/// Judges callers' notes beside the history of one shard.
+///
+/// # Errors
+///
+/// The least place at which they don't fit it.
+fn judged<L: ShardLedger, const N: usize, S: NoteList>(
+    slot: &Slot<L, N>,
+    seats: &[S],
+) -> Result<(), usize>
+    ensures { MatchResult result (λ _. IsSettled L.rows N slot.now.history S.seen seats.now) (IsLeastFault L.rows N slot.now.history S.seen seats.now) }
+{
+    let shard = slot.shard();
+    judge_lawful(shard.table(), N, shard.history(), seats)
+}
+
+impl<L: ShardLedger, M: ShardLedger> Gathered<L, M> {
+    /// What the shard of this number accepted, in its order, or `None` for a shard that isn't there.
+    pub fn history(&self, shard: usize) -> Option<&[Request]>
+        ensures { option_copied result ≡ history_of self.now shard }
+    {
+        match shard {
+            0 => Some(self.first.shard().history()),
+            1 => Some(self.second.shard().history()),
+            _ => None,
+        }
+    }
+
+    /// The notes of the seat that was handed in at this place, in their order, or `None` where there was no such seat.
+    pub fn notes(&self, seat: usize) -> Option<&[Note]>
+        ensures { option_copied result ≡ notes_of self.now seat }
+    {
+        match self.seats.get(seat) {
+            Some(seat) => Some(seat.notes()),
+            None => None,
+        }
+    }
+
+    /// The table of the book.
+    pub fn table(&self) -> &Table
+        ensures { result.now ≡ self.now.rows }
+    {
+        &self.table
+    }
+
+    /// Tells that the histories are lawful, each of its shard, and as long as what the seats counted. It does nothing.
+    pub(crate) fn tell(&self)
+        ensures { IsWhole self.now }
+    {
+        // These calls' contracts say it of each history.
+        let _ = self.first.shard();
+        let _ = self.second.shard();
+    }
+
+    /// The least shard whose history the notes don't fit, with the least place there; `None` where they fit both.
+    pub(crate) fn torn(&self) -> Option<(usize, usize)>
+        ensures { MatchOption result (IsSettledBook self.now) (λ at. IsTorn self.now at.0 at.1) }
+    {
+        if let Err(place) = judged(&self.first, &self.seats) {
+            return Some((0, place));
+        }
+        match judged(&self.second, &self.seats) {
+            Err(place) => Some((1, place)),
+            Ok(()) => None,
+        }
+    }
+}
+
+impl<L: ShardLedger, M: ShardLedger> Settled<L, M> {
+    /// All that was gathered, once it is known that the notes fit.
+    pub(crate) fn of(gathered: Gathered<L, M>) -> Settled<L, M>
+        requires { IsSettledBook gathered }
+        ensures { result ≡ gathered }
+    {
+        Settled { gathered }
+    }
+
+    /// What the shard of this number accepted, in its order, or `None` for a shard that isn't there.
+    pub fn history(&self, shard: usize) -> Option<&[Request]>
+        ensures { option_copied result ≡ history_of self.now shard }
+    {
+        self.gathered.history(shard)
+    }
+
+    /// The notes of the seat that was handed in at this place, in their order, or `None` where there was no such seat.
+    pub fn notes(&self, seat: usize) -> Option<&[Note]>
+        ensures { option_copied result ≡ notes_of self.now seat }
+    {
+        self.gathered.notes(seat)
+    }
+
+    /// The table of the book.
+    pub fn table(&self) -> &Table
+        ensures { result.now ≡ self.now.rows }
+    {
+        self.gathered.table()
+    }
+
+    /// How many calls were accepted, in both shards.
+    pub fn accepted(&self) -> u128
+        ensures total { result ≡ length self.now.first + length self.now.second }
+        ensures settled { IsSettledBook self.now }
+        ensures whole { IsWhole self.now }
+    {
+        self.gathered.tell();
+        self.gathered.first.shard().len() as u128 + self.gathered.second.shard().len() as u128
+    }
+}
