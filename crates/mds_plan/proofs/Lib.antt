@@ -1,0 +1,4 @@
+pub mod FieldLemmas
+pub mod HeadLemmas
+pub mod PlanLaws
+pub mod RouteLemmas

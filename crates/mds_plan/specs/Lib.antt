@@ -1,0 +1,7 @@
+pub mod Asked
+pub mod Head
+pub mod Fields
+pub mod Routes
+pub mod Plan
+pub mod Step
+pub mod Laws

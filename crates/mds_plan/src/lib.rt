@@ -1,0 +1,28 @@
+//! What a stream of request bytes asks for: the part of HTTP/1.1 (RFC 9112) that this server reads.
+//!
+//! One request is answered per connection. A request is a head, and for a POST the body behind it, as long as the head
+//! says. What it asks for depends on these bytes alone, however they are cut; bytes past them are ignored. The routes:
+//!
+//! - `POST /vehicles`: registrations;
+//! - `POST /events`: events;
+//! - `GET /vehicles/{provider}/{device}`: one vehicle;
+//! - `GET /vehicles/{provider}/{device}/events`: its accepted events;
+//! - `GET /table`: the rows of the table.
+#![tactic(auto)]
+
+mod aim;
+mod face;
+mod fault;
+mod field;
+pub mod laws;
+mod plan;
+mod step;
+mod target;
+#[cfg(test)]
+mod tests;
+
+pub use aim::Aim;
+pub use face::Face;
+pub use fault::HttpFault;
+pub use plan::{Plan, plan_of};
+pub use step::{MAX_FIELDS, MAX_HEAD, Step};

@@ -1,0 +1,220 @@
+//! Heads: how long they are, how many fields they have, how lengths are written, and how far their first bytes come.
+use super::{Pieces, text_of};
+use crate::{Aim, Face, Step};
+use std::test::Fail;
+
+/// Requests by pieces, and how many bytes of body each has; or that it has no head.
+const HEADS: [(Pieces, Option<usize>); 25] = [
+    // the most bytes
+    (
+        &[
+            ("GET /table HTTP/1.1\r\nx: ", 1),
+            ("a", 16356),
+            ("\r\n\r\n", 1),
+        ],
+        Some(0),
+    ),
+    (
+        &[
+            ("GET /table HTTP/1.1\r\nx: ", 1),
+            ("a", 16357),
+            ("\r\n\r\n", 1),
+        ],
+        None,
+    ),
+    (
+        &[
+            ("\r\n", 8180),
+            ("\n", 1),
+            ("GET /table HTTP/1.1\r\n\r\n", 1),
+        ],
+        Some(0),
+    ),
+    (&[("\r\n", 8181), ("GET /table HTTP/1.1\r\n\r\n", 1)], None),
+    (&[("a", 16385)], None),
+    (&[("\n", 16385)], None),
+    // the most fields
+    (
+        &[
+            ("GET /table HTTP/1.1\r\n", 1),
+            ("a: b\r\n", 64),
+            ("\r\n", 1),
+        ],
+        Some(0),
+    ),
+    (
+        &[
+            ("GET /table HTTP/1.1\r\n", 1),
+            ("a: b\r\n", 65),
+            ("\r\n", 1),
+        ],
+        None,
+    ),
+    (
+        &[
+            ("POST /events HTTP/1.1\r\n", 1),
+            ("a: b\r\n", 63),
+            ("content-length: 5\r\n\r\n", 1),
+        ],
+        Some(5),
+    ),
+    // ends of lines, and versions
+    (&[("GET /table HTTP/1.1\n\n", 1)], Some(0)),
+    (&[("GET /table HTTP/1.0\r\n\r\n", 1)], Some(0)),
+    (
+        &[("\r\n\n\r\nGET /table HTTP/1.1\r\nx:y\n\r\n", 1)],
+        Some(0),
+    ),
+    (&[("GET /table HTTP/1.1\r\n\n", 1)], Some(0)),
+    (&[("GET /table HTTP/1.1\r\rx", 1)], None),
+    // lengths
+    (
+        &[("POST /events HTTP/1.1\r\nCoNtEnT-lEnGtH:2\r\n\r\n", 1)],
+        Some(2),
+    ),
+    (
+        &[(
+            "POST /events HTTP/1.1\r\ncontent-length: \t 2 \t\r\n\r\n",
+            1,
+        )],
+        Some(2),
+    ),
+    (
+        &[("POST /events HTTP/1.1\r\ncontent-length: 0\r\n\r\n", 1)],
+        Some(0),
+    ),
+    (
+        &[
+            ("POST /events HTTP/1.1\r\nContent-Length: ", 1),
+            ("0", 29),
+            ("7\r\n\r\n", 1),
+        ],
+        Some(7),
+    ),
+    (
+        &[
+            ("POST /events HTTP/1.1\r\nContent-Length: ", 1),
+            ("0", 3000),
+            ("4194304\r\n\r\n", 1),
+        ],
+        Some(4194304),
+    ),
+    (
+        &[(
+            "POST /vehicles HTTP/1.1\r\nContent-Length: 4194304\r\n\r\n",
+            1,
+        )],
+        Some(4194304),
+    ),
+    // a GET has no body, whatever length is given
+    (
+        &[("GET /table HTTP/1.1\r\nContent-Length: 7\r\n\r\n", 1)],
+        Some(0),
+    ),
+    (
+        &[(
+            "GET /table HTTP/1.1\r\nContent-Length: x\r\nContent-Length: x\r\n\r\n",
+            1,
+        )],
+        Some(0),
+    ),
+    (
+        &[(
+            "GET /table HTTP/1.1\r\nContent-Length: 99999999999999999999\r\n\r\n",
+            1,
+        )],
+        Some(0),
+    ),
+    // other fields are no matter
+    (
+        &[(
+            "GET /table HTTP/1.1\r\nExpect: 100-continue\r\nTE: trailers\r\nHost: é\r\n\r\n",
+            1,
+        )],
+        Some(0),
+    ),
+    (
+        &[(
+            "POST /events HTTP/1.1\r\nX-Content-Length: 9\r\ncontent-length: 2\r\n\r\n",
+            1,
+        )],
+        Some(2),
+    ),
+];
+
+/// How many bytes a body has behind a head that is as long as the request; or that there is no head.
+fn body_of(face: &Face, request: &str) -> Result<Option<usize>, Fail> {
+    match face.step(request.as_bytes()) {
+        Step::Ready { start, len, .. } if start == request.len() => Ok(Some(len)),
+        Step::Short | Step::Never => Ok(None),
+        _ => Err("another step")?,
+    }
+}
+
+#[test]
+fn heads(rt: HostRuntime) -> Result<(), Fail> {
+    let face = Face::open(rt.alloc())?;
+    for (pieces, len) in HEADS {
+        let request = text_of(rt.alloc(), pieces)?;
+        let found = body_of(&face, request.as_str())?;
+        assert_eq!(rt; (pieces, found), (pieces, len));
+    }
+    Ok(())
+}
+
+/// A step without its fault.
+#[derive(Clone, Copy, Debug, PartialEq, Eq)]
+enum Reach {
+    Short,
+    Never,
+    Fixed,
+    Ready(Aim, usize, usize),
+}
+
+/// Beginnings of requests, and how far they come.
+const STEPS: [(&str, Reach); 13] = [
+    ("", Reach::Short),
+    ("\r\n", Reach::Short),
+    ("GET /table HTTP/1.1\r\nx: y\r\n", Reach::Short),
+    (
+        "POST /events HTTP/1.1\r\ncontent-length: x\r\n",
+        Reach::Short,
+    ),
+    ("GET /table HTTP/2", Reach::Never),
+    ("\0", Reach::Never),
+    ("GET /table HTTP/1.1\r\nx y", Reach::Never),
+    ("DELETE /nothing HTTP/1.1\r\n\r\n", Reach::Fixed),
+    ("DELETE /table HTTP/1.1\r\n\r\n", Reach::Fixed),
+    ("POST /events HTTP/1.1\r\n\r\n[]", Reach::Fixed),
+    (
+        "GET /table HTTP/1.1\r\n\r\nmore",
+        Reach::Ready(Aim::Rows, 23, 0),
+    ),
+    (
+        "POST /events HTTP/1.1\r\nContent-Length: 2\r\n\r\n[",
+        Reach::Ready(Aim::Events, 44, 2),
+    ),
+    (
+        "POST /vehicles HTTP/1.1\r\nContent-Length: 2\r\n\r\n[]more",
+        Reach::Ready(Aim::Vehicles, 46, 2),
+    ),
+];
+
+/// How far the bytes come.
+fn reach_of(face: &Face, front: &str) -> Reach {
+    match face.step(front.as_bytes()) {
+        Step::Short => Reach::Short,
+        Step::Never => Reach::Never,
+        Step::Fixed(_) => Reach::Fixed,
+        Step::Ready { aim, start, len } => Reach::Ready(aim, start, len),
+    }
+}
+
+#[test]
+fn steps(rt: HostRuntime) -> Result<(), Fail> {
+    let face = Face::open(rt.alloc())?;
+    for (front, expected) in STEPS {
+        assert_eq!(rt; (front, reach_of(&face, front)), (front, expected));
+    }
+    Ok(())
+}
