@@ -1,0 +1,5 @@
+-- Lemmas of this crate.
+pub mod CallLemmas
+pub mod ConnectionLemmas
+pub mod ReadingLemmas
+pub mod FleetLemmas

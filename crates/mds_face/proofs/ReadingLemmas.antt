@@ -1,0 +1,117 @@
+-- Lemmas on reading what a stream asks for.
+use Rattle.std.proofs.Common.{◌≡◌, ℕ, ◌+◌, ◌-◌, ◌<◌, ◌≤◌, List, [], ◌++◌, length, Option, None, Some, IfSome, inl, inr, refl, sym, ap, ◌∙◌, subst, arith, append-nil, length-append}
+use Rattle.std.proofs.lemmas.Bool.{cases_lt}
+use Rattle.std.specs.Io.KnownBytes.{Consumes, IsAtEnd}
+use Rattle.std.proofs.KnownBytes.{Consumes-nil, Consumes-trans}
+use Rattle.mds_device.specs.declared.device.ReadFault.{ReadFault}
+use Rattle.mds_device.specs.declared.device.ReadFault.TheVariants.{Memory, Device, TooManyTurns}
+use Rattle.mds_device.specs.Device.{ConsumesUpTo, Gains, StopsAt}
+use Rattle.mds_plan.specs.declared.aim.Aim.{Aim}
+use Rattle.mds_plan.specs.declared.step.Step.{Step}
+use Rattle.mds_plan.specs.declared.step.Step.TheVariants.{Short, Never, Fixed, Ready}
+use Rattle.mds_plan.specs.Asked.{Asked}
+use Rattle.mds_plan.specs.Plan.{IsPlan}
+use Rattle.mds_plan.specs.Step.{IsStep}
+use Rattle.mds_plan.proofs.PlanLaws.{never_settles, short_settles, fixed_settles, ready_needs, steps_stay}
+use Rattle.mds_face.specs.Reading.{Grows, IsEnough, ReadsNoFurther, wanted}
+
+-- the step of some bytes is that of the same bytes
+pub step_of_same : (a b : List ℕ) (step : Step) → a ≡ b → IsStep a step → IsStep b step
+step_of_same a b step same is = subst (λ bytes. IsStep bytes step) same is
+
+-- nothing was read yet
+pub read_none : (a : Option (List ℕ)) (bytes : List ℕ) → bytes ≡ [] → Consumes a a bytes
+read_none a bytes none = rw none (Consumes-nil a)
+
+-- one read after others
+pub read_next : (most : ℕ) (a b c : Option (List ℕ)) (held grown : List ℕ) → Consumes a b held → Gains most b c held grown → Consumes a c grown
+read_next most a b c held grown p q = rw q.2 (Consumes-trans a b c held q.0 p q.3)
+
+-- and others behind them
+pub read_on : (a b c : Option (List ℕ)) (held grown : List ℕ) → Consumes a b held → Grows b c held grown → Consumes a c grown
+read_on a b c held grown p q = rw q.1 (Consumes-trans a b c held q.0 p q.2)
+
+-- no more was read
+pub grows_none : (a : Option (List ℕ)) (held : List ℕ) → Grows a a held held
+grows_none a held = ([], sym (append-nil held), Consumes-nil a)
+
+-- what the bytes that were read ask for, the stream does, where they are enough
+pub plan_of_read : (a b : Option (List ℕ)) (bytes : List ℕ) (asked : Asked) → Consumes a b bytes → IsEnough b bytes → IsPlan bytes asked → IfSome a (λ stream. IsPlan stream asked)
+plan_of_read None b bytes asked p enough plan = tt
+plan_of_read (Some x) None bytes asked p enough plan = absurd p
+plan_of_read (Some x) (Some y) bytes asked p (inl end) plan = subst (λ stream. IsPlan stream asked) (sym (p ∙ ap (λ l. bytes ++ l) end ∙ append-nil bytes)) plan
+plan_of_read (Some x) (Some y) bytes asked p (inr settled) plan = subst (λ stream. IsPlan stream asked) (sym p) (settled y asked plan)
+
+-- no whole head, at the stream's end or in as many bytes as a head may have, is enough
+pub short_enough : (left : Option (List ℕ)) (bytes : List ℕ) → IsStep bytes Short → (length bytes < 16384 → IsAtEnd left) → IsEnough left bytes
+short_enough left bytes step end =
+    elim (cases_lt (length bytes) 16384) [
+      | inl below ↦ inl (end below)
+      | inr above ↦ inr (short_settles bytes step above)
+    ]
+
+-- a head without a fault and its body, or all that there is of it, are enough
+pub ready_enough : (aim : Aim) (start len most : ℕ) (a b : Option (List ℕ)) (held grown : List ℕ) → IsStep held (Ready aim start len) → Gains most a b held grown
+    → (length grown < start + len → IsAtEnd b) → IsEnough b grown
+ready_enough aim start len most a b held grown step gains end =
+    elim (cases_lt (length grown) (start + len)) [
+      | inl below ↦ inl (end below)
+      | inr above ↦ inr (rw gains.2 (ready_needs held aim start len step gains.0 (rw gains.2 at above)))
+    ]
+
+-- bytes behind a head without a fault leave it as it is
+pub ready_stays : (aim : Aim) (start len most : ℕ) (a b : Option (List ℕ)) (held grown : List ℕ) → IsStep held (Ready aim start len) → Gains most a b held grown
+    → IsStep grown (Ready aim start len)
+ready_stays aim start len most a b held grown step gains = rw gains.2 ((steps_stay held gains.0).2 aim start len step)
+
+-- where no body is announced, the bytes at which a head is no longer waited for are enough
+pub head_enough : (step : Step) (left : Option (List ℕ)) (bytes : List ℕ) → IsStep bytes step → (step ≡ Short → length bytes < 16384 → IsAtEnd left)
+    → ((aim : Aim) (start len : ℕ) → step ≡ Ready aim start len → ⊥) → IsEnough left bytes
+head_enough Short left bytes is end bodiless = short_enough left bytes is (end refl)
+head_enough Never left bytes is end bodiless = inr (never_settles bytes is)
+head_enough (Fixed fault) left bytes is end bodiless = inr (fixed_settles bytes fault is)
+head_enough (Ready aim start len) left bytes is end bodiless = absurd (bodiless aim start len refl)
+
+-- what was read when reading stopped
+pub stop_loses : (fault : ReadFault) (most : ℕ) (a b : Option (List ℕ)) (held grown : List ℕ) → StopsAt fault most a b held grown → ConsumesUpTo most a b
+stop_loses Device most a b held grown stop = (stop.0, stop.1, stop.3)
+stop_loses TooManyTurns most a b held grown stop = (stop.0, stop.1, stop.3)
+stop_loses Memory most a b held grown stop = (stop.0 ++ stop.1, rw length-append stop.3, stop.5)
+
+-- what was read when it didn't
+pub gains_lose : (most : ℕ) (a b : Option (List ℕ)) (held grown : List ℕ) → Gains most a b held grown → ConsumesUpTo most a b
+gains_lose most a b held grown gains = (gains.0, gains.1, gains.3)
+
+-- within a limit the bytes stay within it
+pub gains_few : (limit : ℕ) (a b : Option (List ℕ)) (held grown : List ℕ) → length held ≤ limit → Gains (limit - length held) a b held grown → length grown ≤ limit
+gains_few limit a b held grown fits gains = rw (gains.2, length-append) (omega (arith, gains.1))
+
+-- nothing was lost
+pub loses_none : (most : ℕ) (a : Option (List ℕ)) → ConsumesUpTo most a a
+loses_none most a = ([], omega arith, Consumes-nil a)
+
+-- bytes, and others up to the limit, are bytes up to the limit
+pub loses_next : (limit : ℕ) (a b c : Option (List ℕ)) (held : List ℕ) → length held ≤ limit → Consumes a b held → ConsumesUpTo (limit - length held) b c → ConsumesUpTo limit a c
+loses_next limit a b c held fits p q = (held ++ q.0, rw length-append (omega (arith, q.1)), Consumes-trans a b c held q.0 p q.2)
+
+-- bytes that a head may have, and no more
+no_more : (a b c : Option (List ℕ)) (held : List ℕ) → length held ≤ 16384 → Consumes a b held → ConsumesUpTo 0 b c → ReadsNoFurther a c
+no_more a b c held few p q =
+    let fits : length (held ++ q.0) ≤ 16384 = rw length-append (omega (arith, q.1)) in
+    (held ++ q.0, Consumes-trans a b c held q.0 p q.2, inl fits)
+
+-- a head's bytes, and those that its body waits for, are no more than the request's
+pub no_further : (step : Step) (a b c : Option (List ℕ)) (held : List ℕ) → length held ≤ 16384 → IsStep held step → Consumes a b held → ConsumesUpTo (wanted step (length held)) b c → ReadsNoFurther a c
+no_further (Ready aim start len) a b c held few is p q =
+    let bytes = held ++ q.0 in
+    let taken = Consumes-trans a b c held q.0 p q.2 in
+    let counted : length bytes ≡ length held + length q.0 = length-append held q.0 in
+    elim (cases_lt (length held) (start + len)) [
+      | inl below ↦
+          let fits : length bytes ≤ start + len = omega (arith, q.1) in
+          (bytes, taken, inr (aim, start, len, (steps_stay held q.0).2 aim start len is, fits))
+      | inr above ↦ let fits : length bytes ≤ 16384 = omega (arith, q.1) in (bytes, taken, inl fits)
+    ]
+no_further Short a b c held few is p q = no_more a b c held few p q
+no_further Never a b c held few is p q = no_more a b c held few p q
+no_further (Fixed fault) a b c held few is p q = no_more a b c held few p q

@@ -1,0 +1,32 @@
+use Rattle.std.proofs.Common.{rules}
+use Rattle.mds_device.specs.Device.{ConsumesUpTo}
+use Rattle.mds_face.proofs.ReadingLemmas.{gains_few, loses_next, read_next, step_of_same, stop_loses}
+use Rattle.mds_face.proofs.reading.read_head.Goals as goal
+
+pub loop-reader-preserved : goal.loop-reader-preserved
+loop-reader-preserved g c =
+    let gains = c.in_ok-read_more.ensures.ok in record {
+      taken = read_next _ _ _ _ _ _ c.loop-reader.invariant.taken gains;
+      few = gains_few _ _ _ _ _ c.loop-reader.invariant.few gains;
+    }
+
+pub returns-in_err-read_more-clause-lost : goal.returns-in_err-read_more-clause-lost
+returns-in_err-read_more-clause-lost g c =
+    let lost : ConsumesUpTo 16384 (g.R.Read.remaining c.args.reader.now) (g.R.Read.remaining c.read_more.new.reader) =
+    loses_next _ _ _ _ _ c.loop-reader.invariant.few c.loop-reader.invariant.taken (stop_loses _ _ _ _ _ _ c.in_err-read_more.ensures.err) in
+    search rules
+
+pub returns-then-branch-clause-step : goal.returns-then-branch-clause-step
+returns-then-branch-clause-step g c = step_of_same _ _ _ c.deref.ensures.value c.step.ensures.step
+
+pub returns-then-branch-clause-taken : goal.returns-then-branch-clause-taken
+returns-then-branch-clause-taken g c = read_next _ _ _ _ _ _ c.loop-reader.invariant.taken c.in_ok-read_more.ensures.ok
+
+pub returns-then-branch-clause-few : goal.returns-then-branch-clause-few
+returns-then-branch-clause-few g c = gains_few _ _ _ _ _ c.loop-reader.invariant.few c.in_ok-read_more.ensures.ok
+
+pub returns-then-not-matches-clause-step : goal.returns-then-not-matches-clause-step
+returns-then-not-matches-clause-step g c = step_of_same _ _ _ c.deref-in-loop-reader.ensures.value c.step-step.ensures.step
+
+pub returns-clause-step : goal.returns-clause-step
+returns-clause-step g c = step_of_same _ _ _ c.deref-2.ensures.value c.step-2.ensures.step

@@ -1,0 +1,8 @@
+-- Definitions that the contracts cite.
+pub mod Desk
+pub mod Seats
+pub mod Asking
+pub mod Faults
+pub mod Serving
+pub mod Reading
+pub mod Laws

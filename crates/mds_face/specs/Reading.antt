@@ -1,0 +1,26 @@
+-- What was read of a stream, and whether it says what the stream asks for.
+use Rattle.std.specs.Prelude.{◌≡◌, ◌⊎◌, ℕ, ◌+◌, ◌-◌, ◌≤◌, List, ◌++◌, length, Option}
+use Rattle.std.specs.Io.KnownBytes.{Consumes, IsAtEnd}
+use Rattle.mds_plan.specs.declared.aim.Aim.{Aim}
+use Rattle.mds_plan.specs.declared.step.Step.{Step}
+use Rattle.mds_plan.specs.declared.step.Step.TheVariants.{Ready}
+use Rattle.mds_plan.specs.Head.{max_head}
+use Rattle.mds_plan.specs.Step.{IsSettled, IsStep}
+
+-- the bytes held grew by what the reader lost
+abbrev pub Grows : Option (List ℕ) → Option (List ℕ) → List ℕ → List ℕ → Type 0
+Grows old new held grown = (more : List ℕ) × (grown ≡ held ++ more) × Consumes old new more
+
+-- the bytes read say what the whole stream asks for: nothing is left of it, or what is left doesn't matter
+abbrev pub IsEnough : Option (List ℕ) → List ℕ → Type 0
+IsEnough left bytes = IsAtEnd left ⊎ IsSettled bytes
+
+-- the reader lost no more than a head may have, or than its request has: a head without a fault, and its body
+abbrev pub ReadsNoFurther : Option (List ℕ) → Option (List ℕ) → Type 0
+ReadsNoFurther old new = (bytes : List ℕ) × Consumes old new bytes
+    × ((length bytes ≤ max_head) ⊎ ((aim : Aim) × (start : ℕ) × (len : ℕ) × IsStep bytes (Ready aim start len) × (length bytes ≤ start + len)))
+
+-- how many bytes more than there are a step waits for
+abbrev pub wanted : Step → ℕ → ℕ
+wanted (Ready aim start len) there = start + len - there
+wanted other there = 0

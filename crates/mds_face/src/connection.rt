@@ -1,0 +1,184 @@
+//! Serving one connection.
+ghost use Rattle.std.specs.Prelude.{◌≡◌, ℕ, Some, IfOk, IfErr, OnOk, OnErr};
+ghost use Rattle.std.specs.Io.KnownBytes.{Appends};
+ghost use Rattle.mds_plan.specs.Asked.{asked_in};
+ghost use Rattle.mds_answer.specs.Found.{finding_in, replies_in, accepted_in};
+ghost use Rattle.mds_answer.specs.Answer.{answer_to};
+ghost use Rattle.mds_face.specs.Faults.{serve_fault_text};
+ghost use Rattle.mds_face.specs.Reading.{ReadsNoFurther};
+ghost use Rattle.mds_face.specs.Serving.{Finds, FindsNoMemory, IsAnsweredWhole, IsFixedAnswer, IsServed, IsUnwritten, Stops, StopsAsked};
+
+use crate::asking::ask_all;
+use crate::{Desk, read_plan};
+use mds_answer::{Found, bytes_of, memory_bytes, status_of};
+use mds_core::Request;
+use mds_device::{ReadFault, WriteCause, write_all_of};
+use mds_plan::{Face, Plan};
+use std::alloc::{AllocError, Global};
+use std::error::Error;
+use std::fmt;
+use std::io::{Read, Write};
+
+/// An answer that was written.
+#[derive(Clone, Copy, Debug, PartialEq, Eq, Hash)]
+pub struct Served {
+    /// Its status (RFC 9110, section 15).
+    pub status: u16,
+    /// How many requests were accepted.
+    pub accepted: usize,
+}
+
+/// Why no answer was written whole.
+#[derive(Clone, Copy, Debug, PartialEq, Eq, Hash)]
+pub enum ServeFault {
+    /// A read failed: nothing was asked of the desk, and nothing was written.
+    Read,
+    /// A write failed, or took no byte: what was asked of the desk stands.
+    Write {
+        /// How many bytes of the answer were written.
+        sent: usize,
+    },
+    /// There was no memory: in place of the answer the fixed one of status 503 was written, as far as the writer took it.
+    /// What was asked of the desk stands.
+    Memory {
+        /// How many bytes of the fixed answer were written.
+        sent: usize,
+    },
+    /// The calls of `read` or of `write` ran out. Where it was those of `read`, nothing was asked of the desk; else what
+    /// was asked of it stands.
+    TooManyTurns {
+        /// How many bytes of the answer were written.
+        sent: usize,
+    },
+}
+
+impl fmt::Display for ServeFault {
+    ghost output = { λ fault. Some (serve_fault_text fault) };
+
+    fn fmt<W: fmt::Write>(&self, f: &mut fmt::Formatter<W>) -> fmt::Result {
+        match self {
+            ServeFault::Read => f.write_str("read"),
+            ServeFault::Write { sent } => write!(f, "write {sent}"),
+            ServeFault::Memory { sent } => write!(f, "memory {sent}"),
+            ServeFault::TooManyTurns { sent } => write!(f, "too_many_turns {sent}"),
+        }
+    }
+}
+
+impl Error for ServeFault {}
+
+/// Answers one request: it is read, what it asks for is put to the desk, and the answer is written. The items of a POST
+/// are put to the desk one by one, in their order, each that isn't a fault once, up to the first that finds no memory.
+///
+/// It makes at most 5000000 calls of `read` and as many of `write`; a call that is interrupted is made again, and counts.
+/// An answer that the writer takes whole is written in one call. It reads no further than the request's end, but for bytes
+/// that came with its head.
+///
+/// # Errors
+///
+/// [`ServeFault`] says when each comes, what was done then and what was written.
+pub fn serve_one<R: Read, W: Write, D: Desk>(
+    alloc: Global,
+    face: &Face,
+    reader: &mut R,
+    writer: &mut W,
+    desk: &mut D,
+) -> Result<Served, ServeFault>
+    ensures served { IfOk result (IsServed D.calls D.gives_events D.gives_rows (R.remaining reader.old) desk.old desk.new (W.contents writer.old) (W.contents writer.new)) }
+    ensures stopped { IfErr result (Stops D.calls D.gives_events D.gives_rows (R.remaining reader.old) desk.old desk.new (W.contents writer.old) (W.contents writer.new)) }
+    ensures no_further { ReadsNoFurther (R.remaining reader.old) (R.remaining reader.new) }
+{
+    match read_plan(alloc, face, reader) {
+        Ok(plan) => answer(alloc, writer, desk, &plan),
+        Err(ReadFault::Memory) => Err(out_of_memory(writer)),
+        Err(ReadFault::Device) => Err(ServeFault::Read),
+        Err(ReadFault::TooManyTurns) => Err(ServeFault::TooManyTurns { sent: 0 }),
+    }
+}
+
+/// Puts what is asked for to the desk, and writes the answer.
+///
+/// # Errors
+///
+/// Those of [`serve_one`] that come after a request was read.
+#[tactic(auto, using(crate::proofs::ConnectionLemmas::stops_unwritten))]
+fn answer<W: Write, D: Desk>(
+    alloc: Global,
+    writer: &mut W,
+    desk: &mut D,
+    plan: &Plan,
+) -> Result<Served, ServeFault>
+    ensures answered { IfOk result (IsAnsweredWhole D.calls D.gives_events D.gives_rows (asked_in plan.now) desk.old desk.new (W.contents writer.old) (W.contents writer.new)) }
+    ensures stopped { IfErr result (StopsAsked D.calls D.gives_events D.gives_rows (asked_in plan.now) desk.old desk.new (W.contents writer.old) (W.contents writer.new)) }
+{
+    let Ok(found) = find(alloc, desk, plan) else {
+        return Err(out_of_memory(writer));
+    };
+    let Ok(bytes) = bytes_of(alloc, plan, &found) else {
+        return Err(out_of_memory(writer));
+    };
+    match write_answer(writer, &bytes) {
+        Ok(()) => Ok(served_of(plan, &found)),
+        Err(fault) => Err(fault),
+    }
+}
+
+/// Puts what is asked for to the desk: what is found.
+///
+/// # Errors
+///
+/// `AllocError` where there is no memory for the replies of a POST, and no call was made then, or for what a GET looks at.
+fn find<D: Desk>(alloc: Global, desk: &mut D, plan: &Plan) -> Result<Found, AllocError>
+    ensures finds { IfOk result (λ found. Finds D.calls D.gives_events D.gives_rows desk.old (asked_in plan.now) (finding_in found) desk.new) }
+    ensures memory { OnErr result (FindsNoMemory D.calls D.gives_events D.gives_rows desk.old (asked_in plan.now) desk.new) }
+{
+    match plan {
+        Plan::Fixed(_) => Ok(Found::Nothing),
+        Plan::Vehicles(items) => Ok(Found::Replies(ask_all(alloc, desk, items)?)),
+        Plan::Events(items) => Ok(Found::Replies(ask_all(alloc, desk, items)?)),
+        Plan::One(key) => Ok(Found::One(desk.call(&Request::Look(*key))?)),
+        Plan::History(key) => Ok(Found::History(desk.events(key)?)),
+        Plan::Rows => Ok(Found::Rows(desk.rows()?)),
+    }
+}
+
+/// What is said of an answer that was written whole.
+fn served_of(plan: &Plan, found: &Found) -> Served
+    ensures status { result.status ≡ (answer_to (asked_in plan.now) (finding_in found.now)).status }
+    ensures accepted { result.accepted ≡ accepted_in (replies_in (finding_in found.now)) }
+{
+    Served {
+        status: status_of(plan, found).as_u16(),
+        accepted: found.accepted(),
+    }
+}
+
+/// Writes an answer.
+///
+/// # Errors
+///
+/// [`ServeFault::Write`] where a write failed or took no byte, [`ServeFault::TooManyTurns`] where the calls of `write` ran
+/// out, with the number of bytes that were written.
+fn write_answer<W: Write>(writer: &mut W, bytes: &[u8]) -> Result<(), ServeFault>
+    ensures ok { OnOk result (Appends (W.contents writer.old) (W.contents writer.new) bytes.now) }
+    ensures err { IfErr result (IsUnwritten bytes.now (W.contents writer.old) (W.contents writer.new)) }
+{
+    match write_all_of(writer, bytes) {
+        Ok(()) => Ok(()),
+        Err(stop) => Err(match stop.cause {
+            WriteCause::Device => ServeFault::Write { sent: stop.sent },
+            WriteCause::TooManyTurns => ServeFault::TooManyTurns { sent: stop.sent },
+        }),
+    }
+}
+
+/// Writes the fixed answer of status 503, as far as the writer takes it: the fault that says so. It takes no memory.
+fn out_of_memory<W: Write>(writer: &mut W) -> ServeFault
+    ensures { (sent : ℕ) × (result ≡ ServeFault.Memory sent) × IsFixedAnswer (W.contents writer.old) (W.contents writer.new) sent }
+{
+    let sent = match write_all_of(writer, memory_bytes()) {
+        Ok(()) => memory_bytes().len(),
+        Err(stop) => stop.sent,
+    };
+    ServeFault::Memory { sent }
+}

@@ -1,0 +1,127 @@
+//! Where requests are put: the plain machine, or a caller's seat at a book.
+ghost use Rattle.std.specs.Prelude.{◌≡◌, Some, None, IfOk, OnErr, MatchResult, option_map};
+ghost use Rattle.mds_core.specs.Answer.{IsOutcomeFor};
+ghost use Rattle.mds_face.specs.Desk.{FleetCalls, FleetGivesEvents};
+ghost use Rattle.mds_face.specs.Seats.{SeatCalls, SeatGivesEvents};
+
+use mds_book::{Book, Seat, ShardLedger};
+use mds_core::{Event, Fleet, Key, Reply, Request};
+use mds_table::Row;
+use std::alloc::{AllocError, Global};
+use std::sync::Wait;
+
+/// Where requests are put, and the accepted events and the rows are asked for.
+pub trait Desk {
+    ghost use Rattle.std.specs.Prelude.{◌≡◌, List, Option, Some, None, IfOk, OnErr, MatchResult, option_map};
+    ghost use Rattle.mds_table.specs.declared.row.Row.{Row as Allowed};
+    ghost use Rattle.mds_core.specs.declared.key.Key.{Key as About};
+    ghost use Rattle.mds_core.specs.declared.request.Request.{Request as Asked};
+    ghost use Rattle.mds_core.specs.declared.reply.Reply.{Reply as Replied};
+    ghost use Rattle.mds_core.specs.Reported.{Reported};
+    ghost use Rattle.mds_core.specs.Answer.{IsOutcomeFor};
+
+    /// From a state, a request leads by its reply to the next; by none where there was no memory.
+    ghost calls: { Self → Asked → Option Replied → Self → Type 0 };
+
+    /// In a state, these are a vehicle's accepted events; none where it isn't registered.
+    ghost gives_events: { Self → About → Option (List Reported) → Type 0 };
+
+    /// In a state, these are the rows of the table.
+    ghost gives_rows: { Self → List Allowed → Type 0 };
+
+    /// The reply to a request.
+    ///
+    /// # Errors
+    ///
+    /// `AllocError` where there is no memory for it.
+    fn call(&mut self, request: &Request) -> Result<Reply, AllocError>
+        ensures { MatchResult result (λ reply. calls self.old request.now (Some reply) self.new) (λ _. calls self.old request.now None self.new) };
+
+    /// The accepted events of a vehicle in their order, or `None` where it isn't registered. They leave the desk as it was.
+    ///
+    /// # Errors
+    ///
+    /// `AllocError` where there is no memory for the list.
+    fn events(&mut self, key: &Key) -> Result<Option<Vec<Event>>, AllocError>
+        ensures events { IfOk result (λ events. gives_events self.old key.now (option_map (λ v. v.items) events)) }
+        ensures unchanged { self.new ≡ self.old };
+
+    /// The rows of the table in their order. They leave the desk as it was.
+    ///
+    /// # Errors
+    ///
+    /// `AllocError` where there is no memory for them.
+    fn rows(&mut self) -> Result<Vec<Row>, AllocError>
+        ensures rows { IfOk result (λ rows. gives_rows self.old rows.items) }
+        ensures unchanged { self.new ≡ self.old };
+
+    /// A reply has an outcome that the rules have for such a request.
+    ghost of_its_kind: { (old : Self) (request : Asked) (reply : Replied) (new : Self) → calls old request (Some reply) new → IsOutcomeFor request reply.outcome };
+}
+
+impl Desk for Fleet {
+    ghost use Rattle.std.specs.Prelude.{◌≡◌};
+    ghost use Rattle.mds_core.specs.History.{key_of, own};
+    ghost use Rattle.mds_core.proofs.OfTheirKind.{given_is_for};
+    ghost use Rattle.mds_face.specs.Desk.{FleetCalls, FleetGivesEvents};
+
+    ghost calls = { FleetCalls };
+
+    ghost gives_events = { FleetGivesEvents };
+
+    ghost gives_rows = { λ fleet rows. rows ≡ fleet.rows };
+
+    ghost of_its_kind = { λ old request reply new calls. given_is_for old.rows (own old.history (key_of request)) request reply.outcome (calls.0).outcome };
+
+    fn call(&mut self, request: &Request) -> Result<Reply, AllocError> {
+        self.step(request)
+    }
+
+    fn events(&mut self, key: &Key) -> Result<Option<Vec<Event>>, AllocError> {
+        Fleet::events(self, self.allocator(), key)
+    }
+
+    fn rows(&mut self) -> Result<Vec<Row>, AllocError> {
+        self.table().rows(self.allocator())
+    }
+}
+
+/// A caller's seat at a book, as a desk. Its calls wait for the locks of the book.
+#[derive(Drop)]
+pub struct SeatDesk<'a, R: Wait, L: ShardLedger, M: ShardLedger> {
+    /// Where the memory for the events and the rows comes from.
+    pub alloc: Global,
+    /// The handle by which it waits.
+    pub rt: &'a R,
+    /// The book.
+    pub book: &'a Book<L, M>,
+    /// The seat.
+    pub seat: &'a mut Seat<L, M>,
+}
+
+impl<R: Wait, L: ShardLedger, M: ShardLedger> Desk for SeatDesk<'_, R, L, M> {
+    ghost use Rattle.std.specs.Prelude.{◌≡◌};
+    ghost use Rattle.mds_core.specs.History.{key_of, own};
+    ghost use Rattle.mds_core.proofs.OfTheirKind.{given_is_for};
+    ghost use Rattle.mds_face.specs.Seats.{SeatCalls, SeatGivesEvents};
+
+    ghost calls = { λ old request reply new. (new.book ≡ old.book) × (new.seat.ghost_name ≡ old.seat.ghost_name) × SeatCalls old.book.now.rows old.seat.now request reply new.seat.now };
+
+    ghost gives_events = { λ desk. SeatGivesEvents desk.book.now.rows };
+
+    ghost gives_rows = { λ desk rows. rows ≡ desk.book.now.rows };
+
+    ghost of_its_kind = { λ old request reply new calls. let answered = calls.2.0 in given_is_for old.book.now.rows (own answered.history (key_of request)) request reply.outcome (answered.answer).outcome };
+
+    fn call(&mut self, request: &Request) -> Result<Reply, AllocError> {
+        self.book.call(self.rt, self.seat, request)
+    }
+
+    fn events(&mut self, key: &Key) -> Result<Option<Vec<Event>>, AllocError> {
+        self.book.vehicle_events(self.rt, self.alloc, key)
+    }
+
+    fn rows(&mut self) -> Result<Vec<Row>, AllocError> {
+        self.book.table().rows(self.alloc)
+    }
+}

@@ -1,0 +1,17 @@
+//! HTTP (RFC 9112) over any reader and writer: a request is read, what it asks for is put to a desk, and the answer is
+//! written.
+#![tactic(auto)]
+
+mod asking;
+mod connection;
+mod desk;
+pub mod laws;
+mod reading;
+#[cfg(test)]
+mod tests;
+
+pub use connection::{ServeFault, Served, serve_one};
+pub use desk::{Desk, SeatDesk};
+pub use mds_answer::{Found, bytes_of, memory_bytes};
+pub use mds_plan::{Face, HttpFault, Plan, plan_of};
+pub use reading::read_plan;

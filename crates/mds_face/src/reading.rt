@@ -1,0 +1,116 @@
+//! Reading a request: what it asks for, of the bytes that a reader gives, however they are cut.
+ghost use Rattle.std.specs.Prelude.{◌≡◌, ◌<◌, ◌≤◌, [], length, OnOk, OnErr, IfOk, IfSome};
+ghost use Rattle.std.specs.Io.KnownBytes.{Consumes, IsAtEnd};
+ghost use Rattle.mds_device.specs.Device.{ConsumesUpTo};
+ghost use Rattle.mds_plan.specs.Asked.{asked_in};
+ghost use Rattle.mds_plan.specs.Head.{max_head};
+ghost use Rattle.mds_plan.specs.Plan.{IsPlan};
+ghost use Rattle.mds_plan.specs.Step.{IsInReach, IsStep};
+ghost use Rattle.mds_face.specs.Reading.{Grows, IsEnough, ReadsNoFurther, wanted};
+
+use mds_device::{MAX_CALLS, ReadFault, read_more, read_up_to};
+use mds_plan::{Face, MAX_HEAD, Plan, Step};
+use std::alloc::{AllocError, Global};
+use std::io::Read;
+
+/// What the stream of bytes that `reader` gives asks for: of these bytes alone, however they are cut.
+///
+/// It reads no further than it needs. Up to the head's end a call of `read` asks for what a head may yet have, so that a
+/// request that comes in one piece takes one call; then for what the body yet has. So it never waits for bytes that a client
+/// has no reason to send, and bytes behind the request may stay with the reader. It calls `read` at most `MAX_CALLS` times;
+/// an interrupted call is made again.
+///
+/// # Errors
+///
+/// `Memory` where there was none for the bytes or the items, `Device` where a call failed, `TooManyTurns` where the calls ran
+/// out. The reader has then lost what it gave.
+pub fn read_plan<R: Read>(alloc: Global, face: &Face, reader: &mut R) -> Result<Plan, ReadFault>
+    ensures plan { IfOk result (λ plan. IfSome (R.remaining reader.old) (λ stream. IsPlan stream (asked_in plan))) }
+    ensures no_further { ReadsNoFurther (R.remaining reader.old) (R.remaining reader.new) }
+{
+    let mut bytes = Vec::new(alloc);
+    let mut room = [0u8; MAX_HEAD];
+    plan_into(alloc, face, reader, &mut bytes, &mut room)
+}
+
+/// What the stream asks for, its bytes read behind none into `bytes`.
+fn plan_into<R: Read>(
+    alloc: Global,
+    face: &Face,
+    reader: &mut R,
+    bytes: &mut Vec<u8>,
+    room: &mut [u8],
+) -> Result<Plan, ReadFault>
+    requires none { bytes.old.items ≡ [] }
+    requires room { 0 < length room.old }
+    ensures plan { IfOk result (λ plan. IfSome (R.remaining reader.old) (λ stream. IsPlan stream (asked_in plan))) }
+    ensures no_further { ReadsNoFurther (R.remaining reader.old) (R.remaining reader.new) }
+{
+    let mut calls = MAX_CALLS;
+    let step = match read_head(face, reader, bytes, room, &mut calls) {
+        Ok(step) => step,
+        Err(fault) => return Err(fault),
+    };
+    read_body(&step, reader, bytes, room, &mut calls)?;
+    match step.plan(alloc, bytes) {
+        Ok(plan) => Ok(plan),
+        Err(AllocError) => Err(ReadFault::Memory),
+    }
+}
+
+/// Reads behind none until the bytes have a head, can't come to have one, or are `MAX_HEAD` or all that the reader has: how far
+/// they come.
+///
+/// They are parsed after each call of `read`, so that no call is made that the answer doesn't wait for.
+fn read_head<R: Read>(
+    face: &Face,
+    reader: &mut R,
+    bytes: &mut Vec<u8>,
+    room: &mut [u8],
+    calls: &mut u32,
+) -> Result<Step, ReadFault>
+    requires none { bytes.old.items ≡ [] }
+    requires room { 0 < length room.old }
+    ensures step { IfOk result (λ step. IsStep bytes.new.items step) }
+    ensures in_reach { IfOk result (λ step. IsInReach bytes.new.items step) }
+    ensures short { IfOk result (λ step. step ≡ Step.Short → length bytes.new.items < max_head → IsAtEnd (R.remaining reader.new)) }
+    ensures taken { IfOk result (λ step. Consumes (R.remaining reader.old) (R.remaining reader.new) bytes.new.items) }
+    ensures few { IfOk result (λ step. length bytes.new.items ≤ max_head) }
+    ensures lost { OnErr result (ConsumesUpTo max_head (R.remaining reader.old) (R.remaining reader.new)) }
+{
+    while bytes.len() < MAX_HEAD {
+        if read_more(reader, bytes, room, MAX_HEAD, calls)? {
+            return Ok(face.step(bytes));
+        }
+        let step = face.step(bytes);
+        if !matches!(step, Step::Short) {
+            return Ok(step);
+        }
+    }
+    Ok(face.step(bytes))
+}
+
+/// Reads the body that a head without a fault announces, behind the bytes that are there, or to the reader's end.
+fn read_body<R: Read>(
+    step: &Step,
+    reader: &mut R,
+    bytes: &mut Vec<u8>,
+    room: &mut [u8],
+    calls: &mut u32,
+) -> Result<(), ReadFault>
+    requires step { IsStep bytes.old.items step.now }
+    requires in_reach { IsInReach bytes.old.items step.now }
+    requires short { step.now ≡ Step.Short → length bytes.old.items < max_head → IsAtEnd (R.remaining reader.old) }
+    requires room { 0 < length room.old }
+    ensures step { OnOk result (IsStep bytes.new.items step.now) }
+    ensures in_reach { OnOk result (IsInReach bytes.new.items step.now) }
+    ensures enough { OnOk result (IsEnough (R.remaining reader.new) bytes.new.items) }
+    ensures grown { OnOk result (Grows (R.remaining reader.old) (R.remaining reader.new) bytes.old.items bytes.new.items) }
+    ensures lost { ConsumesUpTo (wanted step.now (length bytes.old.items)) (R.remaining reader.old) (R.remaining reader.new) }
+{
+    let Step::Ready { start, len, .. } = step else {
+        return Ok(());
+    };
+    read_up_to(reader, bytes, room, start + len, calls)?;
+    Ok(())
+}

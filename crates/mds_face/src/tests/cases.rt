@@ -1,0 +1,244 @@
+//! The worked answers, each asked of a fleet.
+use super::{Exchange, Sent, answer_text, answered, bytes_sent};
+use mds_core::Fleet;
+use mds_table::Table;
+use std::alloc::Global;
+use std::test::Fail;
+
+const OK: &str = "200 OK";
+
+const BAD: &str = "400 Bad Request";
+
+const NOT_FOUND: &str = "404 Not Found";
+
+const ONE_ACCEPTED: &str = r#"{"failures":[],"success":1,"total":1}"#;
+
+/// A registration of A.
+const A_REGISTERS: &str =
+    r#"{"provider_id":"00000000-0000-4000-8000-000000000001","device_id":"00000000-0000-4000-8000-00000000000a"}"#;
+
+/// Registrations of A and B.
+pub const BOTH_REGISTER: &str =
+    r#"[{"provider_id":"00000000-0000-4000-8000-000000000001","device_id":"00000000-0000-4000-8000-00000000000a"},
+{"provider_id":"00000000-0000-4000-8000-000000000001","device_id":"00000000-0000-4000-8000-00000000000b"}]"#;
+
+/// An event of A.
+const A_REPORTS: &str =
+    r#"[{"provider_id":"00000000-0000-4000-8000-000000000001","device_id":"00000000-0000-4000-8000-00000000000a",
+"event_id":"00000000-0000-4000-8000-0000000000e1","vehicle_state":"available","event_types":["provider_drop_off"],"timestamp":1000}]"#;
+
+/// An event of A, an item without a device, and an event of B.
+pub const ONE_FAULTY_OF_THREE: &str =
+    r#"[{"provider_id":"00000000-0000-4000-8000-000000000001","device_id":"00000000-0000-4000-8000-00000000000a",
+"event_id":"00000000-0000-4000-8000-0000000000e1","vehicle_state":"available","event_types":["provider_drop_off"],"timestamp":1000},
+{"provider_id":"00000000-0000-4000-8000-000000000001",
+"event_id":"00000000-0000-4000-8000-0000000000e1","vehicle_state":"available","event_types":["provider_drop_off"],"timestamp":1000},
+{"provider_id":"00000000-0000-4000-8000-000000000001","device_id":"00000000-0000-4000-8000-00000000000b",
+"event_id":"00000000-0000-4000-8000-0000000000e2","vehicle_state":"available","event_types":["provider_drop_off"],"timestamp":1000}]"#;
+
+/// A, B and nobody are looked at.
+const LOOK_AT_A: Sent = Sent::Text(
+    "GET /vehicles/00000000-0000-4000-8000-000000000001/00000000-0000-4000-8000-00000000000a?x=1 HTTP/1.1\r\n\r\n",
+);
+
+const LOOK_AT_B: Sent = Sent::Text(
+    "GET /vehicles/00000000-0000-4000-8000-000000000001/00000000-0000-4000-8000-00000000000b HTTP/1.0\r\n\r\n",
+);
+
+/// What is seen of A and of B.
+const A_IS_AVAILABLE: &str =
+    r#"{"device_id":"00000000-0000-4000-8000-00000000000a","events":1,"last":1000,"location_e7":null,"provider_id":"00000000-0000-4000-8000-000000000001","vehicle_state":"available"}"#;
+
+const B_IS_AVAILABLE: &str =
+    r#"{"device_id":"00000000-0000-4000-8000-00000000000b","events":1,"last":1000,"location_e7":null,"provider_id":"00000000-0000-4000-8000-000000000001","vehicle_state":"available"}"#;
+
+/// The accepted events of A.
+const EVENTS_OF_A: &str =
+    r#"{"events":[{"device_id":"00000000-0000-4000-8000-00000000000a","event_id":"00000000-0000-4000-8000-0000000000e1","event_types":["provider_drop_off"],"location_e7":null,"provider_id":"00000000-0000-4000-8000-000000000001","timestamp":1000,"vehicle_state":"available"}]}"#;
+
+/// One faulty item among three: what is asked in turn, and what is answered.
+pub const AMONG_THREE: &[Exchange] = &[
+    (
+        Sent::Post("/vehicles", BOTH_REGISTER),
+        OK,
+        "",
+        r#"{"failures":[],"success":2,"total":2}"#,
+    ),
+    (
+        Sent::Post("/events", ONE_FAULTY_OF_THREE),
+        OK,
+        "",
+        r#"{"failures":[{"error":"missing_param","index":1,"param":"device_id"}],"success":2,"total":3}"#,
+    ),
+    (LOOK_AT_A, OK, "", A_IS_AVAILABLE),
+    (LOOK_AT_B, OK, "", B_IS_AVAILABLE),
+];
+
+/// Vehicles: the empty batch, registering twice, the worked answers to looks, and deep nesting.
+const OF_VEHICLES: &[Exchange] = &[
+    (
+        Sent::Text("POST /events HTTP/1.1\r\nContent-Length: 2\r\n\r\n[]"),
+        OK,
+        "",
+        r#"{"failures":[],"success":0,"total":0}"#,
+    ),
+    (Sent::Post("/vehicles", A_REGISTERS), OK, "", ONE_ACCEPTED),
+    (
+        Sent::Post("/vehicles", A_REGISTERS),
+        OK,
+        "",
+        r#"{"failures":[{"error":"already_registered","index":0}],"success":0,"total":1}"#,
+    ),
+    (Sent::Post("/events", A_REPORTS), OK, "", ONE_ACCEPTED),
+    (LOOK_AT_A, OK, "", A_IS_AVAILABLE),
+    (
+        Sent::Text(
+            "GET /vehicles/00000000-0000-4000-8000-000000000001/00000000-0000-4000-8000-00000000000a/events HTTP/1.1\r\n\r\n",
+        ),
+        OK,
+        "",
+        EVENTS_OF_A,
+    ),
+    (LOOK_AT_B, NOT_FOUND, "", r#"{"error":"unregistered"}"#),
+    (
+        Sent::Text(
+            "GET /vehicles/00000000-0000-4000-8000-000000000001/00000000-0000-4000-8000-00000000000b/events HTTP/1.1\r\n\r\n",
+        ),
+        NOT_FOUND,
+        "",
+        r#"{"error":"unregistered"}"#,
+    ),
+    (
+        Sent::Nested(127),
+        OK,
+        "",
+        r#"{"failures":[{"error":"not_object","index":0}],"success":0,"total":1}"#,
+    ),
+    (Sent::Nested(128), BAD, "", r#"{"error":"not_json"}"#),
+];
+
+/// Requests that ask for nothing: no route, another method, lengths, bodies that are no batch, and broken requests.
+const OF_NOTHING: &[Exchange] = &[
+    (
+        Sent::Text("GET /vehicles/00000000-0000-4000-8000-000000000001/x HTTP/1.1\r\n\r\n"),
+        NOT_FOUND,
+        "",
+        r#"{"error":"not_found"}"#,
+    ),
+    (
+        Sent::Text("GET /vehicles/ HTTP/1.1\r\n\r\n"),
+        NOT_FOUND,
+        "",
+        r#"{"error":"not_found"}"#,
+    ),
+    (
+        Sent::Text("DELETE /events HTTP/1.1\r\n\r\n"),
+        "405 Method Not Allowed",
+        "allow: POST\r\n",
+        r#"{"error":"method_not_allowed"}"#,
+    ),
+    (
+        Sent::Text("POST /table HTTP/1.1\r\nContent-Length: 2\r\n\r\n[]"),
+        "405 Method Not Allowed",
+        "allow: GET\r\n",
+        r#"{"error":"method_not_allowed"}"#,
+    ),
+    (
+        Sent::Text("POST /events HTTP/1.1\r\n\r\n"),
+        "411 Length Required",
+        "",
+        r#"{"error":"length_required"}"#,
+    ),
+    (
+        Sent::Text("POST /events HTTP/1.1\r\nContent-Length: 2\r\ncontent-length: 2\r\n\r\n[]"),
+        BAD,
+        "",
+        r#"{"error":"bad_length"}"#,
+    ),
+    (
+        Sent::Text("POST /events HTTP/1.1\r\nContent-Length: 12x\r\n\r\n[]"),
+        BAD,
+        "",
+        r#"{"error":"bad_length"}"#,
+    ),
+    (
+        Sent::Text("POST /events HTTP/1.1\r\nContent-Length: 4194305\r\n\r\n[]"),
+        "413 Payload Too Large",
+        "",
+        r#"{"error":"too_long"}"#,
+    ),
+    (
+        Sent::Post("/events", "7"),
+        BAD,
+        "",
+        r#"{"error":"not_list"}"#,
+    ),
+    (
+        Sent::Post("/events", "[1,2"),
+        BAD,
+        "",
+        r#"{"error":"not_json"}"#,
+    ),
+    (
+        Sent::Text("POST /events HTTP/1.1\r\nContent-Length: 2\r\n\r\n["),
+        BAD,
+        "",
+        r#"{"error":"cut_short"}"#,
+    ),
+    (Sent::Letters(16_385), BAD, "", r#"{"error":"bad_head"}"#),
+    (
+        Sent::Text("POST /events HTTP/1.1\r\nTransfer-Encoding: chunked\r\n\r\n"),
+        "501 Not Implemented",
+        "",
+        r#"{"error":"transfer_encoding"}"#,
+    ),
+];
+
+/// A fleet over the profile.
+pub fn fleet(alloc: Global) -> Result<Fleet, Fail> {
+    Ok(Fleet::open(alloc, Table::profile(alloc)?))
+}
+
+#[test]
+fn worked_answers(rt: HostRuntime) -> Result<(), Fail> {
+    let alloc = rt.alloc();
+    for list in [OF_VEHICLES, OF_NOTHING, AMONG_THREE] {
+        let mut fleets = (fleet(alloc)?, fleet(alloc)?);
+        for (sent, status, fields, body) in list {
+            let bytes = bytes_sent(alloc, *sent)?;
+            let expected = answer_text(alloc, status, fields, body)?;
+            let (_, whole) = answered(alloc, &mut fleets.0, bytes.as_bytes(), usize::MAX)?;
+            let (_, by_bytes) = answered(alloc, &mut fleets.1, bytes.as_bytes(), 1)?;
+            let found = (String::from_utf8(whole)?, String::from_utf8(by_bytes)?);
+            assert_eq!(rt;
+                (found.0.as_str(), found.1.as_str()),
+                (expected.as_str(), expected.as_str())
+            );
+        }
+    }
+    Ok(())
+}
+
+/// The rows of a fleet over the profile, as they are answered.
+fn table_answered(alloc: Global) -> Result<String, Fail> {
+    let mut fleet = fleet(alloc)?;
+    let (_, bytes) = answered(alloc, &mut fleet, b"GET /table HTTP/1.1\r\n\r\n", 7)?;
+    Ok(String::from_utf8(bytes)?)
+}
+
+#[test]
+fn table_is_a_table_file(rt: HostRuntime) -> Result<(), Fail> {
+    let answer = table_answered(rt.alloc())?;
+    let (head, body) = answer.split_once("\r\n\r\n").ok_or("a body")?;
+    assert!(rt; head.starts_with("HTTP/1.1 200 OK\r\n"));
+    assert!(rt;
+        body.starts_with(
+            r#"{"rows":[{"from":"removed","to":"available","type":"agency_drop_off"},{"#
+        )
+    );
+    let table = Table::from_json(rt.alloc(), body.as_bytes())?;
+    let profile = Table::profile(rt.alloc())?;
+    let rows = (table.rows(rt.alloc())?, profile.rows(rt.alloc())?);
+    assert_eq!(rt; rows.0.as_slice(), rows.1.as_slice());
+    Ok(())
+}

@@ -1,0 +1,149 @@
+//! Readers and writers that fail, end or are interrupted, and an answer's lengths.
+use super::cases::fleet;
+use super::{Client, Last, Peer, answer_text};
+use crate::{Face, ServeFault, Served, memory_bytes, serve_one};
+use std::alloc::Global;
+use std::test::Fail;
+
+/// A batch of no items.
+const EMPTY_BATCH: &[u8] = b"POST /events HTTP/1.1\r\nContent-Length: 2\r\n\r\n[]";
+
+/// What became of a connection.
+#[derive(Debug, PartialEq, Drop)]
+struct Ended {
+    served: Result<Served, ServeFault>,
+    written: Vec<u8>,
+    calls: (u32, u32),
+}
+
+/// What becomes of a connection between these two.
+fn outcome_of(alloc: Global, mut client: Client<'_>, mut peer: Peer) -> Result<Ended, Fail> {
+    let face = Face::open(alloc)?;
+    let mut fleet = fleet(alloc)?;
+    let served = serve_one(alloc, &face, &mut client, &mut peer, &mut fleet);
+    Ok(Ended {
+        served,
+        written: peer.taken,
+        calls: (client.reads, peer.writes),
+    })
+}
+
+/// A client that sends the first bytes of the empty batch one by one, and then this.
+fn byte_by_byte(count: usize, last: Last) -> Client<'static> {
+    Client {
+        last,
+        ..Client::new(EMPTY_BATCH.get(..count).unwrap_or(EMPTY_BATCH), 1)
+    }
+}
+
+#[test]
+fn answer_lengths(rt: HostRuntime) -> Result<(), Fail> {
+    let found = outcome_of(
+        rt.alloc(),
+        Client::new(EMPTY_BATCH, 46),
+        Peer::new(rt.alloc()),
+    )?;
+    assert_eq!(rt;
+        (EMPTY_BATCH.len(), found.written.len(), memory_bytes().len()),
+        (46, 127, 74)
+    );
+    assert_eq!(rt;
+        (found.served, found.calls),
+        (
+            Ok(Served {
+                status: 200,
+                accepted: 0
+            }),
+            (1, 1)
+        )
+    );
+    Ok(())
+}
+
+#[test]
+fn reads_that_fail(rt: HostRuntime) -> Result<(), Fail> {
+    for count in 0..46 {
+        let found = outcome_of(
+            rt.alloc(),
+            byte_by_byte(count, Last::Fails),
+            Peer::new(rt.alloc()),
+        )?;
+        assert_eq!(rt;
+            (found.served, found.written.len()),
+            (Err(ServeFault::Read), 0)
+        );
+    }
+    Ok(())
+}
+
+#[test]
+fn reads_that_end(rt: HostRuntime) -> Result<(), Fail> {
+    let alloc = rt.alloc();
+    let status = "400 Bad Request";
+    let no_head = answer_text(alloc, status, "", r#"{"error":"bad_head"}"#)?;
+    let no_body = answer_text(alloc, status, "", r#"{"error":"cut_short"}"#)?;
+    for count in 0..46 {
+        let found = outcome_of(alloc, byte_by_byte(count, Last::Ends), Peer::new(alloc))?;
+        let expected = if count < 44 { &no_head } else { &no_body };
+        assert_eq!(rt; found.written.as_slice(), expected.as_bytes());
+    }
+    Ok(())
+}
+
+/// One that takes so many bytes.
+fn peer_of(alloc: Global, room: usize, last: Last) -> Peer {
+    Peer {
+        room,
+        last,
+        ..Peer::new(alloc)
+    }
+}
+
+#[test]
+fn writes_that_fail(rt: HostRuntime) -> Result<(), Fail> {
+    let alloc = rt.alloc();
+    for sent in 0..127 {
+        for last in [Last::Fails, Last::Ends] {
+            let found = outcome_of(
+                alloc,
+                Client::new(EMPTY_BATCH, 46),
+                peer_of(alloc, sent, last),
+            )?;
+            assert_eq!(rt;
+                (found.served, found.written.len()),
+                (Err(ServeFault::Write { sent }), sent)
+            );
+        }
+    }
+    Ok(())
+}
+
+#[test]
+fn turns_run_out(rt: HostRuntime) -> Result<(), Fail> {
+    let alloc = rt.alloc();
+    let out_of_turns = Err(ServeFault::TooManyTurns { sent: 0 });
+    let found = outcome_of(alloc, byte_by_byte(0, Last::Pauses), Peer::new(alloc))?;
+    assert_eq!(rt; (found.served, found.calls), (out_of_turns, (5_000_000, 0)));
+    let found = outcome_of(
+        alloc,
+        Client::new(EMPTY_BATCH, 46),
+        peer_of(alloc, 0, Last::Pauses),
+    )?;
+    assert_eq!(rt; (found.served, found.calls), (out_of_turns, (1, 5_000_000)));
+    Ok(())
+}
+
+#[test]
+fn faults_print_their_words(rt: HostRuntime) -> Result<(), Fail> {
+    let (read, write) = (ServeFault::Read, ServeFault::Write { sent: 7 });
+    let (memory, turns) = (
+        ServeFault::Memory { sent: 74 },
+        ServeFault::TooManyTurns { sent: 0 },
+    );
+    let words = format!(in rt.alloc(); "{read}, {write}, {memory}, {turns}")?;
+    assert_eq!(rt;
+        words.as_str(),
+        "read, write 7, memory 74, too_many_turns 0"
+    );
+    Ok(())
+}

@@ -1,0 +1,234 @@
+//! Connections that find no memory.
+ghost use Rattle.std.specs.Prelude.{◌≡◌, IfSome};
+
+use super::cases::{ONE_FAULTY_OF_THREE, fleet};
+use super::{Client, Sent, answer_text, answered, bytes_sent};
+use crate::{Desk, Face, ServeFault, Served, memory_bytes, serve_one};
+use mds_core::{Event, Fleet, Key, Reply, Request};
+use mds_table::{Row, State, Table};
+use std::alloc::{AllocError, Global};
+use std::io::{self, Write};
+use std::test::Fail;
+use uuid::Uuid;
+
+/// The key of a vehicle, by the last byte of its device.
+fn key(last: u128) -> Key {
+    Key {
+        provider: Uuid::from_u128(0x00000000_0000_4000_8000_000000000001),
+        device: Uuid::from_u128(0x00000000_0000_4000_8000_000000000000 | last),
+    }
+}
+
+/// Registers A and B, where memory allows at once or at a second try.
+fn register(fleet: &mut Fleet) -> Result<(), AllocError> {
+    for last in [0x0a, 0x0b] {
+        let request = Request::Register(key(last));
+        if fleet.step(&request).is_err() {
+            fleet.step(&request)?;
+        }
+    }
+    Ok(())
+}
+
+/// A fleet that finds no memory once so many requests were put to it.
+#[derive(Drop)]
+struct Wanting<'a> {
+    fleet: &'a mut Fleet,
+    left: usize,
+}
+
+impl Desk for Wanting<'_> {
+    ghost use Rattle.std.specs.Prelude.{IfSome};
+    ghost use Rattle.mds_core.specs.History.{key_of, own};
+    ghost use Rattle.mds_core.specs.Answer.{Answers};
+    ghost use Rattle.mds_core.proofs.OfTheirKind.{given_is_for};
+
+    ghost calls = { λ old request reply new. IfSome reply (Answers old.fleet.now.rows old.fleet.now.history request) };
+
+    ghost gives_events = { λ desk key events. Unit {0} };
+
+    ghost gives_rows = { λ desk rows. Unit {0} };
+
+    ghost of_its_kind = { λ old request reply new answers. given_is_for old.fleet.now.rows (own old.fleet.now.history (key_of request)) request reply.outcome answers.outcome };
+
+    fn call(&mut self, request: &Request) -> Result<Reply, AllocError> {
+        if self.left == 0 {
+            return Err(AllocError);
+        }
+        self.left -= 1;
+        self.fleet.step(request)
+    }
+
+    fn events(&mut self, _key: &Key) -> Result<Option<Vec<Event>>, AllocError> {
+        Err(AllocError)
+    }
+
+    fn rows(&mut self) -> Result<Vec<Row>, AllocError> {
+        Err(AllocError)
+    }
+}
+
+/// The states that A and B hold.
+fn held(fleet: &Fleet) -> [Option<State>; 2] {
+    [
+        fleet.standing(&key(0x0a)).map(|standing| standing.state),
+        fleet.standing(&key(0x0b)).map(|standing| standing.state),
+    ]
+}
+
+#[test]
+fn refused_growth_inside_a_batch(rt: HostRuntime) -> Result<(), Fail> {
+    let alloc = rt.alloc();
+    let mut fleet = fleet(alloc)?;
+    register(&mut fleet)?;
+    let bytes = bytes_sent(alloc, Sent::Post("/events", ONE_FAULTY_OF_THREE))?;
+    let mut desk = Wanting {
+        fleet: &mut fleet,
+        left: 1,
+    };
+    let (served, written) = answered(alloc, &mut desk, bytes.as_bytes(), usize::MAX)?;
+    let body = r#"{"error":"out_of_memory","index":2}"#;
+    let expected = answer_text(alloc, "503 Service Unavailable", "", body)?;
+    assert_eq!(rt;
+        (body.len(), served),
+        (
+            35,
+            Ok(Served {
+                status: 503,
+                accepted: 1
+            })
+        )
+    );
+    assert_eq!(rt; written.as_slice(), expected.as_bytes());
+    assert_eq!(rt;
+        held(&fleet),
+        [Some(State::Available), Some(State::Removed)]
+    );
+    Ok(())
+}
+
+/// What a GET asks for that finds no memory.
+const LOOKS: &[&str] = &[
+    "GET /vehicles/00000000-0000-4000-8000-000000000001/00000000-0000-4000-8000-00000000000a HTTP/1.1\r\n\r\n",
+    "GET /vehicles/00000000-0000-4000-8000-000000000001/00000000-0000-4000-8000-00000000000a/events HTTP/1.1\r\n\r\n",
+    "GET /table HTTP/1.1\r\n\r\n",
+];
+
+#[test]
+fn refused_growth_of_a_look(rt: HostRuntime) -> Result<(), Fail> {
+    let alloc = rt.alloc();
+    let mut fleet = fleet(alloc)?;
+    for look in LOOKS {
+        let mut desk = Wanting {
+            fleet: &mut fleet,
+            left: 0,
+        };
+        let (served, written) = answered(alloc, &mut desk, look.as_bytes(), 1)?;
+        assert_eq!(rt;
+            (served, written.as_slice()),
+            (Err(ServeFault::Memory { sent: 74 }), memory_bytes())
+        );
+    }
+    Ok(())
+}
+
+/// The same batch with its length.
+const THREE: &[u8] =
+    b"POST /events HTTP/1.1\r\nContent-Length: 666\r\n\r\n[{\"provider_id\":\"00000000-0000-4000-8000-000000000001\",\"device_id\":\"00000000-0000-4000-8000-00000000000a\",\n\
+\"event_id\":\"00000000-0000-4000-8000-0000000000e1\",\"vehicle_state\":\"available\",\"event_types\":[\"provider_drop_off\"],\"timestamp\":1000},\n\
+{\"provider_id\":\"00000000-0000-4000-8000-000000000001\",\n\
+\"event_id\":\"00000000-0000-4000-8000-0000000000e1\",\"vehicle_state\":\"available\",\"event_types\":[\"provider_drop_off\"],\"timestamp\":1000},\n\
+{\"provider_id\":\"00000000-0000-4000-8000-000000000001\",\"device_id\":\"00000000-0000-4000-8000-00000000000b\",\n\
+\"event_id\":\"00000000-0000-4000-8000-0000000000e2\",\"vehicle_state\":\"available\",\"event_types\":[\"provider_drop_off\"],\"timestamp\":1000}]";
+
+/// A writer that takes memory for nothing.
+#[derive(Drop)]
+struct Counter {
+    count: usize,
+}
+
+impl Write for Counter {
+    fn write(&mut self, buf: &[u8]) -> io::Result<usize> {
+        self.count = self.count.saturating_add(buf.len());
+        Ok(buf.len())
+    }
+
+    fn flush(&mut self) -> io::Result<()> {
+        Ok(())
+    }
+}
+
+/// What is told of the batch, how many bytes were written and how many requests the fleet holds then.
+fn told(
+    alloc: Global,
+    face: &Face,
+    fleet: &mut Fleet,
+) -> (Result<Served, ServeFault>, usize, usize) {
+    let mut client = Client::new(THREE, usize::MAX);
+    let mut counter = Counter { count: 0 };
+    let served = serve_one(alloc, face, &mut client, &mut counter, fleet);
+    (served, counter.count, fleet.history().len())
+}
+
+/// Whether a fleet of so many requests is what was told of the batch, where A and B were registered before.
+fn stands(served: Result<Served, ServeFault>, written: usize, held: usize) -> bool {
+    match served {
+        Ok(
+            Served {
+                status: 200,
+                accepted,
+            },
+        ) => accepted == 2 && held == 4,
+        Ok(
+            Served {
+                status: 503,
+                accepted,
+            },
+        ) => accepted < 2 && held == 2 + accepted,
+        Err(ServeFault::Memory { sent }) => sent == 74 && written == 74 && (held == 2 || held == 4),
+        _ => false,
+    }
+}
+
+/// A fleet in which A and B are registered, where memory allows at once or at a second try.
+fn registered(alloc: Global) -> Result<Fleet, AllocError> {
+    let table = match Table::profile(alloc) {
+        Ok(table) => table,
+        Err(AllocError) => Table::profile(alloc)?,
+    };
+    let mut fleet = Fleet::open(alloc, table);
+    register(&mut fleet)?;
+    Ok(fleet)
+}
+
+/// What was told stands, and the same request is then answered whole (by `tests/refused-growths`).
+#[test]
+fn calls_stand_after_a_refused_growth(rt: HostRuntime) -> Result<(), Fail> {
+    let alloc = rt.alloc();
+    let mut fleet = registered(alloc)?;
+    let face = match Face::open(alloc) {
+        Ok(face) => face,
+        Err(_) => Face::open(alloc)?,
+    };
+    let (served, written, before) = told(alloc, &face, &mut fleet);
+    assert!(rt; stands(served, written, before));
+    let whole = Ok(Served {
+        status: 200,
+        accepted: 2,
+    });
+    if served == whole {
+        return Ok(());
+    }
+    let (served, _, after) = told(alloc, &face, &mut fleet);
+    assert_eq!(rt;
+        (served, after),
+        (
+            Ok(Served {
+                status: 200,
+                accepted: 4usize.saturating_sub(before)
+            }),
+            4
+        )
+    );
+    Ok(())
+}
