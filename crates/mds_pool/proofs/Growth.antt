@@ -1,0 +1,79 @@
+-- What one connection does to a desk, where each of its calls lets something grow.
+use Rattle.std.proofs.Common.{◌≡◌, ◌⊎◌, ℕ, List, [], ◌∷◌, inl, inr, subst, sym}
+use Rattle.std.specs.Prelude.{Option, Some, None, Result, Ok, Err, IfOk, IfErr}
+use Rattle.std.specs.List.{filter_map}
+use Rattle.mds_table.specs.declared.row.Row.{Row}
+use Rattle.mds_core.specs.declared.key.Key.{Key}
+use Rattle.mds_core.specs.declared.request.Request.{Request}
+use Rattle.mds_core.specs.declared.request.Request.TheVariants.{Look}
+use Rattle.mds_core.specs.declared.reply.Reply.{Reply}
+use Rattle.mds_core.specs.Reported.{Reported}
+use Rattle.mds_plan.specs.Asked.{Asked}
+use Rattle.mds_plan.specs.Asked as asked
+use Rattle.mds_answer.specs.Found.{Finding}
+use Rattle.mds_answer.specs.Found as finding
+use Rattle.mds_face.specs.declared.connection.Served.{Served}
+use Rattle.mds_face.specs.declared.connection.ServeFault.{ServeFault}
+use Rattle.mds_face.specs.declared.connection.ServeFault.TheVariants.{Read, Write, Memory, TooManyTurns}
+use Rattle.mds_face.specs.Asking.{registration_of, report_in}
+use Rattle.mds_face.specs.Desk.{AreCalls}
+use Rattle.mds_face.specs.Serving.{Finds, FindsNoMemory, IsServed, Stops, StopsAsked, StopsUnread}
+
+-- of a desk as in the contract of one connection, and of what grows by each call and in two steps where it does in each
+module _ {S : Type 0} (Calls : S → Request → Option Reply → S → Type 0) (GivesEvents : S → Key → Option (List Reported) → Type 0) (GivesRows : S → List Row → Type 0)
+    (Grows : S → S → Type 0) (stays : (s : S) → Grows s s) (twice : (a b c : S) → Grows a b → Grows b c → Grows a c)
+    (called : (old : S) (request : Request) (reply : Option Reply) (new : S) → Calls old request reply new → Grows old new) where
+  pub same_grows : (old new : S) → new ≡ old → Grows old new
+  same_grows old new same = subst (λ s. Grows old s) (sym same) (stays old)
+
+  pub calls_grow : (requests : List Request) (replies : List Reply) (old new : S) → AreCalls Calls old requests replies new → Grows old new
+  calls_grow [] [] old new calls = same_grows old new calls
+  calls_grow [] (reply ∷ replies) old new calls = absurd calls
+  calls_grow (request ∷ requests) [] old new calls = called old request None new calls
+  calls_grow (request ∷ requests) (reply ∷ replies) old new calls =
+      twice old calls.0 new (called old request (Some reply) calls.0 calls.1) (calls_grow requests replies calls.0 new calls.2)
+
+  pub finds_grow : (what : Asked) (found : Finding) (old new : S) → Finds Calls GivesEvents GivesRows old what found new → Grows old new
+  finds_grow (asked.Fixed fault) finding.Nothing old new finds = same_grows old new finds
+  finds_grow (asked.Vehicles items) (finding.Replies replies) old new finds = calls_grow (filter_map registration_of items) replies old new finds
+  finds_grow (asked.Events items) (finding.Replies replies) old new finds = calls_grow (filter_map report_in items) replies old new finds
+  finds_grow (asked.One key) (finding.One reply) old new finds = called old (Look key) (Some reply) new finds
+  finds_grow (asked.History key) (finding.History events) old new finds = same_grows old new finds.1
+  finds_grow asked.Rows (finding.Rows rows) old new finds = same_grows old new finds.1
+  finds_grow what found old new finds = absurd (assumption finds)
+
+  pub no_memory_grows : (what : Asked) (old new : S) → FindsNoMemory Calls GivesEvents GivesRows old what new → Grows old new
+  no_memory_grows (asked.One key) old new finds = called old (Look key) None new finds
+  no_memory_grows what old new finds = same_grows old new finds
+
+  pub served_grows : (input : Option (List ℕ)) (old new : S) (written written_new : Option (List ℕ)) (served : Served)
+      → IsServed Calls GivesEvents GivesRows input old new written written_new served → Grows old new
+  served_grows input old new written written_new served is = finds_grow is.0 is.2.found old new is.2.finds
+
+  pub stops_asked_grow : (what : Asked) (fault : ServeFault) (old new : S) (written written_new : Option (List ℕ))
+      → StopsAsked Calls GivesEvents GivesRows what old new written written_new fault → Grows old new
+  stops_asked_grow what Read old new written written_new stops = absurd stops
+  stops_asked_grow what (Write sent) old new written written_new stops = finds_grow what stops.found old new stops.finds
+  stops_asked_grow what (Memory sent) old new written written_new stops =
+      elim stops.0 [ inl none ↦ no_memory_grows what old new none | inr found ↦ finds_grow what found.0 old new found.1 ]
+  stops_asked_grow what (TooManyTurns sent) old new written written_new stops = finds_grow what stops.found old new stops.finds
+
+  pub stops_unread_grow : (fault : ServeFault) (old new : S) (written written_new : Option (List ℕ))
+      → StopsUnread Calls GivesEvents GivesRows old new written written_new fault → Grows old new
+  stops_unread_grow Read old new written written_new stops = same_grows old new stops.0
+  stops_unread_grow (Write sent) old new written written_new stops = absurd stops
+  stops_unread_grow (Memory sent) old new written written_new stops = same_grows old new stops.0
+  stops_unread_grow (TooManyTurns sent) old new written written_new stops = same_grows old new stops.0
+
+  pub stops_grow : (input : Option (List ℕ)) (fault : ServeFault) (old new : S) (written written_new : Option (List ℕ))
+      → Stops Calls GivesEvents GivesRows input old new written written_new fault → Grows old new
+  stops_grow input fault old new written written_new stops = elim stops [
+    | inl unread ↦ stops_unread_grow fault old new written written_new unread
+    | inr read ↦ stops_asked_grow read.0 fault old new written written_new read.2
+  ]
+
+  pub connection_grows : (input : Option (List ℕ)) (old new : S) (written written_new : Option (List ℕ)) (came : Result Served ServeFault)
+      → IfOk came (IsServed Calls GivesEvents GivesRows input old new written written_new) → IfErr came (Stops Calls GivesEvents GivesRows input old new written written_new)
+      → Grows old new
+  connection_grows input old new written written_new (Ok served) ok err = served_grows input old new written written_new served ok
+  connection_grows input old new written written_new (Err fault) ok err = stops_grow input fault old new written written_new err

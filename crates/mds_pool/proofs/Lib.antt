@@ -1,0 +1,4 @@
+-- Lemmas of this crate.
+pub mod Growth
+pub mod Places
+pub mod SeatGrowth
