@@ -1,0 +1,122 @@
+//! One connection, whose two ends share its stream.
+ghost use Rattle.std.specs.Prelude.{◌≡◌, ◌<◌};
+
+use std::alloc::{AllocError, Global};
+use std::io::{self, Read, Write};
+use std::net::{Shutdown, TcpStream};
+use std::sync::Arc;
+use std::time::{Clock, Duration};
+
+/// How long one read or one write may wait for the peer, in seconds.
+const CALL_SECONDS: u64 = 30;
+
+/// How long the last bytes of a peer are waited for after the answer, in seconds: one read of them, and all of them.
+const LAST_READ_SECONDS: u64 = 2;
+
+const LAST_SECONDS: u64 = 10;
+
+/// How many bytes that a peer sends after the answer are thrown away at most.
+const MAX_LAST_BYTES: usize = 16_777_216;
+
+/// How many of them one read asks for.
+const ROOM_BYTES: usize = 16_384;
+
+/// A connection that was taken. It ends in stages where it is dropped.
+struct Connection<C: Clock + Copy> {
+    stream: TcpStream,
+    clock: C,
+}
+
+impl<C: Clock + Copy> Drop for Connection<C> {
+    fn drop(self) {
+        // A connection that can't be ended in stages is closed at once.
+        let _ = end(&self.stream, &self.clock);
+        let Connection {
+            stream: _,
+            clock: _,
+        } = self;
+    }
+}
+
+/// Ends a connection in stages, so that the peer can read the answer (RFC 9112, section 9.6): the answer's end is sent, and
+/// then what the peer still sends is read and thrown away until it ends too. Closed with bytes unread, a connection would
+/// be reset, and the peer could lose the answer. A peer that doesn't end is left after some bytes and some time.
+fn end<C: Clock>(stream: &TcpStream, clock: &C) -> io::Result<()> {
+    stream.shutdown(Shutdown::Write)?;
+    stream.set_read_timeout(Some(Duration::from_secs(LAST_READ_SECONDS)))?;
+    let begun = clock.monotonic()?;
+    let mut room = [0u8; ROOM_BYTES];
+    let mut left = MAX_LAST_BYTES;
+    while left > 0 {
+        let count = read_once(stream, &mut room)?;
+        if count == 0 || is_over(clock, begun)? {
+            return Ok(());
+        }
+        left = left.saturating_sub(count);
+    }
+    Ok(())
+}
+
+/// One read into the room.
+fn read_once(stream: &TcpStream, room: &mut [u8]) -> io::Result<usize> {
+    let mut reader = stream;
+    reader.read(room)
+}
+
+/// Whether the time for a peer's last bytes, which began then, is over.
+fn is_over<C: Clock>(clock: &C, begun: Duration) -> io::Result<bool> {
+    let spent = clock.monotonic()?.saturating_sub(begun);
+    Ok(spent >= Duration::from_secs(LAST_SECONDS))
+}
+
+/// The end of a connection that gives its request.
+#[derive(Drop)]
+pub struct SocketIn<C: Clock + Copy> {
+    connection: Arc<Connection<C>, Global>,
+}
+
+impl<C: Clock + Copy> Read for SocketIn<C> {
+    fn read(&mut self, buf: &mut [u8]) -> io::Result<usize> {
+        let mut stream = &self.connection.stream;
+        stream.read(buf)
+    }
+}
+
+/// The end of a connection that takes its answer.
+#[derive(Drop)]
+pub struct SocketOut<C: Clock + Copy> {
+    connection: Arc<Connection<C>, Global>,
+}
+
+impl<C: Clock + Copy> Write for SocketOut<C> {
+    fn write(&mut self, buf: &[u8]) -> io::Result<usize> {
+        let mut stream = &self.connection.stream;
+        stream.write(buf)
+    }
+
+    fn flush(&mut self) -> io::Result<()> {
+        Ok(())
+    }
+}
+
+/// Sets the limits of a stream: how long each read and each write may wait, and that what is written is sent at once.
+pub(crate) fn set_limits(stream: &TcpStream) -> io::Result<()> {
+    stream.set_read_timeout(Some(Duration::from_secs(CALL_SECONDS)))?;
+    stream.set_write_timeout(Some(Duration::from_secs(CALL_SECONDS)))?;
+    stream.set_nodelay(true)
+}
+
+/// The two ends of a connection over this stream.
+///
+/// # Errors
+///
+/// `AllocError` where there is no memory for what they share.
+pub(crate) fn ends_of<C: Clock + Copy>(
+    alloc: Global,
+    stream: TcpStream,
+    clock: C,
+) -> Result<(SocketIn<C>, SocketOut<C>), AllocError> {
+    let connection = Arc::new(alloc, Connection { stream, clock })?;
+    let other = Arc::try_clone(&connection)?;
+    Ok((SocketIn { connection }, SocketOut { connection: other }))
+}

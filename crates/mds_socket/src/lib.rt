@@ -1,0 +1,8 @@
+//! Connections over TCP, at an address of this machine.
+#![tactic(auto)]
+
+mod connection;
+mod socket;
+
+pub use connection::{SocketIn, SocketOut};
+pub use socket::SocketPort;

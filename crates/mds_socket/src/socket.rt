@@ -1,0 +1,134 @@
+//! A listening socket as a port.
+ghost use Rattle.std.specs.Prelude.{◌≡◌};
+
+use crate::connection::{SocketIn, SocketOut, ends_of, set_limits};
+use mds_pool::{Port, PortFault};
+use std::alloc::Global;
+use std::io::{self, ErrorKind};
+use std::net::{Ipv4Addr, Net, TcpListener, TcpStream};
+use std::thread;
+use std::time::{Clock, Duration};
+
+/// A listening socket, from which any number of workers take connections.
+#[derive(Drop)]
+pub struct SocketPort<C: Clock + Copy> {
+    listener: TcpListener,
+    alloc: Global,
+    clock: C,
+}
+
+impl<C: Clock + Copy> SocketPort<C> {
+    /// A socket that listens at 127.0.0.1 and the port of this number, or a free one for 0.
+    ///
+    /// # Errors
+    ///
+    /// What the system answers where the port can't be had.
+    pub fn bind<R: Net<Listener = TcpListener, Stream = TcpStream>>(
+        rt: &R,
+        alloc: Global,
+        clock: C,
+        number: u16,
+    ) -> io::Result<SocketPort<C>> {
+        let listener = TcpListener::bind(rt, (Ipv4Addr::LOCALHOST, number))?;
+        Ok(SocketPort {
+            listener,
+            alloc,
+            clock,
+        })
+    }
+
+    /// The number of the port at which it listens.
+    ///
+    /// # Errors
+    ///
+    /// What the system answers where it doesn't tell it.
+    pub fn number(&self) -> io::Result<u16> {
+        Ok(self.listener.local_addr()?.port())
+    }
+}
+
+/// Errors of a connection's own network that Linux reports where the connection is taken, and that have no kind (accept(2)).
+const NO_NETWORK: i32 = 64;
+
+const PROTOCOL_ERROR: i32 = 71;
+
+const NO_PROTOCOL: i32 = 92;
+
+const HOST_DOWN: i32 = 112;
+
+/// Errors of a lack that may pass: open files of the system and of the process, and memory for sockets.
+const TOO_MANY_IN_SYSTEM: i32 = 23;
+
+const TOO_MANY_IN_PROCESS: i32 = 24;
+
+const NO_BUFFERS: i32 = 105;
+
+/// How long is waited for a lack to pass, in milliseconds, and how often at most.
+const WAIT_MILLIS: u64 = 100;
+
+const MAX_WAITS: u32 = 300;
+
+/// What becomes of taking a connection that failed.
+#[derive(Clone, Copy, Debug, PartialEq, Eq)]
+enum Retry {
+    /// It is tried again at once: it was interrupted, or the one connection was lost before it was taken.
+    AtOnce,
+    /// It is tried again a little later: there are too many open files, or there is no memory for one more, at this moment.
+    Later,
+    /// It isn't: the listening socket is at fault.
+    Never,
+}
+
+/// What becomes of taking a connection that failed in this way.
+fn retry_of(error: &io::Error) -> Retry {
+    match error.kind() {
+        ErrorKind::Interrupted
+        | ErrorKind::ConnectionAborted
+        | ErrorKind::ConnectionReset
+        | ErrorKind::TimedOut
+        | ErrorKind::NetworkDown
+        | ErrorKind::NetworkUnreachable
+        | ErrorKind::HostUnreachable
+        | ErrorKind::PermissionDenied
+        | ErrorKind::Unsupported => Retry::AtOnce,
+        ErrorKind::OutOfMemory => Retry::Later,
+        _ => retry_of_number(error.raw_os_error()),
+    }
+}
+
+/// The same of an error that has no kind, by its number.
+fn retry_of_number(number: Option<i32>) -> Retry {
+    match number {
+        Some(NO_NETWORK | PROTOCOL_ERROR | NO_PROTOCOL | HOST_DOWN) => Retry::AtOnce,
+        Some(TOO_MANY_IN_SYSTEM | TOO_MANY_IN_PROCESS | NO_BUFFERS) => Retry::Later,
+        _ => Retry::Never,
+    }
+}
+
+impl<C: Clock + Copy> Port for SocketPort<C> {
+    type In = SocketIn<C>;
+
+    type Out = SocketOut<C>;
+
+    fn accept(&self) -> Result<(SocketIn<C>, SocketOut<C>), PortFault> {
+        let mut waits = 0;
+        for came in self.listener.incoming() {
+            match came {
+                Ok(stream) => {
+                    if set_limits(&stream).is_ok() {
+                        return ends_of(self.alloc, stream, self.clock).map_err(|_| PortFault);
+                    }
+                }
+                Err(error) => match retry_of(&error) {
+                    Retry::AtOnce => {}
+                    Retry::Later if waits < MAX_WAITS => {
+                        waits += 1;
+                        thread::sleep(&self.clock, Duration::from_millis(WAIT_MILLIS));
+                    }
+                    Retry::Later | Retry::Never => return Err(PortFault),
+                },
+            }
+        }
+        Err(PortFault)
+    }
+}
