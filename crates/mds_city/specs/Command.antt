@@ -6,7 +6,7 @@ use Rattle.mds_batch.specs.declared.item.EventItem.{EventItem}
 use Rattle.mds_trace.specs.declared.report.Report.{Report}
 use Rattle.mds_city.specs.declared.source.Source.{Source}
 use Rattle.mds_city.specs.declared.problem.Problem.{Problem}
-use Rattle.mds_city.specs.declared.problem.Problem.TheVariants.{CannotRead, NotATable, NotABatch, Output, Memory}
+use Rattle.mds_city.specs.declared.problem.Problem.TheVariants.{CannotRead, NotATable, NotABatch, Socket, Output, Memory}
 use Rattle.mds_city.specs.declared.status.Status.{Status}
 use Rattle.mds_city.specs.declared.status.Status.TheVariants.{Done, Refused}
 use Rattle.mds_device.specs.Device.{AppendsFront}
@@ -46,6 +46,7 @@ module _ {T R : Type 0} (begins : Opening) (table_bytes : T → Option (List ℕ
   ExplainsReplay (CannotRead path) = ExplainsTable table_bytes table (CannotRead path) ⊎ ExplainsEvents (CannotRead path)
   ExplainsReplay (NotATable fault) = ExplainsTable table_bytes table (NotATable fault)
   ExplainsReplay (NotABatch fault) = ExplainsEvents (NotABatch fault)
+  ExplainsReplay Socket = ⊥
   ExplainsReplay Output = Unit {0}
   ExplainsReplay Memory = Unit {0}
 
@@ -58,6 +59,7 @@ module _ {T R : Type 0} (begins : Opening) (table_bytes : T → Option (List ℕ
   WentOut (CannotRead path) old new = Keeps old new
   WentOut (NotATable fault) old new = Keeps old new
   WentOut (NotABatch fault) old new = Keeps old new
+  WentOut Socket old new = ⊥
   WentOut Output old new = PrintsFront old new
   WentOut Memory old new = Keeps old new ⊎ PrintsFront old new
 
@@ -77,6 +79,7 @@ module _ {T : Type 0} (table_bytes : T → Option (List ℕ)) (table : Option (S
   ExplainsPrint (CannotRead path) = ExplainsTable table_bytes table (CannotRead path)
   ExplainsPrint (NotATable fault) = ExplainsTable table_bytes table (NotATable fault)
   ExplainsPrint (NotABatch fault) = ⊥
+  ExplainsPrint Socket = ⊥
   ExplainsPrint Output = Unit {0}
   ExplainsPrint Memory = Unit {0}
 
@@ -85,6 +88,7 @@ module _ {T : Type 0} (table_bytes : T → Option (List ℕ)) (table : Option (S
   TableWentOut (CannotRead path) old new = Keeps old new
   TableWentOut (NotATable fault) old new = Keeps old new
   TableWentOut (NotABatch fault) old new = Keeps old new
+  TableWentOut Socket old new = ⊥
   TableWentOut Output old new = (rows : List Row) × HasTableIn table_bytes table rows × AppendsFront old new (table_text rows)
   TableWentOut Memory old new = Keeps old new ⊎ ((rows : List Row) × HasTableIn table_bytes table rows × AppendsFront old new (table_text rows))
 

@@ -6,3 +6,4 @@ pub mod Source
 pub mod Command
 pub mod Program
 pub mod Debug
+pub mod Serve

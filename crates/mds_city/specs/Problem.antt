@@ -11,7 +11,7 @@ use Rattle.mds_device.specs.declared.device.WriteFault.{WriteFault}
 use Rattle.mds_device.specs.declared.device.WriteFault.TheVariants as write
 use Rattle.mds_city.specs.declared.problem.Telling.{Telling}
 use Rattle.mds_city.specs.declared.problem.Problem.{Problem}
-use Rattle.mds_city.specs.declared.problem.Problem.TheVariants.{CannotRead, NotATable, NotABatch, Output, Memory}
+use Rattle.mds_city.specs.declared.problem.Problem.TheVariants.{CannotRead, NotATable, NotABatch, Socket, Output, Memory}
 use Rattle.mds_city.specs.declared.status.Status.{Status}
 use Rattle.mds_city.specs.declared.status.Status.TheVariants.{Fault, NoMemory}
 use Rattle.mds_device.specs.Device.{AppendsFront, with_newline}
@@ -21,6 +21,7 @@ abbrev pub problem_text : Problem → List ℕ
 problem_text (CannotRead path) = codes "mds_city: cannot read " ++ path.now
 problem_text (NotATable fault) = codes "mds_city: not a table: " ++ table.fault_text fault
 problem_text (NotABatch fault) = codes "mds_city: not a batch: " ++ batch.fault_text fault
+problem_text Socket = codes "mds_city: socket"
 problem_text Output = codes "mds_city: output"
 problem_text Memory = codes "mds_city: out of memory"
 
@@ -44,6 +45,7 @@ abbrev pub status_of : Problem → Status
 status_of (CannotRead path) = Fault
 status_of (NotATable fault) = Fault
 status_of (NotABatch fault) = Fault
+status_of Socket = Fault
 status_of Output = Fault
 status_of Memory = NoMemory
 
@@ -51,9 +53,9 @@ status_of Memory = NoMemory
 abbrev pub Tells : Option (List ℕ) → Option (List ℕ) → Problem → Type 0
 Tells old new problem = AppendsFront old new (with_newline (problem_text problem))
 
--- the problem has this status, and its line went out whole, or so many of its bytes, fewer than all
+-- the problem has this status, and its line went out whole, or as many of its bytes as are told, fewer than all
 abbrev pub IsTelling : Option (List ℕ) → Option (List ℕ) → Problem → Telling → Type 0
 IsTelling old new problem telling =
     let line = with_newline (problem_text problem) in
     (telling.status ≡ status_of problem) × OnOk telling.line (Appends old new line)
-    × IfErr telling.line (λ sent. (sent < length line) × Appends old new (take sent line))
+    × IfErr telling.line (λ stop. (stop.sent < length line) × Appends old new (take stop.sent line))

@@ -14,12 +14,18 @@ use Rattle.mds_city.specs.declared.source.Source.{Source}
 use Rattle.mds_city.specs.declared.status.Status.{Status}
 use Rattle.mds_city.specs.declared.status.Status.TheVariants as status
 use Rattle.mds_words.specs.declared.words.Command.{Command}
-use Rattle.mds_words.specs.declared.words.Command.TheVariants.{Replay, Debug, Table}
+use Rattle.mds_words.specs.declared.words.Command.TheVariants.{Serve, Replay, Debug, Table}
 use Rattle.mds_city.specs.Command.{Replayed, Told, Tabled, TableTold}
 use Rattle.mds_city.specs.Debug.{Debugs}
+use Rattle.mds_city.specs.Serve.{CameToServe}
 use Rattle.mds_city.specs.Problem.{Tells}
 use Rattle.mds_city.specs.Status.{code_of}
 use Rattle.mds_words.specs.Words.{Asks, IsErrorOf, program_app}
+
+-- the number of workers, where there are any, is 1 to 64
+abbrev pub HasWorkers : Command → Type 0
+HasWorkers (Serve port each workers path) = (0 < workers) × (workers ≤ 64)
+HasWorkers other = Unit {0}
 
 -- how an error of this kind is answered: help and the version are printed, all else but the want of memory is a mistake
 abbrev pub answer_to : ErrorKind → Answer
@@ -83,6 +89,8 @@ module _ {O F : Type 0} (opens : O → List ℕ → Option F → Type 0) (files 
 
     -- what a command did: it read the files that it names, and came to these
     abbrev pub Carries : Command → ℕ → Option (List ℕ) → Option (List ℕ) → Option (List ℕ) → Option (List ℕ) → Type 0
+    Carries (Serve port each workers path) code out out_new faults faults_new =
+        (table : Option (Source F)) × IsFileNamed (option_map (λ named. named.now) path) table × CameToServe file_bytes table workers code out out_new faults faults_new
     Carries (Table path) code out out_new faults faults_new =
         (table : Option (Source F)) × IsFileNamed (option_map (λ named. named.now) path) table × CameToTable file_bytes table code out out_new faults faults_new
     Carries (Replay file path any) code out out_new faults faults_new =

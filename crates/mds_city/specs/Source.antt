@@ -12,7 +12,7 @@ use Rattle.mds_batch.specs.Items.{IsEventItem}
 use Rattle.mds_batch.specs.Batch.{HasItems, HasFault as HasBatchFault}
 use Rattle.mds_city.specs.declared.source.Source.{Source}
 use Rattle.mds_city.specs.declared.problem.Problem.{Problem}
-use Rattle.mds_city.specs.declared.problem.Problem.TheVariants.{CannotRead, NotATable, NotABatch, Output, Memory}
+use Rattle.mds_city.specs.declared.problem.Problem.TheVariants.{CannotRead, NotATable, NotABatch, Socket, Output, Memory}
 use Rattle.mds_device.specs.Device.{HasFront}
 use Rattle.mds_city.specs.Problem.{table_problem, batch_problem}
 
@@ -27,6 +27,7 @@ IsReadProblem source (CannotRead path) = path.now ≡ source.path.now
 IsReadProblem source Memory = Unit {0}
 IsReadProblem source (NotATable fault) = ⊥
 IsReadProblem source (NotABatch fault) = ⊥
+IsReadProblem source Socket = ⊥
 IsReadProblem source Output = ⊥
 
 -- the problem is what is wrong with the bytes of a table file
@@ -47,6 +48,7 @@ ExplainsTableFile remaining source (NotATable fault) = (fault ≢ table.Memory) 
 ExplainsTableFile remaining source (CannotRead path) = path.now ≡ source.path.now
 ExplainsTableFile remaining source Memory = Unit {0}
 ExplainsTableFile remaining source (NotABatch fault) = ⊥
+ExplainsTableFile remaining source Socket = ⊥
 ExplainsTableFile remaining source Output = ⊥
 
 -- the rows are those of the table file, or of the profile where none is given
@@ -69,4 +71,5 @@ ExplainsFile remaining source (NotABatch fault) = (fault ≢ batch.Memory) × (b
 ExplainsFile remaining source (CannotRead path) = path.now ≡ source.path.now
 ExplainsFile remaining source Memory = Unit {0}
 ExplainsFile remaining source (NotATable fault) = ⊥
+ExplainsFile remaining source Socket = ⊥
 ExplainsFile remaining source Output = ⊥

@@ -64,6 +64,14 @@ row_lines rows = flat_map (λ row. with_newline (row_line row)) rows
 abbrev pub count_line : ℕ → List ℕ
 count_line count = codes "rows " ++ decimal count
 
+-- the line that says where a server listens
+abbrev pub listening_line : ℕ → List ℕ
+listening_line port = codes "listening 127.0.0.1:" ++ decimal port
+
+-- the line that says how many requests a server accepted
+abbrev pub accepted_line : ℕ → List ℕ
+accepted_line accepted = codes "accepted " ++ decimal accepted
+
 -- all that is printed of a table: a line a row, in row order, and their number
 abbrev pub table_text : List Row → List ℕ
 table_text rows = row_lines rows ++ with_newline (count_line (length rows))

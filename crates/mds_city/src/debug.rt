@@ -233,8 +233,8 @@ fn show<'a, I: Read, W: Write>(
 {
     let mut session = opened.session;
     print_start(alloc, out, &session, opened.counts)?;
-    let bytes = read_script(alloc, script)?;
-    let commands = script_of(alloc, &bytes)?;
+    let script = read_script(alloc, script)?;
+    let commands = script_of(alloc, &script.bytes)?;
     print_walk(alloc, out, &mut session, &commands)?;
     Ok(())
 }

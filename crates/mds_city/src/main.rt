@@ -1,18 +1,23 @@
-//! Keeps the states of a city's shared vehicles: replays files of events, steps through a vehicle's events, and prints
-//! tables of transitions.
+//! Keeps the states of a city's shared vehicles: serves them over HTTP, replays files of events, steps through a vehicle's
+//! events, and prints tables of transitions.
 #![tactic(auto)]
 
 mod commands;
 mod debug;
 mod lines;
+mod page;
 mod print;
 mod problem;
 mod program;
 mod rows;
+mod serve;
 mod source;
 mod status;
 
 use crate::program::{Opens, run, tell_words, words_of};
+use crate::serve::Listens;
+use mds_socket::{SocketIn, SocketOut, SocketPort};
+use std::alloc::Global;
 use std::process::ExitCode;
 use std::{env, fs};
 
@@ -24,11 +29,26 @@ impl Opens for HostRuntime {
     }
 }
 
+impl Listens for HostRuntime {
+    type In = SocketIn<HostRuntime>;
+
+    type Out = SocketOut<HostRuntime>;
+
+    type Listening = SocketPort<HostRuntime>;
+
+    fn listen(&self, alloc: Global, number: u16) -> Option<(SocketPort<HostRuntime>, u16)> {
+        let port = SocketPort::bind(self, alloc, *self, number).ok()?;
+        let number = port.number().ok()?;
+        Some((port, number))
+    }
+}
+
 fn main(rt: HostRuntime) -> ExitCode {
     let alloc = rt.alloc();
     let mut faults = rt.stderr();
     let code = match words_of(alloc, env::args(&rt)) {
         Ok(words) => run(
+            &rt,
             alloc,
             words.as_slice(),
             &rt,

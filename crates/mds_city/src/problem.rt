@@ -4,7 +4,7 @@ ghost use Rattle.mds_city.specs.Problem.{IsTelling, problem_text, status_of, Tel
 
 use crate::status::Status;
 use mds_batch::BatchFault;
-use mds_device::{WriteFault, write_all_of};
+use mds_device::{WriteFault, WriteStop, write_all_of};
 use mds_table::TableFault;
 use std::alloc::{AllocError, Global};
 use std::fmt;
@@ -20,6 +20,8 @@ pub enum Problem<'a> {
     NotATable(TableFault),
     /// The file of items is no batch.
     NotABatch(BatchFault),
+    /// A port can't be had, or no further connection of it.
+    Socket,
     /// Standard output failed.
     Output,
     /// Memory was refused.
@@ -36,6 +38,7 @@ impl Problem<'_> {
             Problem::CannotRead(_)
             | Problem::NotATable(_)
             | Problem::NotABatch(_)
+            | Problem::Socket
             | Problem::Output => Status::Fault,
         }
     }
@@ -100,6 +103,7 @@ impl fmt::Display for Problem<'_> {
             Problem::CannotRead(path) => write!(f, "mds_city: cannot read {path}"),
             Problem::NotATable(fault) => write!(f, "mds_city: not a table: {fault}"),
             Problem::NotABatch(fault) => write!(f, "mds_city: not a batch: {fault}"),
+            Problem::Socket => write!(f, "mds_city: socket"),
             Problem::Output => write!(f, "mds_city: output"),
             Problem::Memory => write!(f, "mds_city: out of memory"),
         }
@@ -120,8 +124,8 @@ pub fn tell<E: Write>(alloc: Global, faults: &mut E, problem: Problem<'_>) -> St
 struct Telling {
     /// How the program ends.
     status: Status,
-    /// Whether the line went out whole, and else how many of its bytes did.
-    line: Result<(), usize>,
+    /// Whether the line went out whole, and else where and why it stopped.
+    line: Result<(), WriteStop>,
 }
 
 /// Tells the problem in one line. Where there is no memory to lay the line out, the problem that is told is that.

@@ -3,11 +3,12 @@ ghost use Rattle.std.specs.Prelude.{◌≡◌, ◌≢◌, ◌↔◌, ℕ, List, 
 ghost use Rattle.std.specs.IoError.{error_kind};
 ghost use Rattle.clap.specs.Words.{kind_of};
 ghost use Rattle.mds_city.specs.Problem.{Tells};
-ghost use Rattle.mds_city.specs.Program.{Carries, Explains, IsFileNamed, IsFileOf, Runs, answer_to, opening_if};
+ghost use Rattle.mds_city.specs.Program.{Carries, Explains, HasWorkers, IsFileNamed, IsFileOf, Runs, answer_to, opening_if};
 
 use crate::commands::{replay_to, table_to};
 use crate::debug::{Named, debug_to};
 use crate::problem::{Problem, tell};
+use crate::serve::{Asked, Listens, serve_at};
 use crate::source::Source;
 use crate::status::Status;
 use clap::error::ErrorKind;
@@ -18,6 +19,8 @@ use std::alloc::Global;
 use std::convert::AsStr;
 use std::env::Args;
 use std::io::{self, ErrorKind as ReadKind, Read, Write};
+use std::sync::Wait;
+use std::thread::Threads;
 
 /// What opens files by their paths.
 pub trait Opens {
@@ -75,19 +78,19 @@ pub fn tell_words<E: Write>(alloc: Global, faults: &mut E, fault: WordsFault) ->
 
 /// Carries out what the words of the command line ask for, of which the first is the program's name, over these files and
 /// streams, or says why they ask for nothing. It answers the code of the status that the program ends with.
-pub fn run<S: AsStr, O: Opens, I: Read + Drop, W: Write, E: Write>(
-    alloc: Global,
-    words: &[S],
-    files: &O,
-    input: I,
-    out: &mut W,
-    faults: &mut E,
-) -> u8
+pub fn run<
+    R: Threads + Wait + Sync,
+    S: AsStr,
+    O: Opens + Listens,
+    I: Read + Drop,
+    W: Write,
+    E: Write,
+>(rt: &R, alloc: Global, words: &[S], files: &O, input: I, out: &mut W, faults: &mut E) -> u8
     ensures { Runs O.opens files.now O.File.remaining I.remaining input (map S.text words.now) result
         (W.contents out.old) (W.contents out.new) (E.contents faults.old) (E.contents faults.new) }
 {
     match parse_words(alloc, words) {
-        Ok(command) => carry_out(alloc, files, command, input, out, faults),
+        Ok(command) => carry_out(rt, alloc, files, command, input, out, faults),
         Err(error) => explain(alloc, &error, out, faults).code(),
     }
 }
@@ -142,7 +145,8 @@ fn explain<W: Write, E: Write>(
 
 /// Carries out a command over these files and streams, and answers the code of the status that the program ends with. The
 /// file `-` of a replay is `input`; the table file is one of its name, whatever that is.
-fn carry_out<O: Opens, I: Read + Drop, W: Write, E: Write>(
+fn carry_out<R: Threads + Wait + Sync, O: Opens + Listens, I: Read + Drop, W: Write, E: Write>(
+    rt: &R,
     alloc: Global,
     files: &O,
     command: Command<'_>,
@@ -150,10 +154,25 @@ fn carry_out<O: Opens, I: Read + Drop, W: Write, E: Write>(
     out: &mut W,
     faults: &mut E,
 ) -> u8
+    requires { HasWorkers command }
     ensures { Carries O.opens files.now O.File.remaining I.remaining input command.entry result
         (W.contents out.old) (W.contents out.new) (E.contents faults.old) (E.contents faults.new) }
 {
     match command {
+        Command::Serve {
+            port,
+            each,
+            workers,
+            table,
+        } => {
+            let table = file_if_named(files, table);
+            let asked = Asked {
+                port,
+                workers,
+                each,
+            };
+            serve_at(rt, alloc, files, table, asked, out, faults)
+        }
         Command::Debug {
             file,
             provider,

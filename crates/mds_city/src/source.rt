@@ -36,7 +36,7 @@ fn bytes_in<'a, R: Read + Drop>(
     match read_front(alloc, &mut reader) {
         Ok(bytes) => Ok(bytes),
         Err(ReadFault::Memory) => Err(Problem::Memory),
-        Err(ReadFault::Device) => Err(Problem::CannotRead(path)),
+        Err(ReadFault::Device | ReadFault::TooManyTurns) => Err(Problem::CannotRead(path)),
     }
 }
 

@@ -10,16 +10,18 @@ pub enum Status {
     Refused,
     /// The words of the command line don't parse, or don't name a vehicle by identifiers.
     BadWords,
-    /// A file can't be read, is no table or is no batch, or an output failed.
+    /// A file can't be read, is no table or is no batch, an output failed, or a port can't be had.
     Fault,
     /// Memory was refused.
     NoMemory,
+    /// The notes of accepted requests don't fit the histories.
+    Torn,
 }
 
 impl Status {
     ghost use Rattle.mds_city.specs.Status.{code_of};
 
-    /// The number that the system is told, from 0 to 4 in the order of the variants.
+    /// The number that the system is told, from 0 to 5 in the order of the variants.
     pub fn code(self) -> u8
         ensures { result ≡ code_of self }
     {
@@ -29,6 +31,7 @@ impl Status {
             Status::BadWords => 2,
             Status::Fault => 3,
             Status::NoMemory => 4,
+            Status::Torn => 5,
         }
     }
 }

@@ -1,8 +1,9 @@
 //! The words of the command line, read by `clap`.
-ghost use Rattle.std.specs.Prelude.{◌≡◌, ◌↔◌, ◌∷◌, [], None, Some, true, false, codes, map, IsTrue, IfOk, IfErr, MatchOption};
+ghost use Rattle.std.specs.Prelude.{◌≡◌, ◌↔◌, ◌<◌, ◌^◌, ◌∷◌, [], None, Some, true, false, codes, map, IsTrue, IfOk, IfErr, MatchOption};
 ghost use Rattle.clap.specs.Words.{app_of, fault_of, first_of, found_of, kind_of, rows_of, rule_of, subcommand_of, subcommand_rows_of, takes, with_subcommand};
-ghost use Rattle.mds_words.specs.Words.{Asks, AsksNothing, HasValues, IsErrorOf, LacksOneOf, name_of, any_rule, debug_app, program_app, replay_app, table_app, table_rule, word_rule};
+ghost use Rattle.mds_words.specs.Words.{Asks, AsksNothing, HasNoNumber, HasValues, IsErrorOf, IsNumber, LacksNumber, LacksOneOf, name_of, any_rule, debug_app, max_each, max_port, max_workers, needed_number_rule, number_rule, program_app, replay_app, serve_app, table_app, table_rule, word_rule, workers_rule};
 
+use clap::builder::ValueParser;
 use clap::error::ErrorKind;
 use clap::{Arg, ArgAction, ArgMatches, Error};
 use std::alloc::{AllocError, Global};
@@ -11,6 +12,17 @@ use std::convert::AsStr;
 /// What the command line asks for.
 #[derive(Debug, Clone, Copy, PartialEq, Eq)]
 pub enum Command<'a> {
+    /// Serve vehicles over HTTP, at an address of this machine.
+    Serve {
+        /// The number of the port, or 0 for a free one.
+        port: u16,
+        /// How many connections each worker answers.
+        each: usize,
+        /// How many workers there are, 1 to 64.
+        workers: usize,
+        /// As for `Replay`.
+        table: Option<&'a str>,
+    },
     /// Replay the events of a file.
     Replay {
         /// The file's path, or `-` for standard input.
@@ -68,6 +80,9 @@ fn command_of<'a>(matches: &ArgMatches<'a>) -> Option<Command<'a>>
         (Asks (subcommand_rows_of matches.now)) }
 {
     let (name, values) = matches.subcommand()?;
+    if name == "serve" {
+        return serve_of(values);
+    }
     if name == "replay" {
         return replay_of(values);
     }
@@ -78,6 +93,49 @@ fn command_of<'a>(matches: &ArgMatches<'a>) -> Option<Command<'a>>
         return Some(table_of(values));
     }
     None
+}
+
+/// The most that each number may be.
+const MAX_PORT: u64 = 65_535;
+
+const MAX_EACH: u64 = 1_000_000;
+
+const MAX_WORKERS: u64 = 64;
+
+/// The command `serve` with these values, or `None` where one of its numbers is missing or out of its range.
+fn serve_of<'a>(values: &ArgMatches<'a>) -> Option<Command<'a>>
+    ensures { MatchOption result (LacksNumber (rows_of (found_of values.now)))
+        (λ command. (name_of command ≡ codes "serve") × HasValues (rows_of (found_of values.now)) command) }
+{
+    let port = number_of(values, "port", 0, MAX_PORT)?;
+    let each = number_of(values, "each", 0, MAX_EACH)?;
+    let workers = number_of(values, "workers", 1, MAX_WORKERS)?;
+    Some(Command::Serve {
+        port: port as u16,
+        each: each as usize,
+        workers: workers as usize,
+        table: values.get_str("table"),
+    })
+}
+
+/// The number that the value of this name is, or `None` where there is no value or it is no number of this range.
+fn number_of(values: &ArgMatches<'_>, name: &str, least: u64, most: u64) -> Option<u64>
+    ensures { MatchOption result (HasNoNumber least most (first_of name.now (rows_of (found_of values.now))))
+        (IsNumber least most (first_of name.now (rows_of (found_of values.now)))) }
+{
+    number_in(values.get_str(name)?, least, most)
+}
+
+/// The number that this text is, or `None` where it is no number of this range.
+fn number_in(text: &str, least: u64, most: u64) -> Option<u64>
+    ensures { MatchOption result (HasNoNumber least most (Some text.now)) (IsNumber least most (Some text.now)) }
+{
+    let number = text.parse::<u64>().ok()?;
+    if least <= number && number <= most {
+        Some(number)
+    } else {
+        None
+    }
 }
 
 /// The command `replay` with these values, or `None` where the file is missing.
@@ -142,7 +200,68 @@ fn program_form<'a>(alloc: Global) -> Result<clap::Command<'a>, AllocError>
     let form = clap::Command::new(alloc, "mds_city")
         .about("Keeps the states of shared vehicles")
         .subcommand_required(true);
-    with_table(alloc, with_debug(alloc, with_replay(alloc, form)?)?)
+    let with_serve = with_serve(alloc, form)?;
+    with_table(alloc, with_debug(alloc, with_replay(alloc, with_serve)?)?)
+}
+
+/// Tells `form` of the command `serve`. It fails only for want of memory.
+fn with_serve<'a>(alloc: Global, form: clap::Command<'a>) -> Result<clap::Command<'a>, AllocError>
+    ensures { IfOk result (λ more.
+        app_of more ≡ with_subcommand (app_of form.entry) serve_app.top) }
+{
+    let bare = clap::Command::new(alloc, "serve").about("Serves vehicles over HTTP at 127.0.0.1");
+    let port = needed_number(
+        alloc,
+        "port",
+        MAX_PORT,
+        "The port's number; 0 is a free one",
+    );
+    let with_port = bare.arg(port)?;
+    let each = needed_number(
+        alloc,
+        "each",
+        MAX_EACH,
+        "How many connections each worker answers",
+    );
+    let with_each = with_port.arg(each)?;
+    let with_workers = with_each.arg(workers_option(alloc))?;
+    let serve = with_workers.arg(table_option(alloc))?;
+    form.subcommand(serve)
+}
+
+/// An option that takes a number of this range.
+fn number_option<'a>(alloc: Global, name: &'a str, least: u64, most: u64, help: &'a str) -> Arg<'a>
+    ensures rule { rule_of result ≡ number_rule name.entry.now least most }
+    ensures local { result.global ≡ false }
+{
+    Arg::new(alloc, name)
+        .long(name)
+        .value_name("N")
+        .value_parser(ValueParser::unsigned(least, most))
+        .help(help)
+}
+
+/// An option that must be given, and takes a number up to this one.
+fn needed_number<'a>(alloc: Global, name: &'a str, most: u64, help: &'a str) -> Arg<'a>
+    ensures rule { rule_of result ≡ needed_number_rule name.entry.now most }
+    ensures local { result.global ≡ false }
+{
+    number_option(alloc, name, 0, most, help).required(true)
+}
+
+/// The option `--workers`, which is 4 where it isn't given.
+fn workers_option<'a>(alloc: Global) -> Arg<'a>
+    ensures rule { rule_of result ≡ workers_rule }
+    ensures local { result.global ≡ false }
+{
+    number_option(
+        alloc,
+        "workers",
+        1,
+        MAX_WORKERS,
+        "How many workers there are",
+    )
+    .default_value("4")
 }
 
 /// Tells `form` of the command `replay`. It fails only for want of memory.

@@ -27,6 +27,21 @@ fn debug<'a>(file: &'a str, table: Option<&'a str>) -> Option<Command<'a>> {
     })
 }
 
+/// A server at this port, whose workers, so many, answer so many connections each.
+fn serve<'a>(
+    port: u16,
+    each: usize,
+    workers: usize,
+    table: Option<&'a str>,
+) -> Option<Command<'a>> {
+    Some(Command::Serve {
+        port,
+        each,
+        workers,
+        table,
+    })
+}
+
 /// The print of a table.
 fn table(table: Option<&str>) -> Option<Command<'_>> {
     Some(Command::Table { table })
@@ -35,7 +50,36 @@ fn table(table: Option<&str>) -> Option<Command<'_>> {
 #[test]
 fn words_ask_for_commands(rt: HostRuntime) {
     let rows = Some("rows.json");
-    let cases: [Case<'_>; 12] = [
+    let cases: [Case<'_>; 15] = [
+        (
+            &["mds_city", "serve", "--port", "0", "--each", "0"],
+            serve(0, 0, 4, None),
+        ),
+        (
+            &[
+                "mds_city",
+                "serve",
+                "--workers=1",
+                "--each=1000000",
+                "--port=65535",
+            ],
+            serve(65535, 1_000_000, 1, None),
+        ),
+        (
+            &[
+                "mds_city",
+                "serve",
+                "--port",
+                "80",
+                "--each",
+                "9",
+                "--workers",
+                "64",
+                "--table",
+                "rows.json",
+            ],
+            serve(80, 9, 64, rows),
+        ),
         (&["mds_city", "replay", "-"], replay("-", None)),
         (
             &["mds_city", "replay", "a b/events.json"],
@@ -74,7 +118,33 @@ fn words_ask_for_commands(rt: HostRuntime) {
 }
 
 /// Words that ask for no command, or for help.
-const NOTHING: [&[&str]; 12] = [
+const NOTHING: [&[&str]; 20] = [
+    &["mds_city", "serve"],
+    &["mds_city", "serve", "--port", "0"],
+    &["mds_city", "serve", "--each", "0"],
+    &["mds_city", "serve", "--port", "65536", "--each", "0"],
+    &["mds_city", "serve", "--port", "-1", "--each", "0"],
+    &["mds_city", "serve", "--port", "0", "--each", "1000001"],
+    &[
+        "mds_city",
+        "serve",
+        "--port",
+        "0",
+        "--each",
+        "0",
+        "--workers",
+        "0",
+    ],
+    &[
+        "mds_city",
+        "serve",
+        "--port",
+        "0",
+        "--each",
+        "0",
+        "--workers",
+        "65",
+    ],
     &["mds_city", "debug", "F", "a"],
     &["mds_city", "debug", "F", "a", "b", "--any"],
     &["mds_city", "replay", "-", "--any=true"],

@@ -16,13 +16,13 @@ of_writing : (fault : WriteFault) → IsOfShowing (Other (written_problem fault)
 of_writing write.Memory = inr refl
 of_writing write.Device = inl refl
 
-pub returns-in_err-bytes-clause-err : goal.returns-in_err-bytes-clause-err
-returns-in_err-bytes-clause-err g c =
+pub returns-in_err-script-clause-err : goal.returns-in_err-script-clause-err
+returns-in_err-script-clause-err g c =
     let started = g.W.Write.contents c.print_start.new.writer in
     let start = c.in_ok-print_start.ensures.ok in
     let part : DebugsPart c.args.opened.session c.args.opened.counts (g.I.Read.remaining c.args.script.now) (g.I.Read.remaining c.read_script.new.reader) (g.W.Write.contents c.args.out.now) started =
     (start.0, start.1, started, start.2, inl (Keeps-refl started)) in
-    passed_on _ _ _ c.from_residual-in_err-bytes.ensures.1 (inr refl, inr part)
+    passed_on _ _ _ c.from_residual-in_err-script.ensures.1 (inr refl, inr part)
 
 pub returns-in_err-commands-clause-err : goal.returns-in_err-commands-clause-err
 returns-in_err-commands-clause-err g c =
@@ -38,11 +38,11 @@ returns-in_err-print_walk-clause-err g c =
     let remaining = g.I.Read.remaining in
     let start = c.in_ok-print_start.ensures.ok in
     let commands = c.in_ok-commands.commands.items in
-    let short = subst (λ count. count ≤ max_script) (sym (sym (ap length c.deref.ensures.value) ∙ c.deref.ensures.len)) c.in_ok-bytes.ensures.short in
+    let short = subst (λ count. count ≤ max_script) (sym (sym (ap length c.deref.ensures.value) ∙ c.deref.ensures.len)) c.in_ok-script.ensures.short in
     let script = subst (λ bytes. IsScript bytes commands) c.deref.ensures.value c.in_ok-commands.ensures in
     let front = subst (λ script. PrintsFront c.args.opened.session script (contents c.print_start.new.writer) (contents c.print_walk.new.writer)) c.deref-2.ensures.value c.in_err-print_walk.ensures.err in
     let part : DebugsPart c.args.opened.session c.args.opened.counts (remaining c.args.script.now) (remaining c.read_script.new.reader) (contents c.args.out.now) (contents c.print_walk.new.writer) =
-    (start.0, start.1, contents c.print_start.new.writer, start.2, inr (c.in_ok-bytes.bytes.items, c.in_ok-bytes.ensures.taken, short, commands, script, front)) in
+    (start.0, start.1, contents c.print_start.new.writer, start.2, inr (c.in_ok-script.script.bytes.items, c.in_ok-script.ensures.taken, short, commands, script, front)) in
     passed_on _ _ _ c.from_residual-in_err-print_walk.ensures.1 (of_writing c.in_err-print_walk.field-0.0, inr part)
 
 pub returns-clause-ok : goal.returns-clause-ok
@@ -51,11 +51,11 @@ returns-clause-ok g c =
     let walk = c.in_ok-print_walk.ensures.ok in
     let commands = c.in_ok-commands.commands.items in
     let to = c.print_walk.new.session.place in
-    let short = subst (λ count. count ≤ max_script) (sym (sym (ap length c.deref.ensures.value) ∙ c.deref.ensures.len)) c.in_ok-bytes.ensures.short in
+    let short = subst (λ count. count ≤ max_script) (sym (sym (ap length c.deref.ensures.value) ∙ c.deref.ensures.len)) c.in_ok-script.ensures.short in
     let script = subst (λ bytes. IsScript bytes commands) c.deref.ensures.value c.in_ok-commands.ensures in
     let printed = subst (λ script. PrintsScript c.args.opened.session script to walk.0) c.deref-2.ensures.value walk.1 in (
-      c.in_ok-bytes.bytes.items,
-      c.in_ok-bytes.ensures.taken,
+      c.in_ok-script.script.bytes.items,
+      c.in_ok-script.ensures.taken,
       short,
       (start.0, commands, to, walk.0, start.1, script, printed, Appends-trans _ _ _ _ _ start.2 walk.2),
     )

@@ -43,4 +43,16 @@ returns-in-Debug g c =
     (λ (command : Command). Carries g.O.Opens.opens c.args.files.now bytes input c.args.input command c.debug_to.result
     (out c.args.out.now) (out c.debug_to.new.out) (faults c.args.faults.now) (faults c.debug_to.new.faults))
     (sym c.in-Debug.is)
-    (c.file_if_named-table.result, search rules, c.file_of-file.result, c.file_of-file.ensures, input c.debug_to.new.script, c.debug_to.ensures)
+    (c.file_if_named-table-in-Debug.result, search rules, c.file_of-file.result, c.file_of-file.ensures, input c.debug_to.new.script, c.debug_to.ensures)
+
+pub returns-in-Serve : goal.returns-in-Serve
+returns-in-Serve g c =
+    let bytes = g.O.File.Read.remaining in
+    let input = g.I.Read.remaining in
+    let out = g.W.Write.contents in
+    let faults = g.E.Write.contents in
+    subst
+    (λ (command : Command). Carries g.O.Opens.opens c.args.files.now bytes input c.args.input command c.serve_at.result
+    (out c.args.out.now) (out c.serve_at.new.out) (faults c.args.faults.now) (faults c.serve_at.new.faults))
+    (sym c.in-Serve.is)
+    (c.file_if_named-table.result, search rules, c.serve_at.ensures)

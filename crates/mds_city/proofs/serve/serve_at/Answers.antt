@@ -1,0 +1,29 @@
+use Rattle.std.proofs.Common.{◌∙◌, ℕ, List, Option, inl, inr, ap}
+use Rattle.mds_city.specs.declared.source.Source.{Source}
+use Rattle.mds_city.specs.declared.problem.Problem.{Problem}
+use Rattle.mds_city.specs.declared.problem.Problem.TheVariants.{CannotRead, NotATable, NotABatch, Socket, Output, Memory}
+use Rattle.mds_city.specs.Serve.{StopsBefore}
+use Rattle.mds_city.specs.Status.{code_of}
+use Rattle.mds_city.proofs.serve.serve_at.Goals as goal
+
+-- whatever the problem, nothing went out before it, or a front of the first line
+out_before : {T : Type 0} (table_bytes : T → Option (List ℕ)) (table : Option (Source T)) (problem : Problem) (old new : Option (List ℕ))
+    → StopsBefore table_bytes table problem old new → StopsBefore table_bytes table Memory old new
+out_before table_bytes table (CannotRead path) old new stops = inl stops.1
+out_before table_bytes table (NotATable fault) old new stops = inl stops.1
+out_before table_bytes table (NotABatch fault) old new stops = absurd stops
+out_before table_bytes table Socket old new stops = inl stops.2
+out_before table_bytes table Output old new stops = inr stops
+out_before table_bytes table Memory old new stops = stops
+
+pub returns-in-Err : goal.returns-in-Err
+returns-in-Err g c =
+    let stops = c.in-Err.ensures.err in
+    elim c.tell.ensures [
+      | inl told ↦ inl (c.in-Err.problem, stops, (c.code.ensures ∙ ap code_of told.0, told.1))
+      | inr told ↦ inl (
+        Memory,
+        out_before g.T.Read.remaining c.args.table c.in-Err.problem (g.W.Write.contents c.args.out.now) (g.W.Write.contents c.begun.new.out) stops,
+        (c.code.ensures ∙ ap code_of told.0, told.1),
+      )
+    ]

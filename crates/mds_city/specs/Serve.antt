@@ -1,0 +1,67 @@
+-- What the command that serves does.
+use Rattle.std.specs.Prelude.{◌≡◌, ◌⊎◌, ℕ, ◌<◌, List, length, take, Option, Result, Ok, Err}
+use Rattle.std.specs.Io.KnownBytes.{Appends, Keeps}
+use Rattle.mds_table.specs.declared.row.Row.{Row}
+use Rattle.mds_device.specs.Device.{AppendsFront, with_newline}
+use Rattle.mds_serving.specs.Torn.{torn_text}
+use Rattle.mds_serving.specs.Serving.{IsEnded}
+use Rattle.mds_serving.specs.declared.serving.Stop.{Stop}
+use Rattle.mds_serving.specs.declared.serving.Stop.TheVariants as stop
+use Rattle.mds_city.specs.declared.source.Source.{Source}
+use Rattle.mds_city.specs.declared.problem.Problem.{Problem}
+use Rattle.mds_city.specs.declared.problem.Problem.TheVariants.{CannotRead, NotATable, NotABatch, Socket, Output, Memory}
+use Rattle.mds_city.specs.declared.status.Status.TheVariants as status
+use Rattle.mds_city.specs.Problem.{status_of, Tells}
+use Rattle.mds_city.specs.Status.{code_of}
+use Rattle.mds_city.specs.Source.{HasTableIn, ExplainsTable}
+use Rattle.mds_city.specs.Text.{accepted_line, listening_line}
+
+-- the line of a shard and a place went out whole, or as many of its bytes as the writer took, fewer than all
+abbrev pub TellsTorn : ℕ → ℕ → ℕ → Option (List ℕ) → Option (List ℕ) → Type 0
+TellsTorn shard place code old new =
+    ((code ≡ code_of status.Torn) × Appends old new (torn_text shard place))
+    ⊎ ((code ≡ code_of status.Fault) × ((sent : ℕ) × (sent < length (torn_text shard place)) × Appends old new (take sent (torn_text shard place))))
+
+-- a problem has this code, and was told
+abbrev pub IsTold : Problem → ℕ → Option (List ℕ) → Option (List ℕ) → Type 0
+IsTold problem code faults faults_new = (code ≡ code_of (status_of problem)) × Tells faults faults_new problem
+
+-- what was printed and told of how serving ended: the number of accepted requests; or a front of that line, where the output failed or
+-- there was no memory; else nothing, and why
+abbrev pub IsSaid : Result ℕ Stop → ℕ → Option (List ℕ) → Option (List ℕ) → Option (List ℕ) → Option (List ℕ) → Type 0
+IsSaid (Ok accepted) code out out_new faults faults_new =
+    ((code ≡ code_of status.Done) × Appends out out_new (with_newline (accepted_line accepted)) × Keeps faults faults_new)
+    ⊎ (AppendsFront out out_new (with_newline (accepted_line accepted)) × (IsTold Output code faults faults_new ⊎ IsTold Memory code faults faults_new))
+IsSaid (Err stop.Memory) code out out_new faults faults_new = Keeps out out_new × IsTold Memory code faults faults_new
+IsSaid (Err stop.Accept) code out out_new faults faults_new = Keeps out out_new × (IsTold Socket code faults faults_new ⊎ IsTold Memory code faults faults_new)
+IsSaid (Err (stop.Torn shard place)) code out out_new faults faults_new = Keeps out out_new × TellsTorn shard place code faults faults_new
+
+-- serving with this table and so many workers ended in some way, and that was said
+abbrev pub Serves : List Row → ℕ → ℕ → Option (List ℕ) → Option (List ℕ) → Option (List ℕ) → Option (List ℕ) → Type 0
+Serves rows workers code out out_new faults faults_new =
+    (ended : Result ℕ Stop) × IsEnded rows workers ended × IsSaid ended code out out_new faults faults_new
+
+-- of the command: the known bytes of a table file's reader, and the table file if one is given
+module _ {T : Type 0} (table_bytes : T → Option (List ℕ)) (table : Option (Source T)) where
+  -- the table was had, and a front of the line that says where the server listens went out
+  abbrev pub PrintsListening : Option (List ℕ) → Option (List ℕ) → Type 0
+  PrintsListening out out_new = (rows : List Row) × HasTableIn table_bytes table rows × ((port : ℕ) × AppendsFront out out_new (with_newline (listening_line port)))
+
+  -- why nothing was served: a fault of the table file, a port that can't be had, or a line that could not be printed; and what went out
+  abbrev pub StopsBefore : Problem → Option (List ℕ) → Option (List ℕ) → Type 0
+  StopsBefore (CannotRead path) out out_new = ExplainsTable table_bytes table (CannotRead path) × Keeps out out_new
+  StopsBefore (NotATable fault) out out_new = ExplainsTable table_bytes table (NotATable fault) × Keeps out out_new
+  StopsBefore (NotABatch fault) out out_new = ⊥
+  StopsBefore Socket out out_new = (rows : List Row) × HasTableIn table_bytes table rows × Keeps out out_new
+  StopsBefore Output out out_new = PrintsListening out out_new
+  StopsBefore Memory out out_new = Keeps out out_new ⊎ PrintsListening out out_new
+
+  -- the table was had, and the line that says where the server listens went out
+  abbrev pub Listened : List Row → Option (List ℕ) → Option (List ℕ) → Type 0
+  Listened rows out out_new = HasTableIn table_bytes table rows × ((port : ℕ) × Appends out out_new (with_newline (listening_line port)))
+
+  -- what the command came to: nothing was served, for a problem that was told; or it was served, after the first line
+  abbrev pub CameToServe : ℕ → ℕ → Option (List ℕ) → Option (List ℕ) → Option (List ℕ) → Option (List ℕ) → Type 0
+  CameToServe workers code out out_new faults faults_new =
+      ((problem : Problem) × StopsBefore problem out out_new × IsTold problem code faults faults_new)
+      ⊎ ((rows : List Row) × (out_then : Option (List ℕ)) × Listened rows out out_then × Serves rows workers code out_then out_new faults faults_new)

@@ -1,0 +1,58 @@
+//! Single lines that a server prints.
+ghost use Rattle.std.specs.Prelude.{Some, IfSome, OnOk, OnErr};
+ghost use Rattle.std.specs.Io.KnownBytes.{Appends};
+ghost use Rattle.mds_device.specs.Device.{AppendsFront, with_newline};
+ghost use Rattle.mds_city.specs.Text.{accepted_line, listening_line};
+
+use mds_device::{WriteFault, add_line, put_out};
+use std::alloc::Global;
+use std::fmt;
+use std::io::Write;
+
+/// The line that says where a server listens.
+#[derive(Clone, Copy)]
+pub struct ListeningLine {
+    /// The number of its port.
+    pub port: u16,
+}
+
+impl fmt::Display for ListeningLine {
+    ghost output = { λ line. Some (listening_line line.port) };
+
+    fn fmt<W: fmt::Write>(&self, f: &mut fmt::Formatter<W>) -> fmt::Result {
+        let port = self.port;
+        write!(f, "listening 127.0.0.1:{port}")
+    }
+}
+
+/// The line that says how many requests a server accepted.
+#[derive(Clone, Copy)]
+pub struct AcceptedLine {
+    /// How many.
+    pub accepted: u128,
+}
+
+impl fmt::Display for AcceptedLine {
+    ghost output = { λ line. Some (accepted_line line.accepted) };
+
+    fn fmt<W: fmt::Write>(&self, f: &mut fmt::Formatter<W>) -> fmt::Result {
+        let accepted = self.accepted;
+        write!(f, "accepted {accepted}")
+    }
+}
+
+/// Prints one line.
+///
+/// At an error a front of it went out: `Memory` where there was none to lay it out, `Device` where the writer failed.
+pub fn print_line<W: Write, D: fmt::Display>(
+    alloc: Global,
+    writer: &mut W,
+    line: &D,
+) -> Result<(), WriteFault>
+    ensures ok { OnOk result (IfSome (D.output line.now) (λ text. Appends (W.contents writer.old) (W.contents writer.new) (with_newline text))) }
+    ensures err { OnErr result (IfSome (D.output line.now) (λ text. AppendsFront (W.contents writer.old) (W.contents writer.new) (with_newline text))) }
+{
+    let mut page = String::new(alloc);
+    add_line(writer, &mut page, line)?;
+    put_out(writer, &mut page)
+}

@@ -1,0 +1,151 @@
+//! The command that serves vehicles at a port.
+ghost use Rattle.std.specs.Prelude.{◌≡◌, ◌<◌, ◌≤◌, IfOk, IfErr};
+ghost use Rattle.mds_city.specs.Serve.{CameToServe, IsSaid, Listened, Serves, StopsBefore, TellsTorn};
+
+use crate::page::{AcceptedLine, ListeningLine, print_line};
+use crate::problem::{Problem, tell};
+use crate::source::{Source, table_in};
+use crate::status::Status;
+use mds_device::write_all_of;
+use mds_pool::Port;
+use mds_serving::{Stop, serve_and_settle, torn_line};
+use mds_table::Table;
+use std::alloc::Global;
+use std::io::{Read, Write};
+use std::sync::Wait;
+use std::thread::Threads;
+
+/// What listens at a port of this machine.
+pub trait Listens {
+    /// The end of a connection that gives its request.
+    type In: Read + Drop + Send;
+
+    /// The end of a connection that takes its answer.
+    type Out: Write + Drop + Send;
+
+    /// What connections come from.
+    type Listening: Port<In = Self::In, Out = Self::Out> + Sync + Drop;
+
+    /// Listens at 127.0.0.1 and the port of this number, at a free one for 0: what listens, and the number of its port; or
+    /// `None` where that can't be had.
+    fn listen(&self, alloc: Global, number: u16) -> Option<(Self::Listening, u16)>;
+}
+
+/// What serving is asked for: at which port, by how many workers, and how many connections each of them answers.
+#[derive(Clone, Copy, Debug, PartialEq, Eq)]
+pub struct Asked {
+    /// The number of the port, 0 for a free one.
+    pub port: u16,
+    /// How many workers there are, 1 to 64.
+    pub workers: usize,
+    /// How many connections each answers.
+    pub each: usize,
+}
+
+/// Serves vehicles over a table, the profile's where none is given, at a port of the host: prints where it listens, and
+/// goes on as [`serve_on`]. It answers the code of the status that the program ends with; a problem is told to `faults` in
+/// one line.
+pub fn serve_at<R: Threads + Wait + Sync, H: Listens, T: Read + Drop, W: Write, E: Write>(
+    rt: &R,
+    alloc: Global,
+    host: &H,
+    table: Option<Source<'_, T>>,
+    asked: Asked,
+    out: &mut W,
+    faults: &mut E,
+) -> u8
+    requires { (0 < asked.workers) × (asked.workers ≤ 64) }
+    ensures { CameToServe T.remaining table.entry asked.workers result
+        (W.contents out.old) (W.contents out.new) (E.contents faults.old) (E.contents faults.new) }
+{
+    let (table, listening) = match begun(alloc, host, table, asked.port, out) {
+        Ok(begun) => begun,
+        Err(problem) => return tell(alloc, faults, problem).code(),
+    };
+    serve_on(
+        rt,
+        alloc,
+        table,
+        &listening,
+        asked.workers,
+        asked.each,
+        out,
+        faults,
+    )
+}
+
+/// The table, and what listens at the port, once it is printed where.
+fn begun<'a, H: Listens, T: Read + Drop, W: Write>(
+    alloc: Global,
+    host: &H,
+    table: Option<Source<'a, T>>,
+    number: u16,
+    out: &mut W,
+) -> Result<(Table, H::Listening), Problem<'a>>
+    ensures ok { IfOk result (λ begun. Listened T.remaining table.entry begun.0 (W.contents out.old) (W.contents out.new)) }
+    ensures err { IfErr result (λ problem. StopsBefore T.remaining table.entry problem (W.contents out.old) (W.contents out.new)) }
+{
+    let table = table_in(alloc, table)?;
+    let Some((listening, port)) = host.listen(alloc, number) else {
+        return Err(Problem::Socket);
+    };
+    print_line(alloc, out, &ListeningLine { port })?;
+    Ok((table, listening))
+}
+
+/// Serves connections of a port over a table, with a new book of so many seats, 1 to 64, each of which answers so many of
+/// them. At the end it settles the book, and prints how many requests were accepted. It answers the code of the status that
+/// the program ends with: `Done`; `Torn` where the notes of the accepted requests don't fit the histories; `Fault` where no
+/// further connection could be taken, or an output failed; `NoMemory` for want of memory. What isn't `Done` is told to
+/// `faults` in one line.
+pub fn serve_on<R: Threads + Wait + Sync, P: Port + Sync, W: Write, E: Write>(
+    rt: &R,
+    alloc: Global,
+    table: Table,
+    port: &P,
+    seats: usize,
+    each: usize,
+    out: &mut W,
+    faults: &mut E,
+) -> u8
+where
+    P::In: Send,
+    P::Out: Send,
+    requires { (0 < seats) × (seats ≤ 64) }
+    ensures { Serves table seats result (W.contents out.old) (W.contents out.new) (E.contents faults.old) (E.contents faults.new) }
+{
+    let ended = serve_and_settle(rt, alloc, table, port, seats, each);
+    say(alloc, ended, out, faults)
+}
+
+/// Prints how many requests were accepted, or tells why that isn't known.
+fn say<W: Write, E: Write>(
+    alloc: Global,
+    ended: Result<u128, Stop>,
+    out: &mut W,
+    faults: &mut E,
+) -> u8
+    ensures { IsSaid ended result (W.contents out.old) (W.contents out.new) (E.contents faults.old) (E.contents faults.new) }
+{
+    match ended {
+        Ok(accepted) => match print_line(alloc, out, &AcceptedLine { accepted }) {
+            Ok(()) => Status::Done.code(),
+            Err(fault) => tell(alloc, faults, Problem::from(fault)).code(),
+        },
+        Err(Stop::Memory) => tell(alloc, faults, Problem::Memory).code(),
+        Err(Stop::Accept) => tell(alloc, faults, Problem::Socket).code(),
+        Err(Stop::Torn { shard, place }) => torn_to(faults, shard, place),
+    }
+}
+
+/// Tells, in one line, the shard, and the place in its history, that notes don't fit. It answers the code of `Torn`, or of
+/// `Fault` where the writer failed. It takes no memory.
+pub fn torn_to<E: Write>(faults: &mut E, shard: usize, place: usize) -> u8
+    ensures { TellsTorn shard place result (E.contents faults.old) (E.contents faults.new) }
+{
+    let line = torn_line(shard, place);
+    match write_all_of(faults, line.as_bytes()) {
+        Ok(()) => Status::Torn.code(),
+        Err(_) => Status::Fault.code(),
+    }
+}
