@@ -150,6 +150,7 @@ ACCEPTED = [
     # identifiers in the other forms
     {"device_id": f'"{A.upper()}"', "provider_id": MEMBERS["provider_id"].replace("-", "")},
     {"device_id": f'"urn:uuid:{A}"', "event_id": '"{%s}"' % A.upper()},
+    {"device_id": f'"URN:uuid:{A.upper()}"'},
 ]
 SIXTEEN = json.dumps(["provider_drop_off"] + 7 * ["battery_low", "battery_charged"] + ["comms_lost"])
 # No faults of the item: its event is refused.

@@ -57,7 +57,7 @@ def commands():
 
 def help_asked_for():
     """Help, which goes to standard output."""
-    for words in ("--help", "-h", "help", "help help", "help replay", "help debug", "help table"):
+    for words in ("--help", "-h", "help", "help help", "help replay", "help debug", "help table", "help serve"):
         yield Case(words, out=SOME)
     for words in ("replay --help", "replay -h", "debug --help", "table --help", "table -h", "replay events.json --help"):
         yield Case(words, out=SOME)
@@ -103,8 +103,9 @@ WRONG = [
     ["table", "--any"],
     ["replay", "events.json", "--lines"],
     ["replay", "events.json", "--workers", "4"],
+    # the words of `serve` are those of tests/clients
     ["serve"],
-    ["serve", "--port", "0", "--each", "1"],
+    ["serve", "--port", "0"],
     ["debug"],
     ["debug", "events.json"],
     ["debug", "events.json", P],

@@ -1,0 +1,163 @@
+"""Measures the built server: requests a second, how long answers take, what its memory grows by, and how long it settles."""
+
+import statistics
+import struct
+import subprocess
+import sys
+import time
+from pathlib import Path
+
+ROOT = Path(__file__).resolve().parent.parent
+sys.path.append(str(ROOT / "tests"))
+
+from serving.server import Server, success_of
+from serving.wire import ask, get, post
+
+PROVIDER = "00000000-0000-4000-8000-000000000001"
+VEHICLES = 1000
+LOOKS = 20000
+REPORTS = 20000
+BATCHES, EVENTS = 512, 100
+WORKERS = (1, 4)
+CLIENTS = (1, 16)
+KEPT = 100000
+
+
+def identifier(group, number):
+    """A UUID of this group with this number."""
+    return f"00000000-0000-4000-8{group:03x}-{number:012x}"
+
+
+def vehicle(number):
+    return {"provider_id": PROVIDER, "device_id": identifier(1, number)}
+
+
+def event(number, turn):
+    """The event of this turn of a vehicle, which the profile's table accepts."""
+    first = ("available", "provider_drop_off")
+    state, kind = first if turn == 0 else (("available", "battery_charged"), ("non_operational", "battery_low"))[turn % 2]
+    return {
+        **vehicle(number),
+        "event_id": identifier(2, turn),
+        "vehicle_state": state,
+        "event_types": [kind],
+        "timestamp": 1700000000000 + turn,
+    }
+
+
+def events_of(client, clients, count):
+    """So many events of the vehicles of a client, each of which has as many vehicles as the others."""
+    own = range(client, VEHICLES, clients)
+    return [event(own[at % len(own)], at // len(own)) for at in range(count)]
+
+
+def looks(client, clients):
+    own = range(client, VEHICLES, clients)
+    return [get(f"/vehicles/{PROVIDER}/{identifier(1, own[at % len(own)])}") for at in range(LOOKS // clients)]
+
+
+def reports(client, clients):
+    return [post("/events", it) for it in events_of(client, clients, REPORTS // clients)]
+
+
+def batches(client, clients):
+    events = events_of(client, clients, BATCHES * EVENTS // clients)
+    return [post("/events", events[at : at + EVENTS]) for at in range(0, len(events), EVENTS)]
+
+
+KINDS = {
+    "looks at a vehicle": (looks, 0),
+    "reports of one event": (reports, 1),
+    f"batches of {EVENTS} events": (batches, EVENTS),
+}
+
+
+def processor_time(child):
+    """The seconds of the processors that a process took so far."""
+    fields = Path(f"/proc/{child.pid}/stat").read_text().rpartition(")")[2].split()
+    return (int(fields[11]) + int(fields[12])) / 100
+
+
+def built(folder):
+    """The client, built from bench/client.c."""
+    client = Path(folder, "client")
+    subprocess.run(["cc", "-O2", "-pthread", "-o", client, ROOT / "bench/client.c"], check=True)
+    return client
+
+
+def files_of(folder, requests_of, clients):
+    """A file of requests for each client, and how many requests there are."""
+    paths, count = [], 0
+    for client in range(clients):
+        requests = requests_of(client, clients)
+        paths.append(Path(folder, f"requests-{client}"))
+        paths[-1].write_bytes(b"".join(struct.pack("<I", len(request)) + request for request in requests))
+        count += len(requests)
+    return paths, count
+
+
+def register(server):
+    answered = ask(server.port, post("/vehicles", [vehicle(number) for number in range(VEHICLES)]))
+    server.count(1, success_of(answered))
+    if server.success != VEHICLES:
+        sys.exit(f"registered {answered[:500]!r}")
+
+
+def ended(server):
+    for complaint in server.end():
+        sys.exit(complaint)
+
+
+class ServeBench:
+    """Measures a program that takes the words of `serve`, by so many runs each, with files in a folder."""
+
+    def __init__(self, program, runs, folder):
+        self.program = program
+        self.runs = runs
+        self.folder = folder
+        self.client = built(folder)
+
+    def once(self, paths, count, success, workers):
+        """The requests a second, the two percentiles in microseconds, and the processor time of the server and of the client
+        in microseconds a request."""
+        with Server(self.program, count // workers + 2, workers=workers) as server:
+            register(server)
+            before = processor_time(server.child)
+            words = [self.client, str(server.port), *paths]
+            told = subprocess.run(words, capture_output=True, text=True, check=True).stdout.split()
+            used = processor_time(server.child) - before
+            if [int(word) for word in told[:3]] != [count, count, count * success]:
+                sys.exit(f"{told} of {count} requests")
+            server.count(count, count * success)
+            ended(server)
+        seconds, half, most, own = map(float, told[3:])
+        return count / seconds, half, most, used / count * 1e6, own / count * 1e6
+
+    def measure(self):
+        """Prints a table of the kinds of requests, with few and more workers and clients."""
+        heads = "requests a second | median, µs | 99th percentile, µs | server's processor, µs | client's, µs"
+        print(f"| what is asked | workers | clients | {heads} |")
+        print("|---|---:|---:|---:|---:|---:|---:|---:|")
+        for name, (requests_of, success) in KINDS.items():
+            for clients in CLIENTS:
+                paths, count = files_of(self.folder, requests_of, clients)
+                for workers in WORKERS:
+                    runs = [self.once(paths, count, success, workers) for _ in range(self.runs)]
+                    cells = " | ".join(f"{statistics.median(column):,.0f}" for column in zip(*runs))
+                    print(f"| {name} | {workers} | {clients} | {cells} |", flush=True)
+
+    def keep(self):
+        """Prints what many accepted events take, and how long the server settles behind the last answer."""
+        requests = KEPT // EVENTS
+        with Server(self.program, requests + 1) as server:
+            register(server)
+            before = server.memory()
+            events = events_of(0, 1, KEPT)
+            for at in range(0, KEPT, EVENTS):
+                server.ask(post("/events", events[at : at + EVENTS]))
+            after, start = server.memory(), time.monotonic()
+            ended(server)
+            seconds = time.monotonic() - start
+        grown = (after - before) / 2**20
+        print(f"\n{KEPT:,} accepted events: {grown:.1f} MiB more, {grown * 2**20 / KEPT:,.0f} bytes each.")
+        print(f"Settling {KEPT + VEHICLES:,} accepted requests, and ending: {seconds:.3f} s.")

@@ -1,0 +1,240 @@
+"""Connections that are slow, broken, silent, or sent more than is read."""
+
+import select
+import time
+
+from cases.http import BAD_HEADS, EMPTY, HEAD_BYTES, A, B, Exchange, P, changed, done, head, look, registered, vehicle
+from cases.replays import batch, event, item
+from serving.server import Server
+from serving.talking import differing, sent, talk_over
+from serving.wire import connect, error, get, hang_up, post, read_all
+
+REGISTER = post("/vehicles", [vehicle()])
+EVENT = post("/events", batch([item()]))
+MOST_WORKERS = 64
+
+
+def silent(connection, seconds):
+    """Whether nothing comes on a connection for so long."""
+    return not select.select([connection], [], [], seconds)[0]
+
+
+def in_slow_pieces(program):
+    """A request that comes byte by byte, and one in ten pieces with a pause before each."""
+    with Server(program, 5) as server:
+        size = len(EVENT) // 10 + 1
+        slow = [EVENT[at : at + size] for at in range(0, len(EVENT), size)]
+        yield from sent(server, [bytes([byte]) for byte in REGISTER], done(1), pause=0.002)
+        yield from sent(server, slow, done(1), pause=0.1)
+        yield from talk_over(server, look(A, "available", 1, 1000))
+        yield from sent(server, [b"\n"] * HEAD_BYTES, error(400, "bad_head"))
+        long = head(f"GET /vehicles/{P}/{B} HTTP/1.1", "more: " + "x" * 15000)
+        yield from sent(server, [bytes([byte]) for byte in long], error(404, "unregistered"))
+        yield from server.end()
+
+
+def cut_at_each_place(program):
+    """A request in two pieces, cut at each of its places."""
+    again = done(1, [{"error": "already_registered", "index": 0}])
+    with Server(program, len(REGISTER)) as server:
+        for at in range(1, len(REGISTER)):
+            wanted = done(1) if at == 1 else again
+            yield from sent(server, [REGISTER[:at], REGISTER[at:]], wanted, pause=0.001)
+        yield from server.end()
+
+
+def ended_at_each_place(program):
+    """A request that its client ends at each of its places: nothing is taken in before all of it is there."""
+    start = REGISTER.index(b"\r\n\r\n") + 4
+    with Server(program, len(REGISTER) + 1) as server:
+        for at in range(len(REGISTER)):
+            wanted = error(400, "bad_head" if at < start else "cut_short")
+            yield from sent(server, [REGISTER[:at]], wanted, ends=True)
+        yield from talk_over(server, registered(A))
+        yield from server.end()
+
+
+def refused_while_sending(program):
+    """Bodies that are refused by the head alone, and heads that are too long, from clients that send all before they read: the
+    whole answer comes, and no reset."""
+    body = "0" * 5000000
+    too_long = changed(body=body)
+    requests = [
+        (too_long, error(413, "too_long")),
+        (changed(body=body, target="/nowhere"), error(404, "not_found")),
+        (changed(body=body, method="PUT"), error(405, "method_not_allowed", "POST")),
+        (changed(body=body, coding="chunked"), error(501, "transfer_encoding")),
+        (changed(body=body, lengths=[]), error(411, "length_required")),
+        (get("/table")[:-2] + b"more: " + b"x" * 20000 + b"\r\n\r\n", error(400, "bad_head")),
+        (b"a" * 20000, error(400, "bad_head")),
+        (b"GET /table HTTP/2.0\r\n\r\n" + b"x" * 3000000, error(400, "bad_head")),
+        (get(f"/vehicles/{P}/{A}") + b"x" * 3000000, error(404, "unregistered")),
+        (changed() + b"x" * 3000000, EMPTY),
+    ]
+    with Server(program, 5 * len(requests), workers=2) as server:
+        for request, wanted in 10 * requests:
+            for complaint in sent(server, [request], wanted):
+                yield f"{request[:40]!r}, {len(request)} bytes: {complaint}"
+        yield from server.end()
+
+
+def bad_heads_with_more(program):
+    """Heads that are none, with 20 kB behind them."""
+    with Server(program, len(BAD_HEADS)) as server:
+        for request in BAD_HEADS:
+            yield from sent(server, [request, b"x" * 20000], error(400, "bad_head"))
+        yield from server.end()
+
+
+def expecting_interim_answers(program):
+    """`Expect: 100-continue`: no 100 comes, a body that comes later is taken, and an error of the head comes at once."""
+    with Server(program, 3) as server:
+        fields = ["Expect: 100-continue", f"Content-Length: {len(batch([item()]))}"]
+        for target, wanted in (("/vehicles", done(1)), ("/events", done(1))):
+            server.count(1, 1)
+            with connect(server.port) as connection:
+                connection.sendall(head(f"POST {target} HTTP/1.1", *fields))
+                if not silent(connection, 0.5):
+                    yield f"something before the body: {connection.recv(1000)!r}"
+                connection.sendall(batch([item()]).encode())
+                yield from differing(read_all(connection), wanted)
+        long = head("POST /events HTTP/1.1", "Expect: 100-continue", "Content-Length: 4194305")
+        yield from sent(server, [long], error(413, "too_long"))
+        yield from server.end()
+
+
+def hanging_up(program):
+    """Clients that hang up, with an end and with a reset: in their head, in their body, and before the answer. One worker takes
+    them in turn, so that looks behind them show what came of them: nothing of what wasn't sent whole, all of what was sent
+    whole and ended, and either of what was reset."""
+    devices = [f"00000000-0000-4000-8002-{number:012x}" for number in range(40)]
+    requests = [post("/vehicles", [vehicle(device)]) for device in devices]
+    with Server(program, 400) as server:
+        for request in requests:
+            body = request.index(b"\r\n\r\n") + 4
+            for part in (0, 10, body, len(request) - 1):
+                server.count()
+                hang_up(server.port, request[:part], reset=part % 2 == 1)
+        if any(is_registered(server, device) for device in devices):
+            yield "a registration that wasn't sent whole was taken in"
+        for at, request in enumerate(requests):
+            server.count()
+            hang_up(server.port, request, reset=at % 2 == 1)
+        found = [is_registered(server, device) for device in devices]
+        server.count(0, sum(found))
+        if not all(found[::2]):
+            yield "a registration that was sent whole wasn't taken in"
+        yield from server.end()
+
+
+def hanging_up_before_a_long_answer(program):
+    """Clients that hang up while a long answer is written to them."""
+    many = batch(["0"] * 10000)
+    with Server(program, 20, workers=2) as server:
+        yield from talk_over(server, registered(A))
+        for reset in 5 * (False, True):
+            for request in (post("/events", many), get("/table")):
+                server.count()
+                hang_up(server.port, request, reset)
+        yield from talk_over(server, look(A, "removed", 0, None))
+        yield from server.end()
+
+
+def is_registered(server, device):
+    return server.ask(get(f"/vehicles/{P}/{device}")).startswith(b"HTTP/1.1 200 ")
+
+
+def silent_beside_working(program):
+    """As many silent clients as there are workers but one: another client is answered by the one that is left. With one more
+    silent client, the next one waits until a silent one has gone on."""
+    request = get(f"/vehicles/{P}/{A}")
+    with Server(program, 20, workers=MOST_WORKERS) as server:
+        quiet = [connect(server.port) for _ in range(MOST_WORKERS - 1)]
+        server.count(MOST_WORKERS - 1)
+        yield from talk_over(server, registered(A))
+        for _ in range(15):
+            yield from talk_over(server, look(A, "removed", 0, None))
+        quiet.append(connect(server.port))
+        with connect(server.port) as waiting:
+            server.count(2)
+            waiting.sendall(EVENT)
+            if not silent(waiting, 0.5):
+                yield "an answer where each worker has a silent client"
+            for connection in quiet[: MOST_WORKERS // 2]:
+                connection.sendall(request)
+            yield from differing(read_all(waiting), done(1))
+            server.count(0, 1)
+        yield from answers_of(quiet[: MOST_WORKERS // 2])
+        for connection in quiet[MOST_WORKERS // 2 :]:
+            connection.close()
+        yield from talk_over(server, look(A, "available", 1, 1000))
+        yield from server.end()
+
+
+def answers_of(connections):
+    """What is wrong with the answers to looks that were sent beside an event."""
+    before, after = look(A, "removed", 0, None).answer, look(A, "available", 1, 1000).answer
+    for connection in connections:
+        with connection:
+            found = read_all(connection)
+            if found not in (before, after):
+                yield f"a silent client that went on was answered {found[:200]!r}"
+
+
+def let_go(program):
+    """Clients that keep the server waiting, in their head, in their body, and by not reading a long answer: each is let go
+    after half a minute, and the next client is answered then."""
+    with Server(program, 5, workers=3) as server:
+        yield from talk_over(server, registered(A))
+        for front in (0, 10000):
+            yield from talk_over(server, Exchange(post("/events", many_events(front)), done(10000)))
+        server.count(4)
+        keeping = [connect(server.port, room=4096) for _ in range(3)]
+        for connection, part in zip(keeping, (EVENT[:20], EVENT[:-1], get(f"/vehicles/{P}/{A}/events"))):
+            connection.sendall(part)
+        start = time.monotonic()
+        with connect(server.port) as waiting:
+            waiting.sendall(REGISTER)
+            answered = read_all(waiting)
+        yield from differing(answered, done(1, [{"error": "already_registered", "index": 0}]))
+        if not 10 < time.monotonic() - start < 55:
+            yield f"let go after {time.monotonic() - start:.0f} s"
+        for connection in keeping[:2]:
+            if not is_over(connection):
+                yield "something was answered to a request that wasn't whole"
+        keeping[2].close()
+        yield from server.end()
+
+
+def many_events(front):
+    """10000 events of vehicle A, behind so many."""
+    turns = [("non_operational", "battery_low"), ("available", "battery_charged")]
+    first = ("available", "provider_drop_off")
+    events = []
+    for number in range(front, front + 10000):
+        state, kind = turns[(number + 1) % 2] if number else first
+        events.append(event(A, f"{number:x}", kind, state, 1000 + number))
+    return batch(events)
+
+
+def is_over(connection):
+    """Whether nothing more comes on a connection; it is closed."""
+    with connection:
+        try:
+            return read_all(connection) == b""
+        except ConnectionResetError:
+            return True
+
+
+CONNECTIONS = [
+    in_slow_pieces,
+    cut_at_each_place,
+    ended_at_each_place,
+    refused_while_sending,
+    bad_heads_with_more,
+    expecting_interim_answers,
+    hanging_up,
+    hanging_up_before_a_long_answer,
+    silent_beside_working,
+    let_go,
+]

@@ -1,0 +1,121 @@
+"""A server of one worker with each growth of memory refused in turn."""
+
+import os
+import subprocess
+import tempfile
+from concurrent.futures import ThreadPoolExecutor
+from pathlib import Path
+
+from cases.case import NO_MEMORY
+from cases.http import E1, LOOK, A, B, P, Exchange, batch, done, item, look, registered
+from serving.program import SOCKET
+from serving.server import NotListening, Server
+from serving.wire import answer, ask, error, get, post
+
+ROOT = Path(__file__).resolve().parent.parent
+AT_ONCE = 32
+MOST = 20000
+FIXED = b"HTTP/1.1 503 Service Unavailable\r\ncontent-length: 0\r\nconnection: close\r\n\r\n"
+
+
+def out_of_memory(index):
+    return answer(503, {"error": "out_of_memory", "index": index})
+
+
+def turns():
+    """Exchanges, and what else may be answered to those that were answered 503 before."""
+    again = [{"error": "already_registered", "index": index} for index in (0, 1)]
+    repeated = {"error": "repeated", "index": 0}
+    both = registered(A, B)
+    first = Exchange(post("/events", batch([item()])), done(1))
+    yield both, [done(2, again[:1]), done(2, again)]
+    yield first, [done(1, [repeated])]
+    yield Exchange(get(f"/vehicles/{P}/{A}"), answer(200, LOOK)), []
+    yield Exchange(get(f"/vehicles/{P}/{A}/events"), answer(200, f'{{"events":[{E1}]}}')), []
+    yield look(B, "removed", 0, None), []
+
+
+TURNS = list(turns())
+ACCEPTED = 3
+
+
+def one_turn(port, exchange, others):
+    """Asks, and once more where there was no memory; how many connections that took, and what was wrong. No answer at all means
+    that the connection couldn't be taken, or that the server ended."""
+    found = ask(port, exchange.request)
+    if not found:
+        raise ConnectionAbortedError
+    if found == exchange.answer:
+        return 1, []
+    if found not in (FIXED, out_of_memory(0), out_of_memory(1)):
+        return 1, [f"{exchange.request[:60]!r} was answered {found!r}"]
+    after = ask(port, exchange.request)
+    if after != exchange.answer and after not in others:
+        return 2, [f"{exchange.request[:60]!r} was answered {found!r}, and then {after!r}"]
+    return 2, []
+
+
+def served(server):
+    """Whether all was answered, and what was wrong. Where a connection finds no memory, the server ends."""
+    complaints = []
+    for exchange, others in TURNS:
+        try:
+            connections, wrong = one_turn(server.port, exchange, others)
+        except OSError:
+            return False, complaints
+        server.count(connections)
+        complaints += wrong
+    return True, complaints
+
+
+def refused(program, shim, number):
+    """What is wrong with a run with this growth refused, and whether the run came to it."""
+    with tempfile.TemporaryDirectory() as folder:
+        mark = Path(folder, "refused")
+        env = {**os.environ, "LD_PRELOAD": str(shim), "REFUSE": str(number), "REFUSED": str(mark)}
+        try:
+            with Server(program, len(TURNS) + 1, env=env) as server:
+                wrong = list(judged(server))
+        except NotListening as fault:
+            allowed = [(4, "", NO_MEMORY), (3, "", SOCKET)]
+            wrong = [] if fault.ended in allowed else [str(fault)]
+        return [f"growth {number}: {text}" for text in wrong], mark.exists()
+
+
+def judged(server):
+    """What is wrong with a server that has come to listen."""
+    whole, complaints = served(server)
+    yield from complaints
+    while whole and server.left:
+        found = ask(server.port, get("/"))
+        server.count()
+        whole = found != b""
+        if found not in (b"", error(404, "not_found"), FIXED):
+            yield f"at the end, {found!r}"
+    ended = server.ended()
+    allowed = (0, f"accepted {ACCEPTED}\n", "") if whole else (3, "", SOCKET)
+    if ended not in (allowed, (4, "", NO_MEMORY)):
+        yield f"ended with {ended}"
+
+
+def each_growth_refused(program):
+    """Each growth in turn, until they run out: each answer is the right one, or one of the two that say that there was no
+    memory, after which the same request is answered; what is accepted is counted; and where the server ends for want of
+    memory, or because it could take no connection, it says so."""
+    with tempfile.TemporaryDirectory() as folder, ThreadPoolExecutor(os.cpu_count()) as pool:
+        shim = Path(folder) / "refuse-growth.so"
+        source = ROOT / "refuse-growth.c"
+        subprocess.run(["cc", "-shared", "-fPIC", "-O1", "-o", shim, source, "-ldl"], check=True)
+        for start in range(1, MOST, AT_ONCE):
+            numbers = range(start, start + AT_ONCE)
+            ends = list(pool.map(lambda number: refused(program, shim, number), numbers))
+            for wrong, _ in ends:
+                yield from wrong
+            if start == 1 and not ends[0][1]:
+                yield "the program takes no memory by `malloc`, so that nothing was refused"
+            if not all(came for _, came in ends):
+                return
+        yield f"{MOST} growths, and no end"
+
+
+GROWTHS = [each_growth_refused]

@@ -1,0 +1,112 @@
+"""The built server as a process."""
+
+import re
+import subprocess
+import tempfile
+from pathlib import Path
+
+from serving.wire import ask, error, get
+
+LISTENING = re.compile(r"listening 127\.0\.0\.1:([0-9]+)\n")
+SECONDS = 120
+"""How long a server that has answered all its connections may take to end."""
+
+
+class Unwell(Exception):
+    """What a server did that it mustn't, in words."""
+
+
+class NotListening(Unwell):
+    """A server that ended, or was ended, in place of listening: its status, and both of its outputs."""
+
+    def __init__(self, ended):
+        super().__init__(f"it didn't listen, but {ended}")
+        self.ended = ended
+
+
+class Server:
+    """A server on a port that was free, with so many connections for each of so many workers. As a context it is taken down
+    where it hasn't ended."""
+
+    def __init__(self, program, each, workers=1, table=None, env=None):
+        self.folder = tempfile.TemporaryDirectory()
+        words = ["serve", "--port", "0", "--each", str(each), "--workers", str(workers)]
+        if table is not None:
+            path = Path(self.folder.name, "table.json")
+            path.write_text(table)
+            words += ["--table", str(path)]
+        self.faults = open(Path(self.folder.name, "faults"), "w+b")
+        self.child = subprocess.Popen(
+            [program, *words],
+            stdin=subprocess.DEVNULL,
+            stdout=subprocess.PIPE,
+            stderr=self.faults,
+            env=env,
+        )
+        self.left = each * workers
+        """How many connections it still takes."""
+        self.success = 0
+        """How many items its answers said to be accepted."""
+
+    def __enter__(self):
+        line = self.child.stdout.readline().decode()
+        found = LISTENING.fullmatch(line)
+        if not found:
+            status, out, faults = self.ended()
+            self.__exit__()
+            raise NotListening((status, line + out, faults))
+        self.port = int(found.group(1))
+        return self
+
+    def __exit__(self, *_):
+        if self.child.poll() is None:
+            self.child.kill()
+            self.child.wait()
+        self.child.stdout.close()
+        self.faults.close()
+        self.folder.cleanup()
+
+    def count(self, connections=1, success=0):
+        """Tells of connections that were made elsewhere, and of what their answers said to be accepted."""
+        self.left -= connections
+        self.success += success
+
+    def ask(self, request):
+        """The answer to a request; what it says to be accepted is counted."""
+        answered = ask(self.port, request)
+        self.count(1, success_of(answered))
+        return answered
+
+    def memory(self):
+        """How many bytes the process holds."""
+        status = Path(f"/proc/{self.child.pid}/status").read_text()
+        return int(re.search(r"VmRSS:\s*([0-9]+) kB", status).group(1)) * 1024
+
+    def ended(self):
+        """The status, and what else came on both outputs, of the server, which ends by itself."""
+        try:
+            out, _ = self.child.communicate(timeout=SECONDS)
+        except subprocess.TimeoutExpired:
+            return f"no end after {SECONDS} seconds", "", ""
+        self.faults.seek(0)
+        return self.child.returncode, out.decode(), self.faults.read().decode()
+
+    def end(self):
+        """Makes the connections that are left, and says what is wrong with how the server then ends."""
+        for _ in range(self.left):
+            answered = self.ask(get("/"))
+            if answered != error(404, "not_found"):
+                yield f"a connection at the end, {answered[:200]!r}"
+        ended = self.ended()
+        wanted = (0, f"accepted {self.success}\n", "")
+        if ended != wanted:
+            yield f"ended with {ended}, in place of {wanted}"
+
+
+SUCCESS = re.compile(rb'"success":([0-9]+),"total":[0-9]+\}$')
+
+
+def success_of(answered):
+    """How many items an answer says to be accepted."""
+    found = SUCCESS.search(answered)
+    return int(found.group(1)) if found else 0

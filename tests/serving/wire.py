@@ -1,0 +1,101 @@
+"""Requests and answers as bytes, and connections on which they go."""
+
+import socket
+import struct
+import time
+
+from serving.model import compact
+
+SECONDS = 60
+"""How long a client waits for bytes before it gives up."""
+PHRASES = {
+    200: "OK",
+    400: "Bad Request",
+    404: "Not Found",
+    405: "Method Not Allowed",
+    411: "Length Required",
+    413: "Payload Too Large",
+    501: "Not Implemented",
+    503: "Service Unavailable",
+}
+
+
+def answer(status, value, allow=None):
+    """The bytes of an answer with this body, a value of JSON."""
+    body = value if isinstance(value, str) else compact(value)
+    lines = [
+        f"HTTP/1.1 {status} {PHRASES[status]}",
+        "content-type: application/json",
+        f"content-length: {len(body)}",
+        "connection: close",
+    ]
+    if allow:
+        lines.append(f"allow: {allow}")
+    return "\r\n".join([*lines, "", body]).encode()
+
+
+def error(status, name, allow=None):
+    return answer(status, {"error": name}, allow)
+
+
+def as_bytes(text):
+    return text.encode() if isinstance(text, str) else text
+
+
+def get(target):
+    return b"GET %s HTTP/1.1\r\nHost: localhost\r\n\r\n" % as_bytes(target)
+
+
+def post(target, body):
+    """A POST of a text, or of a value of JSON."""
+    body = as_bytes(body if isinstance(body, (str, bytes)) else compact(body))
+    head = b"POST %s HTTP/1.1\r\nHost: localhost\r\nContent-Length: %d\r\n\r\n"
+    return head % (as_bytes(target), len(body)) + body
+
+
+def connect(port, room=None):
+    """A connection; `room`: how many bytes of an answer the system takes in before they are read."""
+    connection = socket.socket(socket.AF_INET, socket.SOCK_STREAM)
+    connection.settimeout(SECONDS)
+    if room is not None:
+        connection.setsockopt(socket.SOL_SOCKET, socket.SO_RCVBUF, room)
+    connection.connect(("127.0.0.1", port))
+    return connection
+
+
+def read_all(connection):
+    """All bytes until the server ends its side."""
+    pieces = []
+    while piece := connection.recv(1 << 16):
+        pieces.append(piece)
+    return b"".join(pieces)
+
+
+def ask(port, request):
+    """What is answered to a request that is sent whole."""
+    with connect(port) as connection:
+        connection.sendall(request)
+        return read_all(connection)
+
+
+def ask_in_pieces(port, pieces, pause=0.0, ends=False):
+    """What is answered to a request that is sent in pieces, with a pause before each but the first; `ends`: after the last
+    one the client ends its side."""
+    with connect(port) as connection:
+        connection.setsockopt(socket.IPPROTO_TCP, socket.TCP_NODELAY, 1)
+        for at, piece in enumerate(pieces):
+            if at and pause:
+                time.sleep(pause)
+            connection.sendall(piece)
+        if ends:
+            connection.shutdown(socket.SHUT_WR)
+        return read_all(connection)
+
+
+def hang_up(port, request, reset):
+    """Sends some bytes, reads nothing, and closes: with an end, or with a reset."""
+    connection = connect(port)
+    connection.sendall(request)
+    if reset:
+        connection.setsockopt(socket.SOL_SOCKET, socket.SO_LINGER, struct.pack("ii", 1, 0))
+    connection.close()
