@@ -1,10 +1,14 @@
 //! The program's words, over files and streams in memory.
 use super::{Opens, WordsFault, run, tell_words, words_of};
 use crate::commands::tests::{FIVE_BY_ONE_ROW, FIVE_EVENTS, FIVE_LINES, ONE_ROW};
+use crate::serve::Listens;
 use crate::status::Status;
+use mds_pool::{Port, PortFault};
 use std::alloc::Global;
 use std::io::{self, ErrorKind, Write};
+use std::sync::Wait;
 use std::test::Fail;
+use std::thread::Threads;
 
 const ONE_ROW_LINES: &str = "wake removed available\nrows 1\n";
 
@@ -24,6 +28,36 @@ impl Opens for Folder {
     }
 }
 
+/// A port that no connection comes from.
+#[derive(Drop)]
+struct Closed;
+
+impl Port for Closed {
+    type In = &'static [u8];
+
+    type Out = Vec<u8>;
+
+    fn accept(&self) -> Result<(&'static [u8], Vec<u8>), PortFault> {
+        Err(PortFault)
+    }
+}
+
+/// Port 1 can't be had.
+impl Listens for Folder {
+    type In = &'static [u8];
+
+    type Out = Vec<u8>;
+
+    type Listening = Closed;
+
+    fn listen(&self, _alloc: Global, number: u16) -> Option<(Closed, u16)> {
+        if number == 1 {
+            return None;
+        }
+        Some((Closed, number))
+    }
+}
+
 /// What the program came to: the code of its status, its output and its faults.
 #[derive(Drop)]
 struct Came {
@@ -33,10 +67,11 @@ struct Came {
 }
 
 /// Runs the program in the folder, with `[]` at standard input.
-fn ran(alloc: Global, words: &[&str]) -> Came {
+fn ran<R: Threads + Wait + Sync>(rt: &R, alloc: Global, words: &[&str]) -> Came {
     let mut out = Vec::new(alloc);
     let mut faults = Vec::new(alloc);
     let code = run(
+        rt,
         alloc,
         words,
         &Folder,
@@ -51,9 +86,9 @@ fn ran(alloc: Global, words: &[&str]) -> Came {
 type Case<'a> = (&'a [&'a str], u8, &'a str, &'a str);
 
 /// Whether the program comes to this.
-fn comes_to(alloc: Global, case: &Case<'_>) -> bool {
+fn comes_to<R: Threads + Wait + Sync>(rt: &R, alloc: Global, case: &Case<'_>) -> bool {
     let (words, code, out, faults) = *case;
-    let came = ran(alloc, words);
+    let came = ran(rt, alloc, words);
     came.code == code
         && came.out.as_slice() == out.as_bytes()
         && came.faults.as_slice() == faults.as_bytes()
@@ -65,8 +100,36 @@ const CANNOT_READ: &str = "mds_city: cannot read none\n";
 
 const NO_TABLE: &str = "mds_city: not a table: not_rows\n";
 
-/// What comes of the files that words name.
-const FILES: [Case<'static>; 9] = [
+const SOCKET: &str = "mds_city: socket\n";
+
+/// What comes of the files and ports that words name.
+const FILES: [Case<'static>; 13] = [
+    (
+        &["mds_city", "serve", "--port", "80", "--each", "0"],
+        0,
+        "listening 127.0.0.1:80\naccepted 0\n",
+        "",
+    ),
+    (
+        &["mds_city", "serve", "--port", "80", "--each", "1"],
+        3,
+        "listening 127.0.0.1:80\n",
+        SOCKET,
+    ),
+    (
+        &["mds_city", "serve", "--port", "1", "--each", "0"],
+        3,
+        "",
+        SOCKET,
+    ),
+    (
+        &[
+            "mds_city", "serve", "--port", "1", "--each", "0", "--table", "none",
+        ],
+        3,
+        "",
+        CANNOT_READ,
+    ),
     (&["mds_city", "replay", "events"], 1, FIVE_LINES, ""),
     (
         &["mds_city", "replay", "events", "--table", "rows"],
@@ -106,13 +169,13 @@ const FILES: [Case<'static>; 9] = [
 #[test]
 fn files_are_those_that_are_named(rt: HostRuntime) {
     for case in &FILES {
-        assert!(rt; comes_to(rt.alloc(), case), "{case:?}");
+        assert!(rt; comes_to(&rt, rt.alloc(), case), "{case:?}");
     }
 }
 
 /// Whether the program ends with this status, and prints to the one stream alone that it should.
-fn answers(alloc: Global, words: &[&str], code: u8) -> bool {
-    let came = ran(alloc, words);
+fn answers<R: Threads + Wait + Sync>(rt: &R, alloc: Global, words: &[&str], code: u8) -> bool {
+    let came = ran(rt, alloc, words);
     let (told, kept) = if code == 0 {
         (came.out, came.faults)
     } else {
@@ -131,7 +194,7 @@ fn help_and_mistakes_go_to_their_streams(rt: HostRuntime) {
         (&["mds_city", "replay", "events", "--all"], 2),
     ];
     for (words, code) in cases {
-        assert!(rt; answers(rt.alloc(), words, code), "{words:?}");
+        assert!(rt; answers(&rt, rt.alloc(), words, code), "{words:?}");
     }
 }
 
@@ -150,9 +213,10 @@ impl Write for Full {
 }
 
 /// The status of a program whose output is full, and what it told.
-fn ran_full(alloc: Global, words: &[&str]) -> (u8, Vec<u8>) {
+fn ran_full<R: Threads + Wait + Sync>(rt: &R, alloc: Global, words: &[&str]) -> (u8, Vec<u8>) {
     let mut faults = Vec::new(alloc);
     let code = run(
+        rt,
         alloc,
         words,
         &Folder,
@@ -166,11 +230,12 @@ fn ran_full(alloc: Global, words: &[&str]) -> (u8, Vec<u8>) {
 #[test]
 fn streams_that_are_full(rt: HostRuntime) {
     let help = ["mds_city", "--help"];
-    let (code, faults) = ran_full(rt.alloc(), &help);
+    let (code, faults) = ran_full(&rt, rt.alloc(), &help);
     assert_eq!(rt; code, 3);
     assert_eq!(rt; faults.as_slice(), b"mds_city: output\n".as_slice());
     for (words, code) in [(help.as_slice(), 3u8), (&["mds_city", "serve"], 2)] {
         let ended = run(
+            &rt,
             rt.alloc(),
             words,
             &Folder,
