@@ -149,3 +149,6 @@ pub fn torn_to<E: Write>(faults: &mut E, shard: usize, place: usize) -> u8
         Err(_) => Status::Fault.code(),
     }
 }
+
+#[cfg(test)]
+mod tests;

@@ -1,0 +1,69 @@
+//! How serving ends, and what is said of it.
+use super::{serve_on, torn_to};
+use mds_pool::{Port, PortFault};
+use mds_table::Table;
+use std::alloc::Global;
+use std::io::{self, ErrorKind, Write};
+use std::sync::Wait;
+use std::test::Fail;
+use std::thread::Threads;
+
+/// A writer that fails.
+#[derive(Drop)]
+struct Broken;
+
+impl Write for Broken {
+    fn write(&mut self, _bytes: &[u8]) -> io::Result<usize> {
+        Err(io::Error::from(ErrorKind::BrokenPipe))
+    }
+
+    fn flush(&mut self) -> io::Result<()> {
+        Ok(())
+    }
+}
+
+/// A port that gives no connection.
+#[derive(Drop)]
+struct Closed;
+
+impl Port for Closed {
+    type In = &'static [u8];
+
+    type Out = Broken;
+
+    fn accept(&self) -> Result<(&'static [u8], Broken), PortFault> {
+        Err(PortFault)
+    }
+}
+
+/// How many connections the one worker answers, the status, what is printed and what is told.
+type Case = (usize, u8, &'static str, &'static str);
+
+const ENDS: [Case; 2] = [(0, 0, "accepted 0\n", ""), (1, 3, "", "mds_city: socket\n")];
+
+/// Whether serving a port that gives no connection ends so.
+fn ends_so<R: Threads + Wait + Sync>(rt: &R, alloc: Global, table: Table, case: &Case) -> bool {
+    let (each, code, printed, told) = *case;
+    let mut out = Vec::new(alloc);
+    let mut faults = Vec::new(alloc);
+    let came = serve_on(rt, alloc, table, &Closed, 1, each, &mut out, &mut faults);
+    came == code && out.as_slice() == printed.as_bytes() && faults.as_slice() == told.as_bytes()
+}
+
+#[test]
+fn no_connections_and_first_accept_fails(rt: HostRuntime) -> Result<(), Fail> {
+    for case in &ENDS {
+        let table = Table::profile(rt.alloc())?;
+        assert!(rt; ends_so(&rt, rt.alloc(), table, case), "{case:?}");
+    }
+    Ok(())
+}
+
+#[test]
+fn torn_line(rt: HostRuntime) {
+    let mut faults = Vec::new(rt.alloc());
+    let code = torn_to(&mut faults, 1, 2);
+    assert_eq!(rt; code, 5);
+    assert_eq!(rt; faults.as_slice(), b"mds_city: torn 1 2\n".as_slice());
+    assert_eq!(rt; torn_to(&mut Broken, 1, 2), 3);
+}
