@@ -19,6 +19,14 @@ def silent(connection, seconds):
     return not select.select([connection], [], [], seconds)[0]
 
 
+def three_connections(program):
+    """A registration, an event and a look, each on a connection of its own; then the server ends with two accepted."""
+    with Server(program, 3) as server:
+        for exchange in (registered(A), Exchange(EVENT, done(1)), look(A, "available", 1, 1000)):
+            yield from talk_over(server, exchange)
+        yield from server.end()
+
+
 def in_slow_pieces(program):
     """A request that comes byte by byte, and one in ten pieces with a pause before each."""
     with Server(program, 5) as server:
@@ -227,6 +235,7 @@ def is_over(connection):
 
 
 CONNECTIONS = [
+    three_connections,
     in_slow_pieces,
     cut_at_each_place,
     ended_at_each_place,
