@@ -1,11 +1,13 @@
 -- How a seat grows.
-use Rattle.std.proofs.Common.{◌∙◌, ◌++◌, List, [], arith, ap, subst, sym, refl}
+use Rattle.std.proofs.Common.{◌≡◌, ◌∙◌, ◌≤◌, ◌++◌, ℕ, List, [], arith, ap, subst, sym, refl}
 use Rattle.std.specs.Prelude.{Option, Some, None}
 use Rattle.std.proofs.lemmas.List.{append-nil, append_assoc}
 use Rattle.mds_table.specs.declared.row.Row.{Row}
 use Rattle.mds_core.specs.declared.request.Request.{Request}
 use Rattle.mds_core.specs.declared.reply.Reply.{Reply}
-use Rattle.mds_book.specs.Seats.{Seated, after_call, noted}
+use Rattle.mds_core.specs.History.{key_of}
+use Rattle.mds_book.specs.Shards.{shard_of}
+use Rattle.mds_book.specs.Seats.{Seated, after_call, noted, rises}
 use Rattle.mds_face.specs.Seats.{HasGrown, SeatCalls}
 
 pub seat_stays : (seat : Seated) → HasGrown seat seat

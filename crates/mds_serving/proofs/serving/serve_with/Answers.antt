@@ -1,8 +1,9 @@
-use Rattle.std.proofs.Common.{List, ap, subst}
+use Rattle.std.proofs.Common.{List, ap, false, subst}
+use Rattle.std.specs.Prelude.{replicate}
 use Rattle.std.specs.List.{AllZip}
 use Rattle.mds_table.specs.declared.row.Row.{Row}
 use Rattle.mds_book.specs.Books.{Opened}
-use Rattle.mds_book.specs.Seats.{Seated}
+use Rattle.mds_book.specs.Seats.{Seated, fresh}
 use Rattle.mds_face.specs.Seats.{HasGrown}
 use Rattle.mds_serving.specs.Serving.{IsSettledEnd}
 use Rattle.mds_serving.proofs.EndLemmas.{ended, workers_grown}
