@@ -8,11 +8,14 @@ FOLDER = object()
 """Stands for a folder, in place of a file's text."""
 FULL, GONE, CLOSED = "a full device", "a pipe that nobody reads", "closed"
 """Streams in place of a pipe. Standard input may be a folder, too."""
+NO_STREAMS = (FULL, GONE, CLOSED)
+"""Those that can't be written."""
 
 MAX_BYTES = 4194304
 MAX_ITEMS = 10000
 
 OUTPUT = "mds_city: output\n"
+SOCKET = "mds_city: socket\n"
 NO_MEMORY = "mds_city: out of memory\n"
 NOT_TEXT = "error: the words of the command line aren't text\n"
 
@@ -25,7 +28,7 @@ class Case:
     """The words of the command line, as a list, or as a text with a space between."""
     status: int = 0
     out: object = ""
-    """Standard output."""
+    """Standard output: a text, bytes, or a compiled pattern that it matches as a whole."""
     faults: object = ""
     """Standard error."""
     given: object = ""
@@ -37,6 +40,8 @@ class Case:
     stderr: object = None
     memory: int = 0
     """How many bytes the program may take; 0: as many as there are."""
+    env: object = None
+    """Its environment, or None for that of the script."""
     name: str = ""
     """What the case is, beside its words."""
 

@@ -38,9 +38,9 @@ abbrev pub is_within : ℕ → ℤ → Bool
 is_within most whole = int_le (pos 0 -ℤ pos most) whole && int_le whole (pos most)
 
 -- the place at a latitude and a longitude, where both are on the Earth, in ten-millionths of a degree
-abbrev pub place_at : ℤ → ℤ → Option Position
-place_at lat lng = if is_within max_latitude lat && is_within max_longitude lng then Some (record { lat = lat; lng = lng }) else None
+abbrev pub position_at : ℤ → ℤ → Option Position
+position_at lat lng = if is_within max_latitude lat && is_within max_longitude lng then Some (record { lat = lat; lng = lng }) else None
 
 -- the place that a value gives
-abbrev pub place_in : Data → Option Position
-place_in value = option_and_then (λ lat. option_and_then (λ lng. place_at lat lng) (whole_in (codes "lng") value)) (whole_in (codes "lat") value)
+abbrev pub position_of : Data → Option Position
+position_of value = option_and_then (λ lat. option_and_then (λ lng. position_at lat lng) (whole_in (codes "lng") value)) (whole_in (codes "lat") value)

@@ -15,7 +15,7 @@ use Rattle.mds_batch.specs.declared.item.VehicleItem.TheVariants as vehicle
 use Rattle.mds_batch.specs.declared.item.EventItem.{EventItem}
 use Rattle.mds_batch.specs.declared.item.EventItem.TheVariants as event
 use Rattle.mds_batch.specs.Member.{member_name}
-use Rattle.mds_batch.specs.Forms.{uuid_in, types_in, time_in, place_in}
+use Rattle.mds_batch.specs.Forms.{uuid_in, types_in, time_in, position_of}
 
 -- what a member stands for, where it is there and has this form
 abbrev pub member_in : {A : Type 0} → Member → (Data → Option A) → Data → Option A
@@ -23,7 +23,7 @@ member_in member form value = option_and_then form (get (member_name member) val
 
 -- the position that the value of a member gives: none where it is null
 abbrev pub position_or_null : Data → Option (Option Position)
-position_or_null value = if is_some (as_null value) then Some None else option_map Some (place_in value)
+position_or_null value = if is_some (as_null value) then Some None else option_map Some (position_of value)
 
 -- the position of an event: none where the member isn't there
 abbrev pub position_in : Data → Option (Option Position)

@@ -2,10 +2,10 @@
 ghost use Rattle.std.specs.Prelude.{◌≡◌, ◌≤◌, [], length, map, Some, None, IfSome, IfNone, OnSome};
 ghost use Rattle.serde_json.specs.View.{view};
 ghost use Rattle.mds_core.specs.Reported.{max_event_types, max_time};
-ghost use Rattle.mds_batch.specs.Forms.{uuid_in, all_types, few_types, types_in, time_in, whole_in, place_in};
+ghost use Rattle.mds_batch.specs.Forms.{uuid_in, all_types, few_types, types_in, time_in, whole_in, position_of};
 
 use arrayvec::ArrayVec;
-use mds_core::{MAX_TIME, MAX_TYPES, Position};
+use mds_core::{MAX_TIME, MAX_EVENT_TYPES, Position};
 use mds_table::TypeName;
 use mds_table::json::type_name_of;
 use serde_json::Value;
@@ -19,7 +19,7 @@ pub(crate) fn uuid_of(value: &Value) -> Option<Uuid>
 }
 
 /// Adds the type names that the values are, if each is one; where one isn't, those before it may have been added.
-fn push_all_types(values: &[Value], types: &mut ArrayVec<TypeName, MAX_TYPES>) -> Option<()>
+fn push_all_types(values: &[Value], types: &mut ArrayVec<TypeName, MAX_EVENT_TYPES>) -> Option<()>
     requires empty { types.old.items ≡ [] }
     requires room { length values.now ≤ max_event_types }
     ensures types { OnSome result (all_types (map view values.now) ≡ Some types.new.items) }
@@ -33,7 +33,7 @@ fn push_all_types(values: &[Value], types: &mut ArrayVec<TypeName, MAX_TYPES>) -
 }
 
 /// Fills an empty list with the types that the values are: 1 to 16 type names.
-fn fill_few_types(values: &[Value], types: &mut ArrayVec<TypeName, MAX_TYPES>) -> Option<()>
+fn fill_few_types(values: &[Value], types: &mut ArrayVec<TypeName, MAX_EVENT_TYPES>) -> Option<()>
     requires { types.old.items ≡ [] }
     ensures types { OnSome result (few_types (map view values.now) ≡ Some types.new.items) }
     ensures some { OnSome result (1 ≤ length types.new.items) }
@@ -43,7 +43,7 @@ fn fill_few_types(values: &[Value], types: &mut ArrayVec<TypeName, MAX_TYPES>) -
     if values.is_empty() {
         return None;
     }
-    if values.len() > MAX_TYPES {
+    if values.len() > MAX_EVENT_TYPES {
         return None;
     }
     push_all_types(values, types)
@@ -51,7 +51,7 @@ fn fill_few_types(values: &[Value], types: &mut ArrayVec<TypeName, MAX_TYPES>) -
 
 /// Fills an empty list with the types that the value lists, if it lists 1 to 16.
 #[tactic(auto, using(crate::proofs::Listed::values_items_of))]
-pub(crate) fn fill_types(value: &Value, types: &mut ArrayVec<TypeName, MAX_TYPES>) -> Option<()>
+pub(crate) fn fill_types(value: &Value, types: &mut ArrayVec<TypeName, MAX_EVENT_TYPES>) -> Option<()>
     requires { types.old.items ≡ [] }
     ensures types { OnSome result (types_in (view value.now) ≡ Some types.new.items) }
     ensures some { OnSome result (1 ≤ length types.new.items) }
@@ -82,7 +82,7 @@ fn whole_of(value: &Value, name: &str) -> Option<i64>
 
 /// The position that the value gives: its members `lat` and `lng`, in ten-millionths of a degree.
 pub(crate) fn position_of(value: &Value) -> Option<Position>
-    ensures { result ≡ place_in (view value.now) }
+    ensures { result ≡ position_of (view value.now) }
 {
     let lat = whole_of(value, "lat")?;
     let lng = whole_of(value, "lng")?;

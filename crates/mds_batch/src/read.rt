@@ -12,7 +12,7 @@ ghost use Rattle.mds_batch.specs.Items.{member_in, position_in, fault_at, fault_
 use crate::form::{fill_types, position_of, time_of, uuid_of};
 use crate::{EventItem, ItemFault, Member, VehicleItem};
 use arrayvec::ArrayVec;
-use mds_core::{Event, Key, MAX_TYPES, Position};
+use mds_core::{Event, Key, MAX_EVENT_TYPES, Position};
 use mds_table::json::state_of;
 use mds_table::{State, TypeName};
 use serde_json::Value;
@@ -96,7 +96,7 @@ fn state_member(value: &Value) -> Result<State, ItemFault>
 /// Fills an empty list with the types of the event.
 fn fill_types_member(
     value: &Value,
-    types: &mut ArrayVec<TypeName, MAX_TYPES>,
+    types: &mut ArrayVec<TypeName, MAX_EVENT_TYPES>,
 ) -> Result<(), ItemFault>
     requires { types.old.items ≡ [] }
     ensures types { OnOk result (member_in Member.EventTypes types_in (view value.now) ≡ Some types.new.items) }

@@ -1,43 +1,52 @@
 -- What contracts see of a book.
-use Rattle.std.specs.Prelude.{◌≡◌, ◌≢◌, ◌<◌, ◌⊎◌, ℕ, List, [], codes}
+use Rattle.std.specs.Prelude.{◌≡◌, ◌<◌, ◌≤◌, ◌⊎◌, ℕ, List, Option, codes}
 use Rattle.mds_book.specs.declared.book.OpenFault.{OpenFault}
 use Rattle.mds_book.specs.declared.book.OpenFault.TheVariants.{Memory, BadSeats}
-use Rattle.mds_table.specs.declared.row.Row.{Row}
+use Rattle.mds_table.specs.Tables.{Tables}
 use Rattle.mds_core.specs.declared.key.Key.{Key}
 use Rattle.mds_core.specs.declared.request.Request.{Request}
 use Rattle.mds_core.specs.declared.reply.Reply.{Reply}
 use Rattle.mds_core.specs.Reported.{Reported}
-use Rattle.mds_core.specs.History.{own, reports}
+use Rattle.mds_core.specs.Machine.{Machine, events_in}
 use Rattle.mds_core.specs.Lawful.{IsLawful}
 use Rattle.mds_core.specs.Answer.{Answers}
 use Rattle.mds_book.specs.Shards.{shard_of, AreOfShard}
 
 -- the table of the book, and the number of its seats
 pub record Opened : Type 0 where
-  pub rows : List Row
+  pub tables : Tables
   pub seats : ℕ
 
--- no number of seats that a book may have: 1 to 64
+-- the most seats of a book, and so the most workers that serve it
+abbrev pub max_seats : ℕ
+max_seats = 64
+
+-- a number of seats that a book may have
+abbrev pub IsSeatCount : ℕ → Type 0
+IsSeatCount seats = (0 < seats) × (seats ≤ max_seats)
+
+-- a number of seats that it may not have
 abbrev pub IsBadCount : ℕ → Type 0
-IsBadCount seats = (seats ≡ 0) ⊎ (64 < seats)
+IsBadCount seats = (seats ≡ 0) ⊎ (max_seats < seats)
 
 -- the reply is the answer after some lawful history of the shard of this number
-pub record IsAnswered (rows : List Row) (number : ℕ) (request : Request) (reply : Reply) : Type 0 where
+pub record IsAnswered (tables : Tables) (number : ℕ) (request : Request) (reply : Reply) : Type 0 where
   pub history : List Request
-  pub lawful : IsLawful rows history
+  pub lawful : IsLawful tables history
   pub of_shard : AreOfShard number history
-  pub answer : Answers rows history request reply
+  pub answer : Answers tables history request reply
 
 -- the word for a fault
 abbrev pub open_fault_text : OpenFault → List ℕ
 open_fault_text Memory = codes "memory"
 open_fault_text BadSeats = codes "bad_seats"
 
--- the vehicle isn't registered after some lawful history of its shard
-abbrev pub HasNone : List Row → Key → Type 0
-HasNone rows key = (history : List Request) × IsLawful rows history × AreOfShard (shard_of key) history × (own history key ≡ [])
+-- these are the vehicle's events after some lawful history of its shard, if it is registered there
+abbrev pub GivesEvents : Tables → Key → Option (List Reported) → Type 0
+GivesEvents tables key found =
+    (history : List Request) × IsLawful tables history × AreOfShard (shard_of key) history × (found ≡ events_in history key)
 
--- these are the vehicle's events after some lawful history of its shard, in which it is registered
-abbrev pub HasEvents : List Row → Key → List Reported → Type 0
-HasEvents rows key events =
-    (history : List Request) × IsLawful rows history × AreOfShard (shard_of key) history × (own history key ≢ []) × (events ≡ reports (own history key))
+-- something is seen of the shard of this number: its history is lawful, and its vehicles have this number
+abbrev pub SeesShard : Tables → ℕ → (Machine → Type 0) → Type 0
+SeesShard tables number Sees =
+    (shard : Machine) × (shard.tables ≡ tables) × IsLawful shard.tables shard.history × AreOfShard number shard.history × Sees shard

@@ -1,13 +1,11 @@
 //! The shards under their locks, and the calls that take them.
-ghost use Rattle.std.specs.Prelude.{◌≡◌, ◌≢◌, ◌↔◌, ◌<◌, ◌≤◌, ◌+◌, [], true, false, Err, Some, replicate, IsOk, IfOk, OnErr, MatchOption};
+ghost use Rattle.std.specs.Prelude.{◌≡◌, ◌↔◌, ◌<◌, ◌≤◌, ◌+◌, true, false, Err, Some, replicate, IsOk, IfOk, OnErr, option_map};
 ghost use Rattle.std.specs.Fn.{FnOnceReturnsAt};
-ghost use Rattle.mds_core.specs.Machine.{Machine};
-ghost use Rattle.mds_core.specs.Lawful.{IsLawful};
 ghost use Rattle.mds_core.specs.History.{key_of};
 ghost use Rattle.mds_core.specs.Headline.{is_done as outcome_is_done};
-ghost use Rattle.mds_book.specs.Shards.{shard_of as number_of, AreOfShard, count_of};
+ghost use Rattle.mds_book.specs.Shards.{shard_of as number_of, count_of};
 ghost use Rattle.mds_book.specs.Seats.{fresh, keeps_all, is_look, accepted_in, after_call};
-ghost use Rattle.mds_book.specs.Books.{IsBadCount, IsAnswered, HasNone, HasEvents, open_fault_text};
+ghost use Rattle.mds_book.specs.Books.{IsBadCount, IsAnswered, GivesEvents, SeesShard, open_fault_text};
 
 use crate::seat::Part;
 use crate::slot::shard_of;
@@ -23,15 +21,16 @@ use std::marker::Model;
 use std::sync::ledger::{Blank, Share};
 use std::sync::{Mutex, Wait};
 
-/// The most seats of a book.
-const MAX_SEATS: usize = 64;
+/// The most seats of a book, and so the most workers that serve it: more threads than a city's machine has processors gain
+/// nothing.
+pub const MAX_SEATS: usize = 64;
 
 /// Why no book was opened.
 #[derive(Clone, Copy, Debug, PartialEq, Eq, Hash)]
 pub enum OpenFault {
     /// There is no memory for it.
     Memory,
-    /// The number of seats isn't 1 to 64.
+    /// The number of seats isn't 1 to [`MAX_SEATS`].
     BadSeats,
 }
 
@@ -63,9 +62,9 @@ impl<L: ShardLedger, M: ShardLedger> Model for Book<L, M> {
 
     ghost Value = { Opened };
 
-    ghost view = { λ book. record { rows = book.table; seats = book.seats } };
+    ghost view = { λ book. record { tables = book.table; seats = book.seats } };
 
-    ghost invariant = { λ book. (book.table ≡ L.rows) × (book.table ≡ M.rows) × (book.seats ≡ L.parts) × (book.seats ≡ M.parts) × (0 < book.seats) };
+    ghost invariant = { λ book. (book.table ≡ L.tables) × (book.table ≡ M.tables) × (book.seats ≡ L.parts) × (book.seats ≡ M.parts) × (0 < book.seats) };
 }
 
 /// Seats that were told nothing, so many of them, each with a part of each ledger.
@@ -103,7 +102,7 @@ fn step_in<R: Wait, L: ShardLedger, const N: usize>(
     request: &Request,
 ) -> Result<Reply, AllocError>
     requires { number_of (key_of request.now) ≡ N }
-    ensures reply { IfOk result (IsAnswered L.rows N request.now) }
+    ensures reply { IfOk result (IsAnswered L.tables N request.now) }
     ensures count { IfOk result (λ reply. part.new.count ≡ part.old.count + count_of reply.outcome) }
     ensures place { IfOk result (λ reply. part.old.count ≤ reply.place) }
     ensures unchanged { OnErr result (part.new.count ≡ part.old.count) }
@@ -131,7 +130,7 @@ fn events_in<R: Wait, L: ShardLedger, const N: usize>(
     key: &Key,
 ) -> Result<Option<Vec<Event>>, AllocError>
     requires { number_of key.now ≡ N }
-    ensures { IfOk result (λ events. MatchOption events (HasNone L.rows key.now) (λ v. HasEvents L.rows key.now v.items)) }
+    ensures { IfOk result (λ found. GivesEvents L.tables key.now (option_map (λ events. events.items) found)) }
 {
     slot.lock(rt).shard().events(alloc, key)
 }
@@ -143,18 +142,18 @@ fn with_slot<R: Wait, L: ShardLedger, const N: usize, X, F: FnOnce(&Shard) -> X>
     f: F,
 ) -> X
     requires { F.IsAlwaysCallable f }
-    ensures { (seen : Machine) × (seen.rows ≡ L.rows) × IsLawful seen.rows seen.history × AreOfShard N seen.history × FnOnceReturnsAt F.FnOnce f seen result }
+    ensures { SeesShard L.tables N (λ seen. FnOnceReturnsAt F.FnOnce f seen result) }
 {
     f(slot.lock(rt).shard())
 }
 
 impl<L: ShardLedger, M: ShardLedger> Book<L, M> {
-    /// A book over the table with nothing accepted, and its seats, 1 to 64, which were told nothing. Each ledger is handed
+    /// A book over the table with nothing accepted, and its seats, 1 to [`MAX_SEATS`], which were told nothing. Each ledger is handed
     /// in blank, cut into a part for each seat.
     ///
     /// # Errors
     ///
-    /// [`OpenFault::BadSeats`] where the number of seats isn't 1 to 64, before any growth, and else
+    /// [`OpenFault::BadSeats`] where the number of seats isn't 1 to [`MAX_SEATS`], before any growth, and else
     /// [`OpenFault::Memory`] where there is no memory.
     pub fn open(
         alloc: Global,
@@ -166,8 +165,8 @@ impl<L: ShardLedger, M: ShardLedger> Book<L, M> {
     ) -> Result<(Book<L, M>, Vec<Seat<L, M>>), OpenFault>
         requires first { (first.name ≡ L.name) × (first.parts ≡ L.parts) × (first.parts ≡ seats) }
         requires second { (second.name ≡ M.name) × (second.parts ≡ M.parts) × (second.parts ≡ seats) }
-        requires table { (table ≡ L.rows) × (table ≡ M.rows) }
-        ensures book { IfOk result (λ opened. opened.0 ≡ record { rows = table; seats = seats }) }
+        requires table { (table ≡ L.tables) × (table ≡ M.tables) }
+        ensures book { IfOk result (λ opened. opened.0 ≡ record { tables = table; seats = seats }) }
         ensures seats { IfOk result (λ opened. opened.1.items ≡ replicate seats (fresh (keeps_all keep))) }
         ensures range { (result ≡ Err OpenFault.BadSeats) ↔ IsBadCount seats }
     {
@@ -195,9 +194,9 @@ impl<L: ShardLedger, M: ShardLedger> Book<L, M> {
     ) -> Result<(Book<L, M>, Vec<Seat<L, M>>), AllocError>
         requires first { (first.name ≡ L.name) × (first.parts ≡ L.parts) × (first.parts ≡ seats) }
         requires second { (second.name ≡ M.name) × (second.parts ≡ M.parts) × (second.parts ≡ seats) }
-        requires table { (table ≡ L.rows) × (table ≡ M.rows) }
+        requires table { (table ≡ L.tables) × (table ≡ M.tables) }
         requires some { 0 < seats }
-        ensures book { IfOk result (λ opened. opened.0 ≡ record { rows = table; seats = seats }) }
+        ensures book { IfOk result (λ opened. opened.0 ≡ record { tables = table; seats = seats }) }
         ensures seats { IfOk result (λ opened. opened.1.items ≡ replicate seats (fresh (keeps_all keep))) }
     {
         let (first_slot, first_all) = Slot::open(alloc, table.copy(alloc)?, first);
@@ -214,7 +213,7 @@ impl<L: ShardLedger, M: ShardLedger> Book<L, M> {
 
     /// The table of the book.
     pub fn table(&self) -> &Table
-        ensures { result.now ≡ self.now.rows }
+        ensures { result.now ≡ self.now.tables }
     {
         &self.table
     }
@@ -243,7 +242,7 @@ impl<L: ShardLedger, M: ShardLedger> Book<L, M> {
     ) -> Result<Reply, AllocError>
         ensures seat { IfOk result (λ reply. seat.new ≡ after_call seat.old request.now reply) }
         ensures place { IfOk result (λ reply. accepted_in seat.old (number_of (key_of request.now)) ≤ reply.place) }
-        ensures reply { IfOk result (IsAnswered self.now.rows (number_of (key_of request.now)) request.now) }
+        ensures reply { IfOk result (IsAnswered self.now.tables (number_of (key_of request.now)) request.now) }
         ensures unchanged { OnErr result (seat.new ≡ seat.old) }
         ensures look { is_look request.now ≡ true → seat.old.keeps_all ≡ false → IsOk result }
     {
@@ -278,7 +277,7 @@ impl<L: ShardLedger, M: ShardLedger> Book<L, M> {
         alloc: Global,
         key: &Key,
     ) -> Result<Option<Vec<Event>>, AllocError>
-        ensures { IfOk result (λ events. MatchOption events (HasNone self.now.rows key.now) (λ v. HasEvents self.now.rows key.now v.items)) }
+        ensures { IfOk result (λ found. GivesEvents self.now.tables key.now (option_map (λ events. events.items) found)) }
     {
         if shard_of(key) == 0 {
             events_in(rt, alloc, &self.first, key)
@@ -292,7 +291,7 @@ impl<L: ShardLedger, M: ShardLedger> Book<L, M> {
     pub fn with_shard<R: Wait, X, F: FnOnce(&Shard) -> X>(&self, rt: &R, shard: usize, f: F) -> X
         requires shard { shard < 2 }
         requires f { F.IsAlwaysCallable f }
-        ensures { (seen : Machine) × (seen.rows ≡ self.now.rows) × IsLawful seen.rows seen.history × AreOfShard shard seen.history × FnOnceReturnsAt F.FnOnce f seen result }
+        ensures { SeesShard self.now.tables shard (λ seen. FnOnceReturnsAt F.FnOnce f seen result) }
     {
         if shard == 0 {
             with_slot(rt, &self.first, f)

@@ -11,7 +11,7 @@ mod slot;
 #[cfg(test)]
 mod tests;
 
-pub use book::{Book, OpenFault};
+pub use book::{Book, MAX_SEATS, OpenFault};
 pub use gate::{Gate, OpenGate};
 pub use gathered::{Gathered, Settled};
 pub use mds_settle::{Note, NoteList, judge};

@@ -1,7 +1,7 @@
 //! What stands behind a lock: a shard, and the ledger that counts what it accepted.
 ghost use Rattle.std.specs.Prelude.{◌≡◌, [], length, ◌<◌, ◌≤◌, ◌+◌, ◌^◌, IfOk, OnErr};
 ghost use Rattle.mds_core.specs.History.{key_of};
-ghost use Rattle.mds_core.specs.Answer.{Answers, MayBeDone, next};
+ghost use Rattle.mds_core.specs.Machine.{Steps, LacksMemory};
 ghost use Rattle.mds_core.specs.Lawful.{IsLawful};
 ghost use Rattle.mds_book.specs.Shards.{shard_of as number_of, AreOfShard, count_of};
 
@@ -15,16 +15,16 @@ use std::sync::ledger::{Blank, Book, Ledger, Share};
 /// A ledger that counts what a shard accepted, cut into a part for each seat of the book.
 pub trait ShardLedger: Ledger {
     ghost use Rattle.std.specs.Prelude.{List};
-    ghost use Rattle.mds_table.specs.declared.row.Row.{Row};
+    ghost use Rattle.mds_table.specs.Tables.{Tables};
 
     /// The table of the book.
-    ghost rows: { List Row };
+    ghost tables: { Tables };
 }
 
 impl ShardLedger for Brand {
     ghost use Rattle.std.specs.Prelude.{[]};
 
-    ghost rows = { [] };
+    ghost tables = { [] };
 }
 
 /// The number of the shard that holds a vehicle.
@@ -64,15 +64,15 @@ impl<L: ShardLedger, const N: usize> Model for Slot<L, N> {
 
     ghost view = { λ slot. slot.shard };
 
-    ghost invariant = { λ slot. (slot.shard.rows ≡ L.rows) × AreOfShard N slot.shard.history × (slot.accepted.total ≡ length slot.shard.history) };
+    ghost invariant = { λ slot. (slot.shard.tables ≡ L.tables) × AreOfShard N slot.shard.history × (slot.accepted.total ≡ length slot.shard.history) };
 }
 
 impl<L: ShardLedger, const N: usize> Slot<L, N> {
     /// A slot with nothing accepted, and the share of its ledger that has every part.
     pub(crate) fn open(alloc: Global, table: Table, blank: Blank) -> (Slot<L, N>, Share<L>)
         requires blank { (blank.name ≡ L.name) × (blank.parts ≡ L.parts) }
-        requires table { table ≡ L.rows }
-        ensures slot { result.0 ≡ record { rows = table; history = [] } }
+        requires table { table ≡ L.tables }
+        ensures slot { result.0 ≡ record { tables = table; history = [] } }
         ensures parts { result.1.parts ≡ L.parts }
         ensures amount { result.1.amount ≡ 0 }
     {
@@ -84,8 +84,8 @@ impl<L: ShardLedger, const N: usize> Slot<L, N> {
     /// The shard.
     pub fn shard(&self) -> &Shard
         ensures shard { result.now ≡ self.now }
-        ensures rows { self.now.rows ≡ L.rows }
-        ensures lawful { IsLawful self.now.rows self.now.history }
+        ensures tables { self.now.tables ≡ L.tables }
+        ensures lawful { IsLawful self.now.tables self.now.history }
         ensures of_shard { AreOfShard N self.now.history }
     {
         // This call's contract says that the history is lawful.
@@ -114,17 +114,15 @@ impl<L: ShardLedger, const N: usize> Slot<L, N> {
     pub fn step(&mut self, share: &mut Share<L>, request: &Request) -> Result<Reply, AllocError>
         requires part { 0 < share.old.parts }
         requires number { number_of (key_of request.now) ≡ N }
-        ensures answer { IfOk result (Answers self.old.rows self.old.history request.now) }
-        ensures rows { (self.old.rows ≡ L.rows) × (self.new.rows ≡ self.old.rows) }
-        ensures lawful { IsLawful self.old.rows self.old.history }
+        ensures step { IfOk result (λ reply. Steps self.old request.now reply self.new) }
+        ensures tables { self.old.tables ≡ L.tables }
+        ensures lawful { IsLawful self.old.tables self.old.history }
         ensures of_shard { AreOfShard N self.old.history }
-        ensures next { IfOk result (λ reply. self.new.history ≡ next self.old.history request.now reply.outcome) }
         ensures share { IfOk result (λ reply. share.new.amount ≡ share.old.amount + count_of reply.outcome) }
         ensures place { IfOk result (λ reply. share.old.amount ≤ reply.place) }
         ensures room { IfOk result (λ reply. reply.place + 1 < 2 ^ 64) }
         ensures parts { share.new.parts ≡ share.old.parts }
-        ensures memory { OnErr result (MayBeDone self.old.rows self.old.history request.now) }
-        ensures unchanged { OnErr result (self.new ≡ self.old) }
+        ensures memory { OnErr result (LacksMemory self.old request.now self.new) }
         ensures share_unchanged { OnErr result (share.new.amount ≡ share.old.amount) }
     {
         let Slot { shard, accepted } = self;

@@ -1,7 +1,7 @@
 -- What the commands do.
 use Rattle.std.specs.Prelude.{◌≡◌, ◌⊎◌, ◌==◌, ℕ, List, Option, if◌then◌else◌}
 use Rattle.std.specs.Io.KnownBytes.{Appends, Keeps}
-use Rattle.mds_table.specs.declared.row.Row.{Row}
+use Rattle.mds_table.specs.Tables.{Tables}
 use Rattle.mds_batch.specs.declared.item.EventItem.{EventItem}
 use Rattle.mds_trace.specs.declared.report.Report.{Report}
 use Rattle.mds_city.specs.declared.source.Source.{Source}
@@ -9,7 +9,7 @@ use Rattle.mds_city.specs.declared.problem.Problem.{Problem}
 use Rattle.mds_city.specs.declared.problem.Problem.TheVariants.{CannotRead, NotATable, NotABatch, Socket, Output, Memory}
 use Rattle.mds_city.specs.declared.status.Status.{Status}
 use Rattle.mds_city.specs.declared.status.Status.TheVariants.{Done, Refused}
-use Rattle.mds_device.specs.Device.{AppendsFront}
+use Rattle.mds_io.specs.Device.{AppendsFront}
 use Rattle.mds_city.specs.Status.{code_of}
 use Rattle.mds_city.specs.Problem.{status_of, Tells}
 use Rattle.mds_trace.specs.declared.report.Opening.{Opening}
@@ -30,8 +30,8 @@ module _ {T R : Type 0} (begins : Opening) (table_bytes : T → Option (List ℕ
   -- machine's run
   abbrev pub HasReport : Report → Type 0
   HasReport report =
-      (rows : List Row) × (items : List EventItem) × HasTableIn table_bytes table rows × HasItemsIn file_bytes file items
-      × IsReport begins rows items report × (begins ≡ opening.Removed → AreOutcomes rows items report.lines.items)
+      (tables : Tables) × (items : List EventItem) × HasTableIn table_bytes table tables × HasItemsIn file_bytes file items
+      × IsReport begins tables items report × (begins ≡ opening.Removed → AreOutcomes tables items report.lines.items)
 
   -- the report's text went out; the status is 0 where each item was accepted, else 1
   abbrev pub Replayed : ℕ → Option (List ℕ) → Option (List ℕ) → Type 0
@@ -39,7 +39,7 @@ module _ {T R : Type 0} (begins : Opening) (table_bytes : T → Option (List ℕ
 
   -- the table was had, and then the problem is one of the file of events
   abbrev pub ExplainsEvents : Problem → Type 0
-  ExplainsEvents problem = (rows : List Row) × HasTableIn table_bytes table rows × ExplainsFile file_bytes file problem
+  ExplainsEvents problem = (tables : Tables) × HasTableIn table_bytes table tables × ExplainsFile file_bytes file problem
 
   -- the problem's cause lies in the file that it names, if it names one; the table file is looked at first
   abbrev pub ExplainsReplay : Problem → Type 0
@@ -72,7 +72,7 @@ module _ {T R : Type 0} (begins : Opening) (table_bytes : T → Option (List ℕ
 module _ {T : Type 0} (table_bytes : T → Option (List ℕ)) (table : Option (Source T)) where
   -- the table's text went out
   abbrev pub Tabled : Option (List ℕ) → Option (List ℕ) → Type 0
-  Tabled old new = (rows : List Row) × HasTableIn table_bytes table rows × Appends old new (table_text rows)
+  Tabled old new = (tables : Tables) × HasTableIn table_bytes table tables × Appends old new (table_text tables)
 
   -- the problem's cause lies in the file, if it is a fault of a file
   abbrev pub ExplainsPrint : Problem → Type 0
@@ -89,8 +89,8 @@ module _ {T : Type 0} (table_bytes : T → Option (List ℕ)) (table : Option (S
   TableWentOut (NotATable fault) old new = Keeps old new
   TableWentOut (NotABatch fault) old new = Keeps old new
   TableWentOut Socket old new = ⊥
-  TableWentOut Output old new = (rows : List Row) × HasTableIn table_bytes table rows × AppendsFront old new (table_text rows)
-  TableWentOut Memory old new = Keeps old new ⊎ ((rows : List Row) × HasTableIn table_bytes table rows × AppendsFront old new (table_text rows))
+  TableWentOut Output old new = (tables : Tables) × HasTableIn table_bytes table tables × AppendsFront old new (table_text tables)
+  TableWentOut Memory old new = Keeps old new ⊎ ((tables : Tables) × HasTableIn table_bytes table tables × AppendsFront old new (table_text tables))
 
   -- a problem has this status, is explained, and was told
   abbrev pub TableTold : ℕ → Option (List ℕ) → Option (List ℕ) → Option (List ℕ) → Option (List ℕ) → Type 0

@@ -3,7 +3,7 @@ use Rattle.std.specs.Prelude.{◌≡◌, ◌≢◌, ◌⊎◌, ◌+◌, ◌≤�
 use Rattle.std.specs.Io.KnownBytes.{Appends, Consumes, Keeps}
 use Rattle.uuid.specs.Text.{parsed}
 use Rattle.mds_table.specs.declared.state.State.TheVariants as state
-use Rattle.mds_table.specs.declared.row.Row.{Row}
+use Rattle.mds_table.specs.Tables.{Tables}
 use Rattle.mds_core.specs.declared.key.Key.{Key}
 use Rattle.mds_batch.specs.declared.item.EventItem.{EventItem}
 use Rattle.mds_trace.specs.declared.report.Opening.TheVariants.{Removed}
@@ -11,13 +11,13 @@ use Rattle.mds_trace.specs.declared.report.Verdict.{Verdict}
 use Rattle.mds_trace.specs.declared.session.Place.{Place}
 use Rattle.mds_trace.specs.Replay.{AreVerdicts, accepted_of, prior_of}
 use Rattle.mds_trace.specs.Walk.{Walk}
-use Rattle.mds_walk.specs.declared.line.CountsLine.{CountsLine}
-use Rattle.mds_walk.specs.declared.script.ScriptCommand.{ScriptCommand}
-use Rattle.mds_walk.specs.Input.{max_script}
-use Rattle.mds_walk.specs.Printed.{PrintsStart, PrintsScript, PrintsFront}
-use Rattle.mds_walk.specs.Script.{IsScript}
-use Rattle.mds_walk.specs.Vehicle.{told_of}
-use Rattle.mds_device.specs.Device.{AppendsFront, with_newline}
+use Rattle.mds_debugger.specs.declared.line.CountsLine.{CountsLine}
+use Rattle.mds_debugger.specs.declared.script.ScriptCommand.{ScriptCommand}
+use Rattle.mds_debugger.specs.Input.{max_script}
+use Rattle.mds_debugger.specs.Printed.{PrintsStart, PrintsScript, PrintsFront}
+use Rattle.mds_debugger.specs.Script.{IsScript}
+use Rattle.mds_debugger.specs.Vehicle.{told_of}
+use Rattle.mds_io.specs.Device.{AppendsFront, with_newline}
 use Rattle.mds_city.specs.declared.debug.Named.{Named}
 use Rattle.mds_city.specs.declared.debug.DebugProblem.{DebugProblem}
 use Rattle.mds_city.specs.declared.debug.DebugProblem.TheVariants.{BadIdentifier, NotInFile, Other}
@@ -58,10 +58,10 @@ TellsDebug old new (Other problem) = Tells old new problem
 
 -- the session over the events of a vehicle that a replay of these items accepts, before the first of them, and how many of the
 -- vehicle's events are accepted and refused; there are some
-pub record IsOpened (rows : List Row) (items : List EventItem) (key : Key) (walk : Walk) (counts : CountsLine) : Type 0 where
+pub record IsOpened (tables : Tables) (items : List EventItem) (key : Key) (walk : Walk) (counts : CountsLine) : Type 0 where
   pub lines : List Verdict
-  pub verdicts : AreVerdicts Removed rows items lines
-  pub walk_is : walk ≡ record { rows = rows; opening = state.Removed; events = prior_of key (accepted_of items lines); place = record { event = 0; passed = 0 } }
+  pub verdicts : AreVerdicts Removed tables items lines
+  pub walk_is : walk ≡ record { tables = tables; opening = state.Removed; events = prior_of key (accepted_of items lines); place = record { event = 0; passed = 0 } }
   pub events : counts.events ≡ length (prior_of key (accepted_of items lines))
   pub all : counts.events + counts.refused ≡ told_of key items
   pub some_told : told_of key items ≢ 0
@@ -93,17 +93,17 @@ DebugsFront walk counts input input_new old new =
 -- the words that name a vehicle
 module _ {T R : Type 0} (table_bytes : T → Option (List ℕ)) (table : Option (Source T)) (file_bytes : R → Option (List ℕ)) (file : Source R) (named : Named) where
   -- the words name this vehicle, and these are the rows and the items of the files
-  abbrev pub HasFiles : Key → List Row → List EventItem → Type 0
-  HasFiles key rows items = IsNamed named key × HasTableIn table_bytes table rows × HasItemsIn file_bytes file items
+  abbrev pub HasFiles : Key → Tables → List EventItem → Type 0
+  HasFiles key tables items = IsNamed named key × HasTableIn table_bytes table tables × HasItemsIn file_bytes file items
 
   -- the session on the vehicle that the words name
   abbrev pub HasSession : Walk → CountsLine → Type 0
-  HasSession walk counts = (key : Key) × (rows : List Row) × (items : List EventItem) × HasFiles key rows items × IsOpened rows items key walk counts
+  HasSession walk counts = (key : Key) × (tables : Tables) × (items : List EventItem) × HasFiles key tables items × IsOpened tables items key walk counts
 
   -- the problem's cause; the words are looked at first, then the table file, the file, and the vehicle
   abbrev pub ExplainsDebug : DebugProblem → Type 0
   ExplainsDebug BadIdentifier = (key : Key) → IsNamed named key → ⊥
-  ExplainsDebug NotInFile = (key : Key) × (rows : List Row) × (items : List EventItem) × HasFiles key rows items × (told_of key items ≡ 0)
+  ExplainsDebug NotInFile = (key : Key) × (tables : Tables) × (items : List EventItem) × HasFiles key tables items × (told_of key items ≡ 0)
   ExplainsDebug (Other problem) = ((key : Key) × IsNamed named key) × ExplainsReplay Removed table_bytes table file_bytes file problem
 
   -- a front of what the debugger prints went out

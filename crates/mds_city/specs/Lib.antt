@@ -7,3 +7,4 @@ pub mod Command
 pub mod Program
 pub mod Debug
 pub mod Serve
+pub mod Torn

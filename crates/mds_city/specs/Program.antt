@@ -7,24 +7,25 @@ use Rattle.clap.specs.declared.error.kind.ErrorKind.{ErrorKind}
 use Rattle.clap.specs.declared.error.kind.ErrorKind.TheVariants as kind
 use Rattle.mds_trace.specs.declared.report.Opening.{Opening}
 use Rattle.mds_trace.specs.declared.report.Opening.TheVariants.{Removed, Any}
+use Rattle.mds_book.specs.Books.{IsSeatCount}
 use Rattle.mds_city.specs.declared.program.Answer.{Answer}
 use Rattle.mds_city.specs.declared.program.Answer.TheVariants.{Help, Mistake, NoMemory}
 use Rattle.mds_city.specs.declared.problem.Problem.TheVariants as problem
 use Rattle.mds_city.specs.declared.source.Source.{Source}
 use Rattle.mds_city.specs.declared.status.Status.{Status}
 use Rattle.mds_city.specs.declared.status.Status.TheVariants as status
-use Rattle.mds_words.specs.declared.words.Command.{Command}
-use Rattle.mds_words.specs.declared.words.Command.TheVariants.{Serve, Replay, Debug, Table}
+use Rattle.mds_args.specs.declared.words.Command.{Command}
+use Rattle.mds_args.specs.declared.words.Command.TheVariants.{Serve, Replay, Debug, Table}
 use Rattle.mds_city.specs.Command.{Replayed, Told, Tabled, TableTold}
 use Rattle.mds_city.specs.Debug.{Debugs}
 use Rattle.mds_city.specs.Serve.{CameToServe}
 use Rattle.mds_city.specs.Problem.{Tells}
 use Rattle.mds_city.specs.Status.{code_of}
-use Rattle.mds_words.specs.Words.{Asks, IsErrorOf, program_app}
+use Rattle.mds_args.specs.Words.{Asks, IsErrorOf, program_app}
 
--- the number of workers, where there are any, is 1 to 64
+-- the number of workers, where there are any, is one of seats that a book may have
 abbrev pub HasWorkers : Command → Type 0
-HasWorkers (Serve port each workers path) = (0 < workers) × (workers ≤ 64)
+HasWorkers (Serve port each workers path) = IsSeatCount workers
 HasWorkers other = Unit {0}
 
 -- how an error of this kind is answered: help and the version are printed, all else but the want of memory is a mistake

@@ -1,12 +1,12 @@
 -- What the command that serves does.
 use Rattle.std.specs.Prelude.{◌≡◌, ◌⊎◌, ℕ, ◌<◌, List, length, take, Option, Result, Ok, Err}
 use Rattle.std.specs.Io.KnownBytes.{Appends, Keeps}
-use Rattle.mds_table.specs.declared.row.Row.{Row}
-use Rattle.mds_device.specs.Device.{AppendsFront, with_newline}
-use Rattle.mds_serving.specs.Torn.{torn_text}
-use Rattle.mds_serving.specs.Serving.{IsEnded}
-use Rattle.mds_serving.specs.declared.serving.Stop.{Stop}
-use Rattle.mds_serving.specs.declared.serving.Stop.TheVariants as stop
+use Rattle.mds_table.specs.Tables.{Tables}
+use Rattle.mds_io.specs.Device.{AppendsFront, with_newline}
+use Rattle.mds_city.specs.Torn.{torn_text}
+use Rattle.mds_pool.specs.Serving.{IsEnded}
+use Rattle.mds_pool.specs.declared.serving.Stop.{Stop}
+use Rattle.mds_pool.specs.declared.serving.Stop.TheVariants as stop
 use Rattle.mds_city.specs.declared.source.Source.{Source}
 use Rattle.mds_city.specs.declared.problem.Problem.{Problem}
 use Rattle.mds_city.specs.declared.problem.Problem.TheVariants.{CannotRead, NotATable, NotABatch, Socket, Output, Memory}
@@ -37,31 +37,31 @@ IsSaid (Err stop.Accept) code out out_new faults faults_new = Keeps out out_new 
 IsSaid (Err (stop.Torn shard place)) code out out_new faults faults_new = Keeps out out_new × TellsTorn shard place code faults faults_new
 
 -- serving with this table and so many workers ended in some way, and that was said
-abbrev pub Serves : List Row → ℕ → ℕ → Option (List ℕ) → Option (List ℕ) → Option (List ℕ) → Option (List ℕ) → Type 0
-Serves rows workers code out out_new faults faults_new =
-    (ended : Result ℕ Stop) × IsEnded rows workers ended × IsSaid ended code out out_new faults faults_new
+abbrev pub Serves : Tables → ℕ → ℕ → Option (List ℕ) → Option (List ℕ) → Option (List ℕ) → Option (List ℕ) → Type 0
+Serves tables workers code out out_new faults faults_new =
+    (ended : Result ℕ Stop) × IsEnded tables workers ended × IsSaid ended code out out_new faults faults_new
 
 -- of the command: the known bytes of a table file's reader, and the table file if one is given
 module _ {T : Type 0} (table_bytes : T → Option (List ℕ)) (table : Option (Source T)) where
   -- the table was had, and a front of the line that says where the server listens went out
   abbrev pub PrintsListening : Option (List ℕ) → Option (List ℕ) → Type 0
-  PrintsListening out out_new = (rows : List Row) × HasTableIn table_bytes table rows × ((port : ℕ) × AppendsFront out out_new (with_newline (listening_line port)))
+  PrintsListening out out_new = (tables : Tables) × HasTableIn table_bytes table tables × ((port : ℕ) × AppendsFront out out_new (with_newline (listening_line port)))
 
   -- why nothing was served: a fault of the table file, a port that can't be had, or a line that could not be printed; and what went out
   abbrev pub StopsBefore : Problem → Option (List ℕ) → Option (List ℕ) → Type 0
   StopsBefore (CannotRead path) out out_new = ExplainsTable table_bytes table (CannotRead path) × Keeps out out_new
   StopsBefore (NotATable fault) out out_new = ExplainsTable table_bytes table (NotATable fault) × Keeps out out_new
   StopsBefore (NotABatch fault) out out_new = ⊥
-  StopsBefore Socket out out_new = (rows : List Row) × HasTableIn table_bytes table rows × Keeps out out_new
+  StopsBefore Socket out out_new = (tables : Tables) × HasTableIn table_bytes table tables × Keeps out out_new
   StopsBefore Output out out_new = PrintsListening out out_new
   StopsBefore Memory out out_new = Keeps out out_new ⊎ PrintsListening out out_new
 
   -- the table was had, and the line that says where the server listens went out
-  abbrev pub Listened : List Row → Option (List ℕ) → Option (List ℕ) → Type 0
-  Listened rows out out_new = HasTableIn table_bytes table rows × ((port : ℕ) × Appends out out_new (with_newline (listening_line port)))
+  abbrev pub Listened : Tables → Option (List ℕ) → Option (List ℕ) → Type 0
+  Listened tables out out_new = HasTableIn table_bytes table tables × ((port : ℕ) × Appends out out_new (with_newline (listening_line port)))
 
   -- what the command came to: nothing was served, for a problem that was told; or it was served, after the first line
   abbrev pub CameToServe : ℕ → ℕ → Option (List ℕ) → Option (List ℕ) → Option (List ℕ) → Option (List ℕ) → Type 0
   CameToServe workers code out out_new faults faults_new =
       ((problem : Problem) × StopsBefore problem out out_new × IsTold problem code faults faults_new)
-      ⊎ ((rows : List Row) × (out_then : Option (List ℕ)) × Listened rows out out_then × Serves rows workers code out_then out_new faults faults_new)
+      ⊎ ((tables : Tables) × (out_then : Option (List ℕ)) × Listened tables out out_then × Serves tables workers code out_then out_new faults faults_new)

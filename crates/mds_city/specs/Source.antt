@@ -1,6 +1,7 @@
 -- What the files that a command reads have, and why they can't be used.
-use Rattle.std.specs.Prelude.{◌≡◌, ◌≢◌, ℕ, List, Option, Some, None}
-use Rattle.mds_table.specs.declared.row.Row.{Row}
+use Rattle.std.specs.Prelude.{◌≡◌, ◌≢◌, ℕ, ◌+◌, List, Option, Some, None}
+use Rattle.mds_table.specs.Tables.{Tables}
+use Rattle.mds_table.specs.Json.{max_bytes}
 use Rattle.mds_table.specs.Profile.{profile_rows}
 use Rattle.mds_table.specs.TableFile.{HasTable, HasFault as HasTableFault}
 use Rattle.mds_table.specs.declared.table_file.TableFault.{TableFault}
@@ -13,13 +14,17 @@ use Rattle.mds_batch.specs.Batch.{HasItems, HasFault as HasBatchFault}
 use Rattle.mds_city.specs.declared.source.Source.{Source}
 use Rattle.mds_city.specs.declared.problem.Problem.{Problem}
 use Rattle.mds_city.specs.declared.problem.Problem.TheVariants.{CannotRead, NotATable, NotABatch, Socket, Output, Memory}
-use Rattle.mds_device.specs.Device.{HasFront}
+use Rattle.mds_io.specs.Device.{HasFront}
 use Rattle.mds_city.specs.Problem.{table_problem, batch_problem}
 
--- the file was opened, and its reader had left these bytes, or these are the first 4194305 of them; where it isn't known
+-- how many bytes of a file are read at most: one more than are taken, so that a longer file is seen to be too long
+abbrev pub max_read : ℕ
+max_read = max_bytes + 1
+
+-- the file was opened, and its reader had left these bytes, or these are the first `max_read` of them; where it isn't known
 -- what the reader had left, this says only that it was opened
 abbrev pub HasBytes : {R : Type 0} → (R → Option (List ℕ)) → Source R → List ℕ → Type 0
-HasBytes {R} remaining source bytes = (reader : R) × (source.reader ≡ Some reader) × HasFront (remaining reader) bytes
+HasBytes {R} remaining source bytes = (reader : R) × (source.reader ≡ Some reader) × HasFront max_read (remaining reader) bytes
 
 -- the path told is the file's, or there was no memory for it
 abbrev pub IsReadProblem : {R : Type 0} → Source R → Problem → Type 0
@@ -39,8 +44,8 @@ abbrev pub IsBatchProblem : List ℕ → Problem → Type 0
 IsBatchProblem bytes problem = (fault : BatchFault) × HasBatchFault bytes fault × (problem ≡ batch_problem fault)
 
 -- the rows are those of the table file
-abbrev pub HasTableOf : {R : Type 0} → (R → Option (List ℕ)) → Source R → List Row → Type 0
-HasTableOf remaining source rows = (bytes : List ℕ) × HasBytes remaining source bytes × HasTable bytes rows
+abbrev pub HasTableOf : {R : Type 0} → (R → Option (List ℕ)) → Source R → Tables → Type 0
+HasTableOf remaining source tables = (bytes : List ℕ) × HasBytes remaining source bytes × HasTable bytes tables
 
 -- why a table file has no table: it has this fault, its path is told as one that can't be read, or there was no memory
 abbrev pub ExplainsTableFile : {R : Type 0} → (R → Option (List ℕ)) → Source R → Problem → Type 0
@@ -52,9 +57,9 @@ ExplainsTableFile remaining source Socket = ⊥
 ExplainsTableFile remaining source Output = ⊥
 
 -- the rows are those of the table file, or of the profile where none is given
-abbrev pub HasTableIn : {R : Type 0} → (R → Option (List ℕ)) → Option (Source R) → List Row → Type 0
-HasTableIn remaining None rows = rows ≡ profile_rows
-HasTableIn remaining (Some source) rows = HasTableOf remaining source rows
+abbrev pub HasTableIn : {R : Type 0} → (R → Option (List ℕ)) → Option (Source R) → Tables → Type 0
+HasTableIn remaining None tables = tables ≡ profile_rows
+HasTableIn remaining (Some source) tables = HasTableOf remaining source tables
 
 -- why there is no table: where no file is given, only for want of memory
 abbrev pub ExplainsTable : {R : Type 0} → (R → Option (List ℕ)) → Option (Source R) → Problem → Type 0

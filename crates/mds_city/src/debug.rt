@@ -3,9 +3,9 @@ ghost use Rattle.std.specs.Prelude.{◌≡◌, ◌≢◌, ◌⊎◌, IfOk, IfErr
 ghost use Rattle.uuid.specs.Text.{parsed};
 ghost use Rattle.mds_core.specs.declared.key.Key.{Key as Vehicle};
 ghost use Rattle.mds_trace.specs.Walk.{Walk};
-ghost use Rattle.mds_walk.specs.declared.line.CountsLine.{CountsLine as Counts};
+ghost use Rattle.mds_debugger.specs.declared.line.CountsLine.{CountsLine as Counts};
 ghost use Rattle.mds_trace.specs.Session.{AreOpenFrom};
-ghost use Rattle.mds_walk.specs.Vehicle.{told_of};
+ghost use Rattle.mds_debugger.specs.Vehicle.{told_of};
 ghost use Rattle.mds_city.specs.Debug.{Debugs, DebugsFront, DebugWentOut, ExplainsDebug, HasSession, IsNamed, IsOfShowing, IsOpened, IsOther, Shown, TellsDebug, debug_status_of};
 
 use crate::commands::status_on;
@@ -14,10 +14,10 @@ use crate::source::{Source, items_in, table_in};
 use crate::status::Status;
 use mds_batch::EventItem;
 use mds_core::{Event, Key};
-use mds_device::{WriteFault, write_all_of};
+use mds_io::{PrintError, write_all_of};
 use mds_table::{State, Table};
 use mds_trace::{Opening, Session, SessionFault, replay};
-use mds_walk::{CountsLine, print_start, print_walk, read_script, script_of, vehicle_events};
+use mds_debugger::{CountsLine, print_start, print_walk, read_script, script_of, vehicle_events};
 use std::alloc::{AllocError, Global};
 use std::io::{Read, Write};
 use uuid::Uuid;
@@ -81,13 +81,13 @@ impl From<AllocError> for DebugProblem<'_> {
     }
 }
 
-impl From<WriteFault> for DebugProblem<'_> {
+impl From<PrintError> for DebugProblem<'_> {
     ghost use Rattle.mds_city.specs.Problem.{written_problem};
     ghost use Rattle.mds_city.specs.declared.debug.DebugProblem.TheVariants.{Other};
 
     ghost from_gives = { λ fault problem. problem ≡ Other (written_problem fault) };
 
-    fn from(fault: WriteFault) -> Self {
+    fn from(fault: PrintError) -> Self {
         DebugProblem::Other(fault.into())
     }
 }
@@ -211,7 +211,7 @@ fn open_on(
 /// The session over these events, which lead on from removed.
 fn session_of(alloc: Global, table: Table, events: Vec<Event>) -> Result<Session, AllocError>
     requires { AreOpenFrom table State.Removed events.items }
-    ensures { IfOk result (λ session. session ≡ record { rows = table; opening = State.Removed; events = events.items; place = record { event = 0; passed = 0 } }) }
+    ensures { IfOk result (λ session. session ≡ record { tables = table; opening = State.Removed; events = events.items; place = record { event = 0; passed = 0 } }) }
 {
     match Session::open(alloc, table, State::Removed, events) {
         Ok(session) => Ok(session),

@@ -13,6 +13,7 @@ mod rows;
 mod serve;
 mod source;
 mod status;
+mod torn;
 
 use crate::program::{Opens, run, tell_words, words_of};
 use crate::serve::Listens;

@@ -1,10 +1,10 @@
 //! Single lines that a server prints.
 ghost use Rattle.std.specs.Prelude.{Some, IfSome, OnOk, OnErr};
 ghost use Rattle.std.specs.Io.KnownBytes.{Appends};
-ghost use Rattle.mds_device.specs.Device.{AppendsFront, with_newline};
+ghost use Rattle.mds_io.specs.Device.{AppendsFront, with_newline};
 ghost use Rattle.mds_city.specs.Text.{accepted_line, listening_line};
 
-use mds_device::{WriteFault, add_line, put_out};
+use mds_io::{PrintError, add_line, flush_page};
 use std::alloc::Global;
 use std::fmt;
 use std::io::Write;
@@ -48,11 +48,11 @@ pub fn print_line<W: Write, D: fmt::Display>(
     alloc: Global,
     writer: &mut W,
     line: &D,
-) -> Result<(), WriteFault>
+) -> Result<(), PrintError>
     ensures ok { OnOk result (IfSome (D.output line.now) (λ text. Appends (W.contents writer.old) (W.contents writer.new) (with_newline text))) }
     ensures err { OnErr result (IfSome (D.output line.now) (λ text. AppendsFront (W.contents writer.old) (W.contents writer.new) (with_newline text))) }
 {
     let mut page = String::new(alloc);
     add_line(writer, &mut page, line)?;
-    put_out(writer, &mut page)
+    flush_page(writer, &mut page)
 }

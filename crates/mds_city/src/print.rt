@@ -1,12 +1,12 @@
 //! Printing a replay's report, and a table.
 ghost use Rattle.std.specs.Prelude.{◌++◌, string_bytes, OnOk, OnErr};
 ghost use Rattle.std.specs.Io.KnownBytes.{Appends};
-ghost use Rattle.mds_device.specs.Device.{AppendsFront, Passes};
+ghost use Rattle.mds_io.specs.Device.{AppendsFront, Passes};
 ghost use Rattle.mds_city.specs.Text.{item_lines, vehicle_lines, report_text, row_lines, table_text};
 
 use crate::lines::{ItemLine, TotalLine, VehicleLine};
 use crate::rows::{CountLine, RowLine};
-use mds_device::{WriteFault, add_line, put_out};
+use mds_io::{PrintError, add_line, flush_page};
 use mds_table::Row;
 use mds_trace::{Opening, Report, VehicleEnd, Verdict};
 use std::alloc::Global;
@@ -21,7 +21,7 @@ pub fn print_report<W: Write>(
     writer: &mut W,
     report: &Report,
     opening: Opening,
-) -> Result<(), WriteFault>
+) -> Result<(), PrintError>
     ensures ok { OnOk result (Appends (W.contents writer.old) (W.contents writer.new) (report_text opening report.now)) }
     ensures err { OnErr result (AppendsFront (W.contents writer.old) (W.contents writer.new) (report_text opening report.now)) }
 {
@@ -33,7 +33,7 @@ pub fn print_report<W: Write>(
         refused: report.refused,
     };
     add_line(writer, &mut page, &total)?;
-    put_out(writer, &mut page)
+    flush_page(writer, &mut page)
 }
 
 /// Adds a line for each verdict to what the page has, and puts the page out as it fills.
@@ -41,7 +41,7 @@ fn add_items<W: Write>(
     writer: &mut W,
     page: &mut String,
     lines: &[Verdict],
-) -> Result<(), WriteFault>
+) -> Result<(), PrintError>
     ensures ok { OnOk result (Passes (W.contents writer.old) (W.contents writer.new) (string_bytes page.old ++ item_lines 0 lines.now) (string_bytes page.new)) }
     ensures err { OnErr result (AppendsFront (W.contents writer.old) (W.contents writer.new) (string_bytes page.old ++ item_lines 0 lines.now)) }
 {
@@ -61,7 +61,7 @@ fn add_vehicles<W: Write>(
     page: &mut String,
     ends: &[VehicleEnd],
     opening: Opening,
-) -> Result<(), WriteFault>
+) -> Result<(), PrintError>
     ensures ok { OnOk result (Passes (W.contents writer.old) (W.contents writer.new) (string_bytes page.old ++ vehicle_lines opening ends.now) (string_bytes page.new)) }
     ensures err { OnErr result (AppendsFront (W.contents writer.old) (W.contents writer.new) (string_bytes page.old ++ vehicle_lines opening ends.now)) }
 {
@@ -74,7 +74,7 @@ fn add_vehicles<W: Write>(
 /// Prints the rows of a table: a line a row, and their number.
 ///
 /// At an error a front of the text went out, as in [`print_report`].
-pub fn print_table<W: Write>(alloc: Global, writer: &mut W, rows: &[Row]) -> Result<(), WriteFault>
+pub fn print_table<W: Write>(alloc: Global, writer: &mut W, rows: &[Row]) -> Result<(), PrintError>
     ensures ok { OnOk result (Appends (W.contents writer.old) (W.contents writer.new) (table_text rows.now)) }
     ensures err { OnErr result (AppendsFront (W.contents writer.old) (W.contents writer.new) (table_text rows.now)) }
 {
@@ -82,11 +82,11 @@ pub fn print_table<W: Write>(alloc: Global, writer: &mut W, rows: &[Row]) -> Res
     add_rows(writer, &mut page, rows)?;
     let count = CountLine { count: rows.len() };
     add_line(writer, &mut page, &count)?;
-    put_out(writer, &mut page)
+    flush_page(writer, &mut page)
 }
 
 /// Adds a line for each row to what the page has, and puts the page out as it fills.
-fn add_rows<W: Write>(writer: &mut W, page: &mut String, rows: &[Row]) -> Result<(), WriteFault>
+fn add_rows<W: Write>(writer: &mut W, page: &mut String, rows: &[Row]) -> Result<(), PrintError>
     ensures ok { OnOk result (Passes (W.contents writer.old) (W.contents writer.new) (string_bytes page.old ++ row_lines rows.now) (string_bytes page.new)) }
     ensures err { OnErr result (AppendsFront (W.contents writer.old) (W.contents writer.new) (string_bytes page.old ++ row_lines rows.now)) }
 {

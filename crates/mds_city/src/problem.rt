@@ -4,7 +4,7 @@ ghost use Rattle.mds_city.specs.Problem.{IsTelling, problem_text, status_of, Tel
 
 use crate::status::Status;
 use mds_batch::BatchFault;
-use mds_device::{WriteFault, WriteStop, write_all_of};
+use mds_io::{PrintError, WriteError, write_all_of};
 use mds_table::TableFault;
 use std::alloc::{AllocError, Global};
 use std::fmt;
@@ -82,15 +82,15 @@ impl From<BatchFault> for Problem<'_> {
     }
 }
 
-impl From<WriteFault> for Problem<'_> {
+impl From<PrintError> for Problem<'_> {
     ghost use Rattle.mds_city.specs.Problem.{written_problem};
 
     ghost from_gives = { λ fault problem. problem ≡ written_problem fault };
 
-    fn from(fault: WriteFault) -> Self {
+    fn from(fault: PrintError) -> Self {
         match fault {
-            WriteFault::Memory => Problem::Memory,
-            WriteFault::Device => Problem::Output,
+            PrintError::Memory => Problem::Memory,
+            PrintError::Device => Problem::Output,
         }
     }
 }
@@ -125,7 +125,7 @@ struct Telling {
     /// How the program ends.
     status: Status,
     /// Whether the line went out whole, and else where and why it stopped.
-    line: Result<(), WriteStop>,
+    line: Result<(), WriteError>,
 }
 
 /// Tells the problem in one line. Where there is no memory to lay the line out, the problem that is told is that.

@@ -1,14 +1,15 @@
 //! The command that serves vehicles at a port.
-ghost use Rattle.std.specs.Prelude.{◌≡◌, ◌<◌, ◌≤◌, IfOk, IfErr};
+ghost use Rattle.std.specs.Prelude.{◌≡◌, IfOk, IfErr};
+ghost use Rattle.mds_book.specs.Books.{IsSeatCount};
 ghost use Rattle.mds_city.specs.Serve.{CameToServe, IsSaid, Listened, Serves, StopsBefore, TellsTorn};
 
 use crate::page::{AcceptedLine, ListeningLine, print_line};
 use crate::problem::{Problem, tell};
 use crate::source::{Source, table_in};
 use crate::status::Status;
-use mds_device::write_all_of;
-use mds_pool::Port;
-use mds_serving::{Stop, serve_and_settle, torn_line};
+use crate::torn::torn_line;
+use mds_io::write_all_of;
+use mds_pool::{Port, Stop, serve_and_settle};
 use mds_table::Table;
 use std::alloc::Global;
 use std::io::{Read, Write};
@@ -33,10 +34,10 @@ pub trait Listens {
 
 /// What serving is asked for: at which port, by how many workers, and how many connections each of them answers.
 #[derive(Clone, Copy, Debug, PartialEq, Eq)]
-pub struct Asked {
+pub struct ServeOptions {
     /// The number of the port, 0 for a free one.
     pub port: u16,
-    /// How many workers there are, 1 to 64.
+    /// How many workers there are, 1 to [`mds_book::MAX_SEATS`].
     pub workers: usize,
     /// How many connections each answers.
     pub each: usize,
@@ -50,11 +51,11 @@ pub fn serve_at<R: Threads + Wait + Sync, H: Listens, T: Read + Drop, W: Write, 
     alloc: Global,
     host: &H,
     table: Option<Source<'_, T>>,
-    asked: Asked,
+    asked: ServeOptions,
     out: &mut W,
     faults: &mut E,
 ) -> u8
-    requires { (0 < asked.workers) × (asked.workers ≤ 64) }
+    requires { IsSeatCount asked.workers }
     ensures { CameToServe T.remaining table.entry asked.workers result
         (W.contents out.old) (W.contents out.new) (E.contents faults.old) (E.contents faults.new) }
 {
@@ -93,7 +94,7 @@ fn begun<'a, H: Listens, T: Read + Drop, W: Write>(
     Ok((table, listening))
 }
 
-/// Serves connections of a port over a table, with a new book of so many seats, 1 to 64, each of which answers so many of
+/// Serves connections of a port over a table, with a new book of so many seats, 1 to [`mds_book::MAX_SEATS`], each of which answers so many of
 /// them. At the end it settles the book, and prints how many requests were accepted. It answers the code of the status that
 /// the program ends with: `Done`; `Torn` where the notes of the accepted requests don't fit the histories; `Fault` where no
 /// further connection could be taken, or an output failed; `NoMemory` for want of memory. What isn't `Done` is told to
@@ -111,7 +112,7 @@ pub fn serve_on<R: Threads + Wait + Sync, P: Port + Sync, W: Write, E: Write>(
 where
     P::In: Send,
     P::Out: Send,
-    requires { (0 < seats) × (seats ≤ 64) }
+    requires { IsSeatCount seats }
     ensures { Serves table seats result (W.contents out.old) (W.contents out.new) (E.contents faults.old) (E.contents faults.new) }
 {
     let ended = serve_and_settle(rt, alloc, table, port, seats, each);

@@ -7,10 +7,13 @@ ghost use Rattle.mds_city.specs.Source.{HasBytes, IsReadProblem, IsTableProblem,
 
 use crate::problem::Problem;
 use mds_batch::{EventItem, read_events};
-use mds_device::{ReadFault, read_front};
-use mds_table::Table;
+use mds_io::{ReadError, read_front};
+use mds_table::{MAX_BYTES, Table};
 use std::alloc::Global;
 use std::io::Read;
+
+/// How many bytes of a file are read at most: one more than are taken, so that a longer file is seen to be too long.
+const MAX_READ: usize = MAX_BYTES + 1;
 
 /// A file that a command reads.
 #[derive(Drop)]
@@ -21,7 +24,7 @@ pub struct Source<'a, R> {
     pub reader: Option<R>,
 }
 
-/// The bytes of the file, or its first 4194305.
+/// The bytes of the file, or its first `MAX_READ`.
 fn bytes_in<'a, R: Read + Drop>(
     alloc: Global,
     source: Source<'a, R>,
@@ -33,10 +36,10 @@ fn bytes_in<'a, R: Read + Drop>(
     let Some(mut reader) = source.reader else {
         return Err(Problem::CannotRead(path));
     };
-    match read_front(alloc, &mut reader) {
+    match read_front(alloc, &mut reader, MAX_READ) {
         Ok(bytes) => Ok(bytes),
-        Err(ReadFault::Memory) => Err(Problem::Memory),
-        Err(ReadFault::Device | ReadFault::TooManyTurns) => Err(Problem::CannotRead(path)),
+        Err(ReadError::Memory) => Err(Problem::Memory),
+        Err(ReadError::Device | ReadError::TooManyTurns) => Err(Problem::CannotRead(path)),
     }
 }
 

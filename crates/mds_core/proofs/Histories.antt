@@ -6,7 +6,7 @@ use Rattle.std.proofs.lemmas.Slice.Eq.{bytes_eq-Decides}
 use Rattle.std.proofs.lemmas.List.{append-nil}
 use Rattle.std.proofs.lemmas.List.Elements.{filter-append}
 use Rattle.std.proofs.Common.{append_assoc}
-use Rattle.mds_table.specs.declared.row.Row.{Row}
+use Rattle.mds_table.specs.Tables.{Tables}
 use Rattle.mds_table.specs.Chain.{Leads}
 use Rattle.mds_core.specs.declared.key.Key.{Key}
 use Rattle.mds_core.specs.declared.request.Request.{Request}
@@ -14,7 +14,7 @@ use Rattle.mds_core.specs.declared.request.Request.TheVariants.{Register, Report
 use Rattle.mds_core.specs.declared.reply.Outcome.{Outcome}
 use Rattle.mds_core.specs.declared.reply.Outcome.TheVariants.{Done, Seen, Refused}
 use Rattle.mds_core.specs.Reported.{Reported}
-use Rattle.mds_core.specs.History.{own, key_of, same_key, held}
+use Rattle.mds_core.specs.History.{requests_of, key_of, same_key, state_of}
 use Rattle.mds_core.specs.Answer.{IsOpen, Gives, next}
 use Rattle.mds_core.specs.Lawful.{IsCareer, IsLawfulOf, IsLawful}
 
@@ -29,80 +29,80 @@ same_key_is a b same =
 pub same_key_refl : (key : Key) → same_key key key ≡ true
 same_key_refl key = rw ((bytes_eq-Decides key.provider key.provider).1 refl, (bytes_eq-Decides key.device key.device).1 refl) refl
 
-pub own-append : (first second : List Request) (key : Key) → own (first ++ second) key ≡ own first key ++ own second key
-own-append first second key = filter-append (λ request. same_key (key_of request) key) first second
+pub requests_of-append : (first second : List Request) (key : Key) → requests_of (first ++ second) key ≡ requests_of first key ++ requests_of second key
+requests_of-append first second key = filter-append (λ request. same_key (key_of request) key) first second
 
 -- a request more about another vehicle
-pub own-push_other : (history : List Request) (request : Request) (key : Key) → same_key (key_of request) key ≡ false → own (history ++ request ∷ []) key ≡ own history key
-own-push_other history request key other =
-    own-append history (request ∷ []) key ∙ ap (λ b. own history key ++ cond b (request ∷ []) []) other ∙ append-nil (own history key)
+pub requests_of-push_other : (history : List Request) (request : Request) (key : Key) → same_key (key_of request) key ≡ false → requests_of (history ++ request ∷ []) key ≡ requests_of history key
+requests_of-push_other history request key other =
+    requests_of-append history (request ∷ []) key ∙ ap (λ b. requests_of history key ++ cond b (request ∷ []) []) other ∙ append-nil (requests_of history key)
 
 -- a request more about this vehicle
-pub own-push_same : (history : List Request) (request : Request) (key : Key) → same_key (key_of request) key ≡ true → own (history ++ request ∷ []) key ≡ own history key ++ request ∷ []
-own-push_same history request key same =
-    own-append history (request ∷ []) key ∙ ap (λ b. own history key ++ cond b (request ∷ []) []) same
+pub requests_of-push_same : (history : List Request) (request : Request) (key : Key) → same_key (key_of request) key ≡ true → requests_of (history ++ request ∷ []) key ≡ requests_of history key ++ request ∷ []
+requests_of-push_same history request key same =
+    requests_of-append history (request ∷ []) key ∙ ap (λ b. requests_of history key ++ cond b (request ∷ []) []) same
 
 -- the history after a request is as before for every other vehicle
-pub own-next_other : (history : List Request) (request : Request) (outcome : Outcome) (key : Key) → same_key (key_of request) key ≡ false
-    → own (next history request outcome) key ≡ own history key
-own-next_other history request Done key other = own-push_other history request key other
-own-next_other history request (Seen standing) key other = refl
-own-next_other history request (Refused refusal) key other = refl
+pub requests_of-next_other : (history : List Request) (request : Request) (outcome : Outcome) (key : Key) → same_key (key_of request) key ≡ false
+    → requests_of (next history request outcome) key ≡ requests_of history key
+requests_of-next_other history request Done key other = requests_of-push_other history request key other
+requests_of-next_other history request (Seen standing) key other = refl
+requests_of-next_other history request (Refused refusal) key other = refl
 
 -- and for this vehicle it is its next own list
-pub own-next_same : (history : List Request) (request : Request) (outcome : Outcome) (key : Key) → same_key (key_of request) key ≡ true
-    → own (next history request outcome) key ≡ next (own history key) request outcome
-own-next_same history request Done key same = own-push_same history request key same
-own-next_same history request (Seen standing) key same = refl
-own-next_same history request (Refused refusal) key same = refl
+pub requests_of-next_same : (history : List Request) (request : Request) (outcome : Outcome) (key : Key) → same_key (key_of request) key ≡ true
+    → requests_of (next history request outcome) key ≡ next (requests_of history key) request outcome
+requests_of-next_same history request Done key same = requests_of-push_same history request key same
+requests_of-next_same history request (Seen standing) key same = refl
+requests_of-next_same history request (Refused refusal) key same = refl
 
 -- a career goes on with a report that could be accepted
-career_more : (rows : List Row) (before rest : List Request) (event : Reported) → IsCareer rows before rest
-    → IsOpen (before ++ rest) event → Leads rows (held (before ++ rest)) event.types event.state → IsCareer rows before (rest ++ Report event ∷ [])
-career_more rows before [] event career o leads =
+career_more : (tables : Tables) (before rest : List Request) (event : Reported) → IsCareer tables before rest
+    → IsOpen (before ++ rest) event → Leads tables (state_of (before ++ rest)) event.types event.state → IsCareer tables before (rest ++ Report event ∷ [])
+career_more tables before [] event career o leads =
     let IsOpenTo : List Request → Type 0 = λ requests. IsOpen requests event in
-    let LeadsFrom : List Request → Type 0 = λ requests. Leads rows (held requests) event.types event.state in
+    let LeadsFrom : List Request → Type 0 = λ requests. Leads tables (state_of requests) event.types event.state in
     (subst IsOpenTo (append-nil before) o, subst LeadsFrom (append-nil before) leads, tt)
-career_more rows before (Report first ∷ rest) event career o leads =
+career_more tables before (Report first ∷ rest) event career o leads =
     let IsOpenTo : List Request → Type 0 = λ requests. IsOpen requests event in
-    let LeadsFrom : List Request → Type 0 = λ requests. Leads rows (held requests) event.types event.state in
+    let LeadsFrom : List Request → Type 0 = λ requests. Leads tables (state_of requests) event.types event.state in
     let same : before ++ (Report first ∷ rest) ≡ (before ++ Report first ∷ []) ++ rest = sym (append_assoc before (Report first ∷ []) rest) in
-    (career.0, career.1, career_more rows (before ++ Report first ∷ []) rest event career.2 (subst IsOpenTo same o) (subst LeadsFrom same leads))
-career_more rows before (Register key ∷ rest) event career o leads = absurd career
-career_more rows before (Look key ∷ rest) event career o leads = absurd career
+    (career.0, career.1, career_more tables (before ++ Report first ∷ []) rest event career.2 (subst IsOpenTo same o) (subst LeadsFrom same leads))
+career_more tables before (Register key ∷ rest) event career o leads = absurd career
+career_more tables before (Look key ∷ rest) event career o leads = absurd career
 
 -- a lawful list of one vehicle stays lawful with a request that is accepted behind it
-lawful_of_more : (rows : List Row) (requests : List Request) (request : Request) → IsLawfulOf rows requests → Gives rows requests request Done
-    → IsLawfulOf rows (requests ++ request ∷ [])
-lawful_of_more rows requests (Register key) lawful gives = rw gives tt
-lawful_of_more rows [] (Report event) lawful gives = absurd (gives.0.registered refl)
-lawful_of_more rows (Register key ∷ rest) (Report event) lawful gives = career_more rows (Register key ∷ []) rest event lawful gives.0 gives.1
-lawful_of_more rows (Report first ∷ rest) (Report event) lawful gives = absurd lawful
-lawful_of_more rows (Look key ∷ rest) (Report event) lawful gives = absurd lawful
-lawful_of_more rows requests (Look key) lawful gives = absurd gives
+lawful_of_more : (tables : Tables) (requests : List Request) (request : Request) → IsLawfulOf tables requests → Gives tables requests request Done
+    → IsLawfulOf tables (requests ++ request ∷ [])
+lawful_of_more tables requests (Register key) lawful gives = rw gives tt
+lawful_of_more tables [] (Report event) lawful gives = absurd (gives.0.registered refl)
+lawful_of_more tables (Register key ∷ rest) (Report event) lawful gives = career_more tables (Register key ∷ []) rest event lawful gives.0 gives.1
+lawful_of_more tables (Report first ∷ rest) (Report event) lawful gives = absurd lawful
+lawful_of_more tables (Look key ∷ rest) (Report event) lawful gives = absurd lawful
+lawful_of_more tables requests (Look key) lawful gives = absurd gives
 
 -- a lawful history stays lawful with a request that is accepted behind it
-lawful_more : (rows : List Row) (history : List Request) (request : Request) → IsLawful rows history → Gives rows (own history (key_of request)) request Done
-    → IsLawful rows (history ++ request ∷ [])
-lawful_more rows history request lawful gives key = by_key (same_key (key_of request) key) refl where
-  by_key : (b : Bool) → same_key (key_of request) key ≡ b → IsLawfulOf rows (own (history ++ request ∷ []) key)
-  by_key false other = rw (own-push_other history request key other) (lawful key)
+lawful_more : (tables : Tables) (history : List Request) (request : Request) → IsLawful tables history → Gives tables (requests_of history (key_of request)) request Done
+    → IsLawful tables (history ++ request ∷ [])
+lawful_more tables history request lawful gives key = by_key (same_key (key_of request) key) refl where
+  by_key : (b : Bool) → same_key (key_of request) key ≡ b → IsLawfulOf tables (requests_of (history ++ request ∷ []) key)
+  by_key false other = rw (requests_of-push_other history request key other) (lawful key)
   by_key true same =
-      let P : Key → Type 0 = λ k. Gives rows (own history k) request Done in
+      let P : Key → Type 0 = λ k. Gives tables (requests_of history k) request Done in
       let gives_here = subst P (same_key_is (key_of request) key same) gives in
-      rw (own-push_same history request key same) (lawful_of_more rows (own history key) request (lawful key) gives_here)
+      rw (requests_of-push_same history request key same) (lawful_of_more tables (requests_of history key) request (lawful key) gives_here)
 
 -- the next history of a lawful one is lawful
-pub lawful_next : (rows : List Row) (history : List Request) (request : Request) (outcome : Outcome) → IsLawful rows history
-    → Gives rows (own history (key_of request)) request outcome → IsLawful rows (next history request outcome)
-lawful_next rows history request Done lawful gives = lawful_more rows history request lawful gives
-lawful_next rows history request (Seen standing) lawful gives = lawful
-lawful_next rows history request (Refused refusal) lawful gives = lawful
+pub lawful_next : (tables : Tables) (history : List Request) (request : Request) (outcome : Outcome) → IsLawful tables history
+    → Gives tables (requests_of history (key_of request)) request outcome → IsLawful tables (next history request outcome)
+lawful_next tables history request Done lawful gives = lawful_more tables history request lawful gives
+lawful_next tables history request (Seen standing) lawful gives = lawful
+lawful_next tables history request (Refused refusal) lawful gives = lawful
 
 -- lawful histories with no vehicle in common, one after the other
-pub joined : (rows : List Row) (first second : List Request) → IsLawful rows first → IsLawful rows second
-    → ((key : Key) → (own first key ≡ []) ⊎ (own second key ≡ [])) → IsLawful rows (first ++ second)
-joined rows first second lawful_first lawful_second apart key = rw (own-append first second key) (one_side (apart key)) where
-  one_side : (own first key ≡ []) ⊎ (own second key ≡ []) → IsLawfulOf rows (own first key ++ own second key)
+pub joined : (tables : Tables) (first second : List Request) → IsLawful tables first → IsLawful tables second
+    → ((key : Key) → (requests_of first key ≡ []) ⊎ (requests_of second key ≡ [])) → IsLawful tables (first ++ second)
+joined tables first second lawful_first lawful_second apart key = rw (requests_of-append first second key) (one_side (apart key)) where
+  one_side : (requests_of first key ≡ []) ⊎ (requests_of second key ≡ []) → IsLawfulOf tables (requests_of first key ++ requests_of second key)
   one_side (inl none) = rw none (lawful_second key)
   one_side (inr none) = rw (none, append-nil) (lawful_first key)

@@ -1,7 +1,7 @@
 -- A request has one outcome.
 use Rattle.std.proofs.Common.{◌≡◌, ◌≢◌, ℕ, ◌<◌, ◌⊎◌, inl, inr, List, [], ◌∷◌, length, Option, Some, None, Bool, true, false, cond, nat_lt, refl, sym, ◌∙◌, ap, subst, arith}
 use Rattle.std.proofs.lemmas.Bool.Decides.{nat_tests}
-use Rattle.mds_table.specs.declared.row.Row.{Row}
+use Rattle.mds_table.specs.Tables.{Tables}
 use Rattle.mds_table.specs.Chain.{Leads}
 use Rattle.mds_core.specs.declared.key.Key.{Key}
 use Rattle.mds_core.specs.declared.request.Request.{Request}
@@ -11,7 +11,7 @@ use Rattle.mds_core.specs.declared.reply.Outcome.TheVariants.{Done, Seen, Refuse
 use Rattle.mds_core.specs.declared.reply.Refusal.TheVariants.{AlreadyRegistered, Unregistered, Repeated, Late, NoChain}
 use Rattle.mds_core.specs.declared.reply.Reply.{Reply}
 use Rattle.mds_core.specs.Reported.{Reported}
-use Rattle.mds_core.specs.History.{has_event, held, is_late, last_time, standing_of, own, key_of}
+use Rattle.mds_core.specs.History.{has_event, state_of, is_late, last_time, standing_of, requests_of, key_of}
 use Rattle.mds_core.specs.Answer.{Answers, Gives, IsOpen, HasNoChain}
 use Rattle.mds_core.proofs.Stuck.{one_place}
 
@@ -61,45 +61,45 @@ judged true false (Some last) said = Refused (Late last)
 judged true false None said = said
 
 -- what the table says of an event
-Says : List Row → List Request → Reported → Outcome → Type 0
-Says rows requests event said =
-    ((said ≡ Done) × Leads rows (held requests) event.types event.state)
-    ⊎ ((at : ℕ) × (said ≡ Refused (NoChain (held requests) at)) × HasNoChain rows (held requests) event at)
+Says : Tables → List Request → Reported → Outcome → Type 0
+Says tables requests event said =
+    ((said ≡ Done) × Leads tables (state_of requests) event.types event.state)
+    ⊎ ((at : ℕ) × (said ≡ Refused (NoChain (state_of requests) at)) × HasNoChain tables (state_of requests) event at)
 
 judged_of : List Request → Reported → Outcome → Outcome
 judged_of requests event said = judged (some requests) (has_event requests event.id) (late_for (last_time requests) event.time) said
 
 -- an outcome is the one that the tests give, by what the table says where they are passed
-event_gives : (rows : List Row) (requests : List Request) (event : Reported) (outcome : Outcome) → Gives rows requests (Report event) outcome
-    → (said : Outcome) × (outcome ≡ judged_of requests event said) × (IsOpen requests event → Says rows requests event said)
+event_gives : (tables : Tables) (requests : List Request) (event : Reported) (outcome : Outcome) → Gives tables requests (Report event) outcome
+    → (said : Outcome) × (outcome ≡ judged_of requests event said) × (IsOpen requests event → Says tables requests event said)
 unfolding judged_of judged Says
-event_gives rows requests event Done is =
+event_gives tables requests event Done is =
     (Done, rw (some_of requests is.0.registered, is.0.new, not_late (last_time requests) event.time is.0.in_time) refl, λ _. inl (refl, is.1))
-event_gives rows requests event (Seen standing) is = absurd is
-event_gives rows requests event (Refused AlreadyRegistered) is = absurd is
-event_gives rows requests event (Refused Unregistered) is = (Done, rw (some_nil requests is) refl, λ o. absurd (o.registered is))
-event_gives rows requests event (Refused Repeated) is = (Done, rw (some_of requests is.0, is.1) refl, λ o. let new = o.new in let old = is.1 in cc)
-event_gives rows requests event (Refused (Late last)) is =
+event_gives tables requests event (Seen standing) is = absurd is
+event_gives tables requests event (Refused AlreadyRegistered) is = absurd is
+event_gives tables requests event (Refused Unregistered) is = (Done, rw (some_nil requests is) refl, λ o. absurd (o.registered is))
+event_gives tables requests event (Refused Repeated) is = (Done, rw (some_of requests is.0, is.1) refl, λ o. let new = o.new in let old = is.1 in cc)
+event_gives tables requests event (Refused (Late last)) is =
     let late = late_past (last_time requests) event.time last is.2 is.3 in (
       Done,
       rw (some_of requests is.0, is.1, late) refl,
       λ o.
           let in_time = not_late (last_time requests) event.time o.in_time in cc,
     )
-event_gives rows requests event (Refused (NoChain state at)) is = (
-  Refused (NoChain (held requests) at),
+event_gives tables requests event (Refused (NoChain state at)) is = (
+  Refused (NoChain (state_of requests) at),
   rw (is.1, some_of requests is.0.registered, is.0.new, not_late (last_time requests) event.time is.0.in_time) refl,
   λ _. inr (at, refl, rw is.1 at is.2),
 )
 
 -- the table says one thing
-says_one : (rows : List Row) (requests : List Request) (event : Reported) (a b : Outcome) → Says rows requests event a → Says rows requests event b → a ≡ b
+says_one : (tables : Tables) (requests : List Request) (event : Reported) (a b : Outcome) → Says tables requests event a → Says tables requests event b → a ≡ b
 unfolding Says
-says_one rows requests event a b (inl x) (inl y) = x.0 ∙ sym y.0
-says_one rows requests event a b (inl x) (inr y) = absurd (y.2.none x.1)
-says_one rows requests event a b (inr x) (inl y) = absurd (x.2.none y.1)
-says_one rows requests event a b (inr x) (inr y) =
-    x.1 ∙ ap (λ at. Refused (NoChain (held requests) at)) (one_place rows (held requests) event.types x.0 y.0 x.2.place y.2.place) ∙ sym y.1
+says_one tables requests event a b (inl x) (inl y) = x.0 ∙ sym y.0
+says_one tables requests event a b (inl x) (inr y) = absurd (y.2.none x.1)
+says_one tables requests event a b (inr x) (inl y) = absurd (x.2.none y.1)
+says_one tables requests event a b (inr x) (inr y) =
+    x.1 ∙ ap (λ at. Refused (NoChain (state_of requests) at)) (one_place tables (state_of requests) event.types x.0 y.0 x.2.place y.2.place) ∙ sym y.1
 
 -- one outcome, where what the table says is one once the tests are passed
 judged_one : (registered repeated : Bool) (late : Option ℕ) (a b : Outcome)
@@ -110,54 +110,54 @@ judged_one true true late a b same = refl
 judged_one true false (Some last) a b same = refl
 judged_one true false None a b same = same refl refl refl
 
-event_one : (rows : List Row) (requests : List Request) (event : Reported) (a b : Outcome)
-    → Gives rows requests (Report event) a → Gives rows requests (Report event) b → a ≡ b
+event_one : (tables : Tables) (requests : List Request) (event : Reported) (a b : Outcome)
+    → Gives tables requests (Report event) a → Gives tables requests (Report event) b → a ≡ b
 unfolding judged_of
-event_one rows requests event a b is_a is_b =
-    let first = event_gives rows requests event a is_a in
-    let second = event_gives rows requests event b is_b in
+event_one tables requests event a b is_a is_b =
+    let first = event_gives tables requests event a is_a in
+    let second = event_gives tables requests event b is_b in
     let middle = judged_one (some requests) (has_event requests event.id) (late_for (last_time requests) event.time) first.0 second.0
     (λ registered new in_time.
     let o : IsOpen requests event =
     record { registered = of_some requests registered; new = new; in_time = of_not_late (last_time requests) event.time in_time } in
-    says_one rows requests event first.0 second.0 (first.2 o) (second.2 o)) in
+    says_one tables requests event first.0 second.0 (first.2 o) (second.2 o)) in
     first.1 ∙ middle ∙ sym second.1
 
-register_gives : (rows : List Row) (requests : List Request) (key : Key) (outcome : Outcome) → Gives rows requests (Register key) outcome
+register_gives : (tables : Tables) (requests : List Request) (key : Key) (outcome : Outcome) → Gives tables requests (Register key) outcome
     → outcome ≡ cond (some requests) (Refused AlreadyRegistered) Done
-register_gives rows requests key Done is = rw (some_nil requests is) refl
-register_gives rows requests key (Seen standing) is = absurd is
-register_gives rows requests key (Refused AlreadyRegistered) is = rw (some_of requests is) refl
-register_gives rows requests key (Refused Unregistered) is = absurd is
-register_gives rows requests key (Refused Repeated) is = absurd is
-register_gives rows requests key (Refused (Late last)) is = absurd is
-register_gives rows requests key (Refused (NoChain state at)) is = absurd is
+register_gives tables requests key Done is = rw (some_nil requests is) refl
+register_gives tables requests key (Seen standing) is = absurd is
+register_gives tables requests key (Refused AlreadyRegistered) is = rw (some_of requests is) refl
+register_gives tables requests key (Refused Unregistered) is = absurd is
+register_gives tables requests key (Refused Repeated) is = absurd is
+register_gives tables requests key (Refused (Late last)) is = absurd is
+register_gives tables requests key (Refused (NoChain state at)) is = absurd is
 
-look_gives : (rows : List Row) (requests : List Request) (key : Key) (outcome : Outcome) → Gives rows requests (Look key) outcome
+look_gives : (tables : Tables) (requests : List Request) (key : Key) (outcome : Outcome) → Gives tables requests (Look key) outcome
     → outcome ≡ cond (some requests) (Seen (standing_of requests)) (Refused Unregistered)
-look_gives rows requests key Done is = absurd is
-look_gives rows requests key (Seen standing) is = rw (some_of requests is.0) (ap Seen is.1)
-look_gives rows requests key (Refused AlreadyRegistered) is = absurd is
-look_gives rows requests key (Refused Unregistered) is = rw (some_nil requests is) refl
-look_gives rows requests key (Refused Repeated) is = absurd is
-look_gives rows requests key (Refused (Late last)) is = absurd is
-look_gives rows requests key (Refused (NoChain state at)) is = absurd is
+look_gives tables requests key Done is = absurd is
+look_gives tables requests key (Seen standing) is = rw (some_of requests is.0) (ap Seen is.1)
+look_gives tables requests key (Refused AlreadyRegistered) is = absurd is
+look_gives tables requests key (Refused Unregistered) is = rw (some_nil requests is) refl
+look_gives tables requests key (Refused Repeated) is = absurd is
+look_gives tables requests key (Refused (Late last)) is = absurd is
+look_gives tables requests key (Refused (NoChain state at)) is = absurd is
 
 -- a request has one outcome, by the accepted requests of its vehicle
-pub outcome_one : (rows : List Row) (requests : List Request) (request : Request) (a b : Outcome) → Gives rows requests request a → Gives rows requests request b → a ≡ b
-outcome_one rows requests (Register key) a b is_a is_b = register_gives rows requests key a is_a ∙ sym (register_gives rows requests key b is_b)
-outcome_one rows requests (Report event) a b is_a is_b = event_one rows requests event a b is_a is_b
-outcome_one rows requests (Look key) a b is_a is_b = look_gives rows requests key a is_a ∙ sym (look_gives rows requests key b is_b)
+pub outcome_one : (tables : Tables) (requests : List Request) (request : Request) (a b : Outcome) → Gives tables requests request a → Gives tables requests request b → a ≡ b
+outcome_one tables requests (Register key) a b is_a is_b = register_gives tables requests key a is_a ∙ sym (register_gives tables requests key b is_b)
+outcome_one tables requests (Report event) a b is_a is_b = event_one tables requests event a b is_a is_b
+outcome_one tables requests (Look key) a b is_a is_b = look_gives tables requests key a is_a ∙ sym (look_gives tables requests key b is_b)
 
-pub same_outcome : (rows : List Row) (history other : List Request) (request : Request) (a b : Reply) → own history (key_of request) ≡ own other (key_of request)
-    → Answers rows history request a → Answers rows other request b → a.outcome ≡ b.outcome
-same_outcome rows history other request a b same is_a is_b =
-    let P : List Request → Type 0 = λ requests. Gives rows requests request a.outcome in
-    outcome_one rows (own other (key_of request)) request a.outcome b.outcome (subst P same is_a.outcome) is_b.outcome
+pub same_outcome : (tables : Tables) (history other : List Request) (request : Request) (a b : Reply) → requests_of history (key_of request) ≡ requests_of other (key_of request)
+    → Answers tables history request a → Answers tables other request b → a.outcome ≡ b.outcome
+same_outcome tables history other request a b same is_a is_b =
+    let P : List Request → Type 0 = λ requests. Gives tables requests request a.outcome in
+    outcome_one tables (requests_of other (key_of request)) request a.outcome b.outcome (subst P same is_a.outcome) is_b.outcome
 
 -- a request has one answer
-pub answer_one : (rows : List Row) (history : List Request) (request : Request) (a b : Reply) → Answers rows history request a → Answers rows history request b → a ≡ b
-answer_one rows history request a b is_a is_b =
+pub answer_one : (tables : Tables) (history : List Request) (request : Request) (a b : Reply) → Answers tables history request a → Answers tables history request b → a ≡ b
+answer_one tables history request a b is_a is_b =
     let place : a.place ≡ b.place = is_a.place ∙ sym is_b.place in
-    let outcome = same_outcome rows history history request a b refl is_a is_b in
+    let outcome = same_outcome tables history history request a b refl is_a is_b in
     λ i. record { place = place i; outcome = outcome i }

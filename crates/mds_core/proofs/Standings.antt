@@ -14,7 +14,7 @@ use Rattle.mds_core.specs.declared.reply.Standing.{Standing}
 use Rattle.mds_core.specs.declared.request.Request.{Request}
 use Rattle.mds_core.specs.declared.request.Request.TheVariants.{Register, Report, Look}
 use Rattle.mds_core.specs.Reported.{Reported}
-use Rattle.mds_core.specs.History.{key_of, same_key, own, report_of, reports, last_report, last_position, held, last_time, standing_of}
+use Rattle.mds_core.specs.History.{key_of, same_key, requests_of, report_of, reports, last_report, last_position, state_of, last_time, standing_of}
 use Rattle.mds_core.specs.declared.decision.Known.{Known}
 use Rattle.mds_core.specs.Known.{standing_if, is_repeated, AreKnown}
 
@@ -30,8 +30,8 @@ last_report-push : (requests : List Request) (event : Reported) → last_report 
 last_report-push requests event = ap (last_or None) (reports-push requests event) ∙ last_or-push None (reports requests) event
 
 -- after an event a vehicle holds the state reported
-pub held-push : (requests : List Request) (event : Reported) → held (requests ++ Report event ∷ []) ≡ event.state
-held-push requests event = ap (λ report. option_map_or (λ e. e.state) report Removed) (last_report-push requests event)
+pub state_of-push : (requests : List Request) (event : Reported) → state_of (requests ++ Report event ∷ []) ≡ event.state
+state_of-push requests event = ap (λ report. option_map_or (λ e. e.state) report Removed) (last_report-push requests event)
 
 last_time-push : (requests : List Request) (event : Reported) → last_time (requests ++ Report event ∷ []) ≡ Some event.time
 last_time-push requests event = ap (option_map (λ e. e.time)) (last_report-push requests event)
@@ -55,7 +55,7 @@ events-push requests event = ap length (reports-push requests event) ∙ length-
 pub standing_of-push : (requests : List Request) (event : Reported) → standing_of (requests ++ Report event ∷ [])
     ≡ record { state = event.state; events = length (reports requests) + 1; last = Some event.time; position = option_or event.position (last_position requests) }
 standing_of-push requests event = λ i. record {
-  state = held-push requests event i;
+  state = state_of-push requests event i;
   events = events-push requests event i;
   last = last_time-push requests event i;
   position = last_position-push requests event i;
@@ -90,16 +90,16 @@ reports_few (Look key ∷ rest) = omega (arith, reports_few rest)
 
 -- the own list of a front of the history, and of the front with one request more
 pub own_more : (history : List Request) (i : ℕ) (request : Request) (key : Key) → i < length history → request ≡ get_or history i request
-    → own (take (i + 1) history) key ≡ own (take i history) key ++ cond (same_key (key_of request) key) (request ∷ []) []
+    → requests_of (take (i + 1) history) key ≡ requests_of (take i history) key ++ cond (same_key (key_of request) key) (request ∷ []) []
 own_more history i request key within is =
-    let P : Request → Type 0 = λ r. own (take (i + 1) history) key ≡ own (take i history) key ++ cond (same_key (key_of r) key) (r ∷ []) [] in
+    let P : Request → Type 0 = λ r. requests_of (take (i + 1) history) key ≡ requests_of (take i history) key ++ cond (same_key (key_of r) key) (r ∷ []) [] in
     subst P (sym is) (filter_more (λ r. same_key (key_of r) key) history i request within)
 
 -- it has no more requests than the front
-pub own_few : (history : List Request) (i : ℕ) (key : Key) → i ≤ length history → length (reports (own (take i history) key)) ≤ i
+pub own_few : (history : List Request) (i : ℕ) (key : Key) → i ≤ length history → length (reports (requests_of (take i history) key)) ≤ i
 own_few history i key within =
     let p : Request → Bool = λ r. same_key (key_of r) key in
-    omega (arith, reports_few (own (take i history) key), length-filter_both p (λ r. not (p r)) (λ r. refl) (take i history), length-take-le i history within)
+    omega (arith, reports_few (requests_of (take i history) key), length-filter_both p (λ r. not (p r)) (λ r. refl) (take i history), length-take-le i history within)
 
 -- a vehicle that isn't registered stands as one that was just registered would
 pub standing_if-unwrapped : (requests : List Request) → unwrap_or (standing_if requests) (record { state = Removed; events = 0; last = None; position = None }) ≡ standing_of requests

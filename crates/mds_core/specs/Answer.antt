@@ -2,6 +2,7 @@
 use Rattle.std.specs.Prelude.{◌≡◌, ◌≢◌, ℕ, ◌<◌, ◌++◌, ◌∷◌, List, [], length, Some, true, false}
 use Rattle.mds_table.specs.declared.state.State.{State}
 use Rattle.mds_table.specs.declared.row.Row.{Row}
+use Rattle.mds_table.specs.Tables.{Tables, rows_at}
 use Rattle.mds_table.specs.Chain.{Leads, IsStuckAt}
 use Rattle.mds_core.specs.declared.request.Request.{Request}
 use Rattle.mds_core.specs.declared.request.Request.TheVariants.{Register, Report, Look}
@@ -10,7 +11,7 @@ use Rattle.mds_core.specs.declared.reply.Outcome.TheVariants.{Done, Seen, Refuse
 use Rattle.mds_core.specs.declared.reply.Refusal.TheVariants.{AlreadyRegistered, Unregistered, Repeated, Late, NoChain}
 use Rattle.mds_core.specs.declared.reply.Reply.{Reply}
 use Rattle.mds_core.specs.Reported.{Reported}
-use Rattle.mds_core.specs.History.{key_of, own, has_event, held, is_late, last_time, standing_of}
+use Rattle.mds_core.specs.History.{key_of, requests_of, has_event, state_of, is_late, last_time, standing_of}
 
 -- a registered vehicle, a new identifier, and a time not before the last: what is left to ask is whether rows lead
 pub record IsOpen (requests : List Request) (event : Reported) : Type 0 where
@@ -18,30 +19,30 @@ pub record IsOpen (requests : List Request) (event : Reported) : Type 0 where
   pub new : has_event requests event.id ≡ false
   pub in_time : is_late (last_time requests) event.time ≡ false
 
--- no rows lead, and this is where the event gets stuck
+-- none of these rows lead, and this is where the event gets stuck
 pub record HasNoChain (rows : List Row) (from : State) (event : Reported) (at : ℕ) : Type 0 where
   pub none : Leads rows from event.types event.state → ⊥
   pub place : IsStuckAt rows from event.types at
 
--- the outcome of a request, by the accepted requests of its vehicle alone
-abbrev pub Gives : List Row → List Request → Request → Outcome → Type 0
-Gives rows requests (Register key) Done = requests ≡ []
-Gives rows requests (Register key) (Refused AlreadyRegistered) = requests ≢ []
-Gives rows requests (Look key) (Refused Unregistered) = requests ≡ []
-Gives rows requests (Look key) (Seen standing) = (requests ≢ []) × (standing ≡ standing_of requests)
-Gives rows requests (Report event) (Refused Unregistered) = requests ≡ []
-Gives rows requests (Report event) (Refused Repeated) = (requests ≢ []) × (has_event requests event.id ≡ true)
-Gives rows requests (Report event) (Refused (Late last)) =
+-- the outcome of a request, by the accepted requests of its vehicle alone; an event is judged by the rows in force at its time
+abbrev pub Gives : Tables → List Request → Request → Outcome → Type 0
+Gives tables requests (Register key) Done = requests ≡ []
+Gives tables requests (Register key) (Refused AlreadyRegistered) = requests ≢ []
+Gives tables requests (Look key) (Refused Unregistered) = requests ≡ []
+Gives tables requests (Look key) (Seen standing) = (requests ≢ []) × (standing ≡ standing_of requests)
+Gives tables requests (Report event) (Refused Unregistered) = requests ≡ []
+Gives tables requests (Report event) (Refused Repeated) = (requests ≢ []) × (has_event requests event.id ≡ true)
+Gives tables requests (Report event) (Refused (Late last)) =
     (requests ≢ []) × (has_event requests event.id ≡ false) × (last_time requests ≡ Some last) × (event.time < last)
-Gives rows requests (Report event) (Refused (NoChain state at)) = IsOpen requests event × (state ≡ held requests) × HasNoChain rows state event at
-Gives rows requests (Report event) Done = IsOpen requests event × Leads rows (held requests) event.types event.state
+Gives tables requests (Report event) (Refused (NoChain state at)) = IsOpen requests event × (state ≡ state_of requests) × HasNoChain (rows_at tables event.time) state event at
+Gives tables requests (Report event) Done = IsOpen requests event × Leads (rows_at tables event.time) (state_of requests) event.types event.state
 -- no other outcome comes
-Gives rows requests request outcome = ⊥
+Gives tables requests request outcome = ⊥
 
 -- the reply to a request after a history of accepted requests
-pub record Answers (rows : List Row) (history : List Request) (request : Request) (reply : Reply) : Type 0 where
+pub record Answers (tables : Tables) (history : List Request) (request : Request) (reply : Reply) : Type 0 where
   pub place : reply.place ≡ length history
-  pub outcome : Gives rows (own history (key_of request)) request reply.outcome
+  pub outcome : Gives tables (requests_of history (key_of request)) request reply.outcome
 
 -- the rules have such an outcome for such a request, after one history or another
 abbrev pub IsOutcomeFor : Request → Outcome → Type 0
@@ -64,5 +65,5 @@ next history request (Seen standing) = history
 next history request (Refused refusal) = history
 
 -- the request would be accepted, by the answer
-abbrev pub MayBeDone : List Row → List Request → Request → Type 0
-MayBeDone rows history request = Gives rows (own history (key_of request)) request Done
+abbrev pub MayBeDone : Tables → List Request → Request → Type 0
+MayBeDone tables history request = Gives tables (requests_of history (key_of request)) request Done

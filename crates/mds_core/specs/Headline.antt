@@ -1,7 +1,7 @@
 -- What becomes of each request of a run, by its place in the list.
 use Rattle.std.specs.Prelude.{◌≡◌, ◌≢◌, ◌↔◌, ℕ, List, [], length, take, map, filter, Some, slice_get, Bool, true, false}
 use Rattle.std.specs.List.{zip}
-use Rattle.mds_table.specs.declared.row.Row.{Row}
+use Rattle.mds_table.specs.Tables.{Tables, rows_at}
 use Rattle.mds_table.specs.Chain.{Leads}
 use Rattle.mds_core.specs.declared.request.Request.{Request}
 use Rattle.mds_core.specs.declared.request.Request.TheVariants.{Register, Report, Look}
@@ -9,7 +9,7 @@ use Rattle.mds_core.specs.declared.reply.Outcome.{Outcome}
 use Rattle.mds_core.specs.declared.reply.Outcome.TheVariants.{Done, Seen, Refused}
 use Rattle.mds_core.specs.declared.reply.Reply.{Reply}
 use Rattle.mds_core.specs.Reported.{Reported}
-use Rattle.mds_core.specs.History.{own, held}
+use Rattle.mds_core.specs.History.{requests_of, state_of}
 use Rattle.mds_core.specs.Answer.{IsOpen}
 
 -- a request was answered Done
@@ -22,22 +22,22 @@ is_done (Refused refusal) = false
 abbrev pub done_of : List (Request × Reply) → List Request
 done_of answered = map (λ one. one.0) (filter (λ one. is_done one.1.outcome) answered)
 
--- the vehicle is registered, the identifier new there, the time not before the last, and rows of the table lead, one for
--- each of the event's types in order, from the state held to the state reported
-pub record IsAcceptable (rows : List Row) (requests : List Request) (event : Reported) : Type 0 where
+-- the vehicle is registered, the identifier new there, the time not before the last, and rows in force at its time lead, one
+-- for each of the event's types in order, from the state held to the state reported
+pub record IsAcceptable (tables : Tables) (requests : List Request) (event : Reported) : Type 0 where
   pub open_to_it : IsOpen requests event
-  pub rows_lead : Leads rows (held requests) event.types event.state
+  pub rows_lead : Leads (rows_at tables event.time) (state_of requests) event.types event.state
 
 -- with what was answered Done before: a registration is Done exactly where there is nothing of its vehicle, an event
 -- exactly where it is acceptable to its vehicle's own list, and a look never
-abbrev pub IsDoneExactly : List Row → List Request → Request → Outcome → Type 0
-IsDoneExactly rows before (Register key) outcome = (outcome ≡ Done) ↔ (own before key ≡ [])
-IsDoneExactly rows before (Report event) outcome = (outcome ≡ Done) ↔ IsAcceptable rows (own before event.key) event
-IsDoneExactly rows before (Look key) outcome = outcome ≢ Done
+abbrev pub IsDoneExactly : Tables → List Request → Request → Outcome → Type 0
+IsDoneExactly tables before (Register key) outcome = (outcome ≡ Done) ↔ (requests_of before key ≡ [])
+IsDoneExactly tables before (Report event) outcome = (outcome ≡ Done) ↔ IsAcceptable tables (requests_of before event.key) event
+IsDoneExactly tables before (Look key) outcome = outcome ≢ Done
 
 -- so it is at each place of a list of requests, and the history is the requests answered Done
-pub record AcceptsExactly (rows : List Row) (requests : List Request) (replies : List Reply) (history : List Request) : Type 0 where
+pub record AcceptsExactly (tables : Tables) (requests : List Request) (replies : List Reply) (history : List Request) : Type 0 where
   pub count : length replies ≡ length requests
   pub each : (i : ℕ) (request : Request) (reply : Reply) → slice_get (zip requests replies) i ≡ Some (request, reply)
-      → IsDoneExactly rows (done_of (take i (zip requests replies))) request reply.outcome
+      → IsDoneExactly tables (done_of (take i (zip requests replies))) request reply.outcome
   pub left : history ≡ done_of (zip requests replies)

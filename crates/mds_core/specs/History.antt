@@ -23,8 +23,8 @@ key_of (Report event) = event.key
 key_of (Look key) = key
 
 -- the requests about one vehicle, in their order
-abbrev pub own : List Request → Key → List Request
-own history key = filter (λ request. same_key (key_of request) key) history
+abbrev pub requests_of : List Request → Key → List Request
+requests_of history key = filter (λ request. same_key (key_of request) key) history
 
 -- the event that a request reports, if it reports one
 abbrev pub report_of : Request → Option Reported
@@ -41,8 +41,8 @@ abbrev pub last_report : List Request → Option Reported
 last_report requests = last_or None (reports requests)
 
 -- the state that a registered vehicle holds: the one that its last event reported; removed where there is none
-abbrev pub held : List Request → State
-held requests = option_map_or (λ event. event.state) (last_report requests) Removed
+abbrev pub state_of : List Request → State
+state_of requests = option_map_or (λ event. event.state) (last_report requests) Removed
 
 -- the time of the last event
 abbrev pub last_time : List Request → Option ℕ
@@ -59,7 +59,7 @@ has_event requests id = list_any (λ event. bytes_eq event.id id) (reports reque
 -- where a vehicle stands, by the accepted requests about it
 abbrev pub standing_of : List Request → Standing
 standing_of requests =
-    record { state = held requests; events = length (reports requests); last = last_time requests; position = last_position requests }
+    record { state = state_of requests; events = length (reports requests); last = last_time requests; position = last_position requests }
 
 -- the time is less than that of the last event, where there is one
 abbrev pub is_late : Option ℕ → ℕ → Bool

@@ -2,6 +2,7 @@ pub use Rattle.mds_table.specs.State
 pub use Rattle.mds_table.specs.Row
 pub use Rattle.mds_table.specs.Profile
 pub use Rattle.mds_table.specs.Chain
+pub use Rattle.mds_table.specs.Tables
 pub mod Position
 pub mod Reported
 pub mod EventFault

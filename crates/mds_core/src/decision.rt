@@ -1,6 +1,6 @@
 //! The one place that decides: what becomes of a request, by what is known of its vehicle.
 ghost use Rattle.std.specs.Prelude.{◌≡◌, List, None, Err, IsSome, true, MatchResult};
-ghost use Rattle.mds_core.specs.declared.request.Request.{Request as Asked};
+ghost use Rattle.mds_core.specs.declared.request.Request.{Request as Requested};
 ghost use Rattle.mds_core.specs.Answer.{Gives};
 ghost use Rattle.mds_core.specs.Known.{AreKnown};
 
@@ -20,7 +20,7 @@ pub struct Known {
 /// What becomes of a request, by what is known of its vehicle: the outcome after every list of accepted requests of
 /// which this is what is known. It takes no memory.
 pub fn decide(table: &Table, known: &Known, request: &Request) -> Outcome
-    ensures { (requests : List Asked) → AreKnown requests request.now known.now → Gives table.now requests request.now result }
+    ensures { (requests : List Requested) → AreKnown requests request.now known.now → Gives table.now requests request.now result }
 {
     match request {
         Request::Register(_) => match known.standing {
@@ -44,7 +44,7 @@ pub fn decide(table: &Table, known: &Known, request: &Request) -> Outcome
 ///
 /// The first refusal that holds, in the order of [`Refusal`].
 pub fn decide_event(table: &Table, known: &Known, event: &Event) -> Result<(), Refusal>
-    ensures decided { (requests : List Asked) → AreKnown requests (Request.Report event.now) known.now → MatchResult result
+    ensures decided { (requests : List Requested) → AreKnown requests (Request.Report event.now) known.now → MatchResult result
         (λ _. Gives table.now requests (Request.Report event.now) Outcome.Done)
         (λ refusal. Gives table.now requests (Request.Report event.now) (Outcome.Refused refusal)) }
     // What no list has, as an identifier held by a vehicle that isn't registered, is decided in the same order.

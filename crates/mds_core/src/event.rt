@@ -12,7 +12,7 @@ use std::marker::Model;
 use uuid::Uuid;
 
 /// The most types that an event carries.
-pub const MAX_TYPES: usize = 16;
+pub const MAX_EVENT_TYPES: usize = 16;
 
 /// The latest time of an event, 2 to the power 53 less 1: up to it no two whole numbers are the same double.
 pub const MAX_TIME: u64 = 9_007_199_254_740_991;
@@ -23,7 +23,7 @@ pub struct Event {
     key: Key,
     id: Uuid,
     state: State,
-    types: ArrayVec<TypeName, MAX_TYPES>,
+    types: ArrayVec<TypeName, MAX_EVENT_TYPES>,
     time: u64,
     position: Option<Position>,
 }
@@ -86,7 +86,7 @@ impl Event {
         if types.is_empty() {
             return Err(EventFault::NoTypes);
         }
-        if types.len() > MAX_TYPES {
+        if types.len() > MAX_EVENT_TYPES {
             return Err(EventFault::TooManyTypes);
         }
         if time > MAX_TIME {
@@ -163,7 +163,7 @@ impl Event {
 }
 
 /// The same types again.
-fn copy_types(types: &[TypeName]) -> ArrayVec<TypeName, MAX_TYPES>
+fn copy_types(types: &[TypeName]) -> ArrayVec<TypeName, MAX_EVENT_TYPES>
     requires { length types.now ≤ max_event_types }
     ensures { result.items ≡ types.now }
 {

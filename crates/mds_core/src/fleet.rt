@@ -1,7 +1,6 @@
 //! The plain machine: a history of accepted requests, in which everything is looked up.
-ghost use Rattle.std.specs.Prelude.{◌≡◌, ◌≢◌, [], IfNone, IfSome, IfOk, OnErr, MatchOption};
-ghost use Rattle.mds_core.specs.History.{own, reports, standing_of};
-ghost use Rattle.mds_core.specs.Answer.{Answers, MayBeDone, next};
+ghost use Rattle.std.specs.Prelude.{◌≡◌, [], IfOk, OnErr, option_map};
+ghost use Rattle.mds_core.specs.Machine.{Steps, LacksMemory, standing_in, events_in as accepted_in};
 
 use crate::answers::answer;
 use crate::lookup::{events_in, known_in};
@@ -23,13 +22,13 @@ impl Model for Fleet {
 
     ghost Value = { Machine };
 
-    ghost view = { λ fleet. record { rows = fleet.table; history = fleet.history.items } };
+    ghost view = { λ fleet. record { tables = fleet.table; history = fleet.history.items } };
 }
 
 impl Fleet {
     /// A machine over the table, with nothing accepted yet. It takes no memory.
     pub fn open(alloc: Global, table: Table) -> Fleet
-        ensures { result ≡ record { rows = table; history = [] } }
+        ensures { result ≡ record { tables = table; history = [] } }
     {
         Fleet {
             table,
@@ -43,11 +42,8 @@ impl Fleet {
     ///
     /// `AllocError` where the request would be accepted and there is no memory to keep it; nothing has changed then.
     pub fn step(&mut self, request: &Request) -> Result<Reply, AllocError>
-        ensures answer { IfOk result (Answers self.old.rows self.old.history request.now) }
-        ensures rows { self.new.rows ≡ self.old.rows }
-        ensures next { IfOk result (λ reply. self.new.history ≡ next self.old.history request.now reply.outcome) }
-        ensures memory { OnErr result (MayBeDone self.old.rows self.old.history request.now) }
-        ensures unchanged { OnErr result (self.new.history ≡ self.old.history) }
+        ensures step { IfOk result (λ reply. Steps self.old request.now reply self.new) }
+        ensures memory { OnErr result (LacksMemory self.old request.now self.new) }
     {
         let reply = answer(&self.table, &self.history, request);
         if let Outcome::Done = reply.outcome {
@@ -58,7 +54,7 @@ impl Fleet {
 
     /// The table of the machine.
     pub fn table(&self) -> &Table
-        ensures { result.now ≡ self.now.rows }
+        ensures { result.now ≡ self.now.tables }
     {
         &self.table
     }
@@ -77,9 +73,7 @@ impl Fleet {
 
     /// Where the vehicle stands, or `None` where it isn't registered.
     pub fn standing(&self, key: &Key) -> Option<Standing>
-        ensures none { IfNone result (own self.now.history key.now ≡ []) }
-        ensures registered { IfSome result (λ _. own self.now.history key.now ≢ []) }
-        ensures standing { IfSome result (λ standing. standing ≡ standing_of (own self.now.history key.now)) }
+        ensures { result ≡ standing_in self.now.history key.now }
     {
         known_in(&self.history, &Request::Look(*key)).standing
     }
@@ -90,7 +84,7 @@ impl Fleet {
     ///
     /// `AllocError` where there is no memory for the list.
     pub fn events(&self, alloc: Global, key: &Key) -> Result<Option<Vec<Event>>, AllocError>
-        ensures { IfOk result (λ events. MatchOption events (own self.now.history key.now ≡ []) (λ v. (own self.now.history key.now ≢ []) × (v.items ≡ reports (own self.now.history key.now)))) }
+        ensures { IfOk result (λ found. option_map (λ events. events.items) found ≡ accepted_in self.now.history key.now) }
     {
         events_in(alloc, &self.history, key)
     }

@@ -21,9 +21,10 @@ mod tests;
 
 pub use answers::answer;
 pub use decision::{Known, decide, decide_event};
-pub use event::{Event, EventFault, MAX_TIME, MAX_TYPES};
+pub use event::{Event, EventFault, MAX_TIME, MAX_EVENT_TYPES};
 pub use fleet::Fleet;
 pub use key::Key;
+pub use lookup::standing_after;
 pub use position::Position;
 pub use reply::{Outcome, Refusal, Reply, Standing};
 pub use request::Request;

@@ -1,8 +1,9 @@
 //! What a history of accepted requests says of one vehicle, looked up in the history itself.
-ghost use Rattle.std.specs.Prelude.{◌≡◌, ◌≢◌, ◌<◌, ◌++◌, ◌∷◌, [], List, length, IfOk, MatchOption};
-ghost use Rattle.mds_core.specs.declared.request.Request.{Request as Asked};
-ghost use Rattle.mds_core.specs.History.{same_key, key_of, own, reports, standing_of};
+ghost use Rattle.std.specs.Prelude.{◌≡◌, ◌<◌, ◌++◌, ◌∷◌, [], List, length, IfOk, option_map};
+ghost use Rattle.mds_core.specs.declared.request.Request.{Request as Requested};
+ghost use Rattle.mds_core.specs.History.{same_key, key_of, requests_of, reports, standing_of};
 ghost use Rattle.mds_core.specs.Known.{standing_if, is_repeated, AreKnown};
+ghost use Rattle.mds_core.specs.Machine.{events_in as accepted_in};
 
 use crate::{Event, Key, Known, Request, Standing};
 use std::alloc::{AllocError, Global};
@@ -16,7 +17,7 @@ fn is_about(request: &Request, key: &Key) -> bool
 
 /// What is known of the vehicle of a request after the history.
 pub fn known_in(history: &[Request], asked: &Request) -> Known
-    ensures { AreKnown (own history.now (key_of asked.now)) asked.now result }
+    ensures { AreKnown (requests_of history.now (key_of asked.now)) asked.now result }
 {
     let mut known = Known {
         standing: None,
@@ -32,7 +33,7 @@ pub fn known_in(history: &[Request], asked: &Request) -> Known
 
 /// What is known of the vehicle of a request after one more request about it.
 fn known_after(known: Known, request: &Request, asked: &Request) -> Known
-    ensures { (requests : List Asked) → AreKnown requests asked.now known → length (reports requests) < usize.MAX
+    ensures { (requests : List Requested) → AreKnown requests asked.now known → length (reports requests) < usize.MAX
         → AreKnown (requests ++ request.now ∷ []) asked.now result }
 {
     Known {
@@ -41,9 +42,9 @@ fn known_after(known: Known, request: &Request, asked: &Request) -> Known
     }
 }
 
-/// Where a vehicle stands after one more request about it.
-fn standing_after(standing: Option<Standing>, request: &Request) -> Standing
-    ensures { (requests : List Asked) → standing ≡ standing_if requests → length (reports requests) < usize.MAX
+/// Where a vehicle stands after one more request about it that was accepted, by where it stood before, if it was registered.
+pub fn standing_after(standing: Option<Standing>, request: &Request) -> Standing
+    ensures { (requests : List Requested) → standing ≡ standing_if requests → length (reports requests) < usize.MAX
         → result ≡ standing_of (requests ++ request.now ∷ []) }
 {
     let standing = standing.unwrap_or(Standing::registered());
@@ -69,7 +70,7 @@ pub fn events_in(
     history: &[Request],
     key: &Key,
 ) -> Result<Option<Vec<Event>>, AllocError>
-    ensures { IfOk result (λ events. MatchOption events (own history.now key.now ≡ []) (λ v. (own history.now key.now ≢ []) × (v.items ≡ reports (own history.now key.now)))) }
+    ensures { IfOk result (λ found. option_map (λ events. events.items) found ≡ accepted_in history.now key.now) }
 {
     let mut registered = false;
     let mut events = Vec::new(alloc);

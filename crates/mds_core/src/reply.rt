@@ -1,6 +1,6 @@
 //! What the machine replies.
 ghost use Rattle.std.specs.Prelude.{◌≡◌, ◌+◌, ◌<◌, ◌++◌, ◌∷◌, [], List, Some, None, length};
-ghost use Rattle.mds_core.specs.declared.request.Request.{Request as Asked};
+ghost use Rattle.mds_core.specs.declared.request.Request.{Request as Requested};
 ghost use Rattle.std.specs.Option.{option_or};
 ghost use Rattle.mds_core.specs.declared.key.Key.{Key};
 ghost use Rattle.mds_core.specs.declared.request.Request.TheVariants.{Register, Report};
@@ -48,7 +48,7 @@ impl Standing {
           last = Some event.now.time;
           position = option_or event.now.position self.now.position;
         } }
-        ensures list { (requests : List Asked) → self.now ≡ standing_of requests → length (reports requests) < usize.MAX
+        ensures list { (requests : List Requested) → self.now ≡ standing_of requests → length (reports requests) < usize.MAX
             → result ≡ standing_of (requests ++ Report event.now ∷ []) }
     {
         Standing {

@@ -22,7 +22,7 @@ pub fn run(
     table: Table,
     requests: &[Request],
 ) -> Result<(Fleet, Vec<Reply>), AllocError>
-    ensures rows { IfOk result (λ ran. ran.0.rows ≡ table) }
+    ensures tables { IfOk result (λ ran. ran.0.tables ≡ table) }
     ensures run { IfOk result (λ ran. IsRun table [] requests.now ran.1.items ran.0.history) }
     ensures accepted { IfOk result (λ ran. AcceptsExactly table requests.now ran.1.items ran.0.history) }
 {

@@ -24,7 +24,7 @@ const E2: u64 = 0x8000_0000_0000_00e2;
 const E3: u64 = 0x8000_0000_0000_00e3;
 
 /// What a test asks.
-enum Asked {
+enum Ask {
     Register(u64),
     /// An event of a vehicle: its identifier, its types, the state that it leads to, and its time.
     Report(u64, u64, &'static [&'static str], State, u64),
@@ -56,12 +56,12 @@ fn types_of(alloc: Global, names: &[&str]) -> Result<Vec<TypeName>, Fail> {
 }
 
 /// The request that is asked.
-fn request_of(alloc: Global, asked: &Asked) -> Result<Request, Fail> {
+fn request_of(alloc: Global, asked: &Ask) -> Result<Request, Fail> {
     let (device, id, names, state, time, position) = match asked {
-        Asked::Register(device) => return Ok(Request::Register(key(*device))),
-        Asked::Look(device) => return Ok(Request::Look(key(*device))),
-        Asked::Report(device, id, names, state, time) => (device, id, names, state, time, None),
-        Asked::ReportAt(device, id, names, state, time, (lat, lng)) => {
+        Ask::Register(device) => return Ok(Request::Register(key(*device))),
+        Ask::Look(device) => return Ok(Request::Look(key(*device))),
+        Ask::Report(device, id, names, state, time) => (device, id, names, state, time, None),
+        Ask::ReportAt(device, id, names, state, time, (lat, lng)) => {
             (device, id, names, state, time, Position::new(*lat, *lng))
         }
     };

@@ -5,10 +5,10 @@ use Rattle.mds_core.specs.declared.key.Key.{Key}
 use Rattle.mds_core.specs.declared.request.Request.{Request}
 use Rattle.mds_core.specs.declared.reply.Reply.{Reply}
 use Rattle.mds_core.specs.Reported.{Reported}
-use Rattle.mds_plan.specs.Asked.{Asked}
-use Rattle.mds_answer.specs.Found.{Finding}
-use Rattle.mds_answer.specs.Head.{answer_text}
-use Rattle.mds_answer.specs.Answer.{answer_to}
+use Rattle.mds_request.specs.Asked.{Asked}
+use Rattle.mds_response.specs.Found.{Finding}
+use Rattle.mds_response.specs.Head.{answer_text}
+use Rattle.mds_response.specs.Answer.{answer_to}
 use Rattle.mds_face.specs.declared.connection.Served.{Served}
 use Rattle.mds_face.specs.declared.connection.ServeFault.{ServeFault}
 use Rattle.mds_face.specs.declared.connection.ServeFault.TheVariants.{Read, Write, Memory, TooManyTurns}

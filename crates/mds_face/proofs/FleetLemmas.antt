@@ -7,9 +7,9 @@ use Rattle.mds_core.specs.Run.{IsRun}
 use Rattle.mds_face.specs.Desk.{AreCalls, FleetCalls}
 
 pub fleet_runs : (old new : Machine) (requests : List Request) (replies : List Reply) → AreCalls FleetCalls old requests replies new
-    → IsRun old.rows old.history (take (length replies) requests) replies new.history
+    → IsRun old.tables old.history (take (length replies) requests) replies new.history
 fleet_runs old new [] [] calls = ap (λ fleet. fleet.history) calls
 fleet_runs old new [] (reply ∷ replies) calls = absurd calls
-fleet_runs old new (request ∷ requests) [] calls = ap (λ fleet. fleet.history) calls.1
+fleet_runs old new (request ∷ requests) [] calls = ap (λ fleet. fleet.history) calls.unchanged
 fleet_runs old new (request ∷ requests) (reply ∷ replies) (middle, called, calls) =
-    (called.0, rw (called.1, called.2) at (fleet_runs middle new requests replies calls))
+    (called.answer, rw (called.tables, called.history) at (fleet_runs middle new requests replies calls))

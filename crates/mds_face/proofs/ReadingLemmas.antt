@@ -3,16 +3,16 @@ use Rattle.std.proofs.Common.{◌≡◌, ℕ, ◌+◌, ◌-◌, ◌<◌, ◌≤�
 use Rattle.std.proofs.lemmas.Bool.{cases_lt}
 use Rattle.std.specs.Io.KnownBytes.{Consumes, IsAtEnd}
 use Rattle.std.proofs.KnownBytes.{Consumes-nil, Consumes-trans}
-use Rattle.mds_device.specs.declared.device.ReadFault.{ReadFault}
-use Rattle.mds_device.specs.declared.device.ReadFault.TheVariants.{Memory, Device, TooManyTurns}
-use Rattle.mds_device.specs.Device.{ConsumesUpTo, Gains, StopsAt}
-use Rattle.mds_plan.specs.declared.aim.Aim.{Aim}
-use Rattle.mds_plan.specs.declared.step.Step.{Step}
-use Rattle.mds_plan.specs.declared.step.Step.TheVariants.{Short, Never, Fixed, Ready}
-use Rattle.mds_plan.specs.Asked.{Asked}
-use Rattle.mds_plan.specs.Plan.{IsPlan}
-use Rattle.mds_plan.specs.Step.{IsStep}
-use Rattle.mds_plan.proofs.PlanLaws.{never_settles, short_settles, fixed_settles, ready_needs, steps_stay}
+use Rattle.mds_io.specs.declared.device.ReadError.{ReadError}
+use Rattle.mds_io.specs.declared.device.ReadError.TheVariants.{Memory, Device, TooManyTurns}
+use Rattle.mds_io.specs.Device.{ConsumesUpTo, Gains, StopsAt}
+use Rattle.mds_request.specs.declared.aim.Aim.{Aim}
+use Rattle.mds_request.specs.declared.step.Step.{Step}
+use Rattle.mds_request.specs.declared.step.Step.TheVariants.{Short, Never, Fixed, Ready}
+use Rattle.mds_request.specs.Asked.{Asked}
+use Rattle.mds_request.specs.Plan.{IsPlan}
+use Rattle.mds_request.specs.Step.{IsStep}
+use Rattle.mds_request.proofs.PlanLaws.{never_settles, short_settles, fixed_settles, ready_needs, steps_stay}
 use Rattle.mds_face.specs.Reading.{Grows, IsEnough, ReadsNoFurther, wanted}
 
 -- the step of some bytes is that of the same bytes
@@ -73,7 +73,7 @@ head_enough (Fixed fault) left bytes is end bodiless = inr (fixed_settles bytes 
 head_enough (Ready aim start len) left bytes is end bodiless = absurd (bodiless aim start len refl)
 
 -- what was read when reading stopped
-pub stop_loses : (fault : ReadFault) (most : ℕ) (a b : Option (List ℕ)) (held grown : List ℕ) → StopsAt fault most a b held grown → ConsumesUpTo most a b
+pub stop_loses : (fault : ReadError) (most : ℕ) (a b : Option (List ℕ)) (held grown : List ℕ) → StopsAt fault most a b held grown → ConsumesUpTo most a b
 stop_loses Device most a b held grown stop = (stop.0, stop.1, stop.3)
 stop_loses TooManyTurns most a b held grown stop = (stop.0, stop.1, stop.3)
 stop_loses Memory most a b held grown stop = (stop.0 ++ stop.1, rw length-append stop.3, stop.5)

@@ -9,4 +9,4 @@ use Rattle.mds_face.specs.Desk.{AreCalls, FleetCalls}
 -- the calls that a fleet answers are a run from its history: of as many requests, the first ones, as there are replies
 abbrev pub FleetsRun : Type 0
 FleetsRun = (old new : Machine) (requests : List Request) (replies : List Reply) → AreCalls FleetCalls old requests replies new
-    → IsRun old.rows old.history (take (length replies) requests) replies new.history
+    → IsRun old.tables old.history (take (length replies) requests) replies new.history

@@ -1,11 +1,11 @@
 -- What was read of a stream, and whether it says what the stream asks for.
 use Rattle.std.specs.Prelude.{◌≡◌, ◌⊎◌, ℕ, ◌+◌, ◌-◌, ◌≤◌, List, ◌++◌, length, Option}
 use Rattle.std.specs.Io.KnownBytes.{Consumes, IsAtEnd}
-use Rattle.mds_plan.specs.declared.aim.Aim.{Aim}
-use Rattle.mds_plan.specs.declared.step.Step.{Step}
-use Rattle.mds_plan.specs.declared.step.Step.TheVariants.{Ready}
-use Rattle.mds_plan.specs.Head.{max_head}
-use Rattle.mds_plan.specs.Step.{IsSettled, IsStep}
+use Rattle.mds_request.specs.declared.aim.Aim.{Aim}
+use Rattle.mds_request.specs.declared.step.Step.{Step}
+use Rattle.mds_request.specs.declared.step.Step.TheVariants.{Ready}
+use Rattle.mds_request.specs.Head.{max_head}
+use Rattle.mds_request.specs.Step.{IsSettled, IsStep}
 
 -- the bytes held grew by what the reader lost
 abbrev pub Grows : Option (List ℕ) → Option (List ℕ) → List ℕ → List ℕ → Type 0

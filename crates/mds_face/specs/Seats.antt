@@ -1,28 +1,23 @@
 -- What a caller's seat at a book does.
 use Rattle.std.specs.Prelude.{◌≡◌, ◌≤◌, ◌++◌, List, Option, Some, None, true, false}
-use Rattle.mds_table.specs.declared.row.Row.{Row}
-use Rattle.mds_core.specs.declared.key.Key.{Key}
+use Rattle.mds_table.specs.Tables.{Tables}
 use Rattle.mds_core.specs.declared.request.Request.{Request}
 use Rattle.mds_core.specs.declared.reply.Reply.{Reply}
-use Rattle.mds_core.specs.Reported.{Reported}
 use Rattle.mds_core.specs.History.{key_of}
 use Rattle.mds_settle.specs.declared.note.Note.{Note}
 use Rattle.mds_book.specs.Shards.{shard_of}
 use Rattle.mds_book.specs.Seats.{Seated, accepted_in, after_call, is_look}
-use Rattle.mds_book.specs.Books.{IsAnswered, HasNone, HasEvents}
+use Rattle.mds_book.specs.Books.{IsAnswered}
 
 -- the reply is the answer after some lawful history of the request's shard, at a place that is no less than the seat's count
 -- there, and the call is counted and noted in the seat; where there is no memory, nothing changes, and it isn't a look that would
 -- not be noted
-abbrev pub SeatCalls : List Row → Seated → Request → Option Reply → Seated → Type 0
-SeatCalls rows old request (Some reply) new =
-    IsAnswered rows (shard_of (key_of request)) request reply × (accepted_in old (shard_of (key_of request)) ≤ reply.place) × (new ≡ after_call old request reply)
-SeatCalls rows old request None new = (new ≡ old) × (is_look request ≡ true → old.keeps_all ≡ false → ⊥)
-
--- the events are those of some lawful own list of the vehicle, none where that is empty
-abbrev pub SeatGivesEvents : List Row → Key → Option (List Reported) → Type 0
-SeatGivesEvents rows key None = HasNone rows key
-SeatGivesEvents rows key (Some events) = HasEvents rows key events
+abbrev pub SeatCalls : Tables → Seated → Request → Option Reply → Seated → Type 0
+SeatCalls tables old request (Some reply) new =
+    IsAnswered tables (shard_of (key_of request)) request reply
+    × (accepted_in old (shard_of (key_of request)) ≤ reply.place)
+    × (new ≡ after_call old request reply)
+SeatCalls tables old request None new = (new ≡ old) × (is_look request ≡ true → old.keeps_all ≡ false → ⊥)
 
 -- the earlier notes stand before the others, and no count is less
 pub record HasGrown (old new : Seated) : Type 0 where

@@ -8,13 +8,13 @@ use Rattle.mds_core.specs.declared.request.Request.{Request}
 use Rattle.mds_core.specs.declared.request.Request.TheVariants.{Look}
 use Rattle.mds_core.specs.declared.reply.Reply.{Reply}
 use Rattle.mds_core.specs.Reported.{Reported}
-use Rattle.mds_plan.specs.Asked.{Asked}
-use Rattle.mds_plan.specs.Asked as asked
-use Rattle.mds_plan.specs.Plan.{IsPlan}
-use Rattle.mds_answer.specs.Found.{Finding, replies_in, accepted_in}
-use Rattle.mds_answer.specs.Found as finding
-use Rattle.mds_answer.specs.Head.{answer_text, memory_text}
-use Rattle.mds_answer.specs.Answer.{answer_to}
+use Rattle.mds_request.specs.Asked.{Asked}
+use Rattle.mds_request.specs.Asked as asked
+use Rattle.mds_request.specs.Plan.{IsPlan}
+use Rattle.mds_response.specs.Found.{Finding, replies_in, accepted_in}
+use Rattle.mds_response.specs.Found as finding
+use Rattle.mds_response.specs.Head.{answer_text, memory_text}
+use Rattle.mds_response.specs.Answer.{answer_to}
 use Rattle.mds_face.specs.declared.connection.Served.{Served}
 use Rattle.mds_face.specs.declared.connection.ServeFault.{ServeFault}
 use Rattle.mds_face.specs.declared.connection.ServeFault.TheVariants.{Read, Write, Memory, TooManyTurns}

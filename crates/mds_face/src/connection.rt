@@ -1,19 +1,19 @@
 //! Serving one connection.
 ghost use Rattle.std.specs.Prelude.{◌≡◌, ℕ, Some, IfOk, IfErr, OnOk, OnErr};
 ghost use Rattle.std.specs.Io.KnownBytes.{Appends};
-ghost use Rattle.mds_plan.specs.Asked.{asked_in};
-ghost use Rattle.mds_answer.specs.Found.{finding_in, replies_in, accepted_in};
-ghost use Rattle.mds_answer.specs.Answer.{answer_to};
+ghost use Rattle.mds_request.specs.Asked.{asked_in};
+ghost use Rattle.mds_response.specs.Found.{finding_in, replies_in, accepted_in};
+ghost use Rattle.mds_response.specs.Answer.{answer_to};
 ghost use Rattle.mds_face.specs.Faults.{serve_fault_text};
 ghost use Rattle.mds_face.specs.Reading.{ReadsNoFurther};
 ghost use Rattle.mds_face.specs.Serving.{Finds, FindsNoMemory, IsAnsweredWhole, IsFixedAnswer, IsServed, IsUnwritten, Stops, StopsAsked};
 
 use crate::asking::ask_all;
 use crate::{Desk, read_plan};
-use mds_answer::{Found, bytes_of, memory_bytes, status_of};
+use mds_response::{Found, bytes_of, memory_bytes, status_of};
 use mds_core::Request;
-use mds_device::{ReadFault, WriteCause, write_all_of};
-use mds_plan::{Face, Plan};
+use mds_io::{ReadError, WriteErrorKind, write_all_of};
+use mds_request::{Face, Plan};
 use std::alloc::{AllocError, Global};
 use std::error::Error;
 use std::fmt;
@@ -90,9 +90,9 @@ pub fn serve_one<R: Read, W: Write, D: Desk>(
 {
     match read_plan(alloc, face, reader) {
         Ok(plan) => answer(alloc, writer, desk, &plan),
-        Err(ReadFault::Memory) => Err(out_of_memory(writer)),
-        Err(ReadFault::Device) => Err(ServeFault::Read),
-        Err(ReadFault::TooManyTurns) => Err(ServeFault::TooManyTurns { sent: 0 }),
+        Err(ReadError::Memory) => Err(out_of_memory(writer)),
+        Err(ReadError::Device) => Err(ServeFault::Read),
+        Err(ReadError::TooManyTurns) => Err(ServeFault::TooManyTurns { sent: 0 }),
     }
 }
 
@@ -165,9 +165,9 @@ fn write_answer<W: Write>(writer: &mut W, bytes: &[u8]) -> Result<(), ServeFault
 {
     match write_all_of(writer, bytes) {
         Ok(()) => Ok(()),
-        Err(stop) => Err(match stop.cause {
-            WriteCause::Device => ServeFault::Write { sent: stop.sent },
-            WriteCause::TooManyTurns => ServeFault::TooManyTurns { sent: stop.sent },
+        Err(stop) => Err(match stop.kind {
+            WriteErrorKind::Device => ServeFault::Write { sent: stop.sent },
+            WriteErrorKind::TooManyTurns => ServeFault::TooManyTurns { sent: stop.sent },
         }),
     }
 }

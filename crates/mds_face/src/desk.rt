@@ -1,8 +1,10 @@
 //! Where requests are put: the plain machine, or a caller's seat at a book.
 ghost use Rattle.std.specs.Prelude.{◌≡◌, Some, None, IfOk, OnErr, MatchResult, option_map};
 ghost use Rattle.mds_core.specs.Answer.{IsOutcomeFor};
-ghost use Rattle.mds_face.specs.Desk.{FleetCalls, FleetGivesEvents};
-ghost use Rattle.mds_face.specs.Seats.{SeatCalls, SeatGivesEvents};
+ghost use Rattle.mds_core.specs.Machine.{events_in};
+ghost use Rattle.mds_book.specs.Books.{GivesEvents};
+ghost use Rattle.mds_face.specs.Desk.{FleetCalls};
+ghost use Rattle.mds_face.specs.Seats.{SeatCalls};
 
 use mds_book::{Book, Seat, ShardLedger};
 use mds_core::{Event, Fleet, Key, Reply, Request};
@@ -61,17 +63,18 @@ pub trait Desk {
 
 impl Desk for Fleet {
     ghost use Rattle.std.specs.Prelude.{◌≡◌};
-    ghost use Rattle.mds_core.specs.History.{key_of, own};
+    ghost use Rattle.mds_core.specs.History.{key_of, requests_of};
     ghost use Rattle.mds_core.proofs.OfTheirKind.{given_is_for};
-    ghost use Rattle.mds_face.specs.Desk.{FleetCalls, FleetGivesEvents};
+    ghost use Rattle.mds_core.specs.Machine.{events_in};
+    ghost use Rattle.mds_face.specs.Desk.{FleetCalls};
 
     ghost calls = { FleetCalls };
 
-    ghost gives_events = { FleetGivesEvents };
+    ghost gives_events = { λ fleet key found. found ≡ events_in fleet.history key };
 
-    ghost gives_rows = { λ fleet rows. rows ≡ fleet.rows };
+    ghost gives_rows = { λ fleet rows. rows ≡ fleet.tables };
 
-    ghost of_its_kind = { λ old request reply new calls. given_is_for old.rows (own old.history (key_of request)) request reply.outcome (calls.0).outcome };
+    ghost of_its_kind = { λ old request reply new calls. given_is_for old.tables (requests_of old.history (key_of request)) request reply.outcome (calls.answer).outcome };
 
     fn call(&mut self, request: &Request) -> Result<Reply, AllocError> {
         self.step(request)
@@ -101,17 +104,18 @@ pub struct SeatDesk<'a, R: Wait, L: ShardLedger, M: ShardLedger> {
 
 impl<R: Wait, L: ShardLedger, M: ShardLedger> Desk for SeatDesk<'_, R, L, M> {
     ghost use Rattle.std.specs.Prelude.{◌≡◌};
-    ghost use Rattle.mds_core.specs.History.{key_of, own};
+    ghost use Rattle.mds_core.specs.History.{key_of, requests_of};
     ghost use Rattle.mds_core.proofs.OfTheirKind.{given_is_for};
-    ghost use Rattle.mds_face.specs.Seats.{SeatCalls, SeatGivesEvents};
+    ghost use Rattle.mds_book.specs.Books.{GivesEvents};
+    ghost use Rattle.mds_face.specs.Seats.{SeatCalls};
 
-    ghost calls = { λ old request reply new. (new.book ≡ old.book) × (new.seat.ghost_name ≡ old.seat.ghost_name) × SeatCalls old.book.now.rows old.seat.now request reply new.seat.now };
+    ghost calls = { λ old request reply new. (new.book ≡ old.book) × (new.seat.ghost_name ≡ old.seat.ghost_name) × SeatCalls old.book.now.tables old.seat.now request reply new.seat.now };
 
-    ghost gives_events = { λ desk. SeatGivesEvents desk.book.now.rows };
+    ghost gives_events = { λ desk. GivesEvents desk.book.now.tables };
 
-    ghost gives_rows = { λ desk rows. rows ≡ desk.book.now.rows };
+    ghost gives_rows = { λ desk rows. rows ≡ desk.book.now.tables };
 
-    ghost of_its_kind = { λ old request reply new calls. let answered = calls.2.0 in given_is_for old.book.now.rows (own answered.history (key_of request)) request reply.outcome (answered.answer).outcome };
+    ghost of_its_kind = { λ old request reply new calls. let answered = calls.2.0 in given_is_for old.book.now.tables (requests_of answered.history (key_of request)) request reply.outcome (answered.answer).outcome };
 
     fn call(&mut self, request: &Request) -> Result<Reply, AllocError> {
         self.book.call(self.rt, self.seat, request)

@@ -1,15 +1,15 @@
 //! Reading a request: what it asks for, of the bytes that a reader gives, however they are cut.
 ghost use Rattle.std.specs.Prelude.{◌≡◌, ◌<◌, ◌≤◌, [], length, OnOk, OnErr, IfOk, IfSome};
 ghost use Rattle.std.specs.Io.KnownBytes.{Consumes, IsAtEnd};
-ghost use Rattle.mds_device.specs.Device.{ConsumesUpTo};
-ghost use Rattle.mds_plan.specs.Asked.{asked_in};
-ghost use Rattle.mds_plan.specs.Head.{max_head};
-ghost use Rattle.mds_plan.specs.Plan.{IsPlan};
-ghost use Rattle.mds_plan.specs.Step.{IsInReach, IsStep};
+ghost use Rattle.mds_io.specs.Device.{ConsumesUpTo};
+ghost use Rattle.mds_request.specs.Asked.{asked_in};
+ghost use Rattle.mds_request.specs.Head.{max_head};
+ghost use Rattle.mds_request.specs.Plan.{IsPlan};
+ghost use Rattle.mds_request.specs.Step.{IsInReach, IsStep};
 ghost use Rattle.mds_face.specs.Reading.{Grows, IsEnough, ReadsNoFurther, wanted};
 
-use mds_device::{MAX_CALLS, ReadFault, read_more, read_up_to};
-use mds_plan::{Face, MAX_HEAD, Plan, Step};
+use mds_io::{MAX_CALLS, ReadError, read_more, read_up_to};
+use mds_request::{Face, MAX_HEAD, Plan, Step};
 use std::alloc::{AllocError, Global};
 use std::io::Read;
 
@@ -24,7 +24,7 @@ use std::io::Read;
 ///
 /// `Memory` where there was none for the bytes or the items, `Device` where a call failed, `TooManyTurns` where the calls ran
 /// out. The reader has then lost what it gave.
-pub fn read_plan<R: Read>(alloc: Global, face: &Face, reader: &mut R) -> Result<Plan, ReadFault>
+pub fn read_plan<R: Read>(alloc: Global, face: &Face, reader: &mut R) -> Result<Plan, ReadError>
     ensures plan { IfOk result (λ plan. IfSome (R.remaining reader.old) (λ stream. IsPlan stream (asked_in plan))) }
     ensures no_further { ReadsNoFurther (R.remaining reader.old) (R.remaining reader.new) }
 {
@@ -40,7 +40,7 @@ fn plan_into<R: Read>(
     reader: &mut R,
     bytes: &mut Vec<u8>,
     room: &mut [u8],
-) -> Result<Plan, ReadFault>
+) -> Result<Plan, ReadError>
     requires none { bytes.old.items ≡ [] }
     requires room { 0 < length room.old }
     ensures plan { IfOk result (λ plan. IfSome (R.remaining reader.old) (λ stream. IsPlan stream (asked_in plan))) }
@@ -54,7 +54,7 @@ fn plan_into<R: Read>(
     read_body(&step, reader, bytes, room, &mut calls)?;
     match step.plan(alloc, bytes) {
         Ok(plan) => Ok(plan),
-        Err(AllocError) => Err(ReadFault::Memory),
+        Err(AllocError) => Err(ReadError::Memory),
     }
 }
 
@@ -68,7 +68,7 @@ fn read_head<R: Read>(
     bytes: &mut Vec<u8>,
     room: &mut [u8],
     calls: &mut u32,
-) -> Result<Step, ReadFault>
+) -> Result<Step, ReadError>
     requires none { bytes.old.items ≡ [] }
     requires room { 0 < length room.old }
     ensures step { IfOk result (λ step. IsStep bytes.new.items step) }
@@ -97,7 +97,7 @@ fn read_body<R: Read>(
     bytes: &mut Vec<u8>,
     room: &mut [u8],
     calls: &mut u32,
-) -> Result<(), ReadFault>
+) -> Result<(), ReadError>
     requires step { IsStep bytes.old.items step.now }
     requires in_reach { IsInReach bytes.old.items step.now }
     requires short { step.now ≡ Step.Short → length bytes.old.items < max_head → IsAtEnd (R.remaining reader.old) }

@@ -2,16 +2,16 @@
 use Rattle.std.proofs.Common.{◌≡◌, ◌⊎◌, ℕ, List, [], ◌∷◌, inl, inr, subst, sym}
 use Rattle.std.specs.Prelude.{Option, Some, None, Result, Ok, Err, IfOk, IfErr}
 use Rattle.std.specs.List.{filter_map}
-use Rattle.mds_table.specs.declared.row.Row.{Row}
+use Rattle.mds_table.specs.Tables.{Tables}
 use Rattle.mds_core.specs.declared.key.Key.{Key}
 use Rattle.mds_core.specs.declared.request.Request.{Request}
 use Rattle.mds_core.specs.declared.request.Request.TheVariants.{Look}
 use Rattle.mds_core.specs.declared.reply.Reply.{Reply}
 use Rattle.mds_core.specs.Reported.{Reported}
-use Rattle.mds_plan.specs.Asked.{Asked}
-use Rattle.mds_plan.specs.Asked as asked
-use Rattle.mds_answer.specs.Found.{Finding}
-use Rattle.mds_answer.specs.Found as finding
+use Rattle.mds_request.specs.Asked.{Asked}
+use Rattle.mds_request.specs.Asked as asked
+use Rattle.mds_response.specs.Found.{Finding}
+use Rattle.mds_response.specs.Found as finding
 use Rattle.mds_face.specs.declared.connection.Served.{Served}
 use Rattle.mds_face.specs.declared.connection.ServeFault.{ServeFault}
 use Rattle.mds_face.specs.declared.connection.ServeFault.TheVariants.{Read, Write, Memory, TooManyTurns}
@@ -20,7 +20,7 @@ use Rattle.mds_face.specs.Desk.{AreCalls}
 use Rattle.mds_face.specs.Serving.{Finds, FindsNoMemory, IsServed, Stops, StopsAsked, StopsUnread}
 
 -- of a desk as in the contract of one connection, and of what grows by each call and in two steps where it does in each
-module _ {S : Type 0} (Calls : S → Request → Option Reply → S → Type 0) (GivesEvents : S → Key → Option (List Reported) → Type 0) (GivesRows : S → List Row → Type 0)
+module _ {S : Type 0} (Calls : S → Request → Option Reply → S → Type 0) (GivesEvents : S → Key → Option (List Reported) → Type 0) (GivesRows : S → Tables → Type 0)
     (Grows : S → S → Type 0) (stays : (s : S) → Grows s s) (twice : (a b c : S) → Grows a b → Grows b c → Grows a c)
     (called : (old : S) (request : Request) (reply : Option Reply) (new : S) → Calls old request reply new → Grows old new) where
   pub same_grows : (old new : S) → new ≡ old → Grows old new
@@ -39,7 +39,7 @@ module _ {S : Type 0} (Calls : S → Request → Option Reply → S → Type 0) 
   finds_grow (asked.Events items) (finding.Replies replies) old new finds = calls_grow (filter_map report_in items) replies old new finds
   finds_grow (asked.One key) (finding.One reply) old new finds = called old (Look key) (Some reply) new finds
   finds_grow (asked.History key) (finding.History events) old new finds = same_grows old new finds.1
-  finds_grow asked.Rows (finding.Rows rows) old new finds = same_grows old new finds.1
+  finds_grow asked.Rows (finding.Rows tables) old new finds = same_grows old new finds.1
   finds_grow what found old new finds = absurd (assumption finds)
 
   pub no_memory_grows : (what : Asked) (old new : S) → FindsNoMemory Calls GivesEvents GivesRows old what new → Grows old new

@@ -1,4 +1,5 @@
 -- Lemmas of this crate.
+pub mod EndLemmas
 pub mod Growth
 pub mod Places
 pub mod SeatGrowth

@@ -2,7 +2,7 @@
 use Rattle.std.proofs.Common.{◌≡◌, ◌∙◌, ◌≤◌, ◌++◌, ℕ, List, [], arith, ap, subst, sym, refl}
 use Rattle.std.specs.Prelude.{Option, Some, None}
 use Rattle.std.proofs.lemmas.List.{append-nil, append_assoc}
-use Rattle.mds_table.specs.declared.row.Row.{Row}
+use Rattle.mds_table.specs.Tables.{Tables}
 use Rattle.mds_core.specs.declared.request.Request.{Request}
 use Rattle.mds_core.specs.declared.reply.Reply.{Reply}
 use Rattle.mds_core.specs.History.{key_of}
@@ -32,6 +32,6 @@ call_grows seat request reply = record {
   keeps_all = refl;
 }
 
-pub seat_called : (rows : List Row) (old : Seated) (request : Request) (reply : Option Reply) (new : Seated) → SeatCalls rows old request reply new → HasGrown old new
-seat_called rows old request (Some reply) new calls = subst (λ seat. HasGrown old seat) (sym calls.2) (call_grows old request reply)
-seat_called rows old request None new calls = subst (λ seat. HasGrown old seat) (sym calls.0) (seat_stays old)
+pub seat_called : (tables : Tables) (old : Seated) (request : Request) (reply : Option Reply) (new : Seated) → SeatCalls tables old request reply new → HasGrown old new
+seat_called tables old request (Some reply) new calls = subst (λ seat. HasGrown old seat) (sym calls.2) (call_grows old request reply)
+seat_called tables old request None new calls = subst (λ seat. HasGrown old seat) (sym calls.0) (seat_stays old)

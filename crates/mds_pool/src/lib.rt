@@ -1,11 +1,14 @@
-//! Workers that take connections from a port and answer them, each with a seat of its own at the book.
+//! Workers that take connections from a port and answer them, each with a seat of its own at the book; and a book that serves
+//! a port, from its opening to its settling.
 #![tactic(auto)]
 
 mod pool;
 mod port;
+mod serving;
 
 pub use pool::{PoolCause, PoolFault, serve};
 pub use port::{Port, PortFault};
+pub use serving::{Stop, serve_and_settle};
 
 #[cfg(test)]
 mod tests;

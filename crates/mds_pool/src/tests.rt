@@ -133,7 +133,7 @@ where
     P::Out: Send,
     requires first { (first.name ≡ L.name) × (first.parts ≡ L.parts) × (first.parts ≡ seats) }
     requires second { (second.name ≡ M.name) × (second.parts ≡ M.parts) × (second.parts ≡ seats) }
-    requires table { (table ≡ L.rows) × (table ≡ M.rows) }
+    requires table { (table ≡ L.tables) × (table ≡ M.tables) }
 {
     let (book, list) = Book::<L, M>::open(alloc, table, seats, Keep::Accepted, first, second)?;
     let face = Face::open(alloc)?;

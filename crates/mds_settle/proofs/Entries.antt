@@ -3,47 +3,47 @@ use Rattle.std.proofs.Common.{◌≡◌, ◌↔◌, ℕ, ◌+◌, ◌<◌, ◌�
 use Rattle.std.specs.Prelude.{slice_get, Some}
 use Rattle.std.proofs.lemmas.List.{append-nil, take-append-drop, drop_more}
 use Rattle.std.proofs.lemmas.Option.{get_or_from_slice_get, slice_get_within}
-use Rattle.mds_table.specs.declared.row.Row.{Row}
+use Rattle.mds_table.specs.Tables.{Tables}
 use Rattle.mds_core.specs.declared.request.Request.{Request}
 use Rattle.mds_core.specs.declared.request.Request.TheVariants.{Register, Report, Look}
 use Rattle.mds_core.specs.declared.reply.Outcome.{Outcome}
 use Rattle.mds_core.specs.declared.reply.Outcome.TheVariants.{Done, Seen, Refused}
 use Rattle.mds_core.specs.declared.reply.Reply.{Reply}
-use Rattle.mds_core.specs.History.{own, key_of}
+use Rattle.mds_core.specs.History.{requests_of, key_of}
 use Rattle.mds_core.specs.Answer.{Answers, Gives}
 use Rattle.mds_core.specs.Lawful.{IsCareer, IsLawfulOf, IsLawful}
 use Rattle.mds_core.specs.Headline.{is_done}
-use Rattle.mds_core.proofs.Histories.{own-append, same_key_refl}
+use Rattle.mds_core.proofs.Histories.{requests_of-append, same_key_refl}
 use Rattle.mds_core.proofs.Outcomes.{answer_one}
 use Rattle.mds_settle.specs.declared.note.Note.{Note}
-use Rattle.mds_settle.specs.Settled.{IsAnswered, IsStored}
+use Rattle.mds_settle.specs.Settled.{HasRightReply, IsStored}
 
 -- each entry of a career could be accepted after those before it
-career_gives : (rows : List Row) (before first : List Request) (request : Request) (rest : List Request) → IsCareer rows before (first ++ request ∷ rest)
-    → Gives rows (before ++ first) request Done
-career_gives rows before [] (Report event) rest career =
-    let P : List Request → Type 0 = λ requests. Gives rows requests (Report event) Done in subst P (sym (append-nil before)) (career.0, career.1)
-career_gives rows before [] (Register key) rest career = absurd career
-career_gives rows before [] (Look key) rest career = absurd career
-career_gives rows before (Report event ∷ first) request rest career =
-    let P : List Request → Type 0 = λ requests. Gives rows requests request Done in
-    subst P (append_assoc before (Report event ∷ []) first) (career_gives rows (before ++ Report event ∷ []) first request rest career.2)
-career_gives rows before (Register key ∷ first) request rest career = absurd career
-career_gives rows before (Look key ∷ first) request rest career = absurd career
+career_gives : (tables : Tables) (before first : List Request) (request : Request) (rest : List Request) → IsCareer tables before (first ++ request ∷ rest)
+    → Gives tables (before ++ first) request Done
+career_gives tables before [] (Report event) rest career =
+    let P : List Request → Type 0 = λ requests. Gives tables requests (Report event) Done in subst P (sym (append-nil before)) (career.0, career.1)
+career_gives tables before [] (Register key) rest career = absurd career
+career_gives tables before [] (Look key) rest career = absurd career
+career_gives tables before (Report event ∷ first) request rest career =
+    let P : List Request → Type 0 = λ requests. Gives tables requests request Done in
+    subst P (append_assoc before (Report event ∷ []) first) (career_gives tables (before ++ Report event ∷ []) first request rest career.2)
+career_gives tables before (Register key ∷ first) request rest career = absurd career
+career_gives tables before (Look key ∷ first) request rest career = absurd career
 
 -- each entry of a lawful own list could be accepted after those before it
-lawful_gives : (rows : List Row) (first : List Request) (request : Request) (rest : List Request) → IsLawfulOf rows (first ++ request ∷ rest) → Gives rows first request Done
-lawful_gives rows [] (Register key) rest lawful = refl
-lawful_gives rows [] (Report event) rest lawful = absurd lawful
-lawful_gives rows [] (Look key) rest lawful = absurd lawful
-lawful_gives rows (Register key ∷ first) request rest lawful = career_gives rows (Register key ∷ []) first request rest lawful
-lawful_gives rows (Report event ∷ first) request rest lawful = absurd lawful
-lawful_gives rows (Look key ∷ first) request rest lawful = absurd lawful
+lawful_gives : (tables : Tables) (first : List Request) (request : Request) (rest : List Request) → IsLawfulOf tables (first ++ request ∷ rest) → Gives tables first request Done
+lawful_gives tables [] (Register key) rest lawful = refl
+lawful_gives tables [] (Report event) rest lawful = absurd lawful
+lawful_gives tables [] (Look key) rest lawful = absurd lawful
+lawful_gives tables (Register key ∷ first) request rest lawful = career_gives tables (Register key ∷ []) first request rest lawful
+lawful_gives tables (Report event ∷ first) request rest lawful = absurd lawful
+lawful_gives tables (Look key ∷ first) request rest lawful = absurd lawful
 
 -- an entry stands in its own list, between the own lists of what is before it and behind it
 own_at : (before : List Request) (request : Request) (rest : List Request)
-    → own (before ++ request ∷ rest) (key_of request) ≡ own before (key_of request) ++ request ∷ own rest (key_of request)
-own_at before request rest = own-append before (request ∷ rest) (key_of request) ∙ rw (same_key_refl (key_of request)) refl
+    → requests_of (before ++ request ∷ rest) (key_of request) ≡ requests_of before (key_of request) ++ request ∷ requests_of rest (key_of request)
+own_at before request rest = requests_of-append before (request ∷ rest) (key_of request) ∙ rw (same_key_refl (key_of request)) refl
 
 -- a history at one of its entries
 split_at : (history : List Request) (place : ℕ) (request : Request) → slice_get history place ≡ Some request → history ≡ take place history ++ request ∷ drop (place + 1) history
@@ -59,29 +59,29 @@ done_is (Seen standing) done = cc
 done_is (Refused refusal) done = cc
 
 -- in a lawful history the accepted note of an entry is answered
-pub stored_is_answered : (rows : List Row) (history : List Request) (note : Note) → IsLawful rows history → is_done note.reply.outcome ≡ true → IsStored history note
-    → IsAnswered rows history note
-stored_is_answered rows history note lawful done stored =
+pub stored_is_answered : (tables : Tables) (history : List Request) (note : Note) → IsLawful tables history → is_done note.reply.outcome ≡ true → IsStored history note
+    → HasRightReply tables history note
+stored_is_answered tables history note lawful done stored =
     let place = note.reply.place in
     let request = note.request in
     let key = key_of request in
     let within : place < length history = slice_get_within history place request stored in
-    let P : List Request → Type 0 = λ requests. IsLawfulOf rows requests in
-    let own_list = ap (λ requests. own requests key) (split_at history place request stored) ∙ own_at (take place history) request (drop (place + 1) history) in
-    let gives = lawful_gives rows (own (take place history) key) request (own (drop (place + 1) history) key) (subst P own_list (lawful key)) in
-    let Q : Outcome → Type 0 = λ outcome. Gives rows (own (take place history) key) request outcome in
+    let P : List Request → Type 0 = λ requests. IsLawfulOf tables requests in
+    let own_list = ap (λ requests. requests_of requests key) (split_at history place request stored) ∙ own_at (take place history) request (drop (place + 1) history) in
+    let gives = lawful_gives tables (requests_of (take place history) key) request (requests_of (drop (place + 1) history) key) (subst P own_list (lawful key)) in
+    let Q : Outcome → Type 0 = λ outcome. Gives tables (requests_of (take place history) key) request outcome in
     record {
       within = omega arith;
       answer = record { place = sym (length-take-le place history (omega arith)); outcome = subst Q (sym (done_is note.reply.outcome done)) gives };
     }
 
 -- a note is answered exactly where its reply is the answer after as many entries as its place says
-pub answered_exactly : (rows : List Row) (history before : List Request) (note : Note) (reply : Reply) (same : Bool) → note.reply.place ≤ length history
-    → before ≡ take note.reply.place history → Answers rows before note.request reply → (IsTrue same ↔ (reply ≡ note.reply)) → IsTrue same ↔ IsAnswered rows history note
-answered_exactly rows history before note reply same within is answer exact =
-    let P : List Request → Type 0 = λ requests. Answers rows requests note.request reply in
+pub answered_exactly : (tables : Tables) (history before : List Request) (note : Note) (reply : Reply) (same : Bool) → note.reply.place ≤ length history
+    → before ≡ take note.reply.place history → Answers tables before note.request reply → (IsTrue same ↔ (reply ≡ note.reply)) → IsTrue same ↔ HasRightReply tables history note
+answered_exactly tables history before note reply same within is answer exact =
+    let P : List Request → Type 0 = λ requests. Answers tables requests note.request reply in
     let here = subst P is answer in
-    let Q : Reply → Type 0 = λ r. Answers rows (take note.reply.place history) note.request r in (
+    let Q : Reply → Type 0 = λ r. Answers tables (take note.reply.place history) note.request r in (
       λ yes. record { within = within; answer = subst Q (exact.0 yes) here },
-      λ answered. exact.1 (answer_one rows (take note.reply.place history) note.request reply note.reply here answered.answer),
+      λ answered. exact.1 (answer_one tables (take note.reply.place history) note.request reply note.reply here answered.answer),
     )

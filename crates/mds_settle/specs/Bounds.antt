@@ -1,11 +1,11 @@
 -- How a bound on the least fault is lowered, and how accepted notes are counted below it.
 use Rattle.std.specs.Prelude.{◌≡◌, ◌≢◌, ◌⊎◌, ℕ, ◌<◌, ◌≤◌, ◌==◌, ◌&&◌, min, nat_lt, List, Option, Some, None, Bool, true, MatchOption, sum_by, count_by}
-use Rattle.mds_table.specs.declared.row.Row.{Row}
+use Rattle.mds_table.specs.Tables.{Tables}
 use Rattle.mds_core.specs.declared.request.Request.{Request}
 use Rattle.mds_core.specs.Headline.{is_done}
 use Rattle.mds_settle.specs.declared.note.Note.{Note}
 use Rattle.mds_settle.specs.Notes.{IsAt, notes_at}
-use Rattle.mds_settle.specs.Settled.{IsAnswered, IsStored, least_after}
+use Rattle.mds_settle.specs.Settled.{HasRightReply, IsStored, least_after}
 
 -- a place below a bound; where there is no bound, any place
 abbrev pub IsBelow : ℕ → Option ℕ → Type 0
@@ -19,22 +19,22 @@ pub record IsLowered (Fine : Option ℕ → Type 0) (Fault : ℕ → Type 0) (ol
   pub fault : (new ≡ old) ⊎ MatchOption new ⊥ Fault
 
 -- the reply is right, and so is the place of an accepted note
-pub record IsTrueTo (rows : List Row) (history : List Request) (note : Note) : Type 0 where
-  pub answered : IsAnswered rows history note
+pub record IsTrueTo (tables : Tables) (history : List Request) (note : Note) : Type 0 where
+  pub answered : HasRightReply tables history note
   pub stored : is_done note.reply.outcome ≡ true → IsStored history note
 
 -- the reply is wrong, or the place of an accepted note
-pub data IsWrong (rows : List Row) (history : List Request) (note : Note) : Type 0 where
-  bad_reply : (IsAnswered rows history note → ⊥) → IsWrong rows history note
-  bad_entry : is_done note.reply.outcome ≡ true → (IsStored history note → ⊥) → IsWrong rows history note
+pub data IsWrong (tables : Tables) (history : List Request) (note : Note) : Type 0 where
+  bad_reply : (HasRightReply tables history note → ⊥) → IsWrong tables history note
+  bad_entry : is_done note.reply.outcome ≡ true → (IsStored history note → ⊥) → IsWrong tables history note
 
 -- the note is true to the history, if it is of the shard and has a place below the bound
-abbrev pub IsTrueBelow : List Row → ℕ → List Request → Option ℕ → Note → Type 0
-IsTrueBelow rows shard history bound note = note.shard ≡ shard → IsBelow note.reply.place bound → IsTrueTo rows history note
+abbrev pub IsTrueBelow : Tables → ℕ → List Request → Option ℕ → Note → Type 0
+IsTrueBelow tables shard history bound note = note.shard ≡ shard → IsBelow note.reply.place bound → IsTrueTo tables history note
 
 -- the note is of the shard, has this place, and is wrong
-abbrev pub IsWrongAt : List Row → ℕ → List Request → ℕ → Note → Type 0
-IsWrongAt rows shard history place note = IsAt shard place note × IsWrong rows history note
+abbrev pub IsWrongAt : Tables → ℕ → List Request → ℕ → Note → Type 0
+IsWrongAt tables shard history place note = IsAt shard place note × IsWrong tables history note
 
 -- the note has no place before the least that it may have, if it is of the shard and has a place below the bound
 abbrev pub IsPromptBelow : ℕ → ℕ → Option ℕ → Note → Type 0

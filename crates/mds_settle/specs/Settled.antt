@@ -1,6 +1,6 @@
 -- When the callers' notes fit the history of a shard.
 use Rattle.std.specs.Prelude.{◌≡◌, ℕ, ◌+◌, ◌<◌, ◌≤◌, List, length, take, slice_get, Some, true, All, AllPairs, if◌then◌else◌}
-use Rattle.mds_table.specs.declared.row.Row.{Row}
+use Rattle.mds_table.specs.Tables.{Tables}
 use Rattle.mds_core.specs.declared.request.Request.{Request}
 use Rattle.mds_core.specs.Headline.{is_done}
 use Rattle.mds_core.specs.Answer.{Answers}
@@ -8,9 +8,9 @@ use Rattle.mds_settle.specs.declared.note.Note.{Note}
 use Rattle.mds_settle.specs.Notes.{EachNote, notes_at}
 
 -- the history has as many entries as the note's place says, and the reply is the answer after so many
-pub record IsAnswered (rows : List Row) (history : List Request) (note : Note) : Type 0 where
+pub record HasRightReply (tables : Tables) (history : List Request) (note : Note) : Type 0 where
   pub within : note.reply.place ≤ length history
-  pub answer : Answers rows (take note.reply.place history) note.request note.reply
+  pub answer : Answers tables (take note.reply.place history) note.request note.reply
 
 -- the request is the entry at the note's place
 abbrev pub IsStored : List Request → Note → Type 0
@@ -26,9 +26,9 @@ abbrev pub IsInOrder : ℕ → Note → Note → Type 0
 IsInOrder shard note later = note.shard ≡ shard → later.shard ≡ shard → least_after note ≤ later.reply.place
 
 -- the callers' notes fit the history of this shard
-pub record IsSettled {X : Type 0} (rows : List Row) (shard : ℕ) (history : List Request) (seen : X → List Note) (lists : List X) : Type 0 where
+pub record IsSettled {X : Type 0} (tables : Tables) (shard : ℕ) (history : List Request) (seen : X → List Note) (lists : List X) : Type 0 where
   -- the place of each note is at most the history's length, and its reply is the answer after so many entries
-  pub answered : EachNote shard (IsAnswered rows history) seen lists
+  pub answered : EachNote shard (HasRightReply tables history) seen lists
   -- the request of an accepted note is the entry at its place
   pub stored : EachNote shard (λ note. is_done note.reply.outcome ≡ true → IsStored history note) seen lists
   -- no two accepted notes have one place

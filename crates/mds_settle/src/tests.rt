@@ -23,14 +23,14 @@ const E2: u64 = 0x8000_0000_0000_00e2;
 
 /// What is asked; an event is told by its vehicle, identifier, type, state and time.
 #[derive(Clone, Copy)]
-enum Asked {
+enum Ask {
     Register(u64),
     Report(u64, u64, &'static str, State, u64),
     Look(u64),
 }
 
 /// A note: the shard that was asked, what was asked, and the place and the outcome of the reply.
-type Noted = (usize, Asked, usize, Outcome);
+type Noted = (usize, Ask, usize, Outcome);
 
 /// The identifier with this lower half.
 fn uuid(lower: u64) -> Uuid {
@@ -46,19 +46,19 @@ fn key(device: u64) -> Key {
 }
 
 /// The request that is asked.
-fn request_of(asked: Asked) -> Result<Request, Fail> {
+fn request_of(asked: Ask) -> Result<Request, Fail> {
     Ok(match asked {
-        Asked::Register(device) => Request::Register(key(device)),
-        Asked::Report(device, id, kind, state, time) => {
+        Ask::Register(device) => Request::Register(key(device)),
+        Ask::Report(device, id, kind, state, time) => {
             let types = [TypeName::new(kind)?];
             Request::Report(Event::new(key(device), uuid(id), state, &types, time, None)?)
         }
-        Asked::Look(device) => Request::Look(key(device)),
+        Ask::Look(device) => Request::Look(key(device)),
     })
 }
 
 /// The requests that are asked.
-fn requests_of(alloc: Global, asked: &[Asked]) -> Result<Vec<Request>, Fail> {
+fn requests_of(alloc: Global, asked: &[Ask]) -> Result<Vec<Request>, Fail> {
     let mut requests = Vec::new(alloc);
     for one in asked {
         requests.push(request_of(*one)?)?;

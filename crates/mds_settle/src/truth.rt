@@ -2,7 +2,7 @@
 ghost use Rattle.std.specs.Prelude.{◌≡◌, ◌↔◌, IsTrue, true, false, All, Any};
 ghost use Rattle.mds_core.specs.Lawful.{IsLawful};
 ghost use Rattle.mds_core.specs.Headline.{is_done};
-ghost use Rattle.mds_settle.specs.Settled.{IsAnswered, IsStored};
+ghost use Rattle.mds_settle.specs.Settled.{HasRightReply, IsStored};
 ghost use Rattle.mds_settle.specs.Bounds.{IsBelow, IsLowered, IsTrueTo, IsWrong, IsTrueBelow, IsWrongAt};
 
 use crate::same::{is_same_reply, is_same_request};
@@ -101,7 +101,7 @@ fn is_true(lawful: bool, table: &Table, history: &[Request], note: &Note) -> boo
             return true;
         }
     }
-    is_answered(table, history, note)
+    has_right_reply(table, history, note)
 }
 
 /// Whether the request was accepted.
@@ -122,8 +122,8 @@ fn is_stored(history: &[Request], note: &Note) -> bool
 }
 
 /// Whether the history has as many entries as the note's place says, and the reply is the answer after so many.
-fn is_answered(table: &Table, history: &[Request], note: &Note) -> bool
-    ensures { IsTrue result ↔ IsAnswered table.now history.now note.now }
+fn has_right_reply(table: &Table, history: &[Request], note: &Note) -> bool
+    ensures { IsTrue result ↔ HasRightReply table.now history.now note.now }
 {
     match history.get(..note.reply.place) {
         Some(before) => is_same_reply(&answer(table, before, &note.request), &note.reply),

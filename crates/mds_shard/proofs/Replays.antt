@@ -10,16 +10,16 @@ use Rattle.std.proofs.Math.Seq.{take-append_seam}
 use Rattle.std.proofs.lemmas.List.Elements.{filter_map-append}
 use Rattle.std.proofs.lemmas.List.Folds.{list_any-append}
 use Rattle.std.proofs.lemmas.Option.{slice_get_within}
-use Rattle.mds_table.specs.declared.row.Row.{Row}
+use Rattle.mds_table.specs.Tables.{Tables}
 use Rattle.mds_core.specs.declared.key.Key.{Key}
 use Rattle.mds_core.specs.declared.request.Request.{Request}
 use Rattle.mds_core.specs.declared.reply.Outcome.TheVariants.{Done}
 use Rattle.mds_core.specs.declared.reply.Standing.{Standing}
-use Rattle.mds_core.specs.History.{key_of, same_key, own, report_of, reports, has_event, standing_of}
+use Rattle.mds_core.specs.History.{key_of, same_key, requests_of, report_of, reports, has_event, standing_of}
 use Rattle.mds_core.specs.Answer.{MayBeDone}
 use Rattle.mds_core.specs.Known.{standing_if}
 use Rattle.mds_core.proofs.Standings.{standing_if-push, own_few}
-use Rattle.mds_core.proofs.Histories.{same_key_is, own-push_same, own-push_other, lawful_next}
+use Rattle.mds_core.proofs.Histories.{same_key_is, requests_of-push_same, requests_of-push_other, lawful_next}
 use Rattle.mds_shard.specs.declared.vehicle.Vehicle.{Vehicle}
 use Rattle.mds_shard.specs.Order.{key_cmp, identifier_cmp}
 use Rattle.mds_shard.specs.Replay.{IsLastPlace, IsLastPlaceIf, IsVehicle, AreBefore, PutsVehicle, AddsIdentifier, IsReplay}
@@ -53,7 +53,7 @@ last_place_stays history request key place other last =
       request = last.request;
       about = last.about;
       is = slice_get-append history (request ∷ []) place within ∙ last.is;
-      last = own-push_other history request key other ∙ last.last ∙ ap (λ h. own h key ++ last.request ∷ []) (sym (take-append-le place history (request ∷ []) (omega (arith, within))));
+      last = requests_of-push_other history request key other ∙ last.last ∙ ap (λ h. requests_of h key ++ last.request ∷ []) (sym (take-append-le place history (request ∷ []) (omega (arith, within))));
     }
 
 -- a request is the last about its vehicle when it is put behind
@@ -62,7 +62,7 @@ last_place_push history request key same = record {
   request = request;
   about = same_key_is (key_of request) key same;
   is = slice_get-push history request;
-  last = own-push_same history request key same ∙ ap (λ h. own h key ++ request ∷ []) (sym (take-append_seam history (request ∷ [])));
+  last = requests_of-push_same history request key same ∙ ap (λ h. requests_of h key ++ request ∷ []) (sym (take-append_seam history (request ∷ [])));
 }
 
 -- the place of the last request, of what is kept of a vehicle
@@ -71,11 +71,11 @@ place_of history key None is = is
 place_of history key (Some vehicle) is = is.1
 
 -- where a vehicle stands, of what is kept of it
-pub standing_kept : (history : List Request) (key : Key) (kept : Option Vehicle) → IsVehicle history key kept → option_map (λ vehicle. vehicle.standing) kept ≡ standing_if (own history key)
+pub standing_kept : (history : List Request) (key : Key) (kept : Option Vehicle) → IsVehicle history key kept → option_map (λ vehicle. vehicle.standing) kept ≡ standing_if (requests_of history key)
 standing_kept history key None is = sym (ap standing_if is)
 standing_kept history key (Some vehicle) is =
     let last = is.1.last in
-    ap Some (is.0 ∙ ap standing_of last) ∙ sym (standing_if-push (own (take vehicle.last history) key) is.1.request) ∙ ap standing_if (sym last)
+    ap Some (is.0 ∙ ap standing_of last) ∙ sym (standing_if-push (requests_of (take vehicle.last history) key) is.1.request) ∙ ap standing_if (sym last)
 
 -- the places before, with one more
 before_push : (history : List Request) (before : List (Option ℕ)) (request : Request) (earlier : Option ℕ) → AreBefore history before
@@ -102,26 +102,26 @@ before_push history before request earlier are is = record {
 -- what is kept of every vehicle, with one more request
 vehicles_push : (history : List Request) (request : Request) (old new : BTreeMap Key Vehicle) (standing : Standing)
     → ((key : Key) → IsVehicle history key (get key_cmp old key))
-    → standing ≡ standing_of (own history (key_of request) ++ request ∷ [])
+    → standing ≡ standing_of (requests_of history (key_of request) ++ request ∷ [])
     → PutsVehicle (key_of request) (record { standing = standing; last = length history }) old new
     → (key : Key) → IsVehicle (history ++ request ∷ []) key (get key_cmp new key)
 vehicles_push history request old new standing each stands puts key = rw (puts key) (by_key (same_key (key_of request) key) refl) where
   stays : (kept : Option Vehicle) → same_key (key_of request) key ≡ false → IsVehicle history key kept → IsVehicle (history ++ request ∷ []) key kept
-  stays None other is = own-push_other history request key other ∙ is
+  stays None other is = requests_of-push_other history request key other ∙ is
   stays (Some vehicle) other is =
-      (is.0 ∙ ap standing_of (sym (own-push_other history request key other)), last_place_stays history request key vehicle.last other is.1)
+      (is.0 ∙ ap standing_of (sym (requests_of-push_other history request key other)), last_place_stays history request key vehicle.last other is.1)
 
   by_key : (b : Bool) → same_key (key_of request) key ≡ b
       → IsVehicle (history ++ request ∷ []) key (cond b (Some (record { standing = standing; last = length history })) (get key_cmp old key))
   by_key false other = stays (get key_cmp old key) other (each key)
   by_key true same =
-      let own_key : own history (key_of request) ≡ own history key = ap (own history) (same_key_is (key_of request) key same) in
-      (stands ∙ ap (λ l. standing_of (l ++ request ∷ [])) own_key ∙ ap standing_of (sym (own-push_same history request key same)), last_place_push history request key same)
+      let own_key : requests_of history (key_of request) ≡ requests_of history key = ap (requests_of history) (same_key_is (key_of request) key same) in
+      (stands ∙ ap (λ l. standing_of (l ++ request ∷ [])) own_key ∙ ap standing_of (sym (requests_of-push_same history request key same)), last_place_push history request key same)
 
 -- the identifiers, with one more request
 identifiers_push : (history : List Request) (request : Request) (old new : BTreeSet (Key × List ℕ))
-    → ((key : Key) (id : List ℕ) → contains identifier_cmp old (key, id) ≡ has_event (own history key) id) → AddsIdentifier request old new
-    → (key : Key) (id : List ℕ) → contains identifier_cmp new (key, id) ≡ has_event (own (history ++ request ∷ []) key) id
+    → ((key : Key) (id : List ℕ) → contains identifier_cmp old (key, id) ≡ has_event (requests_of history key) id) → AddsIdentifier request old new
+    → (key : Key) (id : List ℕ) → contains identifier_cmp new (key, id) ≡ has_event (requests_of (history ++ request ∷ []) key) id
 identifiers_push history request old new each adds key id = adds key id ∙ ap (λ b. b || (same_key (key_of request) key && has_event (request ∷ []) id)) (each key id) ∙ by_key (same_key (key_of request) key) refl where
   has_event-append : (first second : List Request) → has_event (first ++ second) id ≡ (has_event first id || has_event second id)
   has_event-append first second =
@@ -131,26 +131,26 @@ identifiers_push history request old new each adds key id = adds key id ∙ ap (
   or_false false = refl
   or_false true = refl
 
-  by_key : (b : Bool) → same_key (key_of request) key ≡ b → (has_event (own history key) id || (b && has_event (request ∷ []) id)) ≡ has_event (own (history ++ request ∷ []) key) id
-  by_key false other = or_false (has_event (own history key) id) ∙ ap (λ l. has_event l id) (sym (own-push_other history request key other))
-  by_key true same = sym (has_event-append (own history key) (request ∷ [])) ∙ ap (λ l. has_event l id) (sym (own-push_same history request key same))
+  by_key : (b : Bool) → same_key (key_of request) key ≡ b → (has_event (requests_of history key) id || (b && has_event (request ∷ []) id)) ≡ has_event (requests_of (history ++ request ∷ []) key) id
+  by_key false other = or_false (has_event (requests_of history key) id) ∙ ap (λ l. has_event l id) (sym (requests_of-push_other history request key other))
+  by_key true same = sym (has_event-append (requests_of history key) (request ∷ [])) ∙ ap (λ l. has_event l id) (sym (requests_of-push_same history request key same))
 
 -- what is kept beside a history goes on with a request that is accepted
-pub replay_push : (rows : List Row) (history : List Request) (before : List (Option ℕ)) (old new : BTreeMap Key Vehicle) (ids new_ids : BTreeSet (Key × List ℕ))
-    (request : Request) (kept : Option Vehicle) (standing : Standing) → IsReplay rows history before old ids → MayBeDone rows history request
-    → IsVehicle history (key_of request) kept → standing ≡ standing_of (own history (key_of request) ++ request ∷ [])
+pub replay_push : (tables : Tables) (history : List Request) (before : List (Option ℕ)) (old new : BTreeMap Key Vehicle) (ids new_ids : BTreeSet (Key × List ℕ))
+    (request : Request) (kept : Option Vehicle) (standing : Standing) → IsReplay tables history before old ids → MayBeDone tables history request
+    → IsVehicle history (key_of request) kept → standing ≡ standing_of (requests_of history (key_of request) ++ request ∷ [])
     → PutsVehicle (key_of request) (record { standing = standing; last = length history }) old new → AddsIdentifier request ids new_ids
-    → IsReplay rows (history ++ request ∷ []) (before ++ option_map (λ vehicle. vehicle.last) kept ∷ []) new new_ids
-replay_push rows history before old new ids new_ids request kept standing is may vehicle stands puts adds = record {
-  lawful = lawful_next rows history request Done is.lawful may;
+    → IsReplay tables (history ++ request ∷ []) (before ++ option_map (λ vehicle. vehicle.last) kept ∷ []) new new_ids
+replay_push tables history before old new ids new_ids request kept standing is may vehicle stands puts adds = record {
+  lawful = lawful_next tables history request Done is.lawful may;
   places = before_push history before request (option_map (λ v. v.last) kept) is.places (place_of history (key_of request) kept vehicle);
   standings = vehicles_push history request old new standing is.standings stands puts;
   held = identifiers_push history request ids new_ids is.held adds;
 }
 
 -- a history that fits in memory has few events of each vehicle
-pub few_reports : (history : List Request) (key : Key) → length (reports (own history key)) ≤ length history
+pub few_reports : (history : List Request) (key : Key) → length (reports (requests_of history key)) ≤ length history
 few_reports history key =
     let few = own_few history (length history) key (omega arith) in
-    let P : List Request → Type 0 = λ h. length (reports (own h key)) ≤ length history in
+    let P : List Request → Type 0 = λ h. length (reports (requests_of h key)) ≤ length history in
     subst P (take_all (length history) history (omega arith)) few

@@ -10,7 +10,7 @@ use Rattle.std.proofs.lemmas.Option.{slice_get_within}
 use Rattle.mds_core.specs.declared.key.Key.{Key}
 use Rattle.mds_core.specs.declared.request.Request.{Request}
 use Rattle.mds_core.specs.Reported.{Reported}
-use Rattle.mds_core.specs.History.{key_of, own, report_of, reports}
+use Rattle.mds_core.specs.History.{key_of, requests_of, report_of, reports}
 use Rattle.mds_shard.specs.Replay.{IsLastPlace, IsLastPlaceIf, AreBefore}
 
 -- how many steps the walk has left, at most
@@ -21,7 +21,7 @@ steps_left (Some place) = place + 1
 -- of one vehicle, the events before the end, and then those found
 abbrev pub HasFound : List Request → Key → ℕ → Option ℕ → List Reported → Type 0
 HasFound history key end at found =
-    IsLastPlaceIf (take end history) key at × (reports (own (take end history) key) ++ reverse found ≡ reports (own history key))
+    IsLastPlaceIf (take end history) key at × (reports (requests_of (take end history) key) ++ reverse found ≡ reports (requests_of history key))
 
 -- where the walk stands: before an end, with what it has found behind it, whichever vehicle it goes along
 pub record IsWalk (history : List Request) (last : ℕ) (at : Option ℕ) (found : List Reported) : Type 0 where
@@ -62,7 +62,7 @@ walk_begins history last found within none =
       before_end = omega arith;
       finds = λ key is. (
         (let P : List Request → Type 0 = λ h. IsLastPlace h key last in subst P (sym whole) is),
-        ap (λ h. reports (own h key) ++ reverse found) whole ∙ ap (λ f. reports (own history key) ++ reverse f) none ∙ append-nil (reports (own history key)),
+        ap (λ h. reports (requests_of h key) ++ reverse found) whole ∙ ap (λ f. reports (requests_of history key) ++ reverse f) none ∙ append-nil (reports (requests_of history key)),
       );
     }
 
@@ -86,18 +86,18 @@ walk_goes_on history before last place found more request earlier are at at_befo
           let same : prior.0.request ≡ request = let there = sym prior.0.is ∙ slice_get-take history walk.end place less ∙ at in cc in
           let P : Key → Type 0 = λ k. IsLastPlaceIf (take place history) k earlier in
           let front : take place (take walk.end history) ≡ take place history = take-take_less history place walk.end (omega (arith, less)) in
-          let own_is : own (take walk.end history) key ≡ own (take place history) key ++ request ∷ [] =
-          prior.0.last ∙ ap (λ h. own h key ++ prior.0.request ∷ []) front ∙ ap (λ r. own (take place history) key ++ r ∷ []) same in
-          let events = reports (own (take place history) key) in
-          let split : reports (own (take walk.end history) key) ≡ events ++ cons_option (report_of request) [] =
-          ap reports own_is ∙ filter_map-append report_of (own (take place history) key) (request ∷ []) in (
+          let own_is : requests_of (take walk.end history) key ≡ requests_of (take place history) key ++ request ∷ [] =
+          prior.0.last ∙ ap (λ h. requests_of h key ++ prior.0.request ∷ []) front ∙ ap (λ r. requests_of (take place history) key ++ r ∷ []) same in
+          let events = reports (requests_of (take place history) key) in
+          let split : reports (requests_of (take walk.end history) key) ≡ events ++ cons_option (report_of request) [] =
+          ap reports own_is ∙ filter_map-append report_of (requests_of (take place history) key) (request ∷ []) in (
             subst P (sym (ap key_of same) ∙ prior.0.about) before_it,
             ap (λ m. events ++ reverse m) is_more ∙ ap (λ m. events ++ m) (found_more found (report_of request))
                 ∙ sym (append_assoc events (cons_option (report_of request) []) (reverse found)) ∙ ap (λ m. m ++ reverse found) (sym split) ∙ prior.1,
           )
 
 pub walk_ends : (history : List Request) (last : ℕ) (found : List Reported) (key : Key) → IsWalk history last None found → IsLastPlace history key last
-    → reverse found ≡ reports (own history key)
+    → reverse found ≡ reports (requests_of history key)
 walk_ends history last found key walk is =
     let end = walk.finds key is in ap (λ l. reports l ++ reverse found) (sym end.0) ∙ end.1
 

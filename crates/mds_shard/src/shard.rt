@@ -1,13 +1,14 @@
 //! A shard: the machine with its vehicles looked up in maps.
-ghost use Rattle.std.specs.Prelude.{◌≡◌, ◌≢◌, ◌<◌, ◌^◌, [], ◌∷◌, ◌++◌, length, IfNone, IfSome, IfOk, OnOk, OnErr, MatchOption};
-ghost use Rattle.mds_core.specs.History.{own, key_of, reports, standing_of};
-ghost use Rattle.mds_core.specs.Answer.{Answers, MayBeDone, next};
+ghost use Rattle.std.specs.Prelude.{◌≡◌, ◌<◌, ◌^◌, [], ◌∷◌, ◌++◌, length, IfOk, OnOk, OnErr, option_map};
+ghost use Rattle.mds_core.specs.History.{requests_of, key_of};
+ghost use Rattle.mds_core.specs.Answer.{MayBeDone};
+ghost use Rattle.mds_core.specs.Machine.{Steps, LacksMemory, standing_in as where_it_stands, events_in};
 ghost use Rattle.mds_core.specs.Lawful.{IsLawful};
 ghost use Rattle.mds_core.specs.Known.{is_repeated};
 ghost use Rattle.mds_shard.specs.Replay.{IsVehicle};
 
-use crate::vehicle::{Vehicle, events_to, keep, last_in, standing_after, standing_in};
-use mds_core::{Event, Key, Known, Outcome, Reply, Request, Standing, decide};
+use crate::vehicle::{Vehicle, events_to, keep, last_in, standing_in};
+use mds_core::{Event, Key, Known, Outcome, Reply, Request, Standing, decide, standing_after};
 use mds_table::Table;
 use std::alloc::{AllocError, Global};
 use std::collections::{BTreeMap, BTreeSet};
@@ -34,7 +35,7 @@ impl Model for Shard {
 
     ghost Value = { Machine };
 
-    ghost view = { λ shard. record { rows = shard.table; history = shard.history.items } };
+    ghost view = { λ shard. record { tables = shard.table; history = shard.history.items } };
 
     ghost invariant = { λ shard. IsReplay shard.table shard.history.items shard.before.items shard.vehicles shard.identifiers };
 }
@@ -42,7 +43,7 @@ impl Model for Shard {
 impl Shard {
     /// A shard over the table, with nothing accepted yet. It takes no memory.
     pub fn open(alloc: Global, table: Table) -> Shard
-        ensures { result ≡ record { rows = table; history = [] } }
+        ensures { result ≡ record { tables = table; history = [] } }
     {
         Shard {
             table,
@@ -60,11 +61,8 @@ impl Shard {
     ///
     /// `AllocError` where the request would be accepted and there is no memory to keep it; nothing has changed then.
     pub fn step(&mut self, request: &Request) -> Result<Reply, AllocError>
-        ensures answer { IfOk result (Answers self.old.rows self.old.history request.now) }
-        ensures rows { self.new.rows ≡ self.old.rows }
-        ensures next { IfOk result (λ reply. self.new.history ≡ next self.old.history request.now reply.outcome) }
-        ensures memory { OnErr result (MayBeDone self.old.rows self.old.history request.now) }
-        ensures unchanged { OnErr result (self.new.history ≡ self.old.history) }
+        ensures step { IfOk result (λ reply. Steps self.old request.now reply self.new) }
+        ensures memory { OnErr result (LacksMemory self.old request.now self.new) }
     {
         let vehicle = self.vehicle(request.key());
         let known = Known {
@@ -83,7 +81,7 @@ impl Shard {
 
     /// Whether the request reports an event with the identifier of one of its vehicle's events.
     fn has_event(&self, request: &Request) -> bool
-        ensures { result ≡ is_repeated (own self.now.history (key_of request.now)) request.now }
+        ensures { result ≡ is_repeated (requests_of self.now.history (key_of request.now)) request.now }
     {
         match request.event() {
             Some(event) => self.identifiers.contains(&(*request.key(), event.id())),
@@ -104,11 +102,11 @@ impl Shard {
     ///
     /// `AllocError` where there is no memory to keep it; nothing has changed then.
     fn accept(&mut self, request: &Request, vehicle: Option<Vehicle>) -> Result<(), AllocError>
-        requires accepted { MayBeDone self.old.rows self.old.history request.now }
+        requires accepted { MayBeDone self.old.tables self.old.history request.now }
         requires vehicle { IsVehicle self.old.history (key_of request.now) vehicle }
-        ensures rows { self.new.rows ≡ self.old.rows }
+        ensures tables { OnOk result (self.new.tables ≡ self.old.tables) }
         ensures history { OnOk result (self.new.history ≡ self.old.history ++ request.now ∷ []) }
-        ensures unchanged { OnErr result (self.new.history ≡ self.old.history) }
+        ensures unchanged { OnErr result (self.new ≡ self.old) }
     {
         let before = last_in(vehicle);
         let standing = standing_after(standing_in(vehicle), request);
@@ -129,16 +127,14 @@ impl Shard {
     /// The accepted requests, in the order in which they were accepted.
     pub fn history(&self) -> &[Request]
         ensures history { result.now ≡ self.now.history }
-        ensures lawful { IsLawful self.now.rows self.now.history }
+        ensures lawful { IsLawful self.now.tables self.now.history }
     {
         self.history.as_slice()
     }
 
     /// Where the vehicle stands, or `None` where it isn't registered. It costs the logarithm of the number of vehicles.
     pub fn standing(&self, key: &Key) -> Option<Standing>
-        ensures none { IfNone result (own self.now.history key.now ≡ []) }
-        ensures registered { IfSome result (λ _. own self.now.history key.now ≢ []) }
-        ensures standing { IfSome result (λ standing. standing ≡ standing_of (own self.now.history key.now)) }
+        ensures { result ≡ where_it_stands self.now.history key.now }
     {
         standing_in(self.vehicle(key))
     }
@@ -150,7 +146,7 @@ impl Shard {
     ///
     /// `AllocError` where there is no memory for the list.
     pub fn events(&self, alloc: Global, key: &Key) -> Result<Option<Vec<Event>>, AllocError>
-        ensures { IfOk result (λ events. MatchOption events (own self.now.history key.now ≡ []) (λ v. (own self.now.history key.now ≢ []) × (v.items ≡ reports (own self.now.history key.now)))) }
+        ensures { IfOk result (λ found. option_map (λ events. events.items) found ≡ events_in self.now.history key.now) }
     {
         let Some(vehicle) = self.vehicle(key) else {
             return Ok(None);
@@ -167,7 +163,7 @@ impl Shard {
 
     /// The table that decides.
     pub fn table(&self) -> &Table
-        ensures { result.now ≡ self.now.rows }
+        ensures { result.now ≡ self.now.tables }
     {
         &self.table
     }
@@ -175,7 +171,7 @@ impl Shard {
     /// The number of accepted requests.
     pub fn len(&self) -> usize
         ensures len { result ≡ length self.now.history }
-        ensures lawful { IsLawful self.now.rows self.now.history }
+        ensures lawful { IsLawful self.now.tables self.now.history }
         ensures small { result < 2 ^ 63 }
     {
         self.history.len()

@@ -30,7 +30,7 @@ pub const DROP_OFF: &[&str] = &["provider_drop_off"];
 
 /// What a test asks; an event is told by its vehicle, identifier, types, state and time.
 #[derive(Clone, Copy)]
-pub enum Asked<'a> {
+pub enum Ask<'a> {
     Register(&'a str),
     Report(&'a str, &'a str, &'a [&'a str], State, u64),
     Look(&'a str),
@@ -54,20 +54,20 @@ fn types_of(alloc: Global, names: &[&str]) -> Result<Vec<TypeName>, Fail> {
 }
 
 /// The request that is asked.
-pub fn request_of(alloc: Global, asked: Asked<'_>) -> Result<Request, Fail> {
+pub fn request_of(alloc: Global, asked: Ask<'_>) -> Result<Request, Fail> {
     Ok(match asked {
-        Asked::Register(device) => Request::Register(key(device)?),
-        Asked::Report(device, id, names, state, time) => {
+        Ask::Register(device) => Request::Register(key(device)?),
+        Ask::Report(device, id, names, state, time) => {
             let types = types_of(alloc, names)?;
             let id = Uuid::parse_str(id)?;
             Request::Report(Event::new(key(device)?, id, state, &types, time, None)?)
         }
-        Asked::Look(device) => Request::Look(key(device)?),
+        Ask::Look(device) => Request::Look(key(device)?),
     })
 }
 
 /// A shard over the profile that was asked all this, and the reply to each request.
-pub fn asked_all(alloc: Global, asked: &[Asked<'_>]) -> Result<(Shard, Vec<Reply>), Fail> {
+pub fn asked_all(alloc: Global, asked: &[Ask<'_>]) -> Result<(Shard, Vec<Reply>), Fail> {
     let mut shard = Shard::open(alloc, Table::profile(alloc)?);
     let mut replies = Vec::new(alloc);
     for one in asked {

@@ -3,8 +3,8 @@ ghost use Rattle.std.specs.Prelude.{◌≡◌, ◌≢◌, ◌<◌, ◌++◌, ◌
 ghost use Rattle.std.below.core.specs.declared.int.usize.TheConstants.{MAX};
 ghost use Rattle.std.specs.BTreeMap.{get, IsUnchanged};
 ghost use Rattle.mds_core.specs.declared.key.Key.{Key};
-ghost use Rattle.mds_core.specs.declared.request.Request.{Request as Asked};
-ghost use Rattle.mds_core.specs.History.{key_of, own, reports, report_of, standing_of};
+ghost use Rattle.mds_core.specs.declared.request.Request.{Request as Requested};
+ghost use Rattle.mds_core.specs.History.{key_of, requests_of, reports, report_of, standing_of};
 ghost use Rattle.mds_core.specs.Known.{standing_if};
 ghost use Rattle.mds_shard.specs.Order.{key_cmp};
 ghost use Rattle.mds_shard.specs.Replay.{AreBefore, IsLastPlace, PutsVehicle, AddsIdentifier};
@@ -35,18 +35,6 @@ pub fn last_in(vehicle: Option<Vehicle>) -> Option<usize>
     ensures { result ≡ option_map (λ v. v.last) vehicle }
 {
     vehicle.map(|vehicle| vehicle.last)
-}
-
-/// Where a vehicle stands after one more request about it that was accepted.
-pub fn standing_after(standing: Option<Standing>, request: &Request) -> Standing
-    ensures { (requests : List Asked) → standing ≡ standing_if requests → length (reports requests) < MAX
-        → result ≡ standing_of (requests ++ request.now ∷ []) }
-{
-    let standing = standing.unwrap_or(Standing::registered());
-    match request.event() {
-        Some(event) => standing.after(event),
-        None => standing,
-    }
 }
 
 /// Keeps the identifier of the event that a request reports, if it reports one.
@@ -111,7 +99,7 @@ pub fn events_to(
 ) -> Result<Vec<Event>, AllocError>
     requires before { AreBefore history.now before.now }
     requires last { last < length history.now }
-    ensures { IfOk result (λ events. (key : Key) → IsLastPlace history.now key last → events.items ≡ reports (own history.now key)) }
+    ensures { IfOk result (λ events. (key : Key) → IsLastPlace history.now key last → events.items ≡ reports (requests_of history.now key)) }
 {
     let mut events = Vec::with_capacity(alloc, count)?;
     let mut at = Some(last);

@@ -5,6 +5,7 @@ pub mod Row
 pub mod RowLaws
 pub mod Profile
 pub mod Chain
+pub mod Tables
 pub mod Printed
 pub mod Json
 pub mod TableFile

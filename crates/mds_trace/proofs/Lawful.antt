@@ -10,13 +10,13 @@ use Rattle.std.proofs.lemmas.Option.{slice_get-get_or, slice_get_within, get_or_
 use Rattle.std.proofs.lemmas.Slice.Eq.{bytes_eq-Decides}
 use Rattle.std.proofs.Math.Seq.{get_or-append_seam}
 use Rattle.mds_table.specs.declared.state.State.TheVariants.{Removed}
-use Rattle.mds_table.specs.declared.row.Row.{Row}
+use Rattle.mds_table.specs.Tables.{Tables}
 use Rattle.mds_table.specs.Chain.{Leads}
 use Rattle.mds_core.specs.declared.key.Key.{Key}
 use Rattle.mds_core.specs.declared.request.Request.{Request}
 use Rattle.mds_core.specs.declared.request.Request.TheVariants.{Register, Report, Look}
 use Rattle.mds_core.specs.Reported.{Reported}
-use Rattle.mds_core.specs.History.{own, reports, held, key_of, same_key, is_late, last_time}
+use Rattle.mds_core.specs.History.{requests_of, reports, state_of, key_of, same_key, is_late, last_time}
 use Rattle.mds_core.specs.Answer.{IsOpen}
 use Rattle.mds_core.specs.Lawful.{IsCareer, IsLawfulOf}
 use Rattle.mds_core.proofs.Histories.{same_key_is}
@@ -66,18 +66,18 @@ All-middle : (P : Reported → Type 0) (xs ys : List Reported) (y : Reported) �
 All-middle P xs ys y all = subst P (get_or-append_seam xs y ys y) (all (length xs) y (omega (arith, length-append xs (y ∷ ys))))
 
 -- the events of a vehicle have its key
-own_keys : (history : List Request) (key : Key) → All (λ (one : Reported). one.key ≡ key) (reports (own history key))
+own_keys : (history : List Request) (key : Key) → All (λ (one : Reported). one.key ≡ key) (reports (requests_of history key))
 own_keys [] key = All-nil (λ (one : Reported). one.key ≡ key)
 own_keys (request ∷ history) key = by_key request (same_key (key_of request) key) refl (own_keys history key) where
-  by_key : (request : Request) (b : Bool) → same_key (key_of request) key ≡ b → All (λ (one : Reported). one.key ≡ key) (reports (own history key))
-      → All (λ (one : Reported). one.key ≡ key) (reports (cond b (request ∷ own history key) (own history key)))
+  by_key : (request : Request) (b : Bool) → same_key (key_of request) key ≡ b → All (λ (one : Reported). one.key ≡ key) (reports (requests_of history key))
+      → All (λ (one : Reported). one.key ≡ key) (reports (cond b (request ∷ requests_of history key) (requests_of history key)))
   by_key request false other rest = rest
   by_key (Register k) true same rest = rest
   by_key (Look k) true same rest = rest
   by_key (Report event) true same rest =
-      All-cons (λ (one : Reported). one.key ≡ key) event (reports (own history key)) (same_key_is event.key key same) rest
+      All-cons (λ (one : Reported). one.key ≡ key) event (reports (requests_of history key)) (same_key_is event.key key same) rest
 
-module _ (rows : List Row) (key registered : Key) where
+module _ (tables : Tables) (key registered : Key) where
   -- a registration and the reports of events
   abbrev told : List Reported → List Request
   told events = Register registered ∷ map Report events
@@ -94,38 +94,38 @@ module _ (rows : List Row) (key registered : Key) where
       record { key = theirs ∙ sym same; time = ltb-false event.time last.time not_late }
 
   -- over one event more that is open and leads on, a session may be opened
-  pub open_next : (done : List Reported) (event : Reported) → All (λ (one : Reported). one.key ≡ key) done → event.key ≡ key → AreOpenFrom rows Removed done
-      → IsOpen (told done) event → Leads rows (held (told done)) event.types event.state → AreOpenFrom rows Removed (done ++ event ∷ [])
+  pub open_next : (done : List Reported) (event : Reported) → All (λ (one : Reported). one.key ≡ key) done → event.key ≡ key → AreOpenFrom tables Removed done
+      → IsOpen (told done) event → Leads tables (state_of (told done)) event.types event.state → AreOpenFrom tables Removed (done ++ event ∷ [])
   open_next done event theirs same before is_open leads =
       let new : IsNewAfter done event = new_to event.id done (sym (ap (list_any (λ (one : Reported). bytes_eq one.id event.id)) (reports_of done)) ∙ is_open.new) in
-      open_push rows Removed done event before (order_more done event before.order new (comes_next done event theirs same is_open))
-      (subst (λ state. Leads rows state event.types event.state)
+      open_push tables Removed done event before (order_more done event before.order new (comes_next done event theirs same is_open))
+      (subst (λ state. Leads tables state event.types event.state)
       (ap (λ events. option_map_or (λ (one : Reported). one.state) (last_or None events) Removed) (reports_of done) ∙ held_is done) leads)
 
   -- from a list over which a session may be opened, the rest of a career goes on
-  goes_on : (rest done : List Reported) → All (λ (one : Reported). one.key ≡ key) (done ++ rest) → AreOpenFrom rows Removed done
-      → IsCareer rows (told done) (map Report rest) → AreOpenFrom rows Removed (done ++ rest)
-  goes_on [] done keys before career = subst (λ all. AreOpenFrom rows Removed all) (sym (append-nil done)) before
+  goes_on : (rest done : List Reported) → All (λ (one : Reported). one.key ≡ key) (done ++ rest) → AreOpenFrom tables Removed done
+      → IsCareer tables (told done) (map Report rest) → AreOpenFrom tables Removed (done ++ rest)
+  goes_on [] done keys before career = subst (λ all. AreOpenFrom tables Removed all) (sym (append-nil done)) before
   goes_on (event ∷ rest) done keys before career =
       let all : done ++ (event ∷ rest) ≡ (done ++ event ∷ []) ++ rest = sym (append_assoc done (event ∷ []) rest) in
       let theirs : All (λ (one : Reported). one.key ≡ key) done = All-front (λ (one : Reported). one.key ≡ key) done (event ∷ rest) keys in
       let same : event.key ≡ key = All-middle (λ (one : Reported). one.key ≡ key) done rest event keys in
-      let next : AreOpenFrom rows Removed (done ++ event ∷ []) = open_next done event theirs same before career.0 career.1 in
+      let next : AreOpenFrom tables Removed (done ++ event ∷ []) = open_next done event theirs same before career.0 career.1 in
       let grown : told done ++ Report event ∷ [] ≡ told (done ++ event ∷ []) = ap (λ more. Register registered ∷ more) (sym (map-append Report done (event ∷ []))) in
-      subst (λ events. AreOpenFrom rows Removed events) (sym all)
+      subst (λ events. AreOpenFrom tables Removed events) (sym all)
       (goes_on rest (done ++ event ∷ []) (subst (λ events. All (λ (one : Reported). one.key ≡ key) events) all keys) next
-      (subst (λ requests. IsCareer rows requests (map Report rest)) grown career.2))
+      (subst (λ requests. IsCareer tables requests (map Report rest)) grown career.2))
 
 -- a career is reports alone
-all_reports : (rows : List Row) (before rest : List Request) → IsCareer rows before rest → rest ≡ map Report (reports rest)
-all_reports rows before [] career = refl
-all_reports rows before (Report event ∷ rest) career = ap (λ more. Report event ∷ more) (all_reports rows (before ++ Report event ∷ []) rest career.2)
-all_reports rows before (Register key ∷ rest) career = absurd career
-all_reports rows before (Look key ∷ rest) career = absurd career
+all_reports : (tables : Tables) (before rest : List Request) → IsCareer tables before rest → rest ≡ map Report (reports rest)
+all_reports tables before [] career = refl
+all_reports tables before (Report event ∷ rest) career = ap (λ more. Report event ∷ more) (all_reports tables (before ++ Report event ∷ []) rest career.2)
+all_reports tables before (Register key ∷ rest) career = absurd career
+all_reports tables before (Look key ∷ rest) career = absurd career
 
 -- what is held after a registration and some reports
 held_told : (registered : Key) (events : List Reported) (i : ℕ) → i ≤ length events
-    → held_at Removed events i ≡ held (take (i + 1) (Register registered ∷ map Report events))
+    → held_at Removed events i ≡ state_of (take (i + 1) (Register registered ∷ map Report events))
 held_told registered events i within =
     let front : length (take i events) ≡ i = length-take-le i events within in
     let told : reports (take i (map Report events)) ≡ take i events = ap reports (take-map Report i events) ∙ reports_of (take i events) in
@@ -134,18 +134,18 @@ held_told registered events i within =
     ap (λ all. option_map_or (λ (one : Reported). one.state) (last_or None all) Removed) told ∙ held_is (take i events)
     ∙ ap (held_at Removed (take i events)) front ∙ held_there))
 
-of_lawful : (rows : List Row) (requests : List Request) (key : Key) → IsLawfulOf rows requests → requests ≢ []
+of_lawful : (tables : Tables) (requests : List Request) (key : Key) → IsLawfulOf tables requests → requests ≢ []
     → All (λ (one : Reported). one.key ≡ key) (reports requests)
-    → AreOpenFrom rows Removed (reports requests)
-    × ((i : ℕ) → i ≤ length (reports requests) → held_at Removed (reports requests) i ≡ held (take (i + 1) requests))
-of_lawful rows [] key lawful some keys = absurd (some refl)
-of_lawful rows (Report event ∷ rest) key lawful some keys = absurd lawful
-of_lawful rows (Look one ∷ rest) key lawful some keys = absurd lawful
-of_lawful rows (Register registered ∷ rest) key lawful some keys =
-    let form : rest ≡ map Report (reports rest) = all_reports rows (Register registered ∷ []) rest lawful in (
-      goes_on rows key registered (reports rest) [] keys (none_open rows Removed) (subst (λ all. IsCareer rows (Register registered ∷ []) all) form lawful),
-      λ i within. held_told registered (reports rest) i within ∙ ap (λ all. held (take (i + 1) (Register registered ∷ all))) (sym form),
+    → AreOpenFrom tables Removed (reports requests)
+    × ((i : ℕ) → i ≤ length (reports requests) → held_at Removed (reports requests) i ≡ state_of (take (i + 1) requests))
+of_lawful tables [] key lawful some keys = absurd (some refl)
+of_lawful tables (Report event ∷ rest) key lawful some keys = absurd lawful
+of_lawful tables (Look one ∷ rest) key lawful some keys = absurd lawful
+of_lawful tables (Register registered ∷ rest) key lawful some keys =
+    let form : rest ≡ map Report (reports rest) = all_reports tables (Register registered ∷ []) rest lawful in (
+      goes_on tables key registered (reports rest) [] keys (none_open tables Removed) (subst (λ all. IsCareer tables (Register registered ∷ []) all) form lawful),
+      λ i within. held_told registered (reports rest) i within ∙ ap (λ all. state_of (take (i + 1) (Register registered ∷ all))) (sym form),
     )
 
 pub lawful_reports_open : LawfulReportsOpen
-lawful_reports_open rows history key lawful some = of_lawful rows (own history key) key (lawful key) some (own_keys history key)
+lawful_reports_open tables history key lawful some = of_lawful tables (requests_of history key) key (lawful key) some (own_keys history key)

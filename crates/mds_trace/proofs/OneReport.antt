@@ -2,7 +2,7 @@
 use Rattle.std.proofs.Common.{◌≡◌, ◌⊎◌, inl, inr, zero, suc, ◌<◌, List, [], ◌∷◌, Contains, count_by, refl, sym, ◌∙◌, ap, subst, arith}
 use Rattle.std.specs.List.{AllZip}
 use Rattle.mds_table.specs.declared.state.State.{State}
-use Rattle.mds_table.specs.declared.row.Row.{Row}
+use Rattle.mds_table.specs.Tables.{Tables}
 use Rattle.mds_table.specs.State.{code_of}
 use Rattle.mds_steps.specs.StateSet.{AreInCodeOrder}
 use Rattle.mds_core.specs.declared.key.Key.{Key}
@@ -63,40 +63,40 @@ same_set (x ∷ a) (y ∷ b) order_a order_b to from =
         | inr behind ↦ behind
       ]
 
-one_set : (opening : Opening) (rows : List Row) (prior : List Reported) (a b : List State) → AreOpeningsOf opening rows prior a → AreOpeningsOf opening rows prior b → a ≡ b
-one_set Removed rows prior a b are_a are_b = are_a ∙ sym are_b
-one_set Any rows [] a b are_a are_b = are_a ∙ sym are_b
-one_set Any rows (first ∷ others) a b are_a are_b =
+one_set : (opening : Opening) (tables : Tables) (prior : List Reported) (a b : List State) → AreOpeningsOf opening tables prior a → AreOpeningsOf opening tables prior b → a ≡ b
+one_set Removed tables prior a b are_a are_b = are_a ∙ sym are_b
+one_set Any tables [] a b are_a are_b = are_a ∙ sym are_b
+one_set Any tables (first ∷ others) a b are_a are_b =
     same_set a b are_a.0 are_b.0 (λ state found. (are_b.1 state).1 ((are_a.1 state).0 found)) (λ state found. (are_a.1 state).1 ((are_b.1 state).0 found))
 
-one_end : (opening : Opening) (rows : List Row) (accepted : List Reported) (key : Key) (a b : VehicleEnd) → IsEnd opening rows accepted key a → IsEnd opening rows accepted key b → a ≡ b
-one_end opening rows accepted key a b is_a is_b =
+one_end : (opening : Opening) (tables : Tables) (accepted : List Reported) (key : Key) (a b : VehicleEnd) → IsEnd opening tables accepted key a → IsEnd opening tables accepted key b → a ≡ b
+one_end opening tables accepted key a b is_a is_b =
     let key_is = is_a.key_is ∙ sym is_b.key_is in
-    let openings = one_set opening rows (prior_of key accepted) a.openings b.openings is_a.openings is_b.openings in
+    let openings = one_set opening tables (prior_of key accepted) a.openings b.openings is_a.openings is_b.openings in
     let standing = is_a.standing ∙ sym is_b.standing in
     λ i. record { key = key_is i; openings = openings i; standing = standing i }
 
-one_list_of_ends : (opening : Opening) (rows : List Row) (accepted : List Reported) (keys : List Key) (a b : List VehicleEnd) → AllZip (IsEnd opening rows accepted) keys a
-    → AllZip (IsEnd opening rows accepted) keys b → a ≡ b
-one_list_of_ends opening rows accepted [] [] [] are_a are_b = refl
-one_list_of_ends opening rows accepted [] (a ∷ rest) b are_a are_b = absurd are_a
-one_list_of_ends opening rows accepted [] [] (b ∷ others) are_a are_b = absurd are_b
-one_list_of_ends opening rows accepted (key ∷ keys) [] b are_a are_b = absurd are_a
-one_list_of_ends opening rows accepted (key ∷ keys) (a ∷ rest) [] are_a are_b = absurd are_b
-one_list_of_ends opening rows accepted (key ∷ keys) (a ∷ rest) (b ∷ others) are_a are_b =
-    let end = one_end opening rows accepted key a b are_a.0 are_b.0 in
-    let ends = one_list_of_ends opening rows accepted keys rest others are_a.1 are_b.1 in
+one_list_of_ends : (opening : Opening) (tables : Tables) (accepted : List Reported) (keys : List Key) (a b : List VehicleEnd) → AllZip (IsEnd opening tables accepted) keys a
+    → AllZip (IsEnd opening tables accepted) keys b → a ≡ b
+one_list_of_ends opening tables accepted [] [] [] are_a are_b = refl
+one_list_of_ends opening tables accepted [] (a ∷ rest) b are_a are_b = absurd are_a
+one_list_of_ends opening tables accepted [] [] (b ∷ others) are_a are_b = absurd are_b
+one_list_of_ends opening tables accepted (key ∷ keys) [] b are_a are_b = absurd are_a
+one_list_of_ends opening tables accepted (key ∷ keys) (a ∷ rest) [] are_a are_b = absurd are_b
+one_list_of_ends opening tables accepted (key ∷ keys) (a ∷ rest) (b ∷ others) are_a are_b =
+    let end = one_end opening tables accepted key a b are_a.0 are_b.0 in
+    let ends = one_list_of_ends opening tables accepted keys rest others are_a.1 are_b.1 in
     λ i. end i ∷ ends i
 
-pub one_report : (opening : Opening) (rows : List Row) (items : List EventItem) (a b : Report) → IsReport opening rows items a → IsReport opening rows items b → AreSameReport a b
-one_report opening rows items a b is_a is_b =
-    let lines = one_list opening rows items a.lines.items b.lines.items is_a.lines is_b.lines in
+pub one_report : (opening : Opening) (tables : Tables) (items : List EventItem) (a b : Report) → IsReport opening tables items a → IsReport opening tables items b → AreSameReport a b
+one_report opening tables items a b is_a is_b =
+    let lines = one_list opening tables items a.lines.items b.lines.items is_a.lines is_b.lines in
     let accepted = is_a.accepted ∙ ap (count_by accepts) lines ∙ sym is_b.accepted in
     let accepted_events = ap (accepted_of items) lines in
     record {
       lines = lines;
-      vehicles = one_list_of_ends opening rows (accepted_of items a.lines.items) (vehicles_of (events_of items)) a.vehicles.items b.vehicles.items is_a.vehicles
-          (subst (λ events. AllZip (IsEnd opening rows events) (vehicles_of (events_of items)) b.vehicles.items) (sym accepted_events) is_b.vehicles);
+      vehicles = one_list_of_ends opening tables (accepted_of items a.lines.items) (vehicles_of (events_of items)) a.vehicles.items b.vehicles.items is_a.vehicles
+          (subst (λ events. AllZip (IsEnd opening tables events) (vehicles_of (events_of items)) b.vehicles.items) (sym accepted_events) is_b.vehicles);
       accepted = accepted;
       refused = omega (arith, accepted, is_a.refused, is_b.refused);
     }

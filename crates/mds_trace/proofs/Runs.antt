@@ -4,7 +4,7 @@ use Rattle.std.specs.List.{filter_map}
 use Rattle.std.proofs.lemmas.Bool.{true≢false}
 use Rattle.std.proofs.lemmas.List.{append-nil}
 use Rattle.std.proofs.lemmas.List.Elements.{Contains-push_cases}
-use Rattle.mds_table.specs.declared.row.Row.{Row}
+use Rattle.mds_table.specs.Tables.{Tables}
 use Rattle.mds_steps.proofs.Sets.{none_in_empty}
 use Rattle.mds_core.specs.declared.key.Key.{Key}
 use Rattle.mds_core.specs.declared.request.Request.{Request}
@@ -14,18 +14,18 @@ use Rattle.mds_core.specs.declared.reply.Outcome.TheVariants.{Done, Seen, Refuse
 use Rattle.mds_core.specs.declared.reply.Refusal.TheVariants.{AlreadyRegistered, Unregistered}
 use Rattle.mds_core.specs.declared.reply.Reply.{Reply}
 use Rattle.mds_core.specs.Reported.{Reported}
-use Rattle.mds_core.specs.History.{own, key_of, same_key, reports, standing_of}
+use Rattle.mds_core.specs.History.{requests_of, key_of, same_key, reports, standing_of}
 use Rattle.mds_core.specs.Answer.{Gives, next}
 use Rattle.mds_core.specs.Run.{IsRun}
 use Rattle.mds_core.proofs.RunLaws.{one_run}
-use Rattle.mds_core.proofs.Histories.{own-push_same, own-push_other, same_key_is, same_key_refl}
+use Rattle.mds_core.proofs.Histories.{requests_of-push_same, requests_of-push_other, same_key_is, same_key_refl}
 use Rattle.mds_batch.specs.declared.item.EventItem.{EventItem}
 use Rattle.mds_batch.specs.declared.item.EventItem.TheVariants.{Event, Fault as Faulty}
 use Rattle.mds_trace.specs.declared.report.Opening.TheVariants.{Removed}
 use Rattle.mds_trace.specs.declared.report.Verdict.{Verdict}
 use Rattle.mds_trace.specs.declared.report.Verdict.TheVariants.{Accepted, Refused, NoOpening, Fault}
 use Rattle.mds_trace.specs.Items.{events_of}
-use Rattle.mds_trace.specs.Replay.{accepted_by, prior_of, requests_of, IsOutcome, AreVerdicts}
+use Rattle.mds_trace.specs.Replay.{accepted_by, prior_of, as_requests, IsOutcome, AreVerdicts}
 use Rattle.mds_trace.specs.Laws.{outcome_told, outcome_of_report, outcomes_of_reports, AreOutcomes}
 use Rattle.mds_trace.proofs.Turns.{InTurn, in_turn}
 use Rattle.mds_trace.proofs.Following.{requests-push}
@@ -35,19 +35,19 @@ use Rattle.mds_trace.proofs.Verdicts.{prior_same, prior_other}
 abbrev told_of : List (Reported × Verdict) → List Outcome
 told_of judged = filter_map (λ one. outcome_told one.1) judged
 
-module _ (rows : List Row) where
+module _ (tables : Tables) where
   -- the same over the events alone
   abbrev EventsInTurn : List Reported → List (Reported × Verdict) → Type 0
   EventsInTurn accepted [] = Unit {0}
   EventsInTurn accepted (one ∷ judged) =
-      IsOutcome rows (requests_of one.0.key (prior_of one.0.key accepted)) one.0 one.1 × EventsInTurn (accepted ++ accepted_by (Event one.0) one.1) judged
+      IsOutcome tables (as_requests one.0.key (prior_of one.0.key accepted)) one.0 one.1 × EventsInTurn (accepted ++ accepted_by (Event one.0) one.1) judged
 
   -- items are judged as their events are
   abbrev AreJudged : List Reported → List EventItem → List Verdict → Type 0
   AreJudged accepted items lines =
       (judged : List (Reported × Verdict)) × EventsInTurn accepted judged × (map (λ one. one.0) judged ≡ events_of items) × (told_of judged ≡ filter_map outcome_told lines)
 
-  without_faults : (accepted : List Reported) (items : List EventItem) (lines : List Verdict) → InTurn Removed rows accepted items lines → AreJudged accepted items lines
+  without_faults : (accepted : List Reported) (items : List EventItem) (lines : List Verdict) → InTurn Removed tables accepted items lines → AreJudged accepted items lines
   without_faults accepted [] [] are = ([], tt, refl, refl)
   without_faults accepted [] (line ∷ lines) are = absurd are
   without_faults accepted (item ∷ items) [] are = absurd are
@@ -60,18 +60,18 @@ module _ (rows : List Row) where
   without_faults accepted (Event event ∷ items) (NoOpening at ∷ lines) are = absurd are.0
   without_faults accepted (Event event ∷ items) (Fault fault ∷ lines) are = absurd are.0
   without_faults accepted (Faulty fault ∷ items) (line ∷ lines) are =
-      let rest = without_faults accepted items lines (subst (λ events. InTurn Removed rows events items lines) (append-nil accepted) are.1) in
+      let rest = without_faults accepted items lines (subst (λ events. InTurn Removed tables events items lines) (append-nil accepted) are.1) in
       (rest.0, rest.1, rest.2, rest.3 ∙ sym (ap (λ one. filter_map outcome_told (one ∷ lines)) are.0))
 
 -- nothing is known of a vehicle, which wasn't registered
 record IsNew (before : List Request) (accepted : List Reported) (history : List Request) (key : Key) : Type 0 where
-  own_list : own history key ≡ []
+  own_list : requests_of history key ≡ []
   prior : prior_of key accepted ≡ []
   absent : Contains before (Register key) → ⊥
 
 -- its own list is a registration and its accepted events
 abbrev IsKnown : List Reported → List Request → Key → Type 0
-IsKnown accepted history key = own history key ≡ requests_of key (prior_of key accepted)
+IsKnown accepted history key = requests_of history key ≡ as_requests key (prior_of key accepted)
 
 -- the history holds the accepted events behind the registrations of their vehicles
 abbrev Fits : List Request → List Reported → List Request → Type 0
@@ -79,7 +79,7 @@ Fits before accepted history = (key : Key) → IsNew before accepted history key
 
 -- a request that registers nobody anew leaves all as it is
 fits_more : (before : List Request) (accepted : List Reported) (history : List Request) (request : Request) → Fits before accepted history
-    → ((key : Key) → request ≡ Register key → own history key ≡ [] → ⊥) → Fits (before ++ request ∷ []) accepted history
+    → ((key : Key) → request ≡ Register key → requests_of history key ≡ [] → ⊥) → Fits (before ++ request ∷ []) accepted history
 fits_more before accepted history request fits old key = elim (fits key) [
   | inl new ↦ inl (record {
     own_list = new.own_list;
@@ -100,19 +100,19 @@ fits_registered before accepted history key fits new other = by_key (same_key ke
       → IsNew (before ++ Register key ∷ []) accepted (history ++ Register key ∷ []) other ⊎ IsKnown accepted (history ++ Register key ∷ []) other
   by_key true is =
       let same = same_key_is key other is in
-      let nothing : own history other ≡ [] = ap (own history) (sym same) ∙ new.own_list in
+      let nothing : requests_of history other ≡ [] = ap (requests_of history) (sym same) ∙ new.own_list in
       let none : prior_of other accepted ≡ [] = ap (λ k. prior_of k accepted) (sym same) ∙ new.prior in
-      inr (own-push_same history (Register key) other is ∙ ap (λ all. all ++ Register key ∷ []) nothing ∙ ap (λ k. Register k ∷ []) same ∙ ap (requests_of other) (sym none))
+      inr (requests_of-push_same history (Register key) other is ∙ ap (λ all. all ++ Register key ∷ []) nothing ∙ ap (λ k. Register k ∷ []) same ∙ ap (as_requests other) (sym none))
   by_key false is = elim (fits other) [
     | inl still ↦ inl (record {
-      own_list = own-push_other history (Register key) other is ∙ still.own_list;
+      own_list = requests_of-push_other history (Register key) other is ∙ still.own_list;
       prior = still.prior;
       absent = λ found. elim (Contains-push_cases before (Register key) (Register other) found) [
         | inl earlier ↦ still.absent earlier
         | inr same ↦ let equal : key ≡ other = cc in absurd (true≢false (sym (same_key_refl key) ∙ ap (same_key key) equal ∙ is))
       ];
     })
-    | inr known ↦ inr (own-push_other history (Register key) other is ∙ known)
+    | inr known ↦ inr (requests_of-push_other history (Register key) other is ∙ known)
   ]
 
 -- an event is accepted
@@ -123,24 +123,24 @@ fits_accepted before accepted history event fits known other = by_key (same_key 
       → IsNew (before ++ Report event ∷ []) (accepted ++ event ∷ []) (history ++ Report event ∷ []) other ⊎ IsKnown (accepted ++ event ∷ []) (history ++ Report event ∷ []) other
   by_key true is =
       let same = same_key_is event.key other is in
-      let here : own (history ++ Report event ∷ []) event.key ≡ requests_of event.key (prior_of event.key (accepted ++ event ∷ [])) =
-      own-push_same history (Report event) event.key (same_key_refl event.key)
+      let here : requests_of (history ++ Report event ∷ []) event.key ≡ as_requests event.key (prior_of event.key (accepted ++ event ∷ [])) =
+      requests_of-push_same history (Report event) event.key (same_key_refl event.key)
       ∙ ap (λ all. all ++ Report event ∷ []) known
       ∙ sym (requests-push event.key (prior_of event.key accepted) event)
-      ∙ ap (requests_of event.key) (sym (prior_same accepted event (Accepted event.state))) in
-      inr (subst (λ k. own (history ++ Report event ∷ []) k ≡ requests_of k (prior_of k (accepted ++ event ∷ []))) same here)
+      ∙ ap (as_requests event.key) (sym (prior_same accepted event (Accepted event.state))) in
+      inr (subst (λ k. requests_of (history ++ Report event ∷ []) k ≡ as_requests k (prior_of k (accepted ++ event ∷ []))) same here)
   by_key false is =
       let prior = prior_other accepted event (Accepted event.state) other is in
       elim (fits other) [
         | inl new ↦ inl (record {
-          own_list = own-push_other history (Report event) other is ∙ new.own_list;
+          own_list = requests_of-push_other history (Report event) other is ∙ new.own_list;
           prior = prior ∙ new.prior;
           absent = λ found. elim (Contains-push_cases before (Report event) (Register other) found) [
             | inl earlier ↦ new.absent earlier
             | inr same ↦ cc
           ];
         })
-        | inr kept ↦ inr (own-push_other history (Report event) other is ∙ kept ∙ ap (requests_of other) (sym prior))
+        | inr kept ↦ inr (requests_of-push_other history (Report event) other is ∙ kept ∙ ap (as_requests other) (sym prior))
       ]
 
 -- each report stands behind a registration of its vehicle, here or among the requests before
@@ -160,20 +160,20 @@ known_at before accepted history key fits registered = elim (fits key) [
 ]
 
 -- and its own list isn't empty
-not_empty : (accepted : List Reported) (history : List Request) (key : Key) → IsKnown accepted history key → own history key ≢ []
-not_empty accepted history key known nothing = let none : requests_of key (prior_of key accepted) ≡ [] = sym known ∙ nothing in cc
+not_empty : (accepted : List Reported) (history : List Request) (key : Key) → IsKnown accepted history key → requests_of history key ≢ []
+not_empty accepted history key known nothing = let none : as_requests key (prior_of key accepted) ≡ [] = sym known ∙ nothing in cc
 
-module _ (rows : List Row) where
+module _ (tables : Tables) where
   -- a run from a history, whose reports have these outcomes
   abbrev Goes : List Request → List Request → List Outcome → Type 0
-  Goes history requests wanted = (replies : List Reply) × (new : List Request) × IsRun rows history requests replies new × (outcomes_of_reports requests replies ≡ wanted)
+  Goes history requests wanted = (replies : List Reply) × (new : List Request) × IsRun tables history requests replies new × (outcomes_of_reports requests replies ≡ wanted)
 
   abbrev reply_of : List Request → Outcome → Reply
   reply_of history outcome = record { place = length history; outcome = outcome }
 
   -- a run goes on with a request that reports nothing
   silent : (history : List Request) (request : Request) (outcome : Outcome) (rest : List Request) (wanted : List Outcome)
-      → outcome_of_report request (reply_of history outcome) ≡ None → Gives rows (own history (key_of request)) request outcome
+      → outcome_of_report request (reply_of history outcome) ≡ None → Gives tables (requests_of history (key_of request)) request outcome
       → Goes (next history request outcome) rest wanted → Goes history (request ∷ rest) wanted
   silent history (Register key) outcome rest wanted quiet gives goes =
       (reply_of history outcome ∷ goes.0, goes.1, (record { place = refl; outcome = gives }, goes.2), goes.3)
@@ -182,21 +182,21 @@ module _ (rows : List Row) where
   silent history (Report event) outcome rest wanted quiet gives goes = cc
 
   -- and with a report
-  reported : (history : List Request) (event : Reported) (outcome : Outcome) (rest : List Request) (wanted : List Outcome) → Gives rows (own history event.key) (Report event) outcome
+  reported : (history : List Request) (event : Reported) (outcome : Outcome) (rest : List Request) (wanted : List Outcome) → Gives tables (requests_of history event.key) (Report event) outcome
       → Goes (next history (Report event) outcome) rest wanted → Goes history (Report event ∷ rest) (outcome ∷ wanted)
   reported history event outcome rest wanted gives goes =
       (reply_of history outcome ∷ goes.0, goes.1, (record { place = refl; outcome = gives }, goes.2), ap (λ all. outcome ∷ all) goes.3)
 
   -- what is given after a registration and the accepted events is given after the history
   given : (before : List Request) (accepted : List Reported) (history : List Request) (told event : Reported) (outcome : Outcome) → told ≡ event
-      → IsKnown accepted history event.key → Gives rows (requests_of told.key (prior_of told.key accepted)) (Report told) outcome
-      → Gives rows (own history event.key) (Report event) outcome
+      → IsKnown accepted history event.key → Gives tables (as_requests told.key (prior_of told.key accepted)) (Report told) outcome
+      → Gives tables (requests_of history event.key) (Report event) outcome
   given before accepted history told event outcome is known gives =
-      subst (λ requests. Gives rows requests (Report event) outcome) (sym known)
-      (subst (λ e. Gives rows (requests_of e.key (prior_of e.key accepted)) (Report e) outcome) is gives)
+      subst (λ requests. Gives tables requests (Report event) outcome) (sym known)
+      (subst (λ e. Gives tables (as_requests e.key (prior_of e.key accepted)) (Report e) outcome) is gives)
 
   runs_on : (requests before : List Request) (accepted : List Reported) (history : List Request) (judged : List (Reported × Verdict)) → Fits before accepted history
-      → EventsInTurn rows accepted judged → reports requests ≡ map (λ one. one.0) judged → AreRegistered before requests → Goes history requests (told_of judged)
+      → EventsInTurn tables accepted judged → reports requests ≡ map (λ one. one.0) judged → AreRegistered before requests → Goes history requests (told_of judged)
   runs_on [] before accepted history [] fits turn same first = ([], history, refl, refl)
   runs_on [] before accepted history (one ∷ judged) fits turn same first = absurd (cc)
   runs_on (Register key ∷ requests) before accepted history judged fits turn same first = elim (fits key) [
@@ -205,7 +205,7 @@ module _ (rows : List Row) where
         (registered_rest before (Register key) requests first))
     | inr known ↦ silent history (Register key) (RefusedBy AlreadyRegistered) requests (told_of judged) refl (not_empty accepted history key known)
         (runs_on requests (before ++ Register key ∷ []) accepted history judged
-        (fits_more before accepted history (Register key) fits (λ other is nothing. let equal : other ≡ key = cc in not_empty accepted history key known (sym (ap (own history) equal) ∙ nothing)))
+        (fits_more before accepted history (Register key) fits (λ other is nothing. let equal : other ≡ key = cc in not_empty accepted history key known (sym (ap (requests_of history) equal) ∙ nothing)))
         turn same (registered_rest before (Register key) requests first))
   ]
   runs_on (Look key ∷ requests) before accepted history judged fits turn same first =
@@ -213,7 +213,7 @@ module _ (rows : List Row) where
       (registered_rest before (Look key) requests first) in
       elim (fits key) [
         | inl new ↦ silent history (Look key) (RefusedBy Unregistered) requests (told_of judged) refl new.own_list rest
-        | inr known ↦ silent history (Look key) (Seen (standing_of (own history key))) requests (told_of judged) refl (not_empty accepted history key known, refl) rest
+        | inr known ↦ silent history (Look key) (Seen (standing_of (requests_of history key))) requests (told_of judged) refl (not_empty accepted history key known, refl) rest
       ]
   runs_on (Report event ∷ requests) before accepted history [] fits turn same first = absurd (cc)
   runs_on (Report event ∷ requests) before accepted history ((told, Accepted state) ∷ judged) fits turn same first =
@@ -221,24 +221,24 @@ module _ (rows : List Row) where
       let known = known_at before accepted history event.key fits (subst (λ all. Contains all (Register event.key)) (append-nil before) (first zero event refl)) in
       reported history event Done requests (told_of judged) (given before accepted history told event Done is known turn.0.1)
       (runs_on requests (before ++ Report event ∷ []) (accepted ++ event ∷ []) (history ++ Report event ∷ []) judged (fits_accepted before accepted history event fits known)
-      (subst (λ e. EventsInTurn rows (accepted ++ e ∷ []) judged) is turn.1) (cc) (registered_rest before (Report event) requests first))
+      (subst (λ e. EventsInTurn tables (accepted ++ e ∷ []) judged) is turn.1) (cc) (registered_rest before (Report event) requests first))
   runs_on (Report event ∷ requests) before accepted history ((told, Refused refusal) ∷ judged) fits turn same first =
       let is : told ≡ event = cc in
       let known = known_at before accepted history event.key fits (subst (λ all. Contains all (Register event.key)) (append-nil before) (first zero event refl)) in
       reported history event (RefusedBy refusal) requests (told_of judged) (given before accepted history told event (RefusedBy refusal) is known turn.0)
       (runs_on requests (before ++ Report event ∷ []) accepted history judged (fits_more before accepted history (Report event) fits (λ other registers nothing. cc))
-      (subst (λ events. EventsInTurn rows events judged) (append-nil accepted) turn.1) (cc) (registered_rest before (Report event) requests first))
+      (subst (λ events. EventsInTurn tables events judged) (append-nil accepted) turn.1) (cc) (registered_rest before (Report event) requests first))
   runs_on (Report event ∷ requests) before accepted history ((told, NoOpening at) ∷ judged) fits turn same first = absurd turn.0
   runs_on (Report event ∷ requests) before accepted history ((told, Fault fault) ∷ judged) fits turn same first = absurd turn.0
 
-  pub replayed_run : (items : List EventItem) (lines : List Verdict) → AreVerdicts Removed rows items lines → AreOutcomes rows items lines
+  pub replayed_run : (items : List EventItem) (lines : List Verdict) → AreVerdicts Removed tables items lines → AreOutcomes tables items lines
   replayed_run items lines are requests same first =
-      let judged = without_faults rows [] items lines (in_turn Removed rows [] items lines are.count are.each) in
+      let judged = without_faults tables [] items lines (in_turn Removed tables [] items lines are.count are.each) in
       let run = runs_on requests [] [] [] judged.0 (λ key. inl (record { own_list = refl; prior = refl; absent = none_in_empty (Register key) })) judged.1 (same ∙ sym judged.2) first in
       record {
         replies = run.0;
         history = run.1;
         run = run.2;
-        only = λ others left other. one_run rows [] requests others run.0 left run.1 other run.2;
+        only = λ others left other. one_run tables [] requests others run.0 left run.1 other run.2;
         outcomes = run.3 ∙ judged.3;
       }

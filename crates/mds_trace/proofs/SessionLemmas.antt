@@ -11,7 +11,7 @@ use Rattle.std.proofs.lemmas.Slice.Eq.{bytes_eq-Decides}
 use Rattle.std.proofs.Math.Seq.{get_or-append_seam, take-append_seam}
 use Rattle.std.proofs.lemmas.Option.{slice_get_cases, slice_get_within, slice_get-get_or, get_or_from_slice_get}
 use Rattle.mds_table.specs.declared.state.State.{State}
-use Rattle.mds_table.specs.declared.row.Row.{Row}
+use Rattle.mds_table.specs.Tables.{Tables}
 use Rattle.mds_table.specs.Chain.{Leads}
 use Rattle.mds_core.specs.Reported.{Reported}
 use Rattle.mds_trace.specs.declared.session_fault.SessionFault.{SessionFault}
@@ -20,9 +20,9 @@ use Rattle.mds_trace.specs.Walk.{Walk}
 use Rattle.mds_trace.specs.Session.{held_at, ArePossibleAfter, IsFirstReporting, IsFirstLater, MayPrecede, AreInOrder, identifiers_of, IsNewAfter, ComesNext, FollowsOn, EachLeads, AreOpenFrom, IsFaultOf}
 
 -- the same states are possible, told by equal parts
-pub possible_alike : (rows other : List Row) (held same : State) (kinds types : List (List ℕ)) (set : List State)
-    → rows ≡ other → held ≡ same → kinds ≡ types → ArePossibleAfter rows held kinds set → ArePossibleAfter other same types set
-possible_alike rows other held same kinds types set r h k possible =
+pub possible_alike : (tables other : Tables) (held same : State) (kinds types : List (List ℕ)) (set : List State)
+    → tables ≡ other → held ≡ same → kinds ≡ types → ArePossibleAfter tables held kinds set → ArePossibleAfter other same types set
+possible_alike tables other held same kinds types set r h k possible =
     subst (λ all. ArePossibleAfter other same all set) k
     (subst (λ state. ArePossibleAfter other state kinds set) h (subst (λ table. ArePossibleAfter table held kinds set) r possible))
 
@@ -164,43 +164,43 @@ held_at_take opening events n zero within = refl
 held_at_take opening events n (suc i) within =
     ap (λ one. option_map_or (λ (event : Reported). event.state) one opening) (slice_get_take n events i (omega (arith, within)))
 
-module _ (rows : List Row) (opening : State) (events : List Reported) where
+module _ (tables : Tables) (opening : State) (events : List Reported) where
   -- one more event that leads on
-  pub lead_more : (at : ℕ) (event : Reported) → slice_get events at ≡ Some event → EachLeads rows opening (take at events)
-      → Leads rows (held_at opening events at) event.types event.state → EachLeads rows opening (take (at + 1) events)
+  pub lead_more : (at : ℕ) (event : Reported) → slice_get events at ≡ Some event → EachLeads tables opening (take at events)
+      → Leads tables (held_at opening events at) event.types event.state → EachLeads tables opening (take (at + 1) events)
   lead_more at event is before leads i other there =
       let less : i < at + 1 = omega (arith, slice_get_within (take (at + 1) events) i other there, length-take (at + 1) events) in
       let here : slice_get events i ≡ Some other = sym (slice_get_take (at + 1) events i less) ∙ there in
-      subst (λ held. Leads rows held other.types other.state) (sym (held_at_take opening events (at + 1) i (omega (arith, less))))
+      subst (λ held. Leads tables held other.types other.state) (sym (held_at_take opening events (at + 1) i (omega (arith, less))))
       (elim (cases_lt i at) [
         | inl earlier ↦
-            subst (λ held. Leads rows held other.types other.state) (held_at_take opening events at i (omega (arith, earlier)))
+            subst (λ held. Leads tables held other.types other.state) (held_at_take opening events at i (omega (arith, earlier)))
             (before i other (slice_get_take at events i earlier ∙ here))
         | inr rest ↦
             let same : i ≡ at = omega (arith, less, rest) in
             let one : Some event ≡ Some other = sym is ∙ ap (slice_get events) (sym same) ∙ here in
             let equal : event ≡ other = cc in
-            subst (λ (it : Reported). Leads rows (held_at opening events i) it.types it.state) equal
-            (subst (λ place. Leads rows (held_at opening events place) event.types event.state) (sym same) leads)
+            subst (λ (it : Reported). Leads tables (held_at opening events i) it.types it.state) equal
+            (subst (λ place. Leads tables (held_at opening events place) event.types event.state) (sym same) leads)
       ])
 
   -- one more event
-  pub open_more : (at : ℕ) (event : Reported) → slice_get events at ≡ Some event → AreOpenFrom rows opening (take at events)
-      → AreInOrder (take (at + 1) events) → Leads rows (held_at opening events at) event.types event.state → AreOpenFrom rows opening (take (at + 1) events)
+  pub open_more : (at : ℕ) (event : Reported) → slice_get events at ≡ Some event → AreOpenFrom tables opening (take at events)
+      → AreInOrder (take (at + 1) events) → Leads tables (held_at opening events at) event.types event.state → AreOpenFrom tables opening (take (at + 1) events)
   open_more at event is before order leads = record { order = order; lead = lead_more at event is before.lead leads }
 
 -- over no events a session may be opened
-pub none_open : (rows : List Row) (opening : State) → AreOpenFrom rows opening []
-none_open rows opening = record {
+pub none_open : (tables : Tables) (opening : State) → AreOpenFrom tables opening []
+none_open tables opening = record {
   order = λ i j d less within. absurd (omega (arith, within));
   lead = λ i event at. absurd (omega (arith, slice_get_within [] i event at));
 }
 
 -- one more event behind a list
-pub open_push : (rows : List Row) (opening : State) (before : List Reported) (event : Reported) → AreOpenFrom rows opening before
-    → AreInOrder (before ++ event ∷ []) → Leads rows (held_at opening before (length before)) event.types event.state
-    → AreOpenFrom rows opening (before ++ event ∷ [])
-open_push rows opening before event is_open order leads =
+pub open_push : (tables : Tables) (opening : State) (before : List Reported) (event : Reported) → AreOpenFrom tables opening before
+    → AreInOrder (before ++ event ∷ []) → Leads tables (held_at opening before (length before)) event.types event.state
+    → AreOpenFrom tables opening (before ++ event ∷ [])
+open_push tables opening before event is_open order leads =
     let all = before ++ event ∷ [] in
     let front : take (length before) all ≡ before = take-append_seam before (event ∷ []) in
     let whole : take (length before + 1) all ≡ all = take_all (length before + 1) all (omega (arith, length-append before (event ∷ []))) in
@@ -208,16 +208,16 @@ open_push rows opening before event is_open order leads =
     slice_get-get_or all (length before) event (omega (arith, length-append before (event ∷ []))) ∙ ap Some (get_or-append_seam before event [] event) in
     let held : held_at opening before (length before) ≡ held_at opening all (length before) =
     ap (λ events. held_at opening events (length before)) (sym front) ∙ held_at_take opening all (length before) (length before) (omega arith) in
-    subst (λ events. AreOpenFrom rows opening events) whole
-    (open_more rows opening all (length before) event at (subst (λ events. AreOpenFrom rows opening events) (sym front) is_open)
-    (subst (λ events. AreInOrder events) (sym whole) order) (subst (λ state. Leads rows state event.types event.state) held leads))
+    subst (λ events. AreOpenFrom tables opening events) whole
+    (open_more tables opening all (length before) event at (subst (λ events. AreOpenFrom tables opening events) (sym front) is_open)
+    (subst (λ events. AreInOrder events) (sym whole) order) (subst (λ state. Leads tables state event.types event.state) held leads))
 
 -- over events with a fault other than want of memory no session may be opened
-pub not_open : (rows : List Row) (opening : State) (events : List Reported) (fault : SessionFault) → IsFaultOf rows opening events fault → fault ≢ Memory
-    → AreOpenFrom rows opening events → ⊥
-not_open rows opening events Memory is other is_open = other refl
-not_open rows opening events (Unlawful at stuck) is other is_open = is.2.2.none (is_open.lead at is.2.0 is.2.1)
-not_open rows opening events (BadOrder at) is other is_open =
+pub not_open : (tables : Tables) (opening : State) (events : List Reported) (fault : SessionFault) → IsFaultOf tables opening events fault → fault ≢ Memory
+    → AreOpenFrom tables opening events → ⊥
+not_open tables opening events Memory is other is_open = other refl
+not_open tables opening events (Unlawful at stuck) is other is_open = is.2.2.none (is_open.lead at is.2.0 is.2.1)
+not_open tables opening events (BadOrder at) is other is_open =
     is.2 (λ i j d less within.
     let inside : j < at + 1 = omega (arith, within, length-take (at + 1) events) in
     let among : j < length events = omega (arith, within, length-take (at + 1) events) in

@@ -4,7 +4,7 @@ use Rattle.std.proofs.lemmas.List.{append-nil, take-append-le}
 use Rattle.std.proofs.Math.Seq.{take-append_seam}
 use Rattle.std.proofs.lemmas.List.Elements.{filter-append}
 use Rattle.std.proofs.lemmas.List.Filters.{length-filter_both}
-use Rattle.mds_table.specs.declared.row.Row.{Row}
+use Rattle.mds_table.specs.Tables.{Tables}
 use Rattle.mds_core.specs.declared.key.Key.{Key}
 use Rattle.mds_core.specs.Reported.{Reported}
 use Rattle.mds_core.specs.History.{same_key}
@@ -52,10 +52,10 @@ slice_get_push (first ∷ xs) x y (suc i) is = elim (slice_get_push xs x y i is)
 ]
 
 -- one verdict more
-pub verdicts-push : (opening : Opening) (rows : List Row) (items : List EventItem) (lines : List Verdict) (item : EventItem) (line : Verdict)
-    → AreVerdicts opening rows items lines → IsVerdict opening rows (accepted_of items lines) item line
-    → AreVerdicts opening rows (items ++ item ∷ []) (lines ++ line ∷ [])
-verdicts-push opening rows items lines item line so_far next = record {
+pub verdicts-push : (opening : Opening) (tables : Tables) (items : List EventItem) (lines : List Verdict) (item : EventItem) (line : Verdict)
+    → AreVerdicts opening tables items lines → IsVerdict opening tables (accepted_of items lines) item line
+    → AreVerdicts opening tables (items ++ item ∷ []) (lines ++ line ∷ [])
+verdicts-push opening tables items lines item line so_far next = record {
   count = omega (arith, so_far.count, length-append items (item ∷ []), length-append lines (line ∷ []));
   each = λ i other said at_item at_line. elim (slice_get_push items item other i at_item) [
     | inl earlier ↦ elim (slice_get_push lines line said i at_line) [
@@ -69,7 +69,7 @@ verdicts-push opening rows items lines item line so_far next = record {
   ];
 } where
   Is : EventItem → Verdict → List EventItem → List Verdict → Type 0
-  Is other said before told = IsVerdict opening rows (accepted_of before told) other said
+  Is other said before told = IsVerdict opening tables (accepted_of before told) other said
 
   earlier_verdict : (i : ℕ) (other : EventItem) (said : Verdict) → i < length items → i < length lines → slice_get items i ≡ Some other → slice_get lines i ≡ Some said
       → Is other said (take i (items ++ item ∷ [])) (take i (lines ++ line ∷ []))

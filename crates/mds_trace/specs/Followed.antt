@@ -1,7 +1,7 @@
 -- What a replay keeps of each vehicle while it goes over the items.
 use Rattle.std.specs.Prelude.{◌≡◌, ℕ, List, [], ◌∷◌, map, Bool, false}
 use Rattle.std.specs.List.{AllZip, list_any}
-use Rattle.mds_table.specs.declared.row.Row.{Row}
+use Rattle.mds_table.specs.Tables.{Tables}
 use Rattle.mds_core.specs.declared.key.Key.{Key}
 use Rattle.mds_core.specs.Reported.{Reported}
 use Rattle.mds_core.specs.History.{same_key}
@@ -14,8 +14,8 @@ use Rattle.mds_trace.specs.Items.{events_of, vehicles_of}
 use Rattle.mds_trace.specs.Replay.{prior_of, accepted_of, standing_after, AreOpeningsOf, AreVerdicts}
 
 -- this is what is kept of a vehicle with these accepted events
-pub record IsFollowed (opening : Opening) (rows : List Row) (key : Key) (prior : List Reported) (vehicle : Followed) : Type 0 where
-  pub openings : AreOpeningsOf opening rows prior vehicle.openings
+pub record IsFollowed (opening : Opening) (tables : Tables) (key : Key) (prior : List Reported) (vehicle : Followed) : Type 0 where
+  pub openings : AreOpeningsOf opening tables prior vehicle.openings
   pub standing : vehicle.standing ≡ standing_after opening key prior
 
 -- where a vehicle ends of which this is kept
@@ -36,13 +36,13 @@ abbrev pub name_of : Reported → Key × List ℕ
 name_of event = (event.key, event.id)
 
 -- this is what is kept of the vehicles that were mentioned, and the names of the accepted events
-pub record AreFollowed (opening : Opening) (rows : List Row) (mentioned : List Key) (accepted : List Reported) (entries : List (Key × Followed)) (names : List (Key × List ℕ)) : Type 0 where
+pub record AreFollowed (opening : Opening) (tables : Tables) (mentioned : List Key) (accepted : List Reported) (entries : List (Key × Followed)) (names : List (Key × List ℕ)) : Type 0 where
   pub apart : AreApart same_key mentioned
   pub unknown : (key : Key) → list_any (same_key key) mentioned ≡ false → prior_of key accepted ≡ []
-  pub vehicles : AreEntries (λ key vehicle. IsFollowed opening rows key (prior_of key accepted) vehicle) mentioned entries
+  pub vehicles : AreEntries (λ key vehicle. IsFollowed opening tables key (prior_of key accepted) vehicle) mentioned entries
   pub named : names ≡ map name_of accepted
 
 -- the verdicts on the items so far, and what is kept of their vehicles
-pub record IsReplayed (opening : Opening) (rows : List Row) (items : List EventItem) (lines : List Verdict) (entries : List (Key × Followed)) (names : List (Key × List ℕ)) : Type 0 where
-  pub verdicts : AreVerdicts opening rows items lines
-  pub vehicles : AreFollowed opening rows (vehicles_of (events_of items)) (accepted_of items lines) entries names
+pub record IsReplayed (opening : Opening) (tables : Tables) (items : List EventItem) (lines : List Verdict) (entries : List (Key × Followed)) (names : List (Key × List ℕ)) : Type 0 where
+  pub verdicts : AreVerdicts opening tables items lines
+  pub vehicles : AreFollowed opening tables (vehicles_of (events_of items)) (accepted_of items lines) entries names

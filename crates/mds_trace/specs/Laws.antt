@@ -1,7 +1,7 @@
 -- What holds of replays.
 use Rattle.std.specs.Prelude.{◌≡◌, ℕ, List, [], take, slice_get, Contains, Option, Some, None}
 use Rattle.std.specs.List.{filter_map, zip}
-use Rattle.mds_table.specs.declared.row.Row.{Row}
+use Rattle.mds_table.specs.Tables.{Tables}
 use Rattle.mds_core.specs.declared.request.Request.{Request}
 use Rattle.mds_core.specs.declared.request.Request.TheVariants.{Register, Report, Look}
 use Rattle.mds_core.specs.declared.reply.Outcome.{Outcome}
@@ -41,21 +41,21 @@ abbrev pub AreRegisteredFirst : List Request → Type 0
 AreRegisteredFirst requests = (i : ℕ) (event : Reported) → slice_get requests i ≡ Some (Report event) → Contains (take i requests) (Register event.key)
 
 -- the machine has one run of the requests from nothing, and the outcomes of its reports are those that the verdicts tell
-pub record IsRunOf (rows : List Row) (requests : List Request) (lines : List Verdict) : Type 0 where
+pub record IsRunOf (tables : Tables) (requests : List Request) (lines : List Verdict) : Type 0 where
   pub replies : List Reply
   pub history : List Request
-  pub run : IsRun rows [] requests replies history
-  pub only : (others : List Reply) (left : List Request) → IsRun rows [] requests others left → (others ≡ replies) × (left ≡ history)
+  pub run : IsRun tables [] requests replies history
+  pub only : (others : List Reply) (left : List Request) → IsRun tables [] requests others left → (others ≡ replies) × (left ≡ history)
   pub outcomes : outcomes_of_reports requests replies ≡ filter_map outcome_told lines
 
 -- so it is of all requests that report the events of the items, in their order, each behind a registration of its vehicle,
 -- whatever registrations and looks stand between
-abbrev pub AreOutcomes : List Row → List EventItem → List Verdict → Type 0
-AreOutcomes rows items lines = (requests : List Request) → reports requests ≡ events_of items → AreRegisteredFirst requests → IsRunOf rows requests lines
+abbrev pub AreOutcomes : Tables → List EventItem → List Verdict → Type 0
+AreOutcomes tables items lines = (requests : List Request) → reports requests ≡ events_of items → AreRegisteredFirst requests → IsRunOf tables requests lines
 
 -- the verdicts of a replay in which each vehicle begins with a registration are the outcomes of a run of the machine
 abbrev pub ReplaysAreRuns : Type 0
-ReplaysAreRuns = (rows : List Row) (items : List EventItem) (lines : List Verdict) → AreVerdicts Removed rows items lines → AreOutcomes rows items lines
+ReplaysAreRuns = (tables : Tables) (items : List EventItem) (lines : List Verdict) → AreVerdicts Removed tables items lines → AreOutcomes tables items lines
 
 -- the same verdicts, ends and counts
 pub record AreSameReport (a b : Replayed) : Type 0 where
@@ -66,4 +66,4 @@ pub record AreSameReport (a b : Replayed) : Type 0 where
 
 -- items have one report
 abbrev pub ReportsAreOne : Type 0
-ReportsAreOne = (opening : Opening) (rows : List Row) (items : List EventItem) (a b : Replayed) → IsReport opening rows items a → IsReport opening rows items b → AreSameReport a b
+ReportsAreOne = (opening : Opening) (tables : Tables) (items : List EventItem) (a b : Replayed) → IsReport opening tables items a → IsReport opening tables items b → AreSameReport a b

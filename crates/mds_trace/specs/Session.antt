@@ -4,6 +4,7 @@ use Rattle.std.specs.List.{All, AllPairs}
 use Rattle.std.specs.Option.{option_map_or}
 use Rattle.mds_table.specs.declared.state.State.{State}
 use Rattle.mds_table.specs.declared.row.Row.{Row}
+use Rattle.mds_table.specs.Tables.{Tables, rows_at}
 use Rattle.mds_table.specs.Chain.{Leads}
 use Rattle.mds_steps.specs.LeastChain.{IsLeastChain}
 use Rattle.mds_core.specs.Reported.{Reported}
@@ -22,6 +23,10 @@ held_at opening events (suc i) = option_map_or (λ event. event.state) (slice_ge
 abbrev pub types_at : List Reported → ℕ → List (List ℕ)
 types_at events i = option_map_or (λ event. event.types) (slice_get events i) []
 
+-- the time of the event at a place; 0 at the end, where no type is passed and no row is asked for
+abbrev pub time_at : List Reported → ℕ → ℕ
+time_at events i = option_map_or (λ event. event.time) (slice_get events i) 0
+
 -- of two events the one may stand before the other: they are of one vehicle, have different identifiers, and the time
 -- doesn't fall
 pub record MayPrecede (before after : Reported) : Type 0 where
@@ -33,24 +38,25 @@ pub record MayPrecede (before after : Reported) : Type 0 where
 abbrev pub AreInOrder : List Reported → Type 0
 AreInOrder events = AllPairs MayPrecede events
 
--- each event leads from the state held before it to the state that it reports
-abbrev pub EachLeads : List Row → State → List Reported → Type 0
-EachLeads rows opening events =
-    (i : ℕ) (event : Reported) → slice_get events i ≡ Some event → Leads rows (held_at opening events i) event.types event.state
+-- rows in force at the time of each event lead from the state held before it to the state that it reports
+abbrev pub EachLeads : Tables → State → List Reported → Type 0
+EachLeads tables opening events =
+    (i : ℕ) (event : Reported) → slice_get events i ≡ Some event
+    → Leads (rows_at tables event.time) (held_at opening events i) event.types event.state
 
 -- a session may be opened over these events, with this state held before them
-pub record AreOpenFrom (rows : List Row) (opening : State) (events : List Reported) : Type 0 where
+pub record AreOpenFrom (tables : Tables) (opening : State) (events : List Reported) : Type 0 where
   pub order : AreInOrder events
-  pub lead : EachLeads rows opening events
+  pub lead : EachLeads tables opening events
 
 -- the first faulty event, and what is wrong with it: its order among the events before it, or else that no rows lead
-abbrev pub IsFaultOf : List Row → State → List Reported → SessionFault → Type 0
-IsFaultOf rows opening events Memory = Unit {0}
-IsFaultOf rows opening events (BadOrder at) =
-    (at < length events) × AreOpenFrom rows opening (take at events) × (AreInOrder (take (at + 1) events) → ⊥)
-IsFaultOf rows opening events (Unlawful at stuck) =
-    AreOpenFrom rows opening (take at events) × AreInOrder (take (at + 1) events)
-    × ((event : Reported) × (slice_get events at ≡ Some event) × HasNoChain rows (held_at opening events at) event stuck)
+abbrev pub IsFaultOf : Tables → State → List Reported → SessionFault → Type 0
+IsFaultOf tables opening events Memory = Unit {0}
+IsFaultOf tables opening events (BadOrder at) =
+    (at < length events) × AreOpenFrom tables opening (take at events) × (AreInOrder (take (at + 1) events) → ⊥)
+IsFaultOf tables opening events (Unlawful at stuck) =
+    AreOpenFrom tables opening (take at events) × AreInOrder (take (at + 1) events)
+    × ((event : Reported) × (slice_get events at ≡ Some event) × HasNoChain (rows_at tables event.time) (held_at opening events at) event stuck)
 
 -- a place: an event of the list and at most all of its types passed, or the end
 pub record IsPlace (events : List Reported) (place : Place) : Type 0 where
@@ -58,8 +64,8 @@ pub record IsPlace (events : List Reported) (place : Place) : Type 0 where
   pub passed : place.passed ≤ length (types_at events place.event)
 
 -- a session stands at a place of events over which it may be opened
-pub record IsWalk (rows : List Row) (opening : State) (events : List Reported) (place : Place) : Type 0 where
-  pub open_from : AreOpenFrom rows opening events
+pub record IsWalk (tables : Tables) (opening : State) (events : List Reported) (place : Place) : Type 0 where
+  pub open_from : AreOpenFrom tables opening events
   pub within : IsPlace events place
 
 -- from one place to the next: one more type is passed, or after the last type the next event comes
@@ -69,21 +75,27 @@ IsStep events from to =
     ⊎ ((from.event < length events) × (from.passed ≡ length (types_at events from.event)) × (to ≡ record { event = from.event + 1; passed = 0 }))
 
 -- the state held before the present event
-abbrev pub state_of : Walk → State
-state_of walk = held_at walk.opening walk.events walk.place.event
+abbrev pub state_at : Walk → State
+state_at walk = held_at walk.opening walk.events walk.place.event
 
--- a set has the states to which types lead from a state
+-- the rows in force at the time of the present event
+abbrev pub present_rows : Walk → List Row
+present_rows walk = rows_at walk.tables (time_at walk.events walk.place.event)
+
+-- a set has the states to which types lead from a state by these rows
 abbrev pub ArePossibleAfter : List Row → State → List (List ℕ) → List State → Type 0
 ArePossibleAfter rows held kinds set = (to : State) → Contains set to ↔ Leads rows held kinds to
 
 -- the states possible at the place: those to which the types passed lead from the state held before the present event
 abbrev pub ArePossible : Walk → List State → Type 0
-ArePossible walk set = ArePossibleAfter walk.rows (state_of walk) (take walk.place.passed (types_at walk.events walk.place.event)) set
+ArePossible walk set =
+    ArePossibleAfter (present_rows walk) (state_at walk) (take walk.place.passed (types_at walk.events walk.place.event)) set
 
 -- the least chain of the present event
 abbrev pub IsPresentChain : Walk → List State → Type 0
 IsPresentChain walk chain =
-    (event : Reported) × (slice_get walk.events walk.place.event ≡ Some event) × IsLeastChain walk.rows (state_of walk) event.types event.state chain
+    (event : Reported) × (slice_get walk.events walk.place.event ≡ Some event)
+    × IsLeastChain (rows_at walk.tables event.time) (state_at walk) event.types event.state chain
 
 -- the first place before an event, or at the end, that comes later and at which the state is held
 pub record IsFirstLater (walk : Walk) (state : State) (place : Place) : Type 0 where
@@ -95,7 +107,7 @@ pub record IsFirstLater (walk : Walk) (state : State) (place : Place) : Type 0 w
 
 -- a move changes the place alone
 pub record KeepsEvents (old new : Walk) : Type 0 where
-  pub rows : new.rows ≡ old.rows
+  pub tables : new.tables ≡ old.tables
   pub opening : new.opening ≡ old.opening
   pub events : new.events ≡ old.events
 

@@ -1,10 +1,10 @@
 -- What holds of sessions over lawful histories, and over the accepted events of a replay.
 use Rattle.std.specs.Prelude.{◌≡◌, ◌≢◌, ◌≤◌, ◌+◌, ℕ, List, [], length, take}
 use Rattle.mds_table.specs.declared.state.State.TheVariants.{Removed}
-use Rattle.mds_table.specs.declared.row.Row.{Row}
+use Rattle.mds_table.specs.Tables.{Tables}
 use Rattle.mds_core.specs.declared.key.Key.{Key}
 use Rattle.mds_core.specs.declared.request.Request.{Request}
-use Rattle.mds_core.specs.History.{own, reports, held}
+use Rattle.mds_core.specs.History.{requests_of, reports, state_of}
 use Rattle.mds_core.specs.Lawful.{IsLawful}
 use Rattle.mds_batch.specs.declared.item.EventItem.{EventItem}
 use Rattle.mds_trace.specs.declared.report.Opening.TheVariants as opening
@@ -16,13 +16,13 @@ use Rattle.mds_trace.specs.Session.{AreOpenFrom, held_at}
 -- before each event, and after the last, is the one that the vehicle holds after its registration and as many reports
 abbrev pub LawfulReportsOpen : Type 0
 LawfulReportsOpen =
-    (rows : List Row) (history : List Request) (key : Key) → IsLawful rows history → own history key ≢ []
-    → AreOpenFrom rows Removed (reports (own history key))
-    × ((i : ℕ) → i ≤ length (reports (own history key)) → held_at Removed (reports (own history key)) i ≡ held (take (i + 1) (own history key)))
+    (tables : Tables) (history : List Request) (key : Key) → IsLawful tables history → requests_of history key ≢ []
+    → AreOpenFrom tables Removed (reports (requests_of history key))
+    × ((i : ℕ) → i ≤ length (reports (requests_of history key)) → held_at Removed (reports (requests_of history key)) i ≡ state_of (take (i + 1) (requests_of history key)))
 
 -- in a replay in which each vehicle begins with a registration, a session over the accepted events of any vehicle may be
 -- opened from removed
 abbrev pub AcceptedEventsOpen : Type 0
 AcceptedEventsOpen =
-    (rows : List Row) (items : List EventItem) (lines : List Verdict) (key : Key) → AreVerdicts opening.Removed rows items lines
-    → AreOpenFrom rows Removed (prior_of key (accepted_of items lines))
+    (tables : Tables) (items : List EventItem) (lines : List Verdict) (key : Key) → AreVerdicts opening.Removed tables items lines
+    → AreOpenFrom tables Removed (prior_of key (accepted_of items lines))

@@ -1,12 +1,12 @@
 //! What is kept of a vehicle while its events are replayed.
 ghost use Rattle.std.specs.Prelude.{◌≡◌, ◌<◌, ◌++◌, List, [], length};
-ghost use Rattle.mds_table.specs.declared.row.Row.{Row};
+ghost use Rattle.mds_table.specs.Tables.{Tables};
 ghost use Rattle.mds_core.specs.declared.key.Key.{Key as Vehicle};
 ghost use Rattle.mds_core.specs.Reported.{Reported};
 ghost use Rattle.mds_core.specs.History.{has_event};
 ghost use Rattle.mds_batch.specs.declared.item.EventItem.TheVariants as item;
 ghost use Rattle.mds_trace.specs.declared.report.Opening.{Opening as Openings};
-ghost use Rattle.mds_trace.specs.Replay.{accepted_by, requests_of, IsFirst, IsVerdictOn};
+ghost use Rattle.mds_trace.specs.Replay.{accepted_by, as_requests, IsFirst, IsVerdictOn};
 ghost use Rattle.mds_trace.specs.Followed.{IsFollowed};
 
 use crate::{Opening, Verdict};
@@ -26,7 +26,7 @@ pub struct Followed {
 impl Followed {
     /// Before the first event of the vehicle.
     pub fn begins(opening: Opening) -> Followed
-        ensures { (rows : List Row) (key : Vehicle) → IsFollowed opening rows key [] result }
+        ensures { (tables : Tables) (key : Vehicle) → IsFollowed opening tables key [] result }
     {
         match opening {
             Opening::Removed => Followed {
@@ -54,7 +54,7 @@ impl Followed {
     /// vehicle has an accepted one with its identifier.
     pub fn judge(self, table: &Table, event: &Event, repeated: bool) -> (Verdict, Followed)
         ensures verdict { (opening : Openings) (prior : List Reported) → IsFollowed opening table.now event.now.key prior self
-            → repeated ≡ has_event (requests_of event.now.key prior) event.now.id → IsVerdictOn opening table.now prior event.now result.0 }
+            → repeated ≡ has_event (as_requests event.now.key prior) event.now.id → IsVerdictOn opening table.now prior event.now result.0 }
         ensures followed { (opening : Openings) (prior : List Reported) → IsFollowed opening table.now event.now.key prior self → length prior < usize.MAX
             → IsFollowed opening table.now event.now.key (prior ++ accepted_by (item.Event event.now) result.0) result.1 }
     {

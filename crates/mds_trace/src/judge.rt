@@ -1,6 +1,6 @@
 //! The verdict on an item, by what is kept of the vehicles.
 ghost use Rattle.std.specs.Prelude.{◌≡◌, ◌<◌, ◌++◌, ◌∷◌, [], ℕ, List, length, IfOk};
-ghost use Rattle.mds_table.specs.declared.row.Row.{Row};
+ghost use Rattle.mds_table.specs.Tables.{Tables};
 ghost use Rattle.mds_core.specs.declared.key.Key.{Key as Vehicle};
 ghost use Rattle.mds_core.specs.Reported.{Reported};
 ghost use Rattle.mds_core.specs.History.{same_key};
@@ -24,14 +24,14 @@ use uuid::Uuid;
 pub type Vehicles = IndexMap<Key, Followed>;
 
 /// The accepted events by their vehicles and identifiers.
-pub type Names = IndexSet<(Key, Uuid)>;
+pub type SeenIdentifiers = IndexSet<(Key, Uuid)>;
 
 /// The verdict on an item, with which what is kept of its vehicle goes on.
 pub fn judge_item(
     table: &Table,
     opening: Opening,
     vehicles: &mut Vehicles,
-    names: &mut Names,
+    names: &mut SeenIdentifiers,
     item: &EventItem,
 ) -> Result<Verdict, AllocError>
     ensures { IfOk result (λ line. (items : List Item) (lines : List Line)
@@ -49,7 +49,7 @@ fn judge_event(
     table: &Table,
     opening: Opening,
     vehicles: &mut Vehicles,
-    names: &mut Names,
+    names: &mut SeenIdentifiers,
     event: &Event,
 ) -> Result<Verdict, AllocError>
     ensures { IfOk result (λ line. (mentioned : List Vehicle) (accepted : List Reported)
@@ -69,8 +69,8 @@ fn judge_event(
 
 /// What is kept of a vehicle so far.
 fn vehicle_at(vehicles: &Vehicles, key: &Key, opening: Opening) -> Followed
-    ensures { (rows : List Row) (mentioned : List Vehicle) (accepted : List Reported) (seen : List (Vehicle × List ℕ))
-        → AreFollowed opening rows mentioned accepted vehicles.now.entries seen → IsFollowed opening rows key.now (prior_of key.now accepted) result }
+    ensures { (tables : Tables) (mentioned : List Vehicle) (accepted : List Reported) (seen : List (Vehicle × List ℕ))
+        → AreFollowed opening tables mentioned accepted vehicles.now.entries seen → IsFollowed opening tables key.now (prior_of key.now accepted) result }
 {
     match vehicles.get(key) {
         Some(vehicle) => vehicle.copy(),

@@ -66,7 +66,7 @@ impl Model for Session {
 
     ghost Value = { Walk };
 
-    ghost view = { λ session. record { rows = session.table; opening = session.opening; events = session.events.items; place = session.place } };
+    ghost view = { λ session. record { tables = session.table; opening = session.opening; events = session.events.items; place = session.place } };
 
     ghost invariant = { λ session. IsWalk session.table session.opening session.events.items session.place };
 }
@@ -85,7 +85,7 @@ impl Session {
         opening: State,
         events: Vec<Event>,
     ) -> Result<Session, SessionFault>
-        ensures opened { IfOk result (λ session. session ≡ record { rows = table; opening = opening; events = events.items; place = record { event = 0; passed = 0 } }) }
+        ensures opened { IfOk result (λ session. session ≡ record { tables = table; opening = opening; events = events.items; place = record { event = 0; passed = 0 } }) }
         ensures open { OnOk result (AreOpenFrom table opening events.items) }
         ensures fault { IfErr result (IsFaultOf table opening events.items) }
         ensures refused { IfErr result (λ fault. fault ≢ Memory → AreOpenFrom table opening events.items → ⊥) }

@@ -70,7 +70,7 @@ fn two_locks<
 ) -> Result<(usize, usize), Fail>
     requires first { (first.name ≡ L.name) × (first.parts ≡ L.parts) × (first.parts ≡ 1) }
     requires second { (second.name ≡ M.name) × (second.parts ≡ M.parts) × (second.parts ≡ 1) }
-    requires table { (table ≡ L.rows) × (table ≡ M.rows) }
+    requires table { (table ≡ L.tables) × (table ≡ M.tables) }
 {
     let (book, mut seats) = Book::<L, M>::open(alloc, table, 1, Keep::All, first, second)?;
     let mut seat = seats.pop().ok_or("a seat")?;
@@ -123,7 +123,7 @@ fn fault_of<L: ShardLedger, M: ShardLedger>(
 ) -> Option<OpenFault>
     requires first { (first.name ≡ L.name) × (first.parts ≡ L.parts) × (first.parts ≡ seats) }
     requires second { (second.name ≡ M.name) × (second.parts ≡ M.parts) × (second.parts ≡ seats) }
-    requires table { (table ≡ L.rows) × (table ≡ M.rows) }
+    requires table { (table ≡ L.tables) × (table ≡ M.tables) }
 {
     Book::<L, M>::open(alloc, table, seats, Keep::All, first, second).err()
 }

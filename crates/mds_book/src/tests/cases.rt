@@ -1,7 +1,7 @@
 //! The worked cases of vehicles, each asked of a fresh book and a fresh fleet.
 ghost use Rattle.std.specs.Prelude.{◌≡◌};
 
-use super::{A, Asked, B, C, DROP_OFF, E0, E1, E2, available_once, copies, requests_of};
+use super::{A, Ask, B, C, DROP_OFF, E0, E1, E2, available_once, copies, requests_of};
 use crate::slot::shard_of;
 use crate::{Book, Keep, Seat, ShardLedger, Slot, reconcile};
 use mds_core::{Fleet, Outcome, Reply, Request};
@@ -36,7 +36,7 @@ fn in_a_book<L: ShardLedger, M: ShardLedger, R: Wait>(
 ) -> Result<Found, Fail>
     requires first { (first.name ≡ L.name) × (first.parts ≡ L.parts) × (first.parts ≡ 1) }
     requires second { (second.name ≡ M.name) × (second.parts ≡ M.parts) × (second.parts ≡ 1) }
-    requires table { (table ≡ L.rows) × (table ≡ M.rows) }
+    requires table { (table ≡ L.tables) × (table ≡ M.tables) }
 {
     let (book, mut seats) = Book::<L, M>::open(alloc, table, 1, keep, first, second)?;
     let seat = seats.first_mut().ok_or("a seat")?;
@@ -122,24 +122,24 @@ fn in_a_fleet(alloc: Global, requests: &[Request]) -> Result<Found, Fail> {
 }
 
 /// What is asked in the worked cases, in turn.
-const CASES: [&[Asked<'static>]; 11] = [
+const CASES: [&[Ask<'static>]; 11] = [
     // First event.
     &[
-        Asked::Register(A),
-        Asked::Report(A, E1, DROP_OFF, State::Available, 1000),
-        Asked::Look(A),
+        Ask::Register(A),
+        Ask::Report(A, E1, DROP_OFF, State::Available, 1000),
+        Ask::Look(A),
     ],
     // Trip ends with a low battery.
     &[
-        Asked::Register(A),
-        Asked::Report(
+        Ask::Register(A),
+        Ask::Report(
             A,
             E0,
             &["provider_drop_off", "trip_start"],
             State::OnTrip,
             1000,
         ),
-        Asked::Report(
+        Ask::Report(
             A,
             E1,
             &["trip_end", "battery_low"],
@@ -149,9 +149,9 @@ const CASES: [&[Asked<'static>]; 11] = [
     ],
     // Comms back, then trip end.
     &[
-        Asked::Register(A),
-        Asked::Report(A, E0, &["comms_lost"], State::NonContactable, 1000),
-        Asked::Report(
+        Ask::Register(A),
+        Ask::Report(A, E0, &["comms_lost"], State::NonContactable, 1000),
+        Ask::Report(
             A,
             E1,
             &["comms_restored", "trip_end"],
@@ -161,9 +161,9 @@ const CASES: [&[Asked<'static>]; 11] = [
     ],
     // Comms back and lost again.
     &[
-        Asked::Register(A),
-        Asked::Report(A, E0, &["comms_lost"], State::NonContactable, 1000),
-        Asked::Report(
+        Ask::Register(A),
+        Ask::Report(A, E0, &["comms_lost"], State::NonContactable, 1000),
+        Ask::Report(
             A,
             E1,
             &["comms_restored", "comms_lost"],
@@ -173,9 +173,9 @@ const CASES: [&[Asked<'static>]; 11] = [
     ],
     // Order of types matters.
     &[
-        Asked::Register(A),
-        Asked::Report(A, E0, DROP_OFF, State::Available, 1000),
-        Asked::Report(
+        Ask::Register(A),
+        Ask::Report(A, E0, DROP_OFF, State::Available, 1000),
+        Ask::Report(
             A,
             E1,
             &["battery_charged", "battery_low"],
@@ -184,9 +184,9 @@ const CASES: [&[Asked<'static>]; 11] = [
         ),
     ],
     &[
-        Asked::Register(A),
-        Asked::Report(A, E0, DROP_OFF, State::Available, 1000),
-        Asked::Report(
+        Ask::Register(A),
+        Ask::Report(A, E0, DROP_OFF, State::Available, 1000),
+        Ask::Report(
             A,
             E1,
             &["battery_low", "battery_charged"],
@@ -196,9 +196,9 @@ const CASES: [&[Asked<'static>]; 11] = [
     ],
     // Same type twice.
     &[
-        Asked::Register(A),
-        Asked::Report(A, E0, DROP_OFF, State::Available, 1000),
-        Asked::Report(
+        Ask::Register(A),
+        Ask::Report(A, E0, DROP_OFF, State::Available, 1000),
+        Ask::Report(
             A,
             E1,
             &["battery_low", "battery_low"],
@@ -207,34 +207,34 @@ const CASES: [&[Asked<'static>]; 11] = [
         ),
     ],
     &[
-        Asked::Register(A),
-        Asked::Report(A, E0, DROP_OFF, State::Available, 1000),
-        Asked::Report(A, E1, &["battery_low"], State::Available, 2000),
+        Ask::Register(A),
+        Ask::Report(A, E0, DROP_OFF, State::Available, 1000),
+        Ask::Report(A, E1, &["battery_low"], State::Available, 2000),
     ],
     // Identifiers per vehicle, of two shards and of one.
     &[
-        Asked::Register(A),
-        Asked::Register(B),
-        Asked::Report(A, E1, DROP_OFF, State::Available, 1000),
-        Asked::Report(B, E1, DROP_OFF, State::Available, 1000),
-        Asked::Report(A, E1, DROP_OFF, State::Available, 1000),
-        Asked::Report(A, E1, DROP_OFF, State::Available, 999),
+        Ask::Register(A),
+        Ask::Register(B),
+        Ask::Report(A, E1, DROP_OFF, State::Available, 1000),
+        Ask::Report(B, E1, DROP_OFF, State::Available, 1000),
+        Ask::Report(A, E1, DROP_OFF, State::Available, 1000),
+        Ask::Report(A, E1, DROP_OFF, State::Available, 999),
     ],
     &[
-        Asked::Register(A),
-        Asked::Register(C),
-        Asked::Report(A, E1, DROP_OFF, State::Available, 1000),
-        Asked::Report(C, E1, DROP_OFF, State::Available, 1000),
-        Asked::Report(A, E1, DROP_OFF, State::Available, 1000),
-        Asked::Report(A, E1, DROP_OFF, State::Available, 999),
+        Ask::Register(A),
+        Ask::Register(C),
+        Ask::Report(A, E1, DROP_OFF, State::Available, 1000),
+        Ask::Report(C, E1, DROP_OFF, State::Available, 1000),
+        Ask::Report(A, E1, DROP_OFF, State::Available, 1000),
+        Ask::Report(A, E1, DROP_OFF, State::Available, 999),
     ],
     // Equal and late times.
     &[
-        Asked::Register(A),
-        Asked::Report(A, E0, DROP_OFF, State::Available, 1000),
-        Asked::Report(A, E1, &["battery_low"], State::NonOperational, 1000),
-        Asked::Report(A, E2, &["battery_charged"], State::Available, 999),
-        Asked::Look(A),
+        Ask::Register(A),
+        Ask::Report(A, E0, DROP_OFF, State::Available, 1000),
+        Ask::Report(A, E1, &["battery_low"], State::NonOperational, 1000),
+        Ask::Report(A, E2, &["battery_charged"], State::Available, 999),
+        Ask::Look(A),
     ],
 ];
 
@@ -252,10 +252,10 @@ fn book_against_fleet(rt: HostRuntime) -> Result<(), Fail> {
 #[test]
 fn accepted_calls_alone_are_noted(rt: HostRuntime) -> Result<(), Fail> {
     let alloc = rt.alloc();
-    let requests = requests_of(alloc, &[Asked::Look(B), Asked::Register(B), Asked::Look(B)])?;
+    let requests = requests_of(alloc, &[Ask::Look(B), Ask::Register(B), Ask::Look(B)])?;
     let table = Table::profile(alloc)?;
     let found = found_in_a_book(&rt, alloc, table, Keep::Accepted, &requests)?;
-    let registered = requests_of(alloc, &[Asked::Register(B)])?;
+    let registered = requests_of(alloc, &[Ask::Register(B)])?;
     assert_eq!(rt; found.noted, registered);
     assert_eq!(rt; (found.outcomes.len(), found.counts), (3, [0, 1, 0]));
     Ok(())
@@ -269,7 +269,7 @@ fn in_a_slot<L: ShardLedger>(
     blank: Blank,
 ) -> Result<Vec<Reply>, AllocError>
     requires blank { (blank.name ≡ L.name) × (blank.parts ≡ L.parts) × (blank.parts ≡ 1) }
-    requires table { table ≡ L.rows }
+    requires table { table ≡ L.tables }
 {
     let (mut slot, mut share) = Slot::<L, 0>::open(alloc, table, blank);
     let mut replies = Vec::new(alloc);

@@ -74,7 +74,7 @@ fn opened<L: ShardLedger, M: ShardLedger, R: Wait>(
 ) -> Result<Option<((usize, bool), u128)>, Fail>
     requires first { (first.name ≡ L.name) × (first.parts ≡ L.parts) × (first.parts ≡ 1) }
     requires second { (second.name ≡ M.name) × (second.parts ≡ M.parts) × (second.parts ≡ 1) }
-    requires table { (table ≡ L.rows) × (table ≡ M.rows) }
+    requires table { (table ≡ L.tables) × (table ≡ M.tables) }
 {
     let Ok((book, mut seats)) = Book::<L, M>::open(alloc, table, 1, Keep::All, first, second) else {
         return Ok(None);

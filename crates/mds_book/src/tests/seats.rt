@@ -1,7 +1,7 @@
 //! Seats of one book that ask about one vehicle, and what each is told.
 ghost use Rattle.std.specs.Prelude.{◌≡◌};
 
-use super::{A, Asked, DROP_OFF, E1, E2, available_once, requests_of};
+use super::{A, Ask, DROP_OFF, E1, E2, available_once, requests_of};
 use crate::{Book, Keep, ShardLedger};
 use mds_core::Outcome::{Done, Refused, Seen};
 use mds_core::{Outcome, Refusal, Reply, Request};
@@ -30,7 +30,7 @@ fn replied<L: ShardLedger, M: ShardLedger, R: Wait>(
 ) -> Result<Vec<Reply>, Fail>
     requires first { (first.name ≡ L.name) × (first.parts ≡ L.parts) × (first.parts ≡ 2) }
     requires second { (second.name ≡ M.name) × (second.parts ≡ M.parts) × (second.parts ≡ 2) }
-    requires table { (table ≡ L.rows) × (table ≡ M.rows) }
+    requires table { (table ≡ L.tables) × (table ≡ M.tables) }
 {
     let (book, mut seats) = Book::<L, M>::open(alloc, table, 2, Keep::All, first, second)?;
     let mut one = seats.pop().ok_or("a seat")?;
@@ -64,16 +64,16 @@ fn at(place: usize, outcome: Outcome) -> Reply {
 fn seats_are_told_of_one_shard(rt: HostRuntime) -> Result<(), Fail> {
     let alloc = rt.alloc();
     let asked = [
-        Asked::Register(A),
-        Asked::Report(A, E1, DROP_OFF, State::Available, 1000),
+        Ask::Register(A),
+        Ask::Report(A, E1, DROP_OFF, State::Available, 1000),
     ];
     let first = requests_of(alloc, &asked)?;
     let asked = [
-        Asked::Look(A),
-        Asked::Report(A, E1, DROP_OFF, State::Available, 1000),
-        Asked::Register(A),
-        Asked::Report(A, E2, &["battery_low"], State::NonOperational, 999),
-        Asked::Report(A, E2, &["battery_low"], State::NonOperational, 1000),
+        Ask::Look(A),
+        Ask::Report(A, E1, DROP_OFF, State::Available, 1000),
+        Ask::Register(A),
+        Ask::Report(A, E2, &["battery_low"], State::NonOperational, 999),
+        Ask::Report(A, E2, &["battery_low"], State::NonOperational, 1000),
     ];
     let then = requests_of(alloc, &asked)?;
     let expected = [

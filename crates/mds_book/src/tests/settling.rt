@@ -1,7 +1,7 @@
 //! Books that are settled once their callers, in threads, are done.
 ghost use Rattle.std.specs.Prelude.{◌≡◌};
 
-use super::{A, Asked, C, DROP_OFF, E0, E1, available_once, copies, key, requests_of};
+use super::{A, Ask, C, DROP_OFF, E0, E1, available_once, copies, key, requests_of};
 use crate::{Book, Keep, Seat, SettleFault, Settled, ShardLedger, reconcile};
 use mds_core::Outcome::{Done, Seen};
 use mds_core::{Event, Outcome, Refusal, Reply, Request};
@@ -129,7 +129,7 @@ fn settled_after<
 ) -> Result<Told, Fail>
     requires first { (first.name ≡ L.name) × (first.parts ≡ L.parts) × (first.parts ≡ 2) }
     requires second { (second.name ≡ M.name) × (second.parts ≡ M.parts) × (second.parts ≡ 2) }
-    requires table { (table ≡ L.rows) × (table ≡ M.rows) }
+    requires table { (table ≡ L.tables) × (table ≡ M.tables) }
 {
     let (book, mut seats) = Book::<L, M>::open(alloc, table, 2, Keep::All, first, second)?;
     if let Some(seat) = seats.first_mut() {
@@ -163,11 +163,11 @@ fn told_after<R: Threads + Wait + Sync>(
 }
 
 /// A registration of a vehicle, its first event, and a look.
-fn three_calls<'a>(device: &'a str) -> [Asked<'a>; 3] {
+fn three_calls<'a>(device: &'a str) -> [Ask<'a>; 3] {
     [
-        Asked::Register(device),
-        Asked::Report(device, E1, DROP_OFF, State::Available, 1000),
-        Asked::Look(device),
+        Ask::Register(device),
+        Ask::Report(device, E1, DROP_OFF, State::Available, 1000),
+        Ask::Look(device),
     ]
 }
 
@@ -241,8 +241,8 @@ fn alternates(events: &[Request]) -> bool {
 fn two_threads_on_one_vehicle(rt: HostRuntime) -> Result<(), Fail> {
     let alloc = rt.alloc();
     let asked = [
-        Asked::Register(A),
-        Asked::Report(A, E0, DROP_OFF, State::Available, 1000),
+        Ask::Register(A),
+        Ask::Report(A, E0, DROP_OFF, State::Available, 1000),
     ];
     let before = requests_of(alloc, &asked)?;
     let mut each = Vec::new(alloc);
@@ -294,7 +294,7 @@ fn accepted_of_three<L: ShardLedger, M: ShardLedger, R: Wait>(
 ) -> Result<u128, Fail>
     requires first { (first.name ≡ L.name) × (first.parts ≡ L.parts) × (first.parts ≡ 3) }
     requires second { (second.name ≡ M.name) × (second.parts ≡ M.parts) × (second.parts ≡ 3) }
-    requires table { (table ≡ L.rows) × (table ≡ M.rows) }
+    requires table { (table ≡ L.tables) × (table ≡ M.tables) }
 {
     let (mut book, mut seats) = Book::<L, M>::open(alloc, table, 3, Keep::Accepted, first, second)?;
     for (seat, request) in seats.iter_mut().zip(requests) {
@@ -320,9 +320,9 @@ fn three_accepted<R: Wait>(
 fn a_seat_left_out(rt: HostRuntime) -> Result<(), Fail> {
     let alloc = rt.alloc();
     let asked = [
-        Asked::Register(A),
-        Asked::Report(A, E1, DROP_OFF, State::Available, 1000),
-        Asked::Register(super::B),
+        Ask::Register(A),
+        Ask::Report(A, E1, DROP_OFF, State::Available, 1000),
+        Ask::Register(super::B),
     ];
     let requests = requests_of(alloc, &asked)?;
     assert_eq!(rt;
@@ -355,7 +355,7 @@ fn misfit_of<L: ShardLedger, M: ShardLedger, R: Wait>(
 ) -> Result<Misfit, Fail>
     requires first { (first.name ≡ L.name) × (first.parts ≡ L.parts) × (first.parts ≡ 1) }
     requires second { (second.name ≡ M.name) × (second.parts ≡ M.parts) × (second.parts ≡ 1) }
-    requires table { (table ≡ L.rows) × (table ≡ M.rows) }
+    requires table { (table ≡ L.tables) × (table ≡ M.tables) }
 {
     let (book, mut seats) = Book::<L, M>::open(alloc, table, 1, Keep::All, first, second)?;
     if let Some(seat) = seats.first_mut() {

@@ -1,5 +1,5 @@
 //! The worked cases: requests over the profile, and their replies.
-use super::Asked::{self, Look, Register, Report, ReportAt};
+use super::Ask::{self, Look, Register, Report, ReportAt};
 use super::{A, B, E0, E1, E2, E3, key, request_of};
 use crate::Outcome::{self, Done, Refused, Seen};
 use crate::{Fleet, Position, Refusal, Reply, Request, Standing, answer, run};
@@ -9,7 +9,7 @@ use std::alloc::{AllocError, Global};
 use std::test::Fail;
 
 /// A request, and its reply: how many were accepted before, and what became of it.
-type Step = (Asked, usize, Outcome);
+type Step = (Ask, usize, Outcome);
 
 const LATE: Outcome = Refused(Refusal::Late { last: 1000 });
 

@@ -1,7 +1,7 @@
 //! Requests in pieces: what is read of them, how far, and in how many calls.
 use super::{Client, Last};
 use crate::{Face, plan_of, read_plan};
-use mds_device::ReadFault;
+use mds_io::ReadError;
 use std::alloc::{AllocError, Global};
 use std::test::Fail;
 
@@ -83,7 +83,7 @@ fn calls_that_streams_take(rt: HostRuntime) -> Result<(), Fail> {
 }
 
 /// What a client is told, if not what its stream asks for.
-fn fault_of(alloc: Global, face: &Face, client: &mut Client<'_>) -> Option<ReadFault> {
+fn fault_of(alloc: Global, face: &Face, client: &mut Client<'_>) -> Option<ReadError> {
     match read_plan(alloc, face, client) {
         Ok(_) => None,
         Err(fault) => Some(fault),
@@ -102,7 +102,7 @@ fn streams_cut_short(rt: HostRuntime) -> Result<(), Fail> {
             let read = reads(rt.alloc(), &face, &mut ends, front);
             assert_eq!(rt;
                 (read, fault_of(rt.alloc(), &face, &mut fails)),
-                (true, Some(ReadFault::Device))
+                (true, Some(ReadError::Device))
             );
         }
     }
@@ -120,7 +120,7 @@ fn turns_run_out_in_a_body(rt: HostRuntime) -> Result<(), Fail> {
     let fault = fault_of(rt.alloc(), &face, &mut client);
     assert_eq!(rt;
         (fault, client.reads),
-        (Some(ReadFault::TooManyTurns), 5_000_000)
+        (Some(ReadError::TooManyTurns), 5_000_000)
     );
     Ok(())
 }

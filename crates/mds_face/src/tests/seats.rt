@@ -45,7 +45,7 @@ fn in_a_book<L: ShardLedger, M: ShardLedger, R: Wait>(
 ) -> Result<bool, Fail>
     requires first { (first.name ≡ L.name) × (first.parts ≡ L.parts) × (first.parts ≡ 1) }
     requires second { (second.name ≡ M.name) × (second.parts ≡ M.parts) × (second.parts ≡ 1) }
-    requires table { (table ≡ L.rows) × (table ≡ M.rows) }
+    requires table { (table ≡ L.tables) × (table ≡ M.tables) }
 {
     let (book, mut seats) = Book::<L, M>::open(alloc, table, 1, Keep::Accepted, first, second)?;
     let seat = seats.pop().ok_or("a seat")?;

@@ -1,5 +1,5 @@
 //! Histories of a shard, what its callers noted, and the verdict.
-use super::Asked::{self, Look, Register, Report};
+use super::Ask::{self, Look, Register, Report};
 use super::{A, B, C, E1, E2, Noted, notes_of, requests_of};
 use crate::{Note, judge, judge_lawful};
 use mds_core::Outcome::{self, Done, Refused, Seen};
@@ -13,7 +13,7 @@ use std::test::Fail;
 struct Case {
     name: &'static str,
     shard: usize,
-    history: &'static [Asked],
+    history: &'static [Ask],
     lists: &'static [&'static [Noted]],
     verdict: Result<(), usize>,
 }
@@ -36,16 +36,16 @@ const AVAILABLE: Standing = Standing {
     position: None,
 };
 
-const DROP_OFF: Asked = Report(A, E1, "provider_drop_off", Available, 1000);
+const DROP_OFF: Ask = Report(A, E1, "provider_drop_off", Available, 1000);
 
 /// One vehicle is registered.
-const A_ALONE: &[Asked] = &[Register(A)];
+const A_ALONE: &[Ask] = &[Register(A)];
 
 /// Two are.
-const A_AND_C: &[Asked] = &[Register(A), Register(C)];
+const A_AND_C: &[Ask] = &[Register(A), Register(C)];
 
 /// One has an event too.
-const A_DROPPED_OFF: &[Asked] = &[Register(A), DROP_OFF];
+const A_DROPPED_OFF: &[Ask] = &[Register(A), DROP_OFF];
 
 /// The accepted registration of A, the first in its shard.
 const A_FIRST: Noted = (0, Register(A), 0, Done);
@@ -73,7 +73,7 @@ const JUDGING_NOTES: &[Case] = &[
         verdict: Err(0),
     },
     Case {
-        name: "a look from before its caller's own call",
+        name: "a look from before its caller's requests_of call",
         shard: 0,
         history: A_ALONE,
         lists: &[&[A_FIRST, (0, Look(A), 0, UNREGISTERED)]],

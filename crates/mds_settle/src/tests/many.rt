@@ -1,5 +1,5 @@
 //! More lists than are walked side by side.
-use super::{A, Asked, Noted, notes_of, request_of};
+use super::{A, Ask, Noted, notes_of, request_of};
 use crate::{Note, judge};
 use mds_core::Outcome::Done;
 use mds_core::Request;
@@ -9,7 +9,7 @@ use std::test::Fail;
 
 /// The accepted registration with this place: each is of a vehicle of its own.
 fn registration(place: usize) -> Noted {
-    (0, Asked::Register(A ^ place as u64), place, Done)
+    (0, Ask::Register(A ^ place as u64), place, Done)
 }
 
 /// As many registrations.

@@ -1,5 +1,5 @@
 //! The worked cases of vehicles, through a shard.
-use super::{A, Asked, C, DROP_OFF, E0, E1, E2, asked_all, key, request_of};
+use super::{A, Ask, C, DROP_OFF, E0, E1, E2, asked_all, key, request_of};
 use mds_core::Outcome::{self, Done, Refused, Seen};
 use mds_core::Refusal::{Late, NoChain, Repeated};
 use mds_core::{Reply, Request, Standing};
@@ -34,40 +34,40 @@ const NO_CHAIN_AT_1: Outcome = Refused(NoChain {
 });
 
 /// What is asked in the worked cases, in turn, and what becomes of it.
-const CASES: [(&[Asked<'static>], &[Outcome]); 8] = [
+const CASES: [(&[Ask<'static>], &[Outcome]); 8] = [
     // First event.
     (
         &[
-            Asked::Register(A),
-            Asked::Report(A, E1, DROP_OFF, Available, 1000),
-            Asked::Look(A),
+            Ask::Register(A),
+            Ask::Report(A, E1, DROP_OFF, Available, 1000),
+            Ask::Look(A),
         ],
         &[Done, Done, Seen(AVAILABLE)],
     ),
     // Trip ends with a low battery.
     (
         &[
-            Asked::Register(A),
-            Asked::Report(A, E0, &["provider_drop_off", "trip_start"], OnTrip, 1000),
-            Asked::Report(A, E1, &["trip_end", "battery_low"], NonOperational, 2000),
+            Ask::Register(A),
+            Ask::Report(A, E0, &["provider_drop_off", "trip_start"], OnTrip, 1000),
+            Ask::Report(A, E1, &["trip_end", "battery_low"], NonOperational, 2000),
         ],
         &[Done, Done, Done],
     ),
     // Comms back, then trip end.
     (
         &[
-            Asked::Register(A),
-            Asked::Report(A, E0, &["comms_lost"], NonContactable, 1000),
-            Asked::Report(A, E1, &["comms_restored", "trip_end"], Available, 2000),
+            Ask::Register(A),
+            Ask::Report(A, E0, &["comms_lost"], NonContactable, 1000),
+            Ask::Report(A, E1, &["comms_restored", "trip_end"], Available, 2000),
         ],
         &[Done, Done, Done],
     ),
     // Comms back and lost again.
     (
         &[
-            Asked::Register(A),
-            Asked::Report(A, E0, &["comms_lost"], NonContactable, 1000),
-            Asked::Report(
+            Ask::Register(A),
+            Ask::Report(A, E0, &["comms_lost"], NonContactable, 1000),
+            Ask::Report(
                 A,
                 E1,
                 &["comms_restored", "comms_lost"],
@@ -80,43 +80,43 @@ const CASES: [(&[Asked<'static>], &[Outcome]); 8] = [
     // Order of types matters.
     (
         &[
-            Asked::Register(A),
-            Asked::Report(A, E0, DROP_OFF, Available, 1000),
-            Asked::Report(A, E1, &["battery_charged", "battery_low"], Available, 2000),
-            Asked::Report(A, E1, &["battery_low", "battery_charged"], Available, 2000),
+            Ask::Register(A),
+            Ask::Report(A, E0, DROP_OFF, Available, 1000),
+            Ask::Report(A, E1, &["battery_charged", "battery_low"], Available, 2000),
+            Ask::Report(A, E1, &["battery_low", "battery_charged"], Available, 2000),
         ],
         &[Done, Done, NO_CHAIN_AT_0, Done],
     ),
     // Same type twice.
     (
         &[
-            Asked::Register(A),
-            Asked::Report(A, E0, DROP_OFF, Available, 1000),
-            Asked::Report(A, E1, &["battery_low", "battery_low"], NonOperational, 2000),
-            Asked::Report(A, E1, &["battery_low"], Available, 2000),
+            Ask::Register(A),
+            Ask::Report(A, E0, DROP_OFF, Available, 1000),
+            Ask::Report(A, E1, &["battery_low", "battery_low"], NonOperational, 2000),
+            Ask::Report(A, E1, &["battery_low"], Available, 2000),
         ],
         &[Done, Done, NO_CHAIN_AT_1, NO_CHAIN_AT_1],
     ),
     // Identifiers per vehicle.
     (
         &[
-            Asked::Register(A),
-            Asked::Register(C),
-            Asked::Report(A, E1, DROP_OFF, Available, 1000),
-            Asked::Report(C, E1, DROP_OFF, Available, 1000),
-            Asked::Report(A, E1, DROP_OFF, Available, 1000),
-            Asked::Report(A, E1, DROP_OFF, Available, 999),
+            Ask::Register(A),
+            Ask::Register(C),
+            Ask::Report(A, E1, DROP_OFF, Available, 1000),
+            Ask::Report(C, E1, DROP_OFF, Available, 1000),
+            Ask::Report(A, E1, DROP_OFF, Available, 1000),
+            Ask::Report(A, E1, DROP_OFF, Available, 999),
         ],
         &[Done, Done, Done, Done, Refused(Repeated), Refused(Repeated)],
     ),
     // Equal and late times.
     (
         &[
-            Asked::Register(A),
-            Asked::Report(A, E0, DROP_OFF, Available, 1000),
-            Asked::Report(A, E1, &["battery_low"], NonOperational, 1000),
-            Asked::Report(A, E2, &["battery_charged"], Available, 999),
-            Asked::Look(A),
+            Ask::Register(A),
+            Ask::Report(A, E0, DROP_OFF, Available, 1000),
+            Ask::Report(A, E1, &["battery_low"], NonOperational, 1000),
+            Ask::Report(A, E2, &["battery_charged"], Available, 999),
+            Ask::Look(A),
         ],
         &[Done, Done, Done, Refused(Late { last: 1000 }), Seen(LOW)],
     ),

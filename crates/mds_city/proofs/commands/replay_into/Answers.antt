@@ -1,6 +1,6 @@
 use Rattle.std.proofs.Common.{ℕ, List, Option, inr, refl}
-use Rattle.mds_device.specs.declared.device.WriteFault.{WriteFault}
-use Rattle.mds_device.specs.declared.device.WriteFault.TheVariants as write
+use Rattle.mds_io.specs.declared.device.PrintError.{PrintError}
+use Rattle.mds_io.specs.declared.device.PrintError.TheVariants as write
 use Rattle.mds_trace.specs.declared.report.Opening.{Opening}
 use Rattle.mds_city.specs.declared.source.Source.{Source}
 use Rattle.mds_city.specs.Problem.{written_problem}
@@ -10,7 +10,7 @@ use Rattle.mds_city.proofs.commands.replay_into.Goals as goal
 
 -- a report that could not be written is explained, and a front of it went out
 unwritten : {T R : Type 0} (begins : Opening) (table_bytes : T → Option (List ℕ)) (table : Option (Source T)) (file_bytes : R → Option (List ℕ)) (file : Source R)
-    (fault : WriteFault) (old new : Option (List ℕ)) → PrintsFront begins table_bytes table file_bytes file old new
+    (fault : PrintError) (old new : Option (List ℕ)) → PrintsFront begins table_bytes table file_bytes file old new
     → ExplainsReplay begins table_bytes table file_bytes file (written_problem fault) × WentOut begins table_bytes table file_bytes file (written_problem fault) old new
 unwritten begins table_bytes table file_bytes file write.Memory old new front = (tt, inr front)
 unwritten begins table_bytes table file_bytes file write.Device old new front = (tt, front)

@@ -1,9 +1,9 @@
 use Rattle.std.proofs.Common.{ℕ, List, Option, inr}
 use Rattle.mds_table.specs.declared.row.Row.{Row}
-use Rattle.mds_device.specs.declared.device.WriteFault.{WriteFault}
-use Rattle.mds_device.specs.declared.device.WriteFault.TheVariants as write
+use Rattle.mds_io.specs.declared.device.PrintError.{PrintError}
+use Rattle.mds_io.specs.declared.device.PrintError.TheVariants as write
 use Rattle.mds_city.specs.declared.source.Source.{Source}
-use Rattle.mds_device.specs.Device.{AppendsFront}
+use Rattle.mds_io.specs.Device.{AppendsFront}
 use Rattle.mds_city.specs.Problem.{written_problem}
 use Rattle.mds_city.specs.Source.{HasTableIn}
 use Rattle.mds_city.specs.Text.{table_text}
@@ -12,7 +12,7 @@ use Rattle.mds_city.proofs.ErrorLemmas.{passed_on}
 use Rattle.mds_city.proofs.commands.table_into.Goals as goal
 
 -- a table that could not be written is explained, and a front of it went out
-unwritten : {T : Type 0} (table_bytes : T → Option (List ℕ)) (table : Option (Source T)) (fault : WriteFault) (old new : Option (List ℕ)) (rows : List Row)
+unwritten : {T : Type 0} (table_bytes : T → Option (List ℕ)) (table : Option (Source T)) (fault : PrintError) (old new : Option (List ℕ)) (rows : List Row)
     → HasTableIn table_bytes table rows → AppendsFront old new (table_text rows)
     → ExplainsPrint table_bytes table (written_problem fault) × TableWentOut table_bytes table (written_problem fault) old new
 unwritten table_bytes table write.Memory old new rows has front = (tt, inr (rows, has, front))

@@ -1,10 +1,10 @@
 use Rattle.std.proofs.Common.{◌≤◌, ◌∙◌, length, inl, inr, refl, ap, sym, subst}
 use Rattle.std.proofs.KnownBytes.{Appends-trans, Keeps-refl}
-use Rattle.mds_device.specs.declared.device.WriteFault.{WriteFault}
-use Rattle.mds_device.specs.declared.device.WriteFault.TheVariants as write
-use Rattle.mds_walk.specs.Input.{max_script}
-use Rattle.mds_walk.specs.Printed.{PrintsFront, PrintsScript}
-use Rattle.mds_walk.specs.Script.{IsScript}
+use Rattle.mds_io.specs.declared.device.PrintError.{PrintError}
+use Rattle.mds_io.specs.declared.device.PrintError.TheVariants as write
+use Rattle.mds_debugger.specs.Input.{max_script}
+use Rattle.mds_debugger.specs.Printed.{PrintsFront, PrintsScript}
+use Rattle.mds_debugger.specs.Script.{IsScript}
 use Rattle.mds_city.specs.declared.debug.DebugProblem.TheVariants.{Other}
 use Rattle.mds_city.specs.Debug.{DebugsPart, IsOfShowing}
 use Rattle.mds_city.specs.Problem.{written_problem}
@@ -12,7 +12,7 @@ use Rattle.mds_city.proofs.ErrorLemmas.{passed_on}
 use Rattle.mds_city.proofs.debug.show.Goals as goal
 
 -- a text that could not be written is a problem of showing
-of_writing : (fault : WriteFault) → IsOfShowing (Other (written_problem fault))
+of_writing : (fault : PrintError) → IsOfShowing (Other (written_problem fault))
 of_writing write.Memory = inr refl
 of_writing write.Device = inl refl
 

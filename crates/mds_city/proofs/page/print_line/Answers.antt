@@ -1,8 +1,8 @@
 use Rattle.std.proofs.Common.{ℕ, List, string_bytes}
 use Rattle.std.specs.Prelude.{Option, Some, None, Result, IfSome, OnErr}
 use Rattle.std.proofs.lemmas.Result.{on_err_weaker}
-use Rattle.mds_device.specs.Device.{AppendsFront, Passes, with_newline}
-use Rattle.mds_device.proofs.PageLemmas.{passes_out}
+use Rattle.mds_io.specs.Device.{AppendsFront, Passes, with_newline}
+use Rattle.mds_io.proofs.PageLemmas.{passes_out}
 use Rattle.mds_city.proofs.page.print_line.Goals as goal
 
 -- of a line that went out but for the page, of which a front went out, a front went out
@@ -19,4 +19,4 @@ returns-clause-err g c =
     let left = string_bytes c.add_line.new.page in
     let passes : IfSome known (λ text. Passes (contents c.args.writer.now) (contents c.add_line.new.writer) (with_newline text) left) =
     rw c.new-page.ensures.bytes at c.in_ok-add_line.ensures.ok in
-    line_front known c.put_out.result (contents c.args.writer.now) (contents c.add_line.new.writer) (contents c.put_out.new.writer) left passes c.put_out.ensures.err
+    line_front known c.flush_page.result (contents c.args.writer.now) (contents c.add_line.new.writer) (contents c.flush_page.new.writer) left passes c.flush_page.ensures.err

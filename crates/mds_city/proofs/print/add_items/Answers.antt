@@ -2,9 +2,9 @@ use Rattle.std.proofs.Common.{rules, ◌+◌, ◌++◌, List, get_or, drop, subs
 use Rattle.mds_trace.specs.declared.report.Verdict.{Verdict}
 use Rattle.mds_trace.specs.declared.report.Verdict.TheVariants.{Accepted}
 use Rattle.mds_table.specs.declared.state.State.TheVariants.{Removed}
-use Rattle.mds_device.specs.Device.{AppendsFront, Passes, with_newline}
+use Rattle.mds_io.specs.Device.{AppendsFront, Passes, with_newline}
 use Rattle.mds_city.specs.Text.{item_line, item_lines}
-use Rattle.mds_device.proofs.PageLemmas.{passes_line, front_of_line, next_item_or}
+use Rattle.mds_io.proofs.PageLemmas.{passes_line, front_of_line, next_item_or}
 use Rattle.mds_city.proofs.print.add_items.Goals as goal
 
 pub returns-in_err-add_line-clause-err : goal.returns-in_err-add_line-clause-err

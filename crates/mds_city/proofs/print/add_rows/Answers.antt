@@ -1,8 +1,8 @@
 use Rattle.std.proofs.Common.{rules, ◌+◌, ◌++◌, List, drop, subst, string_bytes}
 use Rattle.mds_table.specs.declared.row.Row.{Row}
-use Rattle.mds_device.specs.Device.{AppendsFront, Passes, with_newline}
+use Rattle.mds_io.specs.Device.{AppendsFront, Passes, with_newline}
 use Rattle.mds_city.specs.Text.{row_line, row_lines}
-use Rattle.mds_device.proofs.PageLemmas.{passes_line, front_of_line, next_item}
+use Rattle.mds_io.proofs.PageLemmas.{passes_line, front_of_line, next_item}
 use Rattle.mds_city.proofs.print.add_rows.Goals as goal
 
 pub returns-in_err-add_line-clause-err : goal.returns-in_err-add_line-clause-err

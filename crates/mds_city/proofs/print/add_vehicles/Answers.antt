@@ -1,8 +1,8 @@
 use Rattle.std.proofs.Common.{rules, ◌+◌, ◌++◌, List, drop, subst, string_bytes}
 use Rattle.mds_trace.specs.declared.report.VehicleEnd.{VehicleEnd}
-use Rattle.mds_device.specs.Device.{AppendsFront, Passes, with_newline}
+use Rattle.mds_io.specs.Device.{AppendsFront, Passes, with_newline}
 use Rattle.mds_city.specs.Text.{vehicle_line, vehicle_lines}
-use Rattle.mds_device.proofs.PageLemmas.{passes_line, front_of_line, next_item}
+use Rattle.mds_io.proofs.PageLemmas.{passes_line, front_of_line, next_item}
 use Rattle.mds_city.proofs.print.add_vehicles.Goals as goal
 
 pub returns-in_err-add_line-clause-err : goal.returns-in_err-add_line-clause-err

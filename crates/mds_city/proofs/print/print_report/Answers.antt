@@ -1,8 +1,8 @@
 use Rattle.std.proofs.Common.{rules, ◌++◌, string_bytes}
 use Rattle.std.proofs.lemmas.Result.{on_err_weaker}
-use Rattle.mds_device.specs.Device.{AppendsFront, Passes, with_newline}
+use Rattle.mds_io.specs.Device.{AppendsFront, Passes, with_newline}
 use Rattle.mds_city.specs.Text.{item_lines, vehicle_lines, total_line}
-use Rattle.mds_device.proofs.PageLemmas.{passes_then, passes_front, passes_out, front_of_more}
+use Rattle.mds_io.proofs.PageLemmas.{passes_then, passes_front, passes_out, front_of_more}
 use Rattle.mds_city.proofs.print.print_report.Goals as goal
 
 pub returns-in_err-add_items-clause-err : goal.returns-in_err-add_items-clause-err
@@ -65,6 +65,6 @@ returns-clause-err g c =
     rw c.deref-2.ensures.value at c.in_ok-add_vehicles.ensures.ok in
     let both = passes_then _ _ _ items page ends (string_bytes c.add_vehicles.new.page) first second in
     let all = passes_then _ _ _ (items ++ ends) (string_bytes c.add_vehicles.new.page) total (string_bytes c.add_line.new.page) both c.in_ok-add_line.ensures.ok in
-    on_err_weaker c.put_out.result
-    (passes_out (contents c.args.writer.now) (contents c.add_line.new.writer) (contents c.put_out.new.writer) (items ++ ends ++ total) (string_bytes c.add_line.new.page) all)
-    c.put_out.ensures.err
+    on_err_weaker c.flush_page.result
+    (passes_out (contents c.args.writer.now) (contents c.add_line.new.writer) (contents c.flush_page.new.writer) (items ++ ends ++ total) (string_bytes c.add_line.new.page) all)
+    c.flush_page.ensures.err

@@ -1,8 +1,8 @@
 use Rattle.std.proofs.Common.{rules, ◌++◌, string_bytes, length}
 use Rattle.std.proofs.lemmas.Result.{on_err_weaker}
-use Rattle.mds_device.specs.Device.{AppendsFront, Passes, with_newline}
+use Rattle.mds_io.specs.Device.{AppendsFront, Passes, with_newline}
 use Rattle.mds_city.specs.Text.{row_lines, count_line}
-use Rattle.mds_device.proofs.PageLemmas.{passes_then, passes_front, passes_out, front_of_more}
+use Rattle.mds_io.proofs.PageLemmas.{passes_then, passes_front, passes_out, front_of_more}
 use Rattle.mds_city.proofs.print.print_table.Goals as goal
 
 pub returns-in_err-add_rows-clause-err : goal.returns-in_err-add_rows-clause-err
@@ -36,6 +36,6 @@ returns-clause-err g c =
     let first : Passes (contents c.args.writer.now) (contents c.add_rows.new.writer) rows page =
     rw c.new-page.ensures.bytes at c.in_ok-add_rows.ensures.ok in
     let all = passes_then _ _ _ rows page count (string_bytes c.add_line.new.page) first c.in_ok-add_line.ensures.ok in
-    on_err_weaker c.put_out.result
-    (passes_out (contents c.args.writer.now) (contents c.add_line.new.writer) (contents c.put_out.new.writer) (rows ++ count) (string_bytes c.add_line.new.page) all)
-    c.put_out.ensures.err
+    on_err_weaker c.flush_page.result
+    (passes_out (contents c.args.writer.now) (contents c.add_line.new.writer) (contents c.flush_page.new.writer) (rows ++ count) (string_bytes c.add_line.new.page) all)
+    c.flush_page.ensures.err

@@ -1,5 +1,5 @@
 use Rattle.std.proofs.Common.{inl, inr, rules, subst, sym}
-use Rattle.mds_words.specs.declared.words.Command.{Command}
+use Rattle.mds_args.specs.declared.words.Command.{Command}
 use Rattle.mds_city.specs.Program.{Carries, CameToReplay}
 use Rattle.mds_city.proofs.program.carry_out.Goals as goal
 

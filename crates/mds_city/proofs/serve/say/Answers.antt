@@ -1,8 +1,8 @@
 use Rattle.std.proofs.Common.{◌≡◌, ℕ, rules, subst, sym}
 use Rattle.std.specs.Prelude.{Result, Err}
 use Rattle.std.proofs.KnownBytes.{Keeps-refl}
-use Rattle.mds_serving.specs.declared.serving.Stop.{Stop}
-use Rattle.mds_serving.specs.declared.serving.Stop.TheVariants.{Torn}
+use Rattle.mds_pool.specs.declared.serving.Stop.{Stop}
+use Rattle.mds_pool.specs.declared.serving.Stop.TheVariants.{Torn}
 use Rattle.mds_city.specs.Serve.{IsSaid}
 use Rattle.mds_city.proofs.serve.say.Goals as goal
 

@@ -1,6 +1,6 @@
 use Rattle.std.proofs.Common.{◌≡◌, ◌<◌, List, ℕ, length, take, inr, rules, subst}
 use Rattle.std.specs.Io.KnownBytes.{Appends}
-use Rattle.mds_serving.specs.Torn.{torn_text}
+use Rattle.mds_city.specs.Torn.{torn_text}
 use Rattle.mds_city.proofs.serve.torn_to.Goals as goal
 
 pub returns-in-Err : goal.returns-in-Err

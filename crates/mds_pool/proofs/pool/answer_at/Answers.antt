@@ -9,6 +9,6 @@ returns g c =
     let both = connection_grows _ _ _ (λ old new. (new.seat.ghost_name ≡ old.seat.ghost_name) × HasGrown old.seat.now new.seat.now)
     (λ desk. (refl, seat_stays desk.seat.now))
     (λ old middle new one two. (two.0 ∙ one.0, seat_twice old.seat.now middle.seat.now new.seat.now one.1 two.1))
-    (λ old request reply new calls. (calls.1, seat_called old.book.now.rows old.seat.now request reply new.seat.now calls.2))
+    (λ old request reply new calls. (calls.1, seat_called old.book.now.tables old.seat.now request reply new.seat.now calls.2))
     _ _ _ _ _ c.serve_one.result c.serve_one.ensures.served c.serve_one.ensures.stopped in
     record { same_seat = both.0; grown = both.1 }

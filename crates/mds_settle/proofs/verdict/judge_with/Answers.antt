@@ -5,14 +5,14 @@ use Rattle.mds_settle.proofs.verdict.judge_with.Goals as goal
 
 pub returns-in-Some : goal.returns-in-Some
 returns-in-Some g c =
-    let rows = c.args.table.now in
+    let tables = c.args.table.now in
     let shard = c.args.shard in
     let history = c.args.history.now in
     let seen = g.S.NoteList.seen in
     let lists = c.args.lists.now in
     let bound = c.lowered_by_orders-late.result in
-    let fine = fine_below rows shard history seen lists c.lowered_by_lists-wrong.result bound c.lowered_by_lists-wrong.ensures c.lowered_by_orders-late.ensures in
-    at_miscounted rows shard history seen lists bound c.in-Some.place fine (rw (← c.end_of-end.ensures) c.in-Some.ensures)
+    let fine = fine_below tables shard history seen lists c.lowered_by_lists-wrong.result bound c.lowered_by_lists-wrong.ensures c.lowered_by_orders-late.ensures in
+    at_miscounted tables shard history seen lists bound c.in-Some.place fine (rw (← c.end_of-end.ensures) c.in-Some.ensures)
 
 pub returns-in-Some-late : goal.returns-in-Some-late
 returns-in-Some-late g c =
@@ -21,14 +21,14 @@ returns-in-Some-late g c =
 
 pub returns-in-None-late : goal.returns-in-None-late
 returns-in-None-late g c =
-    let rows = c.args.table.now in
+    let tables = c.args.table.now in
     let shard = c.args.shard in
     let history = c.args.history.now in
     let seen = g.S.NoteList.seen in
     let lists = c.args.lists.now in
     let bound = c.lowered_by_orders-late.result in
-    let fine = fine_below rows shard history seen lists c.lowered_by_lists-wrong.result bound c.lowered_by_lists-wrong.ensures c.lowered_by_orders-late.ensures in
+    let fine = fine_below tables shard history seen lists c.lowered_by_lists-wrong.result bound c.lowered_by_lists-wrong.ensures c.lowered_by_orders-late.ensures in
     let counted : AreOnceBelow shard (end_by bound (length history)) seen lists = rw (← c.end_of-end.ensures) c.in-None.ensures in
-    let Fine : Option ℕ → Type 0 = λ r. IsFine rows shard history seen lists r in
+    let Fine : Option ℕ → Type 0 = λ r. IsFine tables shard history seen lists r in
     let Counted : Option ℕ → Type 0 = λ r. AreOnceBelow shard (end_by r (length history)) seen lists in
-    settled rows shard history seen lists (subst Fine c.in-None-late.is fine) (subst Counted c.in-None-late.is counted)
+    settled tables shard history seen lists (subst Fine c.in-None-late.is fine) (subst Counted c.in-None-late.is counted)

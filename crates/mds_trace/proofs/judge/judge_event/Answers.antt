@@ -5,7 +5,7 @@ use Rattle.indexmap.specs.IndexMap.{insert_entry}
 use Rattle.indexmap.specs.IndexSet.{insert_key}
 use Rattle.mds_core.specs.History.{same_key, has_event}
 use Rattle.mds_batch.specs.declared.item.EventItem.TheVariants.{Event}
-use Rattle.mds_trace.specs.Replay.{accepted_by, prior_of, requests_of}
+use Rattle.mds_trace.specs.Replay.{accepted_by, prior_of, as_requests}
 use Rattle.mds_trace.specs.Followed.{name_of, IsFollowed, AreFollowed}
 use Rattle.mds_trace.proofs.Verdicts.{prior_few}
 use Rattle.mds_trace.proofs.Keeping.{same_name, repeated_is, names_more, names_stay, next_followed}
@@ -15,14 +15,14 @@ use Rattle.mds_trace.proofs.judge.judge_event.Goals.{then-accepts+in_ok-insert, 
 pub returns : goal.returns
 returns c = λ mentioned accepted are few.
     let opening = c.args.opening in
-    let rows = c.args.table.now in
+    let tables = c.args.table.now in
     let event = c.args.event.now in
     let names = c.args.names.now.keys in
     let prior = prior_of event.key accepted in
     let line = c.judge-line.result.0 in
-    let vehicle : IsFollowed opening rows event.key prior c.vehicle_at-vehicle.result =
-    subst (λ key. IsFollowed opening rows key (prior_of key accepted) c.vehicle_at-vehicle.result) c.key-2.ensures (c.vehicle_at-vehicle.ensures rows mentioned accepted names are) in
-    let repeated : c.contains.result ≡ has_event (requests_of event.key prior) event.id =
+    let vehicle : IsFollowed opening tables event.key prior c.vehicle_at-vehicle.result =
+    subst (λ key. IsFollowed opening tables key (prior_of key accepted) c.vehicle_at-vehicle.result) c.key-2.ensures (c.vehicle_at-vehicle.ensures tables mentioned accepted names are) in
+    let repeated : c.contains.result ≡ has_event (as_requests event.key prior) event.id =
     c.contains.ensures
     ∙ ap (λ key. list_any (same_name (key, c.id.result)) names) c.key.ensures
     ∙ ap (λ id. list_any (same_name (event.key, id)) names) c.id.ensures
@@ -39,10 +39,10 @@ returns c = λ mentioned accepted are few.
           ∙ w.in_ok-insert.ensures.keys
           ∙ ap (λ key. insert_key same_name names (key, c.id.result)) c.key.ensures
           ∙ ap (λ id. insert_key same_name names (event.key, id)) c.id.ensures
-          ∙ names_more opening rows accepted event line names are.named verdict (sym w.if-accepts.ensures)
+          ∙ names_more opening tables accepted event line names are.named verdict (sym w.if-accepts.ensures)
       | else-accepts w ↦ ap (λ set. set.keys) w.names-is ∙ names_stay accepted event line names are.named (sym w.if-accepts.ensures)
     ] in (
       verdict,
-      subst (λ all. AreFollowed opening rows (insert_key same_key mentioned event.key) (accepted ++ accepted_by (Event event) line) all c.if-accepts.names.keys) (sym entries)
-          (next_followed opening rows mentioned accepted c.args.vehicles.now.entries names c.if-accepts.names.keys event line c.judge-line.result.1 are followed now),
+      subst (λ all. AreFollowed opening tables (insert_key same_key mentioned event.key) (accepted ++ accepted_by (Event event) line) all c.if-accepts.names.keys) (sym entries)
+          (next_followed opening tables mentioned accepted c.args.vehicles.now.entries names c.if-accepts.names.keys event line c.judge-line.result.1 are followed now),
     )

@@ -1,7 +1,7 @@
 use Rattle.std.proofs.Common.{◌≡◌, ◌<◌, ◌∙◌, ◌++◌, ◌∷◌, [], ℕ, length, ap, subst, arith}
 use Rattle.std.specs.Prelude.{option_map}
 use Rattle.std.below.core.specs.declared.int.usize.TheConstants.{MAX}
-use Rattle.mds_core.specs.History.{key_of, own, reports}
+use Rattle.mds_core.specs.History.{key_of, requests_of, reports}
 use Rattle.mds_shard.specs.Replay.{PutsVehicle}
 use Rattle.mds_shard.proofs.Replays.{replay_push, standing_kept, few_reports}
 use Rattle.mds_shard.proofs.shard.Shard.accept.Goals as goal
@@ -14,10 +14,10 @@ invariant_of-self-2 c =
     let request = c.args.request.now in
     let key = key_of request in
     let standing = c.standing_after-standing.result in
-    let few : length (reports (own history key)) < MAX = omega (arith, few_reports history key, inside.history.ok, inside.history.small) in
+    let few : length (reports (requests_of history key)) < MAX = omega (arith, few_reports history key, inside.history.ok, inside.history.small) in
     let vehicle = rw (← c.self.view_is) at c.requires.vehicle in
     let may = rw (← c.self.view_is) at c.requires.accepted in
-    let stands = c.standing_after-standing.ensures (own history key) (c.standing_in.ensures ∙ standing_kept history key c.args.vehicle vehicle) few in
+    let stands = c.standing_after-standing.ensures (requests_of history key) (c.standing_in.ensures ∙ standing_kept history key c.args.vehicle vehicle) few in
     let Puts : ℕ → Type 0 = λ last. PutsVehicle key (record { standing = standing; last = last }) inside.vehicles c.keep.new.vehicles in
     let pushed = replay_push inside.table history before inside.vehicles c.keep.new.vehicles inside.identifiers c.keep.new.identifiers request c.args.vehicle
     standing c.self.invariant may vehicle stands (subst Puts (c.len-last.ensures ∙ inside.history.ok.0) c.in_ok-keep.ensures.vehicles) c.in_ok-keep.ensures.identifiers in

@@ -1,6 +1,6 @@
 use Rattle.std.proofs.Common.{◌∙◌, sym, ap}
 use Rattle.std.specs.BTreeSet as sorted
-use Rattle.mds_core.specs.History.{key_of, own}
+use Rattle.mds_core.specs.History.{key_of, requests_of}
 use Rattle.mds_shard.specs.Order.{identifier_cmp}
 use Rattle.mds_shard.proofs.Keys.{is_repeated_report}
 use Rattle.mds_shard.proofs.shard.Shard.has_event.Goals as goal
@@ -13,4 +13,4 @@ returns-in-Some c =
     let event = c.in-Some.event.now in
     rw (← c.self.view_is) (
     c.contains.ensures ∙ ap (λ k. sorted.contains identifier_cmp ids (k, c.id.result)) c.key.ensures ∙ ap (λ id. sorted.contains identifier_cmp ids (key, id)) c.id.ensures
-    ∙ c.self.invariant.held key event.id ∙ sym (is_repeated_report (own history key) c.args.request.now event (sym c.in-Some.ensures)))
+    ∙ c.self.invariant.held key event.id ∙ sym (is_repeated_report (requests_of history key) c.args.request.now event (sym c.in-Some.ensures)))

@@ -12,4 +12,4 @@ returns c =
     ap (take place.passed) c.types_at-types.ensures
     ∙ ap (λ (events : List Reported). take place.passed (types_at events place.event)) c.deref.ensures.value
     ∙ ap (λ (walk : Walk). take walk.place.passed (types_at walk.events walk.place.event)) c.self.view_is in
-    possible_alike _ _ _ _ _ _ _ (ap (λ (walk : Walk). walk.rows) c.self.view_is) c.state.ensures types c.possible_after.ensures
+    possible_alike _ _ _ _ _ _ _ (ap (λ (walk : Walk). walk.tables) c.self.view_is) c.state.ensures types c.possible_after.ensures

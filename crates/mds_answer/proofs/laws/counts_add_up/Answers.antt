@@ -1,5 +1,0 @@
-use Rattle.mds_answer.proofs.VerdictLaws.{counts_add_up}
-use Rattle.mds_answer.proofs.laws.counts_add_up.Goals as goal
-
-pub returns : goal.returns
-returns c = counts_add_up

@@ -1,0 +1,35 @@
+use Rattle.std.proofs.Common.{None, Some, ◌∷◌, [], codes, inl, inr, refl, rules}
+use Rattle.clap.specs.Words.{found_of, rows_of}
+use Rattle.mds_args.specs.Words.{LacksOneOf}
+use Rattle.mds_args.proofs.WordsLemmas.{text_of_rows}
+use Rattle.mds_args.proofs.words.debug_of.Goals as goal
+
+pub returns-in_err-file : goal.returns-in_err-file
+returns-in_err-file c =
+    let lacks : LacksOneOf (codes "FILE" ∷ codes "PROVIDER" ∷ codes "DEVICE" ∷ []) (rows_of (found_of c.args.values.now)) =
+    inl (text_of_rows (found_of c.args.values.now) (codes "FILE") None c.in_err-file.ensures) in
+    search rules
+
+pub returns-in_err-provider : goal.returns-in_err-provider
+returns-in_err-provider c =
+    let lacks : LacksOneOf (codes "FILE" ∷ codes "PROVIDER" ∷ codes "DEVICE" ∷ []) (rows_of (found_of c.args.values.now)) =
+    inr (inl (text_of_rows (found_of c.args.values.now) (codes "PROVIDER") None c.in_err-provider.ensures)) in
+    search rules
+
+pub returns-in_err-device : goal.returns-in_err-device
+returns-in_err-device c =
+    let lacks : LacksOneOf (codes "FILE" ∷ codes "PROVIDER" ∷ codes "DEVICE" ∷ []) (rows_of (found_of c.args.values.now)) =
+    inr (inr (inl (text_of_rows (found_of c.args.values.now) (codes "DEVICE") None c.in_err-device.ensures))) in
+    search rules
+
+pub returns : goal.returns
+returns c =
+    let values = found_of c.args.values.now in (
+      refl,
+      (
+        text_of_rows values (codes "FILE") (Some c.in_ok-file.file) c.in_ok-file.ensures,
+        text_of_rows values (codes "PROVIDER") (Some c.in_ok-provider.provider) c.in_ok-provider.ensures,
+        text_of_rows values (codes "DEVICE") (Some c.in_ok-device.device) c.in_ok-device.ensures,
+        text_of_rows values (codes "table") c.get_str-4.result c.get_str-4.ensures,
+      ),
+    )

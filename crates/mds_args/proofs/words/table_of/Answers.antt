@@ -1,0 +1,7 @@
+use Rattle.std.proofs.Common.{codes, refl}
+use Rattle.clap.specs.Words.{found_of}
+use Rattle.mds_args.proofs.WordsLemmas.{text_of_rows}
+use Rattle.mds_args.proofs.words.table_of.Goals as goal
+
+pub returns : goal.returns
+returns c = (refl, text_of_rows (found_of c.args.values.now) (codes "table") c.get_str.result c.get_str.ensures)

@@ -1,0 +1,126 @@
+-- What the words of the command line ask for.
+use Rattle.std.specs.Prelude.{◌≡◌, ◌⊎◌, ◌↔◌, ℕ, List, [], ◌∷◌, Option, Some, None, true, codes, option_map, IsTrue}
+use Rattle.std.specs.Str.Parse.{digits_value, without_leading_plus}
+use Rattle.clap.specs.declared.builder.action.ArgAction.TheVariants.{SetTrue}
+use Rattle.clap.specs.declared.builder.value_parser.ValueParser.TheVariants.{Unsigned}
+use Rattle.clap.specs.Words.{App, HasKind, IsUnsignedIn, Row, Rule, Text, fault_of, first_of, kind_of, new_app, new_rule, with_rule, subcommand_of, with_subcommand}
+use Rattle.clap.specs.declared.error.Error.{Error}
+use Rattle.clap.specs.declared.error.kind.ErrorKind.TheVariants.{MissingSubcommand}
+use Rattle.mds_args.specs.declared.words.Command.{Command}
+use Rattle.mds_args.specs.declared.words.Command.TheVariants.{Serve, Replay, Debug, Table}
+
+-- a positional word of this name, which must be there
+abbrev pub word_rule : Text → Rule
+word_rule name = record (new_rule name) { required = true }
+
+-- the option `--table`, which takes one value
+abbrev pub table_rule : Rule
+table_rule = record (new_rule (codes "table")) { long = Some (codes "table"); value_names = 1 }
+
+-- the flag `--any`
+abbrev pub any_rule : Rule
+any_rule = record (new_rule (codes "any")) { long = Some (codes "any"); action = Some SetTrue }
+
+-- an option of this name, which takes a number of this range
+abbrev pub number_rule : Text → ℕ → ℕ → Rule
+number_rule name least most = record (new_rule name) { long = Some name; value_names = 1; parser = Some (Unsigned least most) }
+
+-- an option that must be there, which takes a number up to this one
+abbrev pub needed_number_rule : Text → ℕ → Rule
+needed_number_rule name most = record (number_rule name 0 most) { required = true }
+
+-- the most that a port's number, the connections of each worker and the number of workers may be
+abbrev pub max_port : ℕ
+max_port = 65535
+
+abbrev pub max_each : ℕ
+max_each = 1000000
+
+abbrev pub max_workers : ℕ
+max_workers = 64
+
+-- the option `--workers`, which is 4 where it isn't given
+abbrev pub workers_rule : Rule
+workers_rule = record (number_rule (codes "workers") 1 max_workers) { defaults = codes "4" ∷ [] }
+
+-- the command `serve`, with its numbers and the option
+abbrev pub serve_app : App
+serve_app =
+    with_rule (with_rule (with_rule (with_rule (new_app (codes "serve")) (needed_number_rule (codes "port") max_port)) (needed_number_rule (codes "each") max_each)) workers_rule) table_rule
+
+-- the command `replay`, with its file, the option and the flag
+abbrev pub replay_app : App
+replay_app = with_rule (with_rule (with_rule (new_app (codes "replay")) (word_rule (codes "FILE"))) table_rule) any_rule
+
+-- the command `debug`, with its file, its vehicle's provider and device, and the option
+abbrev pub debug_app : App
+debug_app =
+    with_rule (with_rule (with_rule (with_rule (new_app (codes "debug")) (word_rule (codes "FILE"))) (word_rule (codes "PROVIDER"))) (word_rule (codes "DEVICE"))) table_rule
+
+-- the command `table`, with the option
+abbrev pub table_app : App
+table_app = with_rule (new_app (codes "table")) table_rule
+
+-- the program with no command yet, which must be given one
+abbrev pub bare_app : App
+bare_app = record { top = record (new_app (codes "mds_city")).top { subcommand_required = true }; subs = [] }
+
+-- the program with its commands
+abbrev pub program_app : App
+program_app = with_subcommand (with_subcommand (with_subcommand (with_subcommand bare_app serve_app.top) replay_app.top) debug_app.top) table_app.top
+
+-- the name of a command
+abbrev pub name_of : Command → Text
+name_of (Serve port each workers table) = codes "serve"
+name_of (Replay file table any) = codes "replay"
+name_of (Debug file provider device table) = codes "debug"
+name_of (Table table) = codes "table"
+
+-- the value is a text that is this number, one of this range
+abbrev pub IsNumber : ℕ → ℕ → Option Text → ℕ → Type 0
+IsNumber least most None number = ⊥
+IsNumber least most (Some text) number = IsUnsignedIn least most text × (number ≡ digits_value 10 (without_leading_plus text))
+
+-- there is no value, or it is no number of this range
+abbrev pub HasNoNumber : ℕ → ℕ → Option Text → Type 0
+HasNoNumber least most value = (number : ℕ) → IsNumber least most value number → ⊥
+
+-- the port's number, the connections of each worker or the number of workers is missing or out of its range
+abbrev pub LacksNumber : List Row → Type 0
+LacksNumber values =
+    HasNoNumber 0 max_port (first_of (codes "port") values) ⊎ HasNoNumber 0 max_each (first_of (codes "each") values)
+    ⊎ HasNoNumber 1 max_workers (first_of (codes "workers") values)
+
+-- the values that were found are those of this command; it has no table where none was given, and a flag that is set is true
+abbrev pub HasValues : List Row → Command → Type 0
+HasValues values (Serve port each workers table) =
+    IsNumber 0 max_port (first_of (codes "port") values) port × IsNumber 0 max_each (first_of (codes "each") values) each
+    × IsNumber 1 max_workers (first_of (codes "workers") values) workers × (first_of (codes "table") values ≡ option_map (λ path. path.now) table)
+HasValues values (Replay file table any) =
+    (first_of (codes "FILE") values ≡ Some file.now) × (first_of (codes "table") values ≡ option_map (λ path. path.now) table)
+    × (IsTrue any ↔ (first_of (codes "any") values ≡ Some (codes "true")))
+HasValues values (Debug file provider device table) =
+    (first_of (codes "FILE") values ≡ Some file.now) × (first_of (codes "PROVIDER") values ≡ Some provider.now)
+    × (first_of (codes "DEVICE") values ≡ Some device.now) × (first_of (codes "table") values ≡ option_map (λ path. path.now) table)
+HasValues values (Table table) = first_of (codes "table") values ≡ option_map (λ path. path.now) table
+
+-- one of these arguments has no value
+abbrev pub LacksOneOf : List Text → List Row → Type 0
+LacksOneOf [] values = ⊥
+LacksOneOf (name ∷ names) values = (first_of name values ≡ None) ⊎ LacksOneOf names values
+
+-- a command's name and the values of its arguments are those of this command
+abbrev pub Asks : Option (Text × List Row) → Command → Type 0
+Asks None command = ⊥
+Asks (Some found) command = (found.0 ≡ name_of command) × HasValues found.1 command
+
+-- the command and the values that were found are those of no command
+abbrev pub AsksNothing : Option (Text × List Row) → Type 0
+AsksNothing found = (command : Command) → Asks found command → ⊥
+
+-- why these words give no command: `clap` finds such a fault in them, or finds none and they ask for none, which the error
+-- says; or memory was refused
+abbrev pub IsErrorOf : List Text → Error → Type 0
+IsErrorOf words error =
+    HasKind (fault_of program_app words) error
+    ⊎ ((fault_of program_app words ≡ []) × AsksNothing (subcommand_of program_app words) × (kind_of error ≡ MissingSubcommand))

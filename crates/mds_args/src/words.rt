@@ -1,0 +1,337 @@
+//! The words of the command line, read by `clap`.
+ghost use Rattle.std.specs.Prelude.{◌≡◌, ◌↔◌, ◌<◌, ◌^◌, ◌∷◌, [], None, Some, true, false, codes, map, IsTrue, IfOk, IfErr, MatchOption};
+ghost use Rattle.clap.specs.Words.{app_of, fault_of, first_of, found_of, kind_of, rows_of, rule_of, subcommand_of, subcommand_rows_of, takes, with_subcommand};
+ghost use Rattle.mds_args.specs.Words.{Asks, AsksNothing, HasNoNumber, HasValues, IsErrorOf, IsNumber, LacksNumber, LacksOneOf, name_of, any_rule, debug_app, max_each, max_port, max_workers, needed_number_rule, number_rule, program_app, replay_app, serve_app, table_app, table_rule, word_rule, workers_rule};
+
+use clap::builder::ValueParser;
+use clap::error::ErrorKind;
+use clap::{Arg, ArgAction, ArgMatches, Error};
+use std::alloc::{AllocError, Global};
+use std::convert::AsStr;
+
+/// What the command line asks for.
+#[derive(Debug, Clone, Copy, PartialEq, Eq)]
+pub enum Command<'a> {
+    /// Serve vehicles over HTTP, at an address of this machine.
+    Serve {
+        /// The number of the port, or 0 for a free one.
+        port: u16,
+        /// How many connections each worker answers.
+        each: usize,
+        /// How many workers there are, 1 to 64.
+        workers: usize,
+        /// As for `Replay`.
+        table: Option<&'a str>,
+    },
+    /// Replay the events of a file.
+    Replay {
+        /// The file's path, or `-` for standard input.
+        file: &'a str,
+        /// The path of a file with a table of transitions, or `None` for the profile's table. Here
+        /// `-` is a file of that name.
+        table: Option<&'a str>,
+        /// Whether a vehicle may hold any state before its first event.
+        any: bool,
+    },
+    /// Step through the accepted events of a vehicle.
+    Debug {
+        /// The path of a file of events. Here `-` is a file of that name.
+        file: &'a str,
+        /// The vehicle's provider, as it was written.
+        provider: &'a str,
+        /// The vehicle's device, as it was written.
+        device: &'a str,
+        /// As for `Replay`.
+        table: Option<&'a str>,
+    },
+    /// Print a table of transitions.
+    Table {
+        /// As for `Replay`.
+        table: Option<&'a str>,
+    },
+}
+
+/// The command that `words` ask for, of which the first is the program's name.
+///
+/// An error that goes to standard error (`use_stderr`) comes where the words don't parse; one of the
+/// kind `OutOfMemory`, which has no text, where there is no memory to read them. A request for help is
+/// an error too, one that goes to standard output.
+pub fn parse_words<'a, S: AsStr>(alloc: Global, words: &'a [S]) -> Result<Command<'a>, Error>
+    ensures ok { IfOk result (Asks (subcommand_of program_app (map S.text words.entry.now))) }
+    // Words in which `clap` finds a fault give no command, and the error is of a kind that it finds.
+    ensures taken { IfOk result (λ _. fault_of program_app (map S.text words.entry.now) ≡ []) }
+    ensures kind { IfErr result (IsErrorOf (map S.text words.entry.now)) }
+    // Words that `clap` takes and that ask for some command give it, where there is memory.
+    ensures err { IfErr result (λ error. takes program_app (map S.text words.entry.now) ≡ true
+        → (AsksNothing (subcommand_of program_app (map S.text words.entry.now)) → ⊥)
+        → kind_of error ≡ ErrorKind.OutOfMemory) }
+{
+    let mut form = program_form(alloc)?;
+    let matches = form.try_get_matches_from_mut(words)?;
+    match command_of(&matches) {
+        Some(command) => Ok(command),
+        None => Err(form.error(ErrorKind::MissingSubcommand, "a command is needed")?),
+    }
+}
+
+/// The command of a parse, or `None` where there is none of its name or it lacks a value.
+fn command_of<'a>(matches: &ArgMatches<'a>) -> Option<Command<'a>>
+    ensures { MatchOption result (AsksNothing (subcommand_rows_of matches.now))
+        (Asks (subcommand_rows_of matches.now)) }
+{
+    let (name, values) = matches.subcommand()?;
+    if name == "serve" {
+        return serve_of(values);
+    }
+    if name == "replay" {
+        return replay_of(values);
+    }
+    if name == "debug" {
+        return debug_of(values);
+    }
+    if name == "table" {
+        return Some(table_of(values));
+    }
+    None
+}
+
+/// The most that each number may be.
+const MAX_PORT: u64 = 65_535;
+
+const MAX_EACH: u64 = 1_000_000;
+
+const MAX_WORKERS: u64 = 64;
+
+/// The command `serve` with these values, or `None` where one of its numbers is missing or out of its range.
+fn serve_of<'a>(values: &ArgMatches<'a>) -> Option<Command<'a>>
+    ensures { MatchOption result (LacksNumber (rows_of (found_of values.now)))
+        (λ command. (name_of command ≡ codes "serve") × HasValues (rows_of (found_of values.now)) command) }
+{
+    let port = number_of(values, "port", 0, MAX_PORT)?;
+    let each = number_of(values, "each", 0, MAX_EACH)?;
+    let workers = number_of(values, "workers", 1, MAX_WORKERS)?;
+    Some(Command::Serve {
+        port: port as u16,
+        each: each as usize,
+        workers: workers as usize,
+        table: values.get_str("table"),
+    })
+}
+
+/// The number that the value of this name is, or `None` where there is no value or it is no number of this range.
+fn number_of(values: &ArgMatches<'_>, name: &str, least: u64, most: u64) -> Option<u64>
+    ensures { MatchOption result (HasNoNumber least most (first_of name.now (rows_of (found_of values.now))))
+        (IsNumber least most (first_of name.now (rows_of (found_of values.now)))) }
+{
+    number_in(values.get_str(name)?, least, most)
+}
+
+/// The number that this text is, or `None` where it is no number of this range.
+fn number_in(text: &str, least: u64, most: u64) -> Option<u64>
+    ensures { MatchOption result (HasNoNumber least most (Some text.now)) (IsNumber least most (Some text.now)) }
+{
+    let number = text.parse::<u64>().ok()?;
+    if least <= number && number <= most {
+        Some(number)
+    } else {
+        None
+    }
+}
+
+/// The command `replay` with these values, or `None` where the file is missing.
+fn replay_of<'a>(values: &ArgMatches<'a>) -> Option<Command<'a>>
+    ensures { MatchOption result (first_of (codes "FILE") (rows_of (found_of values.now)) ≡ None)
+        (λ command. (name_of command ≡ codes "replay") × HasValues (rows_of (found_of values.now)) command) }
+{
+    let file = values.get_str("FILE")?;
+    Some(Command::Replay {
+        file,
+        table: values.get_str("table"),
+        any: is_set(values, "any"),
+    })
+}
+
+/// Whether the flag of this name is set.
+fn is_set(values: &ArgMatches<'_>, name: &str) -> bool
+    ensures { IsTrue result ↔ (first_of name.now (rows_of (found_of values.now)) ≡ Some (codes "true")) }
+{
+    match values.get_str(name) {
+        Some(value) => is_true(value),
+        None => false,
+    }
+}
+
+/// Whether a flag's value says that it is set.
+fn is_true(value: &str) -> bool
+    ensures { IsTrue result ↔ (value.now ≡ codes "true") }
+{
+    value == "true"
+}
+
+/// The command `debug` with these values, or `None` where the file, the provider or the device is missing.
+fn debug_of<'a>(values: &ArgMatches<'a>) -> Option<Command<'a>>
+    ensures { MatchOption result (LacksOneOf (codes "FILE" ∷ codes "PROVIDER" ∷ codes "DEVICE" ∷ []) (rows_of (found_of values.now)))
+        (λ command. (name_of command ≡ codes "debug") × HasValues (rows_of (found_of values.now)) command) }
+{
+    let file = values.get_str("FILE")?;
+    let provider = values.get_str("PROVIDER")?;
+    let device = values.get_str("DEVICE")?;
+    Some(Command::Debug {
+        file,
+        provider,
+        device,
+        table: values.get_str("table"),
+    })
+}
+
+/// The command `table` with these values.
+fn table_of<'a>(values: &ArgMatches<'a>) -> Command<'a>
+    ensures { (name_of result ≡ codes "table") × HasValues (rows_of (found_of values.now)) result }
+{
+    Command::Table {
+        table: values.get_str("table"),
+    }
+}
+
+/// What `clap` is told of the program. It fails only for want of memory.
+fn program_form<'a>(alloc: Global) -> Result<clap::Command<'a>, AllocError>
+    ensures { IfOk result (λ form. app_of form ≡ program_app) }
+{
+    let form = clap::Command::new(alloc, "mds_city")
+        .about("Keeps the states of shared vehicles")
+        .subcommand_required(true);
+    let with_serve = with_serve(alloc, form)?;
+    with_table(alloc, with_debug(alloc, with_replay(alloc, with_serve)?)?)
+}
+
+/// Tells `form` of the command `serve`. It fails only for want of memory.
+fn with_serve<'a>(alloc: Global, form: clap::Command<'a>) -> Result<clap::Command<'a>, AllocError>
+    ensures { IfOk result (λ more.
+        app_of more ≡ with_subcommand (app_of form.entry) serve_app.top) }
+{
+    let bare = clap::Command::new(alloc, "serve").about("Serves vehicles over HTTP at 127.0.0.1");
+    let port = needed_number(
+        alloc,
+        "port",
+        MAX_PORT,
+        "The port's number; 0 is a free one",
+    );
+    let with_port = bare.arg(port)?;
+    let each = needed_number(
+        alloc,
+        "each",
+        MAX_EACH,
+        "How many connections each worker answers",
+    );
+    let with_each = with_port.arg(each)?;
+    let with_workers = with_each.arg(workers_option(alloc))?;
+    let serve = with_workers.arg(table_option(alloc))?;
+    form.subcommand(serve)
+}
+
+/// An option that takes a number of this range.
+fn number_option<'a>(alloc: Global, name: &'a str, least: u64, most: u64, help: &'a str) -> Arg<'a>
+    ensures rule { rule_of result ≡ number_rule name.entry.now least most }
+    ensures local { result.global ≡ false }
+{
+    Arg::new(alloc, name)
+        .long(name)
+        .value_name("N")
+        .value_parser(ValueParser::unsigned(least, most))
+        .help(help)
+}
+
+/// An option that must be given, and takes a number up to this one.
+fn needed_number<'a>(alloc: Global, name: &'a str, most: u64, help: &'a str) -> Arg<'a>
+    ensures rule { rule_of result ≡ needed_number_rule name.entry.now most }
+    ensures local { result.global ≡ false }
+{
+    number_option(alloc, name, 0, most, help).required(true)
+}
+
+/// The option `--workers`, which is 4 where it isn't given.
+fn workers_option<'a>(alloc: Global) -> Arg<'a>
+    ensures rule { rule_of result ≡ workers_rule }
+    ensures local { result.global ≡ false }
+{
+    number_option(
+        alloc,
+        "workers",
+        1,
+        MAX_WORKERS,
+        "How many workers there are",
+    )
+    .default_value("4")
+}
+
+/// Tells `form` of the command `replay`. It fails only for want of memory.
+fn with_replay<'a>(alloc: Global, form: clap::Command<'a>) -> Result<clap::Command<'a>, AllocError>
+    ensures { IfOk result (λ more.
+        app_of more ≡ with_subcommand (app_of form.entry) replay_app.top) }
+{
+    let bare = clap::Command::new(alloc, "replay").about("Replays the events of a file");
+    let file = word(alloc, "FILE", "The file of events; - is standard input");
+    let with_file = bare.arg(file)?;
+    let with_table = with_file.arg(table_option(alloc))?;
+    let replay = with_table.arg(any_option(alloc))?;
+    form.subcommand(replay)
+}
+
+/// Tells `form` of the command `debug`. It fails only for want of memory.
+fn with_debug<'a>(alloc: Global, form: clap::Command<'a>) -> Result<clap::Command<'a>, AllocError>
+    ensures { IfOk result (λ more.
+        app_of more ≡ with_subcommand (app_of form.entry) debug_app.top) }
+{
+    let bare = clap::Command::new(alloc, "debug").about(
+        "Steps through the accepted events of a vehicle, as standard input says",
+    );
+    let with_file = bare.arg(word(alloc, "FILE", "The file of events"))?;
+    let with_provider = with_file.arg(word(alloc, "PROVIDER", "The provider's identifier"))?;
+    let with_device = with_provider.arg(word(alloc, "DEVICE", "The vehicle's identifier"))?;
+    let debug = with_device.arg(table_option(alloc))?;
+    form.subcommand(debug)
+}
+
+/// The flag `--any`.
+fn any_option<'a>(alloc: Global) -> Arg<'a>
+    ensures rule { rule_of result ≡ any_rule }
+    ensures local { result.global ≡ false }
+{
+    Arg::new(alloc, "any")
+        .long("any")
+        .action(ArgAction::SetTrue)
+        .help("Lets a vehicle hold any state before its first event")
+}
+
+/// A word that must be given.
+fn word<'a>(alloc: Global, name: &'a str, help: &'a str) -> Arg<'a>
+    ensures rule { rule_of result ≡ word_rule name.entry.now }
+    ensures local { result.global ≡ false }
+{
+    Arg::new(alloc, name).required(true).help(help)
+}
+
+/// Tells `form` of the command `table`. It fails only for want of memory.
+fn with_table<'a>(alloc: Global, form: clap::Command<'a>) -> Result<clap::Command<'a>, AllocError>
+    ensures { IfOk result (λ more.
+        app_of more ≡ with_subcommand (app_of form.entry) table_app.top) }
+{
+    let table = clap::Command::new(alloc, "table")
+        .about("Prints a table of transitions")
+        .arg(table_option(alloc))?;
+    form.subcommand(table)
+}
+
+/// The option `--table`, which takes the path of a file.
+fn table_option<'a>(alloc: Global) -> Arg<'a>
+    ensures rule { rule_of result ≡ table_rule }
+    ensures local { result.global ≡ false }
+{
+    Arg::new(alloc, "table")
+        .long("table")
+        .value_name("FILE")
+        .help("A table of transitions; without it the profile's")
+}
+
+#[cfg(test)]
+mod tests;

@@ -1,0 +1,33 @@
+//! The line that tells where notes don't fit.
+ghost use Rattle.std.specs.Prelude.{◌≡◌, ◌+◌, ◌≤◌, ◌++◌, length, decimal};
+ghost use Rattle.arrayvec.specs.ArrayString.{array_string_len};
+ghost use Rattle.mds_city.specs.Torn.{torn_text};
+
+use arrayvec::ArrayString;
+use itoa::Buffer;
+
+/// The most bytes of the line: its words, two numbers of at most 20 digits, the space between them and the line feed.
+const MAX_LINE: usize = 57;
+
+/// The line that names the shard, and the place in its history, that notes don't fit. It takes no memory.
+pub fn torn_line(shard: usize, place: usize) -> ArrayString<57>
+    ensures { result.bytes ≡ torn_text shard place }
+{
+    let mut line = ArrayString::new();
+    line.push_str("mds_city: torn ");
+    add_number(&mut line, shard);
+    line.push_str(" ");
+    add_number(&mut line, place);
+    line.push_str("\n");
+    line
+}
+
+/// Adds a number to the line.
+fn add_number(line: &mut ArrayString<57>, number: usize)
+    requires { array_string_len line.old + 20 ≤ MAX_LINE }
+    ensures bytes { line.new.bytes ≡ line.old.bytes ++ decimal number }
+    ensures len { array_string_len line.new ≤ array_string_len line.old + 20 }
+{
+    let mut digits = Buffer::new();
+    line.push_str(digits.format(number));
+}

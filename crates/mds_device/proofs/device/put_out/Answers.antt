@@ -1,5 +1,0 @@
-use Rattle.mds_device.proofs.DeviceLemmas.{front_of_sent}
-use Rattle.mds_device.proofs.device.put_out.Goals as goal
-
-pub returns-in-Err-clause-err : goal.returns-in-Err-clause-err
-returns-in-Err-clause-err g c = rw (← c.as_bytes.ensures.value) (front_of_sent _ _ _ _ c.in-Err.ensures.err.1)

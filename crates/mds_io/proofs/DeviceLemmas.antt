@@ -1,0 +1,84 @@
+-- Lemmas on fronts of texts that were read or written.
+use Rattle.std.proofs.Common.{◌≡◌, ℕ, ◌+◌, ◌-◌, ◌<◌, ◌≤◌, List, [], ◌++◌, length, take, drop, None, Some, IfSome, inl, inr, sym, ap, ◌∙◌, subst, arith, append-nil, append_assoc, length-append, length-drop, take-append-drop}
+use Rattle.std.proofs.Math.Seq.{take-add, take-append_seam, take-length}
+use Rattle.std.proofs.lemmas.Bool.{cases_lt}
+use Rattle.std.proofs.lemmas.List.{take_min}
+use Rattle.std.specs.Io.KnownBytes.{Appends, Consumes, IsAtEnd}
+use Rattle.std.proofs.KnownBytes.{Appends-trans, Consumes-trans}
+use Rattle.std.specs.Prelude.{Option, Result, Ok, Err, OnOk, IfErr}
+use Rattle.mds_io.specs.declared.device.ReadError.{ReadError}
+use Rattle.mds_io.specs.declared.device.ReadError.TheVariants.{Memory, Device, TooManyTurns}
+use Rattle.mds_io.specs.declared.device.WriteError.{WriteError}
+use Rattle.mds_io.specs.Device.{AppendsFront, Gains, HasFront, StopsAt}
+
+-- what went out first, and then the front of the slice that was left, is a longer front
+pub appends_next : (a b c : Option (List ℕ)) (text : List ℕ) (n m : ℕ) → Appends a b (take n text) → Appends b c (take m (take (length text - n) (drop n text))) → Appends a c (take (n + m) text)
+appends_next a b c text n m p q =
+    let left : take (length text - n) (drop n text) ≡ drop n text = ap (λ k. take k (drop n text)) (sym (length-drop n text)) ∙ take-length (drop n text) in
+    let next : Appends b c (take m (drop n text)) = subst (λ l. Appends b c (take m l)) left q in
+    rw take-add (Appends-trans a b c _ _ p next)
+
+-- the first n bytes are a front
+pub front_of_sent : (a b : Option (List ℕ)) (text : List ℕ) (n : ℕ) → Appends a b (take n text) → AppendsFront a b text
+front_of_sent a b text n p = (take n text, drop n text, sym (take-append-drop n text), p)
+
+-- all the bytes went out, or the first of them
+pub front_either : (result : Result (Unit {0}) WriteError) (a b : Option (List ℕ)) (text : List ℕ) → OnOk result (Appends a b text)
+    → IfErr result (λ stop. (stop.sent < length text) × Appends a b (take stop.sent text)) → AppendsFront a b text
+front_either (Ok done) a b text all some = (text, [], sym (append-nil text), all)
+front_either (Err stop) a b text all some = front_of_sent a b text stop.sent some.1
+
+-- a call that gave nothing
+pub gains_nothing : (most : ℕ) (a b : Option (List ℕ)) (held : List ℕ) → Consumes a b [] → Gains most a b held held
+gains_nothing most a b held lost = ([], omega arith, sym (append-nil held), lost)
+
+-- a call that gave some bytes, for which there was no memory
+pub loses_given : (most : ℕ) (a b : Option (List ℕ)) (held grown given : List ℕ) → 0 < length given → length given ≤ most → grown ≡ held → Consumes a b given
+    → StopsAt Memory most a b held grown
+loses_given most a b held grown given some fits same lost = ([], given, some, omega (arith, fits), same ∙ sym (append-nil held), lost)
+
+-- one read after others
+pub gains_then : (limit : ℕ) (a b c : Option (List ℕ)) (held grown all : List ℕ) → Gains (limit - length held) a b held grown
+    → Gains (limit - length grown) b c grown all → Gains (limit - length held) a c held all
+gains_then limit a b c held grown all p q =
+    let counted : length grown ≡ length held + length p.0 = ap length p.2 ∙ length-append held p.0 in
+    let joined : length (p.0 ++ q.0) ≤ limit - length held = rw length-append (omega (arith, p.1, q.1)) in
+    (p.0 ++ q.0, joined, q.2 ∙ ap (λ l. l ++ q.0) p.2 ∙ append_assoc held p.0 q.0, Consumes-trans a b c p.0 q.0 p.3 q.3)
+
+-- reading that stopped after others
+pub stops_then : (fault : ReadError) (limit : ℕ) (a b c : Option (List ℕ)) (held grown all : List ℕ) → Gains (limit - length held) a b held grown
+    → StopsAt fault (limit - length grown) b c grown all → StopsAt fault (limit - length held) a c held all
+stops_then Device limit a b c held grown all p q = gains_then limit a b c held grown all p q
+stops_then TooManyTurns limit a b c held grown all p q = gains_then limit a b c held grown all p q
+stops_then Memory limit a b c held grown all p q =
+    let counted : length grown ≡ length held + length p.0 = ap length p.2 ∙ length-append held p.0 in
+    let joined : length (p.0 ++ q.0) + length q.1 ≤ limit - length held = rw length-append (omega (arith, p.1, q.2, q.3)) in
+    let whole : Consumes a c ((p.0 ++ q.0) ++ q.1) = rw append_assoc (Consumes-trans a b c p.0 (q.0 ++ q.1) p.3 q.5) in
+    (p.0 ++ q.0, q.1, q.2, joined, q.4 ∙ ap (λ l. l ++ q.0) p.2 ∙ append_assoc held p.0 q.0, whole)
+
+-- a list within the limit is all up to the limit
+take_whole : (limit : ℕ) (bytes : List ℕ) → length bytes ≤ limit → take limit bytes ≡ bytes
+take_whole limit bytes fits = sym (take_min limit bytes) ∙ ap (λ n. take n bytes) (omega arith) ∙ take-length bytes
+
+-- bytes before others that are none, or that begin at the limit, are all up to the limit
+take_front : (limit : ℕ) (xs bytes rest : List ℕ) → xs ≡ bytes ++ rest → length bytes ≤ limit → (length bytes < limit → rest ≡ []) → bytes ≡ take limit xs
+take_front limit xs bytes rest p fits end =
+    elim (cases_lt (length bytes) limit) [
+      | inl below ↦ rw (p ∙ ap (λ r. bytes ++ r) (end below) ∙ append-nil bytes) (sym (take_whole limit bytes fits))
+      | inr above ↦ let full : limit ≡ length bytes = omega arith in rw (p, full) (sym (take-append_seam bytes rest))
+    ]
+
+-- bytes and then none, or bytes up to the limit, are the front of what they and the rest make
+read_to_limit : (limit : ℕ) (a b : Option (List ℕ)) (bytes : List ℕ) → Consumes a b bytes → length bytes ≤ limit → (length bytes < limit → IsAtEnd b) → IfSome a (λ xs. bytes ≡ take limit xs)
+read_to_limit limit None b bytes p fits end = tt
+read_to_limit limit (Some x) None bytes p fits end = absurd p
+read_to_limit limit (Some x) (Some y) bytes p fits end = take_front limit x bytes y p fits end
+
+-- reading from none that stopped at the limit or at the reader's end has all up to the limit
+pub read_from_none : (limit : ℕ) (a b : Option (List ℕ)) (held bytes : List ℕ) → held ≡ [] → Gains (limit - length held) a b held bytes → (length bytes < limit → IsAtEnd b)
+    → HasFront limit a bytes
+read_from_none limit a b held bytes none gains end =
+    let same : bytes ≡ gains.0 = gains.2 ∙ ap (λ l. l ++ gains.0) none in
+    let fits : length gains.0 ≤ limit = omega (arith, gains.1) in
+    let at_end : length gains.0 < limit → IsAtEnd b = rw same at end in
+    rw same (read_to_limit limit a b gains.0 gains.3 fits at_end)

@@ -1,0 +1,9 @@
+use Rattle.std.proofs.Common.{arith, length-drop}
+use Rattle.mds_io.proofs.DeviceLemmas.{appends_next}
+use Rattle.mds_io.proofs.device.write_all_of.Goals as goal
+
+pub loop-sent-preserved-in-Moved : goal.loop-sent-preserved-in-Moved
+loop-sent-preserved-in-Moved g c = record {
+  within = omega (arith, c.in-Moved.ensures.1, length-drop c.loop-sent.sent c.args.bytes.now);
+  went = appends_next _ _ _ _ _ _ c.loop-sent.invariant.went c.in-Moved.ensures.2;
+}

@@ -1,0 +1,294 @@
+//! Readers and writers that give little, pause, stop and fail.
+ghost use Rattle.std.specs.Prelude.{◌≡◌, IfOk};
+
+use super::{
+    MAX_CALLS, ReadError, WriteErrorKind, PrintError, WriteError, add_line, flush_page, read_front,
+    read_more, read_up_to, write_all_of,
+};
+use std::alloc::{AllocError, Global};
+use std::io::{self, Error, ErrorKind, Read, Write};
+use std::test::Fail;
+
+/// How a stream ends after the bytes that it gives or takes.
+#[derive(Clone, Copy)]
+enum Last {
+    /// It answers 0.
+    Zero,
+    /// It fails.
+    Failure,
+    /// It would block.
+    Block,
+    /// It has timed out.
+    Timeout,
+    /// It is interrupted, each time.
+    Pause,
+}
+
+/// A reader that gives one byte a call.
+#[derive(Drop)]
+struct Drops<'a> {
+    bytes: &'a [u8],
+    calls: u32,
+    has_pauses: bool,
+    last: Last,
+}
+
+fn pause() -> Error {
+    Error::from(ErrorKind::Interrupted)
+}
+
+fn ending(last: Last) -> io::Result<usize>
+    ensures { IfOk result (λ n. n ≡ 0) }
+{
+    match last {
+        Last::Zero => Ok(0),
+        Last::Failure => Err(Error::from(ErrorKind::BrokenPipe)),
+        Last::Block => Err(Error::from(ErrorKind::WouldBlock)),
+        Last::Timeout => Err(Error::from(ErrorKind::TimedOut)),
+        Last::Pause => Err(pause()),
+    }
+}
+
+impl Read for Drops<'_> {
+    fn read(&mut self, buf: &mut [u8]) -> io::Result<usize> {
+        self.calls = self.calls.saturating_add(1);
+        if self.has_pauses && self.calls % 2 == 1 {
+            return Err(pause());
+        }
+        if buf.is_empty() {
+            return Ok(0);
+        }
+        match self.bytes.split_first() {
+            Some((first, rest)) => {
+                buf[0] = *first;
+                self.bytes = rest;
+                Ok(1)
+            }
+            None => ending(self.last),
+        }
+    }
+}
+
+/// A writer that takes one byte a call, `room` of them.
+#[derive(Drop)]
+struct Sips {
+    taken: Vec<u8>,
+    room: usize,
+    calls: u32,
+    has_pauses: bool,
+    last: Last,
+}
+
+impl Write for Sips {
+    fn write(&mut self, buf: &[u8]) -> io::Result<usize> {
+        self.calls = self.calls.saturating_add(1);
+        if self.has_pauses && self.calls % 2 == 1 {
+            return Err(pause());
+        }
+        if self.room == 0 {
+            return ending(self.last);
+        }
+        match buf.first() {
+            Some(first) => {
+                self.room -= 1;
+                self.taken.push(*first)?;
+                Ok(1)
+            }
+            None => Ok(0),
+        }
+    }
+
+    fn flush(&mut self) -> io::Result<()> {
+        Ok(())
+    }
+}
+
+/// What becomes of reading these bytes, one a call, with a pause before each call or none, to such an end: the fault, if one
+/// comes, and the number of calls.
+fn read_to(alloc: Global, bytes: &[u8], has_pauses: bool, last: Last) -> (Option<ReadError>, u32) {
+    let mut reader = Drops {
+        bytes,
+        calls: 0,
+        has_pauses,
+        last,
+    };
+    match read_front(alloc, &mut reader, 9) {
+        Ok(read) if read.as_slice() == bytes => (None, reader.calls),
+        Ok(_) => (Some(ReadError::Memory), reader.calls),
+        Err(fault) => (Some(fault), reader.calls),
+    }
+}
+
+#[test]
+fn reads_end_as_the_reader_does(rt: HostRuntime) {
+    let device = Some(ReadError::Device);
+    let turns = Some(ReadError::TooManyTurns);
+    let cases = [
+        (b"seven b".as_slice(), true, Last::Zero, (None, 16u32)),
+        (b"", false, Last::Zero, (None, 1)),
+        (b"abc", false, Last::Failure, (device, 4)),
+        (b"abc", false, Last::Block, (device, 4)),
+        (b"abc", false, Last::Timeout, (device, 4)),
+        (b"ab", false, Last::Pause, (turns, 5_000_000)),
+    ];
+    for (bytes, has_pauses, last, ended) in cases {
+        assert_eq!(rt; read_to(rt.alloc(), bytes, has_pauses, last), ended);
+    }
+}
+
+#[test]
+fn reads_no_more_than_the_limit(rt: HostRuntime) -> Result<(), Fail> {
+    let mut reader = b"abcdefg".as_slice();
+    let read = read_front(rt.alloc(), &mut reader, 6)?;
+    assert_eq!(rt; (read.as_slice(), reader), (b"abcdef".as_slice(), b"g".as_slice()));
+    Ok(())
+}
+
+/// Reads of several kinds share the calls, and each asks for no more than is wanted.
+#[test]
+fn reads_share_the_calls(rt: HostRuntime) -> Result<(), Fail> {
+    let mut reader = Drops {
+        bytes: b"abcdefg",
+        calls: 0,
+        has_pauses: true,
+        last: Last::Pause,
+    };
+    let mut bytes = Vec::new(rt.alloc());
+    let mut room = [0u8; 4];
+    let mut calls = 10;
+    let first = read_more(&mut reader, &mut bytes, &mut room, 9, &mut calls);
+    assert_eq!(rt; (first, bytes.len(), calls), (Ok(false), 1, 8));
+    let third = read_up_to(&mut reader, &mut bytes, &mut room, 3, &mut calls);
+    assert_eq!(rt; (third, bytes.len(), calls), (Ok(()), 3, 4));
+    let all = read_up_to(&mut reader, &mut bytes, &mut room, 9, &mut calls);
+    assert_eq!(rt;
+        (all, reader.calls, calls),
+        (Err(ReadError::TooManyTurns), 10, 0)
+    );
+    assert_eq!(rt; bytes.as_slice(), b"abcde".as_slice());
+    Ok(())
+}
+
+/// A reader that gives what is asked for, and at its end nothing, is asked for what is wanted.
+#[test]
+fn reads_ask_for_what_is_wanted(rt: HostRuntime) -> Result<(), Fail> {
+    let mut reader = b"abcdefg".as_slice();
+    let mut bytes = Vec::new(rt.alloc());
+    let mut room = [0u8; 4];
+    let mut calls = 9;
+    read_up_to(&mut reader, &mut bytes, &mut room, 5, &mut calls)?;
+    assert_eq!(rt; (bytes.len(), reader.len(), calls), (5, 2, 7));
+    read_up_to(&mut reader, &mut bytes, &mut room, 9, &mut calls)?;
+    assert_eq!(rt; (bytes.len(), reader.len(), calls), (7, 0, 5));
+    Ok(())
+}
+
+/// What becomes of writing these bytes, one a call, `room` of them, with a pause before each call or none, to such an end:
+/// where it stopped and why if not all went out, and the number of calls.
+fn written_to(
+    alloc: Global,
+    bytes: &[u8],
+    room: usize,
+    has_pauses: bool,
+    last: Last,
+) -> (Option<WriteError>, u32) {
+    let mut writer = Sips {
+        taken: Vec::new(alloc),
+        room,
+        calls: 0,
+        has_pauses,
+        last,
+    };
+    let stop = write_all_of(&mut writer, bytes).err();
+    (stop, writer.calls)
+}
+
+fn failed_at(sent: usize) -> Option<WriteError> {
+    let kind = WriteErrorKind::Device;
+    Some(WriteError { sent, kind })
+}
+
+fn out_of_turns_at(sent: usize) -> Option<WriteError> {
+    let kind = WriteErrorKind::TooManyTurns;
+    Some(WriteError { sent, kind })
+}
+
+#[test]
+fn writes_end_as_the_writer_does(rt: HostRuntime) {
+    let cases = [
+        (b"".as_slice(), 9usize, true, Last::Zero, (None, 0u32)),
+        (b"abc", 9, true, Last::Zero, (None, 6)),
+        (b"abc", 2, false, Last::Zero, (failed_at(2), 3)),
+        (
+            b"abc",
+            2,
+            false,
+            Last::Pause,
+            (out_of_turns_at(2), MAX_CALLS),
+        ),
+        (b"abc", 1, false, Last::Failure, (failed_at(1), 2)),
+        (b"abc", 1, false, Last::Block, (failed_at(1), 2)),
+        (b"abc", 1, false, Last::Timeout, (failed_at(1), 2)),
+    ];
+    for (bytes, room, has_pauses, last, ended) in cases {
+        assert_eq!(rt;
+            written_to(rt.alloc(), bytes, room, has_pauses, last),
+            ended
+        );
+    }
+}
+
+/// The last call that is allowed may be the one that takes the last byte.
+#[test]
+fn writes_run_out(rt: HostRuntime) -> Result<(), Fail> {
+    let alloc = rt.alloc();
+    let most = file_of(alloc, 2_500_000)?;
+    let whole = written_to(alloc, &most, 3_000_000, true, Last::Zero);
+    assert_eq!(rt; whole, (None, 5_000_000));
+    let more = file_of(alloc, 2_500_001)?;
+    let front = written_to(alloc, &more, 3_000_000, true, Last::Zero);
+    assert_eq!(rt; front, (out_of_turns_at(2_500_000), 5_000_000));
+    Ok(())
+}
+
+#[test]
+fn lines_share_a_write(rt: HostRuntime) -> Result<(), Fail> {
+    let mut out = Vec::new(rt.alloc());
+    let mut page = String::new(rt.alloc());
+    for _ in 0..10_922 {
+        add_line(&mut out, &mut page, &10_001)?;
+    }
+    assert_eq!(rt; (out.len(), page.len()), (0, 65_532));
+    add_line(&mut out, &mut page, &10_001)?;
+    assert_eq!(rt; (out.len(), page.len()), (65_538, 0));
+    Ok(())
+}
+
+#[test]
+fn a_line_ends_with_a_line_feed(rt: HostRuntime) -> Result<(), Fail> {
+    let mut out = Vec::new(rt.alloc());
+    let mut page = String::new(rt.alloc());
+    add_line(&mut out, &mut page, &"accepted 3")?;
+    add_line(&mut out, &mut page, &7)?;
+    flush_page(&mut out, &mut page)?;
+    assert_eq!(rt; out.as_slice(), b"accepted 3\n7\n".as_slice());
+    assert_eq!(rt; page.as_str(), "");
+    Ok(())
+}
+
+#[test]
+fn a_page_that_cannot_be_put_out(rt: HostRuntime) -> Result<(), Fail> {
+    let mut writer = Sips {
+        taken: Vec::new(rt.alloc()),
+        room: 3,
+        calls: 0,
+        has_pauses: false,
+        last: Last::Zero,
+    };
+    let mut page = String::new(rt.alloc());
+    add_line(&mut writer, &mut page, &"abcd")?;
+    assert_eq!(rt; flush_page(&mut writer, &mut page), Err(PrintError::Device));
+    assert_eq!(rt; writer.taken.as_slice(), b"abc".as_slice());
+    assert_eq!(rt; page.as_str(), "abcd\n");
+    Ok(())
+}

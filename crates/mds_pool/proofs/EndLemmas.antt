@@ -1,0 +1,33 @@
+-- What workers leave.
+use Rattle.std.proofs.Common.{◌≡◌, ◌∙◌, ◌<◌, ℕ, List, length, false, refl, subst, slice_index_or, sym}
+use Rattle.std.specs.Prelude.{Result, Ok, Err, replicate}
+use Rattle.std.specs.List.{All, AllZip}
+use Rattle.std.proofs.lemmas.List.{length-replicate}
+use Rattle.std.proofs.lemmas.List.Elements.{All-replicate, AllZip-get_or}
+use Rattle.std.proofs.lemmas.Slice.Zip.{AllZip-long}
+use Rattle.mds_table.specs.Tables.{Tables}
+use Rattle.mds_book.specs.Seats.{Seated, fresh}
+use Rattle.mds_face.specs.Seats.{HasGrown}
+use Rattle.mds_pool.specs.declared.serving.Stop.{Stop}
+use Rattle.mds_pool.specs.declared.serving.Stop.TheVariants.{Memory, Accept, Torn}
+use Rattle.mds_pool.specs.Serving.{AreWorkers, IsEnded, IsSettledEnd}
+
+-- seats that were told nothing, and have grown since, are as many, and note what they noted
+pub workers_grown : (count : ℕ) (seats : List Seated) → AllZip HasGrown (replicate count (fresh false)) seats → AreWorkers count seats
+workers_grown count seats grown =
+    let new = replicate count (fresh false) in
+    let long : length seats ≡ length new = AllZip-long HasGrown new seats grown in
+    let keep : All (λ seat. seat.keeps_all ≡ false) new = All-replicate (λ seat. seat.keeps_all ≡ false) count (fresh false) refl in (
+      long ∙ length-replicate count (fresh false),
+      λ place other within.
+          let inside : place < length new = subst (λ n. place < n) long within in
+          let seat : HasGrown (slice_index_or new place other) (slice_index_or seats place other) = AllZip-get_or HasGrown new seats place other other grown inside in
+          seat.keeps_all ∙ keep place other inside,
+    )
+
+-- a book of the workers' seats that was settled, or is torn, ended so
+pub ended : (tables : Tables) (count : ℕ) (seats : List Seated) (came : Result ℕ Stop) → AreWorkers count seats → IsSettledEnd tables seats came → IsEnded tables count came
+ended tables count seats (Ok accepted) are settled = (seats, are, settled)
+ended tables count seats (Err Memory) are settled = tt
+ended tables count seats (Err Accept) are settled = tt
+ended tables count seats (Err (Torn shard place)) are settled = (seats, are, settled)

@@ -1,0 +1,115 @@
+//! The fields of a head (RFC 9112, section 5): what is given under a name, and lengths of bodies.
+ghost use Rattle.std.specs.Prelude.{◌≡◌, ◌≤◌, ◌<◌, [], ◌∷◌, ◌++◌, List, ℕ, length, map, All, MatchOption, IsTrue, nat_lt, ◌&&◌, true, false, Some, Ok, IfOk, codes};
+ghost use Rattle.std.specs.List.{list_all};
+ghost use Rattle.std.specs.Char.{is_ascii_digit};
+ghost use Rattle.std.specs.Str.{str_eq_ignore_ascii_case};
+ghost use Rattle.std.specs.Str.Parse.{digits_value};
+ghost use Rattle.httparse.specs.Spans.{header_bytes, IsHeaderWithin};
+ghost use Rattle.mds_table.specs.Json.{max_bytes};
+ghost use Rattle.mds_request.specs.Head.{values_of};
+ghost use Rattle.mds_request.specs.Plan.{is_post};
+ghost use Rattle.mds_request.specs.Fields.{IsGiven, IsLengthOf};
+
+use crate::{Aim, HttpFault};
+use httparse::spans::HeaderSpan;
+use mds_table::MAX_BYTES;
+
+/// What the fields of a name give.
+#[derive(Clone, Copy)]
+pub(crate) enum Given<'a> {
+    /// Nothing: there is no such field.
+    Nothing,
+    /// One value, without the spaces and tabs round it.
+    Once(&'a [u8]),
+    /// More than one value.
+    Often,
+}
+
+/// Whether a field has this name, whatever the case of its letters.
+#[tactic(auto, using(crate::proofs::FieldLemmas::same_name))]
+fn has_name(field: &[u8], name: &str) -> bool
+    ensures { result ≡ str_eq_ignore_ascii_case field.now name.now }
+{
+    field.eq_ignore_ascii_case(name.as_bytes())
+}
+
+/// What the fields of a name give, with one more field, which may have this name or another.
+fn with_field<'a>(found: Given<'a>, bytes: &'a [u8], header: &HeaderSpan, name: &str) -> Given<'a>
+    requires { IsHeaderWithin (length bytes.now) header.now }
+    ensures { (fields : List (List ℕ × List ℕ)) → IsGiven (values_of name.now fields) found.entry
+        → IsGiven (values_of name.now (fields ++ header_bytes bytes.now header.now ∷ [])) result }
+{
+    if !has_name(header.name.of(bytes), name) {
+        return found;
+    }
+    match found {
+        Given::Nothing => Given::Once(header.value.of(bytes)),
+        Given::Once(_) | Given::Often => Given::Often,
+    }
+}
+
+/// What the fields of a name give, whatever the case of its letters. The fields lie in these bytes.
+pub(crate) fn look_up<'a>(bytes: &'a [u8], headers: &[HeaderSpan], name: &str) -> Given<'a>
+    requires { All (IsHeaderWithin (length bytes.now)) headers.now }
+    ensures { IsGiven (values_of name.now (map (header_bytes bytes.now) headers.now)) result }
+{
+    let mut found = Given::Nothing;
+    for header in headers {
+        found = with_field(found, bytes, header, name);
+    }
+    found
+}
+
+/// Whether all bytes are digits.
+fn are_digits(bytes: &[u8]) -> bool
+    ensures { result ≡ list_all is_ascii_digit bytes.now }
+{
+    bytes.iter().all(|byte| byte.is_ascii_digit())
+}
+
+/// Whether a value is one or more digits.
+pub(crate) fn is_number(value: &[u8]) -> bool
+    ensures { result ≡ (nat_lt 0 (length value.now) && list_all is_ascii_digit value.now) }
+{
+    !value.is_empty() && are_digits(value)
+}
+
+/// The number that digits write, if it's a length of at most [`MAX_BYTES`].
+pub(crate) fn length_of(digits: &[u8]) -> Option<usize>
+    requires { IsTrue (list_all is_ascii_digit digits.now) }
+    ensures { MatchOption result (max_bytes < digits_value 10 digits.now) (λ len. (len ≡ digits_value 10 digits.now) × (len ≤ max_bytes)) }
+{
+    let mut len = 0;
+    for digit in digits {
+        len = len * 10 + usize::from(digit - b'0');
+        if len > MAX_BYTES {
+            return None;
+        }
+    }
+    Some(len)
+}
+
+/// The length of the body that a head says, its fields lying in these bytes: that of a POST, and 0 for a GET.
+///
+/// # Errors
+///
+/// No length is given for a POST, more than one, one that is no number, or one over [`MAX_BYTES`].
+pub(crate) fn body_length(
+    aim: &Aim,
+    bytes: &[u8],
+    headers: &[HeaderSpan],
+) -> Result<usize, HttpFault>
+    requires { All (IsHeaderWithin (length bytes.now)) headers.now }
+    ensures get { is_post (Some aim.now) ≡ false → result ≡ Ok 0 }
+    ensures post { is_post (Some aim.now) ≡ true → IsLengthOf (values_of (codes "content-length") (map (header_bytes bytes.now) headers.now)) result }
+    ensures few { IfOk result (λ len. len ≤ max_bytes) }
+{
+    if matches!(aim, Aim::One(_) | Aim::History(_) | Aim::Rows) {
+        return Ok(0);
+    }
+    match look_up(bytes, headers, "content-length") {
+        Given::Nothing => Err(HttpFault::LengthRequired),
+        Given::Once(value) if is_number(value) => length_of(value).ok_or(HttpFault::TooLong),
+        Given::Once(_) | Given::Often => Err(HttpFault::BadLength),
+    }
+}

@@ -1,0 +1,73 @@
+//! The target of a request: its route, and the vehicle that it names (RFC 9110, section 7.1).
+ghost use Rattle.std.specs.Prelude.{◌≡◌, ◌<◌, ◌==◌, Some};
+ghost use Rattle.std.specs.List.{before_first, after_first};
+ghost use Rattle.uuid.specs.Text.{parsed};
+ghost use Rattle.mds_request.specs.Routes.{piece, key_in, aim_in};
+ghost use Rattle.mds_request.specs.Plan.{method_for};
+
+use crate::face::Route;
+use crate::{Aim, Face};
+use mds_core::Key;
+use uuid::Uuid;
+
+/// What stands before the first of an ASCII character, and what stands behind it.
+fn cut(text: &str, at: char) -> (&str, &str)
+    requires { at < 128 }
+    ensures before { result.0.now ≡ before_first (λ byte. byte == at) text.now }
+    ensures after { result.1.now ≡ after_first (λ byte. byte == at) text.now }
+{
+    text.split_once(at).unwrap_or((text, ""))
+}
+
+/// The identifier that a text is, in one of the forms of a UUID (RFC 9562).
+fn uuid_of(text: &str) -> Option<Uuid>
+    ensures { result ≡ parsed text.now }
+{
+    Uuid::try_parse(text).ok()
+}
+
+/// The third and the fourth piece of a path between its slashes.
+fn names_in(path: &str) -> (&str, &str)
+    ensures third { result.0.now ≡ piece 2 path.now }
+    ensures fourth { result.1.now ≡ piece 3 path.now }
+{
+    let (_, path) = cut(path, '/');
+    let (_, path) = cut(path, '/');
+    let (third, path) = cut(path, '/');
+    let (fourth, _) = cut(path, '/');
+    (third, fourth)
+}
+
+/// The vehicle that a path names.
+fn key_of(path: &str) -> Option<Key>
+    ensures { result ≡ key_in path.now }
+{
+    let (provider, device) = names_in(path);
+    let provider = uuid_of(provider)?;
+    let device = uuid_of(device)?;
+    Some(Key { provider, device })
+}
+
+/// What a request of a target is about.
+pub(crate) fn aim_of(face: &Face, target: &str) -> Option<Aim>
+    ensures { result ≡ aim_in target.now }
+{
+    let (path, _) = cut(target, '?');
+    match face.route_of(path)? {
+        Route::Vehicles => Some(Aim::Vehicles),
+        Route::Events => Some(Aim::Events),
+        Route::One => Some(Aim::One(key_of(path)?)),
+        Route::History => Some(Aim::History(key_of(path)?)),
+        Route::Rows => Some(Aim::Rows),
+    }
+}
+
+/// The method of a route, as a field `allow` names it.
+pub(crate) fn method_of(aim: &Aim) -> &'static str
+    ensures { result.now ≡ method_for (Some aim.now) }
+{
+    match aim {
+        Aim::Vehicles | Aim::Events => "POST",
+        Aim::One(_) | Aim::History(_) | Aim::Rows => "GET",
+    }
+}

@@ -1,0 +1,28 @@
+-- The bodies of answers: one text of JSON each.
+use Rattle.std.specs.Prelude.{ℕ, List, codes, decimal}
+use Rattle.mds_table.specs.declared.row.Row.{Row}
+use Rattle.mds_core.specs.Reported.{Reported}
+use Rattle.mds_response.specs.declared.failure.Failure.{Failure}
+use Rattle.mds_response.specs.Json.{◌+++◌, with_commas, event_text, row_text, failure_text}
+
+-- the body of a fault of this word
+abbrev pub fault_body : List ℕ → List ℕ
+fault_body word = codes "{\"error\":\"" +++ word +++ codes "\"}"
+
+-- the body where the item of an index found no memory
+abbrev pub memory_body : ℕ → List ℕ
+memory_body index = codes "{\"error\":\"out_of_memory\",\"index\":" +++ decimal index +++ codes "}"
+
+-- the body of a POST: its failures, the number of items accepted, and the number of items
+abbrev pub batch_body : List Failure → ℕ → ℕ → List ℕ
+batch_body failures success total =
+    codes "{\"failures\":[" +++ with_commas failure_text failures
+    +++ codes "],\"success\":" +++ decimal success +++ codes ",\"total\":" +++ decimal total +++ codes "}"
+
+-- the body of a vehicle's events, in the order in which they were accepted
+abbrev pub events_body : List Reported → List ℕ
+events_body events = codes "{\"events\":[" +++ with_commas event_text events +++ codes "]}"
+
+-- the body of a table, which is a table file too
+abbrev pub rows_body : List Row → List ℕ
+rows_body rows = codes "{\"rows\":[" +++ with_commas row_text rows +++ codes "]}"

@@ -1,0 +1,38 @@
+//! Answers.
+ghost use Rattle.std.specs.Prelude.{◌≡◌, IfOk, option_map};
+ghost use Rattle.mds_request.specs.Asked.{asked_in};
+ghost use Rattle.mds_response.specs.Found.{finding_in};
+ghost use Rattle.mds_response.specs.Head.{answer_text};
+ghost use Rattle.mds_response.specs.Answer.{answer_to, allow_for};
+
+use crate::Found;
+use crate::body::body_of;
+use crate::head::whole_answer;
+use crate::status::status_of;
+use mds_request::{HttpFault, Plan};
+use std::alloc::{AllocError, Global};
+
+/// The bytes of the answer to what was asked for, by what was found: a head, an empty line and a body.
+///
+/// What was found is of the plan's kind, with at most one reply for each item that isn't a fault; something else counts
+/// as nothing found. Where there are fewer replies, the answer says that the next such item found no memory.
+///
+/// # Errors
+///
+/// There was no memory for the bytes.
+pub fn bytes_of(alloc: Global, plan: &Plan, found: &Found) -> Result<Vec<u8>, AllocError>
+    ensures { IfOk result (λ bytes. bytes.items ≡ answer_text (answer_to (asked_in plan.now) (finding_in found.now))) }
+{
+    let body = body_of(alloc, plan, found)?;
+    whole_answer(alloc, status_of(plan, found), allow_of(plan), &body)
+}
+
+/// The route's method, where another one was asked for.
+fn allow_of(plan: &Plan) -> Option<&str>
+    ensures { option_map (λ method. method.now) result ≡ allow_for (asked_in plan.now) }
+{
+    match plan {
+        Plan::Fixed(HttpFault::MethodNotAllowed { allow }) => Some(allow),
+        _ => None,
+    }
+}

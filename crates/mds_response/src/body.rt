@@ -1,0 +1,90 @@
+//! The bodies of answers.
+ghost use Rattle.std.specs.Prelude.{◌≡◌, IfOk, IfSome, map, option_map, string_bytes};
+ghost use Rattle.mds_request.specs.Asked.{asked_in};
+ghost use Rattle.mds_response.specs.Found.{finding_in};
+ghost use Rattle.mds_response.specs.Bodies.{fault_body, rows_body};
+ghost use Rattle.mds_response.specs.Answer.{answer_to, batch_content, look_content, events_content};
+
+use crate::Found;
+use crate::batch::{Item, failures_of, told};
+use crate::found::accepted;
+use crate::json::{Commas, StandingText};
+use mds_core::{Event, Key, Refusal, Reply, Standing};
+use mds_request::Plan;
+use mds_table::Row;
+use std::alloc::{AllocError, Global};
+use std::fmt::Display;
+
+/// The body of the answer to what was asked for, by what was found.
+///
+/// # Errors
+///
+/// There was no memory for it.
+pub(crate) fn body_of(alloc: Global, plan: &Plan, found: &Found) -> Result<String, AllocError>
+    ensures { IfOk result (λ body. string_bytes body ≡ (answer_to (asked_in plan.now) (finding_in found.now)).body) }
+{
+    match plan {
+        Plan::Fixed(fault) => fault_body(alloc, fault),
+        Plan::Vehicles(items) => batch_body(alloc, items, found.replies()),
+        Plan::Events(items) => batch_body(alloc, items, found.replies()),
+        Plan::One(key) => look_body(alloc, key, found.standing()),
+        Plan::History(_) => events_body(alloc, found.events()),
+        Plan::Rows => rows_body(alloc, found.rows()),
+    }
+}
+
+/// The body of a fault of this word.
+fn fault_body<D: Display>(alloc: Global, word: &D) -> Result<String, AllocError>
+    ensures { IfOk result (λ body. IfSome (D.output word.now) (λ word. string_bytes body ≡ fault_body word)) }
+{
+    format!(in alloc; "{{\"error\":\"{word}\"}}")
+}
+
+/// The body of a POST of these items, to which these are the replies.
+fn batch_body<I: Item>(alloc: Global, items: &[I], replies: &[Reply]) -> Result<String, AllocError>
+    ensures { IfOk result (λ body. string_bytes body ≡ (batch_content (map I.wrong items.now) replies.now).body) }
+{
+    let total = items.len();
+    let index = told(items, replies);
+    if index < total {
+        return format!(in alloc; "{{\"error\":\"out_of_memory\",\"index\":{index}}}");
+    }
+    let found = failures_of(alloc, items, replies)?;
+    let failures = Commas { items: &found };
+    let success = accepted(replies);
+    format!(in alloc; "{{\"failures\":[{failures}],\"success\":{success},\"total\":{total}}}")
+}
+
+/// The body of a look at this vehicle, which saw this standing, or none where it isn't registered.
+fn look_body(alloc: Global, key: &Key, seen: Option<Standing>) -> Result<String, AllocError>
+    ensures { IfOk result (λ body. string_bytes body ≡ (look_content key.now seen).body) }
+{
+    match seen {
+        Some(standing) => {
+            let text = StandingText { key, standing };
+            format!(in alloc; "{text}")
+        }
+        None => fault_body(alloc, &Refusal::Unregistered),
+    }
+}
+
+/// The body of the events of a vehicle, or `None` where it isn't registered.
+fn events_body(alloc: Global, events: Option<&[Event]>) -> Result<String, AllocError>
+    ensures { IfOk result (λ body. string_bytes body ≡ (events_content (option_map (λ events. events.now) events.entry)).body) }
+{
+    match events {
+        Some(items) => {
+            let events = Commas { items };
+            format!(in alloc; "{{\"events\":[{events}]}}")
+        }
+        None => fault_body(alloc, &Refusal::Unregistered),
+    }
+}
+
+/// The body of the rows of a table.
+fn rows_body(alloc: Global, rows: &[Row]) -> Result<String, AllocError>
+    ensures { IfOk result (λ body. string_bytes body ≡ rows_body rows.now) }
+{
+    let rows = Commas { items: rows };
+    format!(in alloc; "{{\"rows\":[{rows}]}}")
+}

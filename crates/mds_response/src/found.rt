@@ -1,0 +1,90 @@
+//! What was found of what a request asks for.
+ghost use Rattle.std.specs.Prelude.{◌≡◌, option_map};
+ghost use Rattle.mds_response.specs.Found.{finding_in, replies_in, standing_seen, standing_in, events_in, rows_in, accepted_in};
+
+use mds_core::{Event, Outcome, Reply, Standing};
+use mds_table::Row;
+
+/// What a desk found of what a request asks for.
+#[derive(Debug, Drop)]
+pub enum Found {
+    /// Nothing was looked for: the request is answered by a fault.
+    Nothing,
+    /// The replies to the items of a POST that aren't faults, in their order, up to the first that found no memory.
+    Replies(Vec<Reply>),
+    /// The reply to a look at a vehicle.
+    One(Reply),
+    /// The accepted events of a vehicle, or `None` where it isn't registered.
+    History(Option<Vec<Event>>),
+    /// The rows of the table.
+    Rows(Vec<Row>),
+}
+
+impl Found {
+    /// How many requests were accepted: the replies to items that are [`Outcome::Done`].
+    pub fn accepted(&self) -> usize
+        ensures { result ≡ accepted_in (replies_in (finding_in self.now)) }
+    {
+        accepted(self.replies())
+    }
+
+    /// The replies to items: none where something else was found.
+    pub(crate) fn replies(&self) -> &[Reply]
+        ensures { result.now ≡ replies_in (finding_in self.now) }
+    {
+        match self {
+            Found::Replies(replies) => replies,
+            _ => &[],
+        }
+    }
+
+    /// The standing that a look saw, or `None` where the vehicle isn't registered.
+    pub(crate) fn standing(&self) -> Option<Standing>
+        ensures { result ≡ standing_in (finding_in self.now) }
+    {
+        match self {
+            Found::One(reply) => standing_seen(reply.outcome),
+            _ => None,
+        }
+    }
+
+    /// The accepted events of a vehicle, or `None` where it isn't registered.
+    pub(crate) fn events(&self) -> Option<&[Event]>
+        ensures { option_map (λ events. events.now) result ≡ events_in (finding_in self.now) }
+    {
+        match self {
+            Found::History(Some(events)) => Some(events),
+            _ => None,
+        }
+    }
+
+    /// The rows of a table: none where something else was found.
+    pub(crate) fn rows(&self) -> &[Row]
+        ensures { result.now ≡ rows_in (finding_in self.now) }
+    {
+        match self {
+            Found::Rows(rows) => rows,
+            _ => &[],
+        }
+    }
+}
+
+/// The standing that an outcome shows.
+fn standing_seen(outcome: Outcome) -> Option<Standing>
+    ensures { result ≡ standing_seen outcome }
+{
+    match outcome {
+        Outcome::Seen(standing) => Some(standing),
+        Outcome::Done | Outcome::Refused(_) => None,
+    }
+}
+
+/// How many of the replies accept.
+pub(crate) fn accepted(replies: &[Reply]) -> usize
+    ensures { result ≡ accepted_in replies.now }
+{
+    replies
+        .iter()
+        .filter(|reply| matches!(reply.outcome, Outcome::Done))
+        .count()
+}

@@ -1,0 +1,57 @@
+//! The whole text of an answer.
+ghost use Rattle.std.specs.Prelude.{◌≡◌, ◌++◌, IfOk, OnOk, option_map, string_bytes};
+ghost use Rattle.mds_response.specs.Head.{allow_line, answer_text, memory_text};
+
+use http::StatusCode;
+use std::alloc::{AllocError, Global};
+use std::fmt::Write as _;
+
+/// The answer where there is no memory for one.
+const MEMORY_ANSWER: &str =
+    "HTTP/1.1 503 Service Unavailable\r\ncontent-length: 0\r\nconnection: close\r\n\r\n";
+
+/// Room for the head of any answer.
+const HEAD_ROOM: usize = 192;
+
+/// The answer where there is no memory for one. Taking it takes none.
+pub fn memory_bytes() -> &'static [u8]
+    ensures { result.now ≡ memory_text }
+{
+    MEMORY_ANSWER.as_bytes()
+}
+
+/// All bytes of an answer of this status and body; where another method was asked for than the route's, `allow` is the
+/// route's.
+///
+/// # Errors
+///
+/// There was no memory for them.
+pub(crate) fn whole_answer(
+    alloc: Global,
+    status: StatusCode,
+    allow: Option<&str>,
+    body: &str,
+) -> Result<Vec<u8>, AllocError>
+    ensures { IfOk result (λ bytes. bytes.items ≡ answer_text record { status = status; allow = option_map (λ method. method.now) allow.entry; body = body.now }) }
+{
+    let length = body.len();
+    let mut text = String::with_capacity(alloc, length.saturating_add(HEAD_ROOM))?;
+    write!(text, "HTTP/1.1 {status}\r\n")?;
+    text.push_str("content-type: application/json\r\n")?;
+    write!(text, "content-length: {length}\r\n")?;
+    text.push_str("connection: close\r\n")?;
+    add_allow(&mut text, allow)?;
+    text.push_str("\r\n")?;
+    text.push_str(body)?;
+    Ok(text.into_bytes())
+}
+
+/// Adds the field that names the route's method, where another one was asked for (RFC 9110, section 10.2.1).
+fn add_allow(text: &mut String, allow: Option<&str>) -> Result<(), AllocError>
+    ensures { OnOk result (string_bytes text.new ≡ string_bytes text.old ++ allow_line (option_map (λ method. method.now) allow.entry)) }
+{
+    match allow {
+        Some(method) => write!(text, "allow: {method}\r\n"),
+        None => Ok(()),
+    }
+}

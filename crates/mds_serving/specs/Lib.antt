@@ -1,3 +1,0 @@
--- Definitions that the contracts cite.
-pub mod Serving
-pub mod Torn

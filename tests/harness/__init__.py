@@ -1,0 +1,1 @@
+"""What all the test scripts use: counting, C files built once, runs of the program, texts compared."""

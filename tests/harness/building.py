@@ -1,0 +1,51 @@
+"""C files of the repository, each built once, and the growths of memory that one of them refuses."""
+
+import os
+import subprocess
+import tempfile
+import threading
+from pathlib import Path
+
+from harness.counting import ROOT
+
+OUT = ROOT / "tests/out"
+BUILDING = threading.Lock()
+
+
+def built(name, source, *flags):
+    """The file of this name under tests/out. It is built from the source where it isn't there, or is older."""
+    target, source = OUT / name, ROOT / source
+    with BUILDING:
+        if not target.exists() or target.stat().st_mtime < source.stat().st_mtime:
+            OUT.mkdir(exist_ok=True)
+            fresh = OUT / f"{name}.{os.getpid()}"
+            subprocess.run(["cc", "-o", fresh, source, *flags], check=True)
+            fresh.replace(target)
+    return target
+
+
+def loading_client():
+    """The client of bench/client.c, which sends files of requests."""
+    return built("client", "bench/client.c", "-O2", "-pthread")
+
+
+class Refusal:
+    """A growth of memory that is refused: the one of this number, counted from 1, or none for 0. As a context it has the
+    environment of the run that it is for, and says whether the run came to it."""
+
+    def __init__(self, number):
+        self.number = number
+        self.shim = built("refuse-growth.so", "tests/refuse-growth.c", "-shared", "-fPIC", "-O1", "-ldl")
+
+    def __enter__(self):
+        self.folder = tempfile.TemporaryDirectory()
+        self.mark = Path(self.folder.name, "refused")
+        told = {"LD_PRELOAD": str(self.shim), "REFUSE": str(self.number), "REFUSED": str(self.mark)}
+        self.env = {**os.environ, **told}
+        return self
+
+    def __exit__(self, *_):
+        self.folder.cleanup()
+
+    def came(self):
+        return self.mark.exists()
