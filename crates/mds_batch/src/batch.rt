@@ -104,7 +104,8 @@ pub fn read_events(alloc: Global, bytes: &[u8]) -> Result<Vec<EventItem>, BatchF
 
 /// The values that a batch lists, of which there are few enough.
 fn listed_values(value: &Value) -> Result<&[Value], BatchFault>
-    ensures values { IfOk result (λ values. (listed (view value.now) ≡ Some (map view values.now)) × (length values.now ≤ max_items)) }
+    ensures values { IfOk result (λ values.
+        (listed (view value.now) ≡ Some (map view values.now)) × (length values.now ≤ max_items)) }
     ensures fault { IfErr result (IsListFault (view value.now)) }
 {
     let values = listed_of(value).ok_or(BatchFault::NotList)?;

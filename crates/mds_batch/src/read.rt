@@ -70,8 +70,10 @@ fn event_of(value: &Value) -> Result<Event, ItemFault>
 
 /// The value of a member that has to be there.
 fn required_member(value: &Value, member: Member) -> Result<&Value, ItemFault>
-    ensures found { IfOk result (λ found. get (member_name member) (view value.now) ≡ Some (view found.now)) }
-    ensures missing { IfErr result (λ fault. (fault ≡ Missing member) × (get (member_name member) (view value.now) ≡ None)) }
+    ensures found { IfOk result (λ found.
+        get (member_name member) (view value.now) ≡ Some (view found.now)) }
+    ensures missing { IfErr result (λ fault.
+        (fault ≡ Missing member) × (get (member_name member) (view value.now) ≡ None)) }
 {
     value.get(member.name()).ok_or(ItemFault::Missing(member))
 }
@@ -79,15 +81,20 @@ fn required_member(value: &Value, member: Member) -> Result<&Value, ItemFault>
 /// The identifier that the member is.
 fn uuid_member(value: &Value, member: Member) -> Result<Uuid, ItemFault>
     ensures id { IfOk result (λ id. member_in member uuid_in (view value.now) ≡ Some id) }
-    ensures fault { IfErr result (λ fault. (member_in member uuid_in (view value.now) ≡ None) × (fault ≡ fault_at (view value.now) member)) }
+    ensures fault { IfErr result (λ fault.
+        (member_in member uuid_in (view value.now) ≡ None)
+        × (fault ≡ fault_at (view value.now) member)) }
 {
     uuid_of(required_member(value, member)?).ok_or(ItemFault::Bad(member))
 }
 
 /// The state that the event leads to.
 fn state_member(value: &Value) -> Result<State, ItemFault>
-    ensures state { IfOk result (λ state. member_in Member.VehicleState state_in (view value.now) ≡ Some state) }
-    ensures fault { IfErr result (λ fault. (member_in Member.VehicleState state_in (view value.now) ≡ None) × (fault ≡ fault_at (view value.now) Member.VehicleState)) }
+    ensures state { IfOk result (λ state.
+        member_in Member.VehicleState state_in (view value.now) ≡ Some state) }
+    ensures fault { IfErr result (λ fault.
+        (member_in Member.VehicleState state_in (view value.now) ≡ None)
+        × (fault ≡ fault_at (view value.now) Member.VehicleState)) }
 {
     let member = Member::VehicleState;
     state_of(required_member(value, member)?).ok_or(ItemFault::Bad(member))
@@ -99,10 +106,13 @@ fn fill_types_member(
     types: &mut ArrayVec<TypeName, MAX_EVENT_TYPES>,
 ) -> Result<(), ItemFault>
     requires { types.old.items ≡ [] }
-    ensures types { OnOk result (member_in Member.EventTypes types_in (view value.now) ≡ Some types.new.items) }
+    ensures types { OnOk result (member_in Member.EventTypes types_in (view value.now)
+        ≡ Some types.new.items) }
     ensures some { OnOk result (1 ≤ length types.new.items) }
     ensures few { OnOk result (length types.new.items ≤ max_event_types) }
-    ensures fault { IfErr result (λ fault. (member_in Member.EventTypes types_in (view value.now) ≡ None) × (fault ≡ fault_at (view value.now) Member.EventTypes)) }
+    ensures fault { IfErr result (λ fault.
+        (member_in Member.EventTypes types_in (view value.now) ≡ None)
+        × (fault ≡ fault_at (view value.now) Member.EventTypes)) }
 {
     let member = Member::EventTypes;
     fill_types(required_member(value, member)?, types).ok_or(ItemFault::Bad(member))
@@ -110,9 +120,12 @@ fn fill_types_member(
 
 /// The time of the event.
 fn time_member(value: &Value) -> Result<u64, ItemFault>
-    ensures time { IfOk result (λ time. member_in Member.Timestamp time_in (view value.now) ≡ Some time) }
+    ensures time { IfOk result (λ time.
+        member_in Member.Timestamp time_in (view value.now) ≡ Some time) }
     ensures in_range { IfOk result (λ time. time ≤ max_time) }
-    ensures fault { IfErr result (λ fault. (member_in Member.Timestamp time_in (view value.now) ≡ None) × (fault ≡ fault_at (view value.now) Member.Timestamp)) }
+    ensures fault { IfErr result (λ fault.
+        (member_in Member.Timestamp time_in (view value.now) ≡ None)
+        × (fault ≡ fault_at (view value.now) Member.Timestamp)) }
 {
     let member = Member::Timestamp;
     time_of(required_member(value, member)?).ok_or(ItemFault::Bad(member))
@@ -121,7 +134,9 @@ fn time_member(value: &Value) -> Result<u64, ItemFault>
 /// The position of the event: none where the member isn't there or is null.
 fn position_member(value: &Value) -> Result<Option<Position>, ItemFault>
     ensures position { IfOk result (λ position. position_in (view value.now) ≡ Some position) }
-    ensures fault { IfErr result (λ fault. (position_in (view value.now) ≡ None) × (fault ≡ fault_at (view value.now) Member.LocationE7)) }
+    ensures fault { IfErr result (λ fault.
+        (position_in (view value.now) ≡ None)
+        × (fault ≡ fault_at (view value.now) Member.LocationE7)) }
 {
     let member = Member::LocationE7;
     match value.get(member.name()) {

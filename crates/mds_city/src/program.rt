@@ -8,13 +8,13 @@ ghost use Rattle.mds_city.specs.Program.{Carries, Explains, HasWorkers, IsFileNa
 use crate::commands::{replay_to, table_to};
 use crate::debug::{Named, debug_to};
 use crate::problem::{Problem, tell};
-use crate::serve::{ServeOptions, Listens, serve_at};
+use crate::serve::{Listens, ServeOptions, serve_at};
 use crate::source::Source;
 use crate::status::Status;
 use clap::error::ErrorKind;
+use mds_args::{Command, parse_words};
 use mds_io::write_all_of;
 use mds_trace::Opening;
-use mds_args::{Command, parse_words};
 use std::alloc::Global;
 use std::convert::AsStr;
 use std::env::Args;

@@ -10,10 +10,10 @@ ghost use Rattle.mds_face.specs.Serving.{Finds, FindsNoMemory, IsAnsweredWhole, 
 
 use crate::asking::ask_all;
 use crate::{Desk, read_plan};
-use mds_response::{Found, bytes_of, memory_bytes, status_of};
 use mds_core::Request;
 use mds_io::{ReadError, WriteErrorKind, write_all_of};
 use mds_request::{Face, Plan};
+use mds_response::{Found, bytes_of, memory_bytes, status_of};
 use std::alloc::{AllocError, Global};
 use std::error::Error;
 use std::fmt;

@@ -8,6 +8,6 @@
 mod device;
 
 pub use device::{
-    MAX_CALLS, PAGE_BYTES, ReadError, WriteErrorKind, PrintError, WriteError, add_line,
-    flush_page, read_front, read_more, read_up_to, write_all_of,
+    MAX_CALLS, PAGE_BYTES, PrintError, ReadError, WriteError, WriteErrorKind, add_line, flush_page,
+    read_front, read_more, read_up_to, write_all_of,
 };

@@ -48,7 +48,8 @@ fn is_found<S: NoteList>(
     lists: &[S],
     cursors: &mut [usize; MAX_WALKED],
 ) -> bool
-    ensures { result ≡ true → Any (λ list. Any (λ note. accepted_at shard place note ≡ true) (S.seen list)) lists.now }
+    ensures { result ≡ true → Any (λ list.
+        Any (λ note. accepted_at shard place note ≡ true) (S.seen list)) lists.now }
 {
     for (list, cursor) in lists.iter().zip(cursors.iter_mut()) {
         let notes = list.notes();

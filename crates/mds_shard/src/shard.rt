@@ -81,7 +81,8 @@ impl Shard {
 
     /// Whether the request reports an event with the identifier of one of its vehicle's events.
     fn has_event(&self, request: &Request) -> bool
-        ensures { result ≡ is_repeated (requests_of self.now.history (key_of request.now)) request.now }
+        ensures { result
+            ≡ is_repeated (requests_of self.now.history (key_of request.now)) request.now }
     {
         match request.event() {
             Some(event) => self.identifiers.contains(&(*request.key(), event.id())),
@@ -146,7 +147,8 @@ impl Shard {
     ///
     /// `AllocError` where there is no memory for the list.
     pub fn events(&self, alloc: Global, key: &Key) -> Result<Option<Vec<Event>>, AllocError>
-        ensures { IfOk result (λ found. option_map (λ events. events.items) found ≡ events_in self.now.history key.now) }
+        ensures { IfOk result (λ found.
+            option_map (λ events. events.items) found ≡ events_in self.now.history key.now) }
     {
         let Some(vehicle) = self.vehicle(key) else {
             return Ok(None);

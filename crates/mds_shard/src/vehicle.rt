@@ -99,7 +99,9 @@ pub fn events_to(
 ) -> Result<Vec<Event>, AllocError>
     requires before { AreBefore history.now before.now }
     requires last { last < length history.now }
-    ensures { IfOk result (λ events. (key : Key) → IsLastPlace history.now key last → events.items ≡ reports (requests_of history.now key)) }
+    ensures { IfOk result (λ events.
+        (key : Key) → IsLastPlace history.now key last
+        → events.items ≡ reports (requests_of history.now key)) }
 {
     let mut events = Vec::with_capacity(alloc, count)?;
     let mut at = Some(last);
