@@ -45,7 +45,7 @@ impl Model for Event {
 pub enum EventFault {
     /// There is no type.
     NoTypes,
-    /// There are more than 16 types.
+    /// There are more than [`MAX_EVENT_TYPES`] types.
     TooManyTypes,
     /// The time is past [`MAX_TIME`].
     BadTime,
@@ -66,7 +66,7 @@ impl fmt::Display for EventFault {
 impl Error for EventFault {}
 
 impl Event {
-    /// An event of these types, 1 to 16, in their order, at a time in milliseconds since the Unix epoch.
+    /// An event of these types, 1 to [`MAX_EVENT_TYPES`], in their order, at a time in milliseconds since the Unix epoch.
     ///
     /// # Errors
     ///
@@ -123,7 +123,7 @@ impl Event {
         self.state
     }
 
-    /// The types of the event, 1 to 16, in their order.
+    /// The types of the event, 1 to [`MAX_EVENT_TYPES`], in their order.
     pub fn types(&self) -> &[TypeName]
         ensures types { result.now ≡ self.now.types }
         ensures some { 1 ≤ length result.now }

@@ -21,7 +21,7 @@ mod tests;
 
 pub use answers::answer;
 pub use decision::{Known, decide, decide_event};
-pub use event::{Event, EventFault, MAX_TIME, MAX_EVENT_TYPES};
+pub use event::{Event, EventFault, MAX_EVENT_TYPES, MAX_TIME};
 pub use fleet::Fleet;
 pub use key::Key;
 pub use lookup::standing_after;
