@@ -3,7 +3,7 @@ ghost use Rattle.std.specs.Prelude.{◌≡◌, ◌≢◌, ◌<◌, ◌≤◌, �
 ghost use Rattle.mds_trace.specs.declared.session.Halt.TheVariants.{AtEnd, AtStart};
 ghost use Rattle.mds_trace.specs.declared.session.Place.{Place as At};
 ghost use Rattle.mds_trace.specs.declared.session_fault.SessionFault.TheVariants.{Memory};
-ghost use Rattle.mds_trace.specs.Session.{held_at, state_of, AreOpenFrom, IsPlace, IsStep, ArePossible, ArePossibleAfter, KeepsEvents, IsFirstLater, IsPresentChain, IsFaultOf};
+ghost use Rattle.mds_trace.specs.Session.{held_at, state_at, AreOpenFrom, IsPlace, IsStep, ArePossible, ArePossibleAfter, KeepsEvents, IsFirstLater, IsPresentChain, IsFaultOf};
 
 use crate::SessionFault;
 use crate::session_events::{check_events, first_reporting, held_at, types_at};
@@ -112,7 +112,7 @@ impl Session {
 
     /// The state held before the present event; at the end, the one held after the last.
     pub fn state(&self) -> State
-        ensures { result ≡ state_of self.now }
+        ensures { result ≡ state_at self.now }
     {
         held_at(self.opening, &self.events, self.place.event)
     }
