@@ -33,9 +33,23 @@ impl Model for Event {
 
     ghost Value = { Reported };
 
-    ghost view = { λ event. record { key = event.key; id = event.id; state = event.state; types = event.types.items; time = event.time; position = event.position } };
+    ghost view = { λ event. record {
+      key = event.key;
+      id = event.id;
+      state = event.state;
+      types = event.types.items;
+      time = event.time;
+      position = event.position;
+    } };
 
-    ghost inverse = { λ event. record { key = event.key; id = event.id; state = event.state; types = record { items = event.types }; time = event.time; position = event.position } };
+    ghost inverse = { λ event. record {
+      key = event.key;
+      id = event.id;
+      state = event.state;
+      types = record { items = event.types };
+      time = event.time;
+      position = event.position;
+    } };
 
     ghost invariant = { λ event. MayBeReported event.types.items event.time };
 }
@@ -80,7 +94,14 @@ impl Event {
         position: Option<Position>,
     ) -> Result<Event, EventFault>
         ensures exact { IsOk result ↔ MayBeReported types.now time }
-        ensures event { IfOk result (λ event. event ≡ record { key = key; id = id; state = state; types = types.now; time = time; position = position }) }
+        ensures event { IfOk result (λ event. event ≡ record {
+          key = key;
+          id = id;
+          state = state;
+          types = types.now;
+          time = time;
+          position = position;
+        }) }
         ensures fault { IfErr result (FaultOf types.now time) }
     {
         if types.is_empty() {

@@ -10,7 +10,7 @@ use Rattle.mds_table.specs.State.{code_of}
 use Rattle.mds_table.proofs.Rows.{code_of_injective}
 use Rattle.mds_steps.specs.StateSet.{all_states, AreInCodeOrder}
 
--- a state's code is its place among all states
+-- a state's code is its place among all states: a case for each state, since a place computes only where it is a numeral
 pub code_at : (i : ℕ) (d : State) → i < COUNT → code_of (get_or all_states i d) ≡ i
 code_at zero d h = refl
 code_at (suc zero) d h = refl
