@@ -17,7 +17,7 @@ abbrev pub all_types : List Data → Option (List (List ℕ))
 all_types [] = Some []
 all_types (value ∷ rest) = option_and_then (λ name. option_map (λ names. name ∷ names) (all_types rest)) (type_name_in value)
 
--- 1 to 16 type names
+-- at least one type name and not too many
 abbrev pub few_types : List Data → Option (List (List ℕ))
 few_types all = if nat_le 1 (length all) && nat_le (length all) max_event_types then all_types all else None
 

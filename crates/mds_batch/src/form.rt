@@ -32,7 +32,7 @@ fn push_all_types(values: &[Value], types: &mut ArrayVec<TypeName, MAX_EVENT_TYP
     Some(())
 }
 
-/// Fills an empty list with the types that the values are: 1 to 16 type names.
+/// Fills an empty list with the types that the values are: 1 to [`MAX_EVENT_TYPES`] type names.
 fn fill_few_types(values: &[Value], types: &mut ArrayVec<TypeName, MAX_EVENT_TYPES>) -> Option<()>
     requires { types.old.items ≡ [] }
     ensures types { OnSome result (few_types (map view values.now) ≡ Some types.new.items) }
@@ -49,7 +49,7 @@ fn fill_few_types(values: &[Value], types: &mut ArrayVec<TypeName, MAX_EVENT_TYP
     push_all_types(values, types)
 }
 
-/// Fills an empty list with the types that the value lists, if it lists 1 to 16.
+/// Fills an empty list with the types that the value lists, if it lists 1 to [`MAX_EVENT_TYPES`].
 #[tactic(auto, using(crate::proofs::Listed::values_items_of))]
 pub(crate) fn fill_types(
     value: &Value,

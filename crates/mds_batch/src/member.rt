@@ -15,7 +15,7 @@ pub enum Member {
     EventId,
     /// The state that the event leads to: the name of one.
     VehicleState,
-    /// The types of the event: a list of 1 to 16 type names.
+    /// The types of the event: a list of 1 to [`MAX_EVENT_TYPES`](mds_core::MAX_EVENT_TYPES) type names.
     EventTypes,
     /// The time of the event: whole milliseconds since the Unix epoch.
     Timestamp,

@@ -99,6 +99,41 @@ lawful_next tables history request Done lawful gives = lawful_more tables histor
 lawful_next tables history request (Seen standing) lawful gives = lawful
 lawful_next tables history request (Refused refusal) lawful gives = lawful
 
+-- each entry of a career could be accepted after those before it
+career_gives : (tables : Tables) (before first : List Request) (request : Request) (rest : List Request) → IsCareer tables before (first ++ request ∷ rest)
+    → Gives tables (before ++ first) request Done
+career_gives tables before [] (Report event) rest career =
+    let P : List Request → Type 0 = λ requests. Gives tables requests (Report event) Done in subst P (sym (append-nil before)) (career.0, career.1)
+career_gives tables before [] (Register key) rest career = absurd career
+career_gives tables before [] (Look key) rest career = absurd career
+career_gives tables before (Report event ∷ first) request rest career =
+    let P : List Request → Type 0 = λ requests. Gives tables requests request Done in
+    subst P (append_assoc before (Report event ∷ []) first) (career_gives tables (before ++ Report event ∷ []) first request rest career.2)
+career_gives tables before (Register key ∷ first) request rest career = absurd career
+career_gives tables before (Look key ∷ first) request rest career = absurd career
+
+-- each entry of a lawful own list could be accepted after those before it
+lawful_gives : (tables : Tables) (first : List Request) (request : Request) (rest : List Request) → IsLawfulOf tables (first ++ request ∷ rest) → Gives tables first request Done
+lawful_gives tables [] (Register key) rest lawful = refl
+lawful_gives tables [] (Report event) rest lawful = absurd lawful
+lawful_gives tables [] (Look key) rest lawful = absurd lawful
+lawful_gives tables (Register key ∷ first) request rest lawful = career_gives tables (Register key ∷ []) first request rest lawful
+lawful_gives tables (Report event ∷ first) request rest lawful = absurd lawful
+lawful_gives tables (Look key ∷ first) request rest lawful = absurd lawful
+
+-- an entry stands in its own list, between the own lists of what is before it and behind it
+own_at : (before : List Request) (request : Request) (rest : List Request)
+    → requests_of (before ++ request ∷ rest) (key_of request) ≡ requests_of before (key_of request) ++ request ∷ requests_of rest (key_of request)
+own_at before request rest = requests_of-append before (request ∷ rest) (key_of request) ∙ rw (same_key_refl (key_of request)) refl
+
+-- each entry of a lawful history could be accepted after those before it
+pub entry_gives : (tables : Tables) (before : List Request) (request : Request) (rest : List Request) → IsLawful tables (before ++ request ∷ rest)
+    → Gives tables (requests_of before (key_of request)) request Done
+entry_gives tables before request rest lawful =
+    let key = key_of request in
+    let P : List Request → Type 0 = λ requests. IsLawfulOf tables requests in
+    lawful_gives tables (requests_of before key) request (requests_of rest key) (subst P (own_at before request rest) (lawful key))
+
 -- lawful histories with no vehicle in common, one after the other
 pub joined : (tables : Tables) (first second : List Request) → IsLawful tables first → IsLawful tables second
     → ((key : Key) → (requests_of first key ≡ []) ⊎ (requests_of second key ≡ [])) → IsLawful tables (first ++ second)

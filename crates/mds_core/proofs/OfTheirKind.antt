@@ -10,23 +10,13 @@ use Rattle.mds_core.specs.Answer.{Gives, IsOutcomeFor}
 
 pub given_is_for : (tables : Tables) (requests : List Request) (request : Request) (outcome : Outcome) → Gives tables requests request outcome → IsOutcomeFor request outcome
 given_is_for tables requests (Register key) Done given = tt
-given_is_for tables requests (Register key) (Seen standing) given = given
 given_is_for tables requests (Register key) (Refused AlreadyRegistered) given = tt
-given_is_for tables requests (Register key) (Refused Unregistered) given = given
-given_is_for tables requests (Register key) (Refused Repeated) given = given
-given_is_for tables requests (Register key) (Refused (Late last)) given = given
-given_is_for tables requests (Register key) (Refused (NoChain state at)) given = given
-given_is_for tables requests (Look key) Done given = given
 given_is_for tables requests (Look key) (Seen standing) given = tt
-given_is_for tables requests (Look key) (Refused AlreadyRegistered) given = given
 given_is_for tables requests (Look key) (Refused Unregistered) given = tt
-given_is_for tables requests (Look key) (Refused Repeated) given = given
-given_is_for tables requests (Look key) (Refused (Late last)) given = given
-given_is_for tables requests (Look key) (Refused (NoChain state at)) given = given
 given_is_for tables requests (Report event) Done given = tt
-given_is_for tables requests (Report event) (Seen standing) given = given
-given_is_for tables requests (Report event) (Refused AlreadyRegistered) given = given
 given_is_for tables requests (Report event) (Refused Unregistered) given = tt
 given_is_for tables requests (Report event) (Refused Repeated) given = tt
 given_is_for tables requests (Report event) (Refused (Late last)) given = tt
 given_is_for tables requests (Report event) (Refused (NoChain state at)) given = tt
+-- no other outcome is given
+given_is_for tables requests request outcome given = given

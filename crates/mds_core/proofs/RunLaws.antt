@@ -1,7 +1,8 @@
 -- What holds of whole runs.
 use Rattle.std.proofs.Common.{◌≡◌, ℕ, suc, zero, List, [], ◌∷◌, ◌++◌, length, take, map, filter, Some, slice_get, Bool, true, false, cond, append_assoc, refl, sym, ◌∙◌, ap, subst}
-use Rattle.std.specs.List.{zip}
+use Rattle.std.specs.List.{All, zip}
 use Rattle.std.proofs.lemmas.List.{append-nil}
+use Rattle.std.proofs.lemmas.List.Elements.{All-nil, All-cons}
 use Rattle.mds_table.specs.Tables.{Tables}
 use Rattle.mds_core.specs.declared.key.Key.{Key}
 use Rattle.mds_core.specs.declared.request.Request.{Request}
@@ -15,10 +16,10 @@ use Rattle.mds_core.specs.Answer.{Gives, next}
 use Rattle.mds_core.specs.Run.{IsRun}
 use Rattle.mds_core.specs.Lawful.{IsLawful}
 use Rattle.mds_core.specs.Headline.{is_done, done_of, IsDoneExactly, AcceptsExactly}
-use Rattle.mds_core.specs.Laws.{outcomes_of}
+use Rattle.mds_core.specs.Laws.{outcomes_of, IsRunOfItself}
 use Rattle.mds_core.proofs.Standings.{state_of-push}
 use Rattle.mds_core.proofs.Outcomes.{answer_one, outcome_one}
-use Rattle.mds_core.proofs.Histories.{lawful_next, requests_of-next_other, requests_of-next_same, requests_of-push_same, same_key_is, same_key_refl}
+use Rattle.mds_core.proofs.Histories.{entry_gives, lawful_next, requests_of-next_other, requests_of-next_same, requests_of-push_same, same_key_is, same_key_refl}
 
 -- a run from a lawful history leaves a lawful one
 lawful_after : (tables : Tables) (old requests : List Request) (replies : List Reply) (new : List Request) → IsLawful tables old → IsRun tables old requests replies new → IsLawful tables new
@@ -107,6 +108,27 @@ accepts_exactly tables requests replies new run = record {
   each = each_exactly tables [] requests replies new run;
   left = history_exactly tables [] requests replies new run;
 }
+
+-- the rest of a lawful history runs on from the entries before it, and each request is answered Done
+runs_on : (tables : Tables) (before rest : List Request) → IsLawful tables (before ++ rest)
+    → (replies : List Reply) × IsRun tables before rest replies (before ++ rest) × All (λ reply. reply.outcome ≡ Done) replies
+runs_on tables before [] lawful = ([], append-nil before, All-nil (λ reply. reply.outcome ≡ Done))
+runs_on tables before (request ∷ rest) lawful =
+    let reply : Reply = record { place = length before; outcome = Done } in
+    let P : List Request → Type 0 = λ history. IsLawful tables history in
+    let same : (before ++ request ∷ []) ++ rest ≡ before ++ request ∷ rest = append_assoc before (request ∷ []) rest in
+    let later = runs_on tables (before ++ request ∷ []) rest (subst P (sym same) lawful) in
+    let Q : List Request → Type 0 = λ history. IsRun tables (before ++ request ∷ []) rest later.0 history in (
+      reply ∷ later.0,
+      (record { place = refl; outcome = entry_gives tables before request rest lawful }, subst Q same later.1),
+      All-cons (λ reply. reply.outcome ≡ Done) reply later.0 refl later.2,
+    )
+
+-- every lawful history is a run of itself
+pub run_of_itself : (tables : Tables) (history : List Request) → IsLawful tables history → IsRunOfItself tables history
+run_of_itself tables history lawful =
+    let ran = runs_on tables [] history lawful in
+    record { replies = ran.0; run = ran.1; done = ran.2; exactly = accepts_exactly tables history ran.0 history ran.1 }
 
 -- a run of the requests of one vehicle, by its own list alone
 IsOwnRun : Tables → List Request → List Request → List Outcome → List Request → Type 0

@@ -14,7 +14,7 @@ use Rattle.mds_core.specs.declared.reply.Standing.{Standing}
 use Rattle.mds_core.specs.declared.request.Request.{Request}
 use Rattle.mds_core.specs.declared.request.Request.TheVariants.{Register, Report, Look}
 use Rattle.mds_core.specs.Reported.{Reported}
-use Rattle.mds_core.specs.History.{key_of, same_key, requests_of, report_of, reports, last_report, last_position, state_of, last_time, standing_of}
+use Rattle.mds_core.specs.History.{key_of, same_key, requests_of, report_of, reports, has_event, last_report, last_position, state_of, last_time, standing_of}
 use Rattle.mds_core.specs.declared.decision.Known.{Known}
 use Rattle.mds_core.specs.Known.{standing_if, is_repeated, AreKnown}
 
@@ -106,13 +106,17 @@ pub standing_if-unwrapped : (requests : List Request) → unwrap_or (standing_if
 standing_if-unwrapped [] = refl
 standing_if-unwrapped (request ∷ rest) = refl
 
+-- an event with an identifier stands in one part or the other
+pub has_event-append : (id : List ℕ) (first second : List Request) → has_event (first ++ second) id ≡ (has_event first id || has_event second id)
+has_event-append id first second =
+    ap (list_any (λ e. bytes_eq e.id id)) (filter_map-append report_of first second)
+    ∙ list_any-append (λ e. bytes_eq e.id id) (reports first) (reports second)
+
 -- an identifier is repeated where it stands in one part or the other
 pub is_repeated-append : (first second : List Request) (asked : Request) → is_repeated (first ++ second) asked ≡ (is_repeated first asked || is_repeated second asked)
 is_repeated-append first second (Register key) = refl
 is_repeated-append first second (Look key) = refl
-is_repeated-append first second (Report event) =
-    ap (list_any (λ e. bytes_eq e.id event.id)) (filter_map-append report_of first second)
-    ∙ list_any-append (λ e. bytes_eq e.id event.id) (reports first) (reports second)
+is_repeated-append first second (Report event) = has_event-append event.id first second
 
 -- what is known after one more request about the vehicle
 pub known-push : (requests : List Request) (request asked : Request) (known : Known) (standing : Standing) (has : Bool) → AreKnown requests asked known

@@ -4,7 +4,7 @@ use Rattle.mds_core.specs.Reported.{max_event_types, max_time}
 use Rattle.mds_core.specs.declared.event.EventFault.{EventFault}
 use Rattle.mds_core.specs.declared.event.EventFault.TheVariants.{NoTypes, TooManyTypes, BadTime}
 
--- the first fault: no type, more than 16 types, or a time past the range
+-- the first fault: no type, too many types, or a time past the range
 abbrev pub FaultOf : List (List ℕ) → ℕ → EventFault → Type 0
 FaultOf types time NoTypes = types ≡ []
 FaultOf types time TooManyTypes = max_event_types < length types

@@ -1,6 +1,6 @@
 -- What holds of the answers, the histories and the runs.
 use Rattle.std.specs.Prelude.{◌≡◌, ◌⊎◌, ◌++◌, List, [], map, filter, false}
-use Rattle.std.specs.List.{zip}
+use Rattle.std.specs.List.{All, zip}
 use Rattle.mds_table.specs.Tables.{Tables}
 use Rattle.mds_core.specs.declared.key.Key.{Key}
 use Rattle.mds_core.specs.declared.request.Request.{Request}
@@ -55,6 +55,18 @@ JoinsApart =
 abbrev pub RunsAcceptExactly : Type 0
 RunsAcceptExactly = (tables : Tables) (requests : List Request) (replies : List Reply) (new : List Request)
     → IsRun tables [] requests replies new → AcceptsExactly tables requests replies new
+
+-- a run from nothing in which each request is answered Done, so that it leaves the requests themselves, and accepts exactly
+-- what is acceptable
+pub record IsRunOfItself (tables : Tables) (history : List Request) : Type 0 where
+  pub replies : List Reply
+  pub run : IsRun tables [] history replies history
+  pub done : All (λ reply. reply.outcome ≡ Done) replies
+  pub exactly : AcceptsExactly tables history replies history
+
+-- every lawful history is a run of itself
+abbrev pub LawfulHistoriesRun : Type 0
+LawfulHistoriesRun = (tables : Tables) (history : List Request) → IsLawful tables history → IsRunOfItself tables history
 
 -- once an event is accepted, its vehicle holds the state that it reports
 abbrev pub HoldsReported : Type 0

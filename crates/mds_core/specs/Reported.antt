@@ -21,7 +21,7 @@ max_event_types = 16
 abbrev pub max_time : ℕ
 max_time = 9007199254740991
 
--- 1 to 16 types, and a time in the range
+-- at least one type and not too many, and a time in the range
 pub record MayBeReported (types : List (List ℕ)) (time : ℕ) : Type 0 where
   pub some : 1 ≤ length types
   pub few : length types ≤ max_event_types

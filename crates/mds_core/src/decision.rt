@@ -20,7 +20,8 @@ pub struct Known {
 /// What becomes of a request, by what is known of its vehicle: the outcome after every list of accepted requests of
 /// which this is what is known. It takes no memory.
 pub fn decide(table: &Table, known: &Known, request: &Request) -> Outcome
-    ensures { (requests : List Requested) → AreKnown requests request.now known.now → Gives table.now requests request.now result }
+    ensures { (requests : List Requested)
+        → AreKnown requests request.now known.now → Gives table.now requests request.now result }
 {
     match request {
         Request::Register(_) => match known.standing {
@@ -44,12 +45,14 @@ pub fn decide(table: &Table, known: &Known, request: &Request) -> Outcome
 ///
 /// The first refusal that holds, in the order of [`Refusal`].
 pub fn decide_event(table: &Table, known: &Known, event: &Event) -> Result<(), Refusal>
-    ensures decided { (requests : List Requested) → AreKnown requests (Request.Report event.now) known.now → MatchResult result
+    ensures decided { (requests : List Requested)
+        → AreKnown requests (Request.Report event.now) known.now → MatchResult result
         (λ _. Gives table.now requests (Request.Report event.now) Outcome.Done)
         (λ refusal. Gives table.now requests (Request.Report event.now) (Outcome.Refused refusal)) }
     // What no list has, as an identifier held by a vehicle that isn't registered, is decided in the same order.
     ensures unregistered { known.now.standing ≡ None → result ≡ Err Refusal.Unregistered }
-    ensures repeated { IsSome known.now.standing → known.now.has_event ≡ true → result ≡ Err Refusal.Repeated }
+    ensures repeated { IsSome known.now.standing → known.now.has_event ≡ true
+        → result ≡ Err Refusal.Repeated }
 {
     let standing = known.standing.ok_or(Refusal::Unregistered)?;
     if known.has_event {

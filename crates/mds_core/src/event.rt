@@ -33,9 +33,23 @@ impl Model for Event {
 
     ghost Value = { Reported };
 
-    ghost view = { λ event. record { key = event.key; id = event.id; state = event.state; types = event.types.items; time = event.time; position = event.position } };
+    ghost view = { λ event. record {
+      key = event.key;
+      id = event.id;
+      state = event.state;
+      types = event.types.items;
+      time = event.time;
+      position = event.position;
+    } };
 
-    ghost inverse = { λ event. record { key = event.key; id = event.id; state = event.state; types = record { items = event.types }; time = event.time; position = event.position } };
+    ghost inverse = { λ event. record {
+      key = event.key;
+      id = event.id;
+      state = event.state;
+      types = record { items = event.types };
+      time = event.time;
+      position = event.position;
+    } };
 
     ghost invariant = { λ event. MayBeReported event.types.items event.time };
 }
@@ -45,7 +59,7 @@ impl Model for Event {
 pub enum EventFault {
     /// There is no type.
     NoTypes,
-    /// There are more than 16 types.
+    /// There are more than [`MAX_EVENT_TYPES`] types.
     TooManyTypes,
     /// The time is past [`MAX_TIME`].
     BadTime,
@@ -66,7 +80,7 @@ impl fmt::Display for EventFault {
 impl Error for EventFault {}
 
 impl Event {
-    /// An event of these types, 1 to 16, in their order, at a time in milliseconds since the Unix epoch.
+    /// An event of these types, 1 to [`MAX_EVENT_TYPES`], in their order, at a time in milliseconds since the Unix epoch.
     ///
     /// # Errors
     ///
@@ -80,7 +94,14 @@ impl Event {
         position: Option<Position>,
     ) -> Result<Event, EventFault>
         ensures exact { IsOk result ↔ MayBeReported types.now time }
-        ensures event { IfOk result (λ event. event ≡ record { key = key; id = id; state = state; types = types.now; time = time; position = position }) }
+        ensures event { IfOk result (λ event. event ≡ record {
+          key = key;
+          id = id;
+          state = state;
+          types = types.now;
+          time = time;
+          position = position;
+        }) }
         ensures fault { IfErr result (FaultOf types.now time) }
     {
         if types.is_empty() {
@@ -123,7 +144,7 @@ impl Event {
         self.state
     }
 
-    /// The types of the event, 1 to 16, in their order.
+    /// The types of the event, 1 to [`MAX_EVENT_TYPES`], in their order.
     pub fn types(&self) -> &[TypeName]
         ensures types { result.now ≡ self.now.types }
         ensures some { 1 ≤ length result.now }

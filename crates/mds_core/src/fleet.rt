@@ -84,7 +84,8 @@ impl Fleet {
     ///
     /// `AllocError` where there is no memory for the list.
     pub fn events(&self, alloc: Global, key: &Key) -> Result<Option<Vec<Event>>, AllocError>
-        ensures { IfOk result (λ found. option_map (λ events. events.items) found ≡ accepted_in self.now.history key.now) }
+        ensures { IfOk result (λ found.
+            option_map (λ events. events.items) found ≡ accepted_in self.now.history key.now) }
     {
         events_in(alloc, &self.history, key)
     }

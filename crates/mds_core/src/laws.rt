@@ -1,6 +1,6 @@
 //! What holds of the definitions alone: of the answers, the histories and the runs, whoever computes them. Each law is
 //! a function that does nothing; its contract is the law.
-ghost use Rattle.mds_core.specs.Laws.{DependsOnOwn, AnswersAreOne, AnswersAreOfTheirKind, RunsAreOne, KeepsOthers, RunsAreLawful, JoinsApart, RunsAcceptExactly, HoldsReported, SchedulesAgree};
+ghost use Rattle.mds_core.specs.Laws.{DependsOnOwn, AnswersAreOne, AnswersAreOfTheirKind, RunsAreOne, KeepsOthers, RunsAreLawful, JoinsApart, RunsAcceptExactly, LawfulHistoriesRun, HoldsReported, SchedulesAgree};
 
 /// Histories that agree on a vehicle give its requests the same outcomes.
 pub fn outcomes_depend_on_own_lists()
@@ -45,6 +45,12 @@ pub fn histories_apart_join()
 /// and never a look. The history that it leaves is what it accepted.
 pub fn runs_accept_exactly()
     ensures { RunsAcceptExactly }
+{}
+
+/// Every lawful history is a run of itself: the machine, asked the history from nothing, answers each of its requests
+/// Done, and leaves it. So [`runs_accept_exactly`] speaks of every lawful history.
+pub fn lawful_histories_run()
+    ensures { LawfulHistoriesRun }
 {}
 
 /// Once an event is accepted, its vehicle holds the state that it reports. It is a fact of the definitions: the held

@@ -33,7 +33,8 @@ pub fn known_in(history: &[Request], asked: &Request) -> Known
 
 /// What is known of the vehicle of a request after one more request about it.
 fn known_after(known: Known, request: &Request, asked: &Request) -> Known
-    ensures { (requests : List Requested) → AreKnown requests asked.now known → length (reports requests) < usize.MAX
+    ensures { (requests : List Requested)
+        → AreKnown requests asked.now known → length (reports requests) < usize.MAX
         → AreKnown (requests ++ request.now ∷ []) asked.now result }
 {
     Known {
@@ -44,7 +45,8 @@ fn known_after(known: Known, request: &Request, asked: &Request) -> Known
 
 /// Where a vehicle stands after one more request about it that was accepted, by where it stood before, if it was registered.
 pub fn standing_after(standing: Option<Standing>, request: &Request) -> Standing
-    ensures { (requests : List Requested) → standing ≡ standing_if requests → length (reports requests) < usize.MAX
+    ensures { (requests : List Requested)
+        → standing ≡ standing_if requests → length (reports requests) < usize.MAX
         → result ≡ standing_of (requests ++ request.now ∷ []) }
 {
     let standing = standing.unwrap_or(Standing::registered());
@@ -70,7 +72,8 @@ pub fn events_in(
     history: &[Request],
     key: &Key,
 ) -> Result<Option<Vec<Event>>, AllocError>
-    ensures { IfOk result (λ found. option_map (λ events. events.items) found ≡ accepted_in history.now key.now) }
+    ensures { IfOk result (λ found.
+        option_map (λ events. events.items) found ≡ accepted_in history.now key.now) }
 {
     let mut registered = false;
     let mut events = Vec::new(alloc);

@@ -28,7 +28,8 @@ pub struct Standing {
 impl Standing {
     /// Where a vehicle stands that was registered and has no event yet.
     pub fn registered() -> Standing
-        ensures fields { result ≡ record { state = State.Removed; events = 0; last = None; position = None } }
+        ensures fields { result
+            ≡ record { state = State.Removed; events = 0; last = None; position = None } }
         ensures list { (key : Key) → result ≡ standing_of (Register key ∷ []) }
     {
         Standing {
@@ -48,7 +49,8 @@ impl Standing {
           last = Some event.now.time;
           position = option_or event.now.position self.now.position;
         } }
-        ensures list { (requests : List Requested) → self.now ≡ standing_of requests → length (reports requests) < usize.MAX
+        ensures list { (requests : List Requested)
+            → self.now ≡ standing_of requests → length (reports requests) < usize.MAX
             → result ≡ standing_of (requests ++ Report event.now ∷ []) }
     {
         Standing {

@@ -24,7 +24,8 @@ pub fn run(
 ) -> Result<(Fleet, Vec<Reply>), AllocError>
     ensures tables { IfOk result (λ ran. ran.0.tables ≡ table) }
     ensures run { IfOk result (λ ran. IsRun table [] requests.now ran.1.items ran.0.history) }
-    ensures accepted { IfOk result (λ ran. AcceptsExactly table requests.now ran.1.items ran.0.history) }
+    ensures accepted { IfOk result (λ ran.
+        AcceptsExactly table requests.now ran.1.items ran.0.history) }
 {
     let mut fleet = Fleet::open(alloc, table);
     let mut replies = Vec::with_capacity(alloc, requests.len())?;

@@ -1,49 +1,21 @@
 -- The entries of a lawful history: each is accepted after those before it.
 use Rattle.std.proofs.Common.{◌≡◌, ◌↔◌, ℕ, ◌+◌, ◌<◌, ◌≤◌, ◌∙◌, List, [], ◌∷◌, ◌++◌, length, take, drop, Bool, true, IsTrue, refl, sym, ap, subst, arith, append_assoc, length-take-le}
 use Rattle.std.specs.Prelude.{slice_get, Some}
-use Rattle.std.proofs.lemmas.List.{append-nil, take-append-drop, drop_more}
+use Rattle.std.proofs.lemmas.List.{take-append-drop, drop_more}
 use Rattle.std.proofs.lemmas.Option.{get_or_from_slice_get, slice_get_within}
 use Rattle.mds_table.specs.Tables.{Tables}
 use Rattle.mds_core.specs.declared.request.Request.{Request}
-use Rattle.mds_core.specs.declared.request.Request.TheVariants.{Register, Report, Look}
 use Rattle.mds_core.specs.declared.reply.Outcome.{Outcome}
 use Rattle.mds_core.specs.declared.reply.Outcome.TheVariants.{Done, Seen, Refused}
 use Rattle.mds_core.specs.declared.reply.Reply.{Reply}
 use Rattle.mds_core.specs.History.{requests_of, key_of}
 use Rattle.mds_core.specs.Answer.{Answers, Gives}
-use Rattle.mds_core.specs.Lawful.{IsCareer, IsLawfulOf, IsLawful}
+use Rattle.mds_core.specs.Lawful.{IsLawful}
 use Rattle.mds_core.specs.Headline.{is_done}
-use Rattle.mds_core.proofs.Histories.{requests_of-append, same_key_refl}
+use Rattle.mds_core.proofs.Histories.{entry_gives}
 use Rattle.mds_core.proofs.Outcomes.{answer_one}
 use Rattle.mds_settle.specs.declared.note.Note.{Note}
 use Rattle.mds_settle.specs.Settled.{HasRightReply, IsStored}
-
--- each entry of a career could be accepted after those before it
-career_gives : (tables : Tables) (before first : List Request) (request : Request) (rest : List Request) → IsCareer tables before (first ++ request ∷ rest)
-    → Gives tables (before ++ first) request Done
-career_gives tables before [] (Report event) rest career =
-    let P : List Request → Type 0 = λ requests. Gives tables requests (Report event) Done in subst P (sym (append-nil before)) (career.0, career.1)
-career_gives tables before [] (Register key) rest career = absurd career
-career_gives tables before [] (Look key) rest career = absurd career
-career_gives tables before (Report event ∷ first) request rest career =
-    let P : List Request → Type 0 = λ requests. Gives tables requests request Done in
-    subst P (append_assoc before (Report event ∷ []) first) (career_gives tables (before ++ Report event ∷ []) first request rest career.2)
-career_gives tables before (Register key ∷ first) request rest career = absurd career
-career_gives tables before (Look key ∷ first) request rest career = absurd career
-
--- each entry of a lawful own list could be accepted after those before it
-lawful_gives : (tables : Tables) (first : List Request) (request : Request) (rest : List Request) → IsLawfulOf tables (first ++ request ∷ rest) → Gives tables first request Done
-lawful_gives tables [] (Register key) rest lawful = refl
-lawful_gives tables [] (Report event) rest lawful = absurd lawful
-lawful_gives tables [] (Look key) rest lawful = absurd lawful
-lawful_gives tables (Register key ∷ first) request rest lawful = career_gives tables (Register key ∷ []) first request rest lawful
-lawful_gives tables (Report event ∷ first) request rest lawful = absurd lawful
-lawful_gives tables (Look key ∷ first) request rest lawful = absurd lawful
-
--- an entry stands in its own list, between the own lists of what is before it and behind it
-own_at : (before : List Request) (request : Request) (rest : List Request)
-    → requests_of (before ++ request ∷ rest) (key_of request) ≡ requests_of before (key_of request) ++ request ∷ requests_of rest (key_of request)
-own_at before request rest = requests_of-append before (request ∷ rest) (key_of request) ∙ rw (same_key_refl (key_of request)) refl
 
 -- a history at one of its entries
 split_at : (history : List Request) (place : ℕ) (request : Request) → slice_get history place ≡ Some request → history ≡ take place history ++ request ∷ drop (place + 1) history
@@ -66,9 +38,8 @@ stored_is_answered tables history note lawful done stored =
     let request = note.request in
     let key = key_of request in
     let within : place < length history = slice_get_within history place request stored in
-    let P : List Request → Type 0 = λ requests. IsLawfulOf tables requests in
-    let own_list = ap (λ requests. requests_of requests key) (split_at history place request stored) ∙ own_at (take place history) request (drop (place + 1) history) in
-    let gives = lawful_gives tables (requests_of (take place history) key) request (requests_of (drop (place + 1) history) key) (subst P own_list (lawful key)) in
+    let P : List Request → Type 0 = λ requests. IsLawful tables requests in
+    let gives = entry_gives tables (take place history) request (drop (place + 1) history) (subst P (split_at history place request stored) lawful) in
     let Q : Outcome → Type 0 = λ outcome. Gives tables (requests_of (take place history) key) request outcome in
     record {
       within = omega arith;

@@ -5,12 +5,13 @@ use Rattle.std.proofs.lemmas.List.Elements.{All-weaker, All-push, All-contains, 
 use Rattle.std.proofs.lemmas.List.Quantifiers.{all_pairs_push}
 use Rattle.std.proofs.lemmas.List.Elements.{All-get_or}
 use Rattle.mds_table.specs.declared.state.State.{State}
+use Rattle.mds_table.specs.declared.state.TheConstants.State.{COUNT}
 use Rattle.mds_table.specs.State.{code_of}
 use Rattle.mds_table.proofs.Rows.{code_of_injective}
 use Rattle.mds_steps.specs.StateSet.{all_states, AreInCodeOrder}
 
--- a state's code is its place among all states
-pub code_at : (i : ℕ) (d : State) → i < 8 → code_of (get_or all_states i d) ≡ i
+-- a state's code is its place among all states: a case for each state, since a place computes only where it is a numeral
+pub code_at : (i : ℕ) (d : State) → i < COUNT → code_of (get_or all_states i d) ≡ i
 code_at zero d h = refl
 code_at (suc zero) d h = refl
 code_at (suc (suc zero)) d h = refl

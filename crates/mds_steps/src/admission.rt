@@ -36,7 +36,8 @@ impl fmt::Display for NoChain {
 pub fn admit(table: &Table, held: State, types: &[TypeName], reported: State) -> Result<(), NoChain>
     ensures exact { IsOk result ↔ Leads table.now held types.now reported }
     ensures fault { IfErr result (λ fault.
-        (Leads table.now held types.now reported → ⊥) × IsStuckAt table.now held types.now fault.at) }
+        (Leads table.now held types.now reported → ⊥)
+        × IsStuckAt table.now held types.now fault.at) }
 {
     let mut possible = StateSet::of(held);
     for (at, kind) in types.iter().enumerate() {

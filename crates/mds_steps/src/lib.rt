@@ -2,7 +2,7 @@
 //!
 //! An event leads from the state held to the state reported where some chain does: a state after each of its types,
 //! each step by a row of the table. To admit an event no chain is looked for: the set of states that are possible after
-//! each type is enough, and has eight states at most. The least chain is found by such sets too.
+//! each type is enough, and can't grow past the states that there are. The least chain is found by such sets too.
 #![tactic(auto)]
 
 mod admission;

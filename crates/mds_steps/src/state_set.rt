@@ -95,7 +95,7 @@ impl StateSet {
     /// The states in the set, where they stand.
     pub(crate) fn as_slice(&self) -> &[State]
         ensures states { result.now ≡ self.now }
-        ensures fits { length result.now ≤ 8 }
+        ensures fits { length result.now ≤ State.COUNT }
         ensures order { AreInCodeOrder result.now }
     {
         self.states.as_slice()

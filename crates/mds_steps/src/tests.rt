@@ -165,20 +165,23 @@ fn same_type_twice(rt: HostRuntime) -> Result<(), Fail> {
     Ok(())
 }
 
+/// How often the battery of a vehicle goes low and is charged again.
+const ROUNDS: usize = 40;
+
 #[test]
-fn sixteen_types(rt: HostRuntime) -> Result<(), Fail> {
+fn many_types(rt: HostRuntime) -> Result<(), Fail> {
     let table = Table::profile(rt.alloc())?;
     let low = type_name("battery_low")?;
     let charged = type_name("battery_charged")?;
     let mut types = Vec::new(rt.alloc());
-    for _ in 0..8 {
+    for _ in 0..ROUNDS {
         types.push(low.copy())?;
         types.push(charged.copy())?;
     }
     assert_eq!(rt; admit(&table, Available, &types, Available), Ok(()));
     assert_eq!(rt;
         admit(&table, Available, &types, NonOperational),
-        Err(NoChain { at: 16 })
+        Err(NoChain { at: types.len() })
     );
     Ok(())
 }

@@ -2,6 +2,7 @@
 use Rattle.std.proofs.Common.{◌≡◌, ℕ, ◌<◌, ◌==◌, cond, lit<, refl, sym, ◌∙◌, ap}
 use Rattle.mds_table.specs.declared.state.State.{State}
 use Rattle.mds_table.specs.declared.state.State.TheVariants.{Removed, Available, NonOperational, Reserved, OnTrip, Elsewhere, NonContactable, Missing}
+use Rattle.mds_table.specs.declared.state.TheConstants.State.{COUNT}
 use Rattle.mds_table.specs.State.{code_of}
 
 -- the state of a code
@@ -24,8 +25,8 @@ of_code-code_of Missing = refl
 pub code_of_injective : (a b : State) → code_of a ≡ code_of b → a ≡ b
 code_of_injective a b same = sym (of_code-code_of a) ∙ ap of_code same ∙ of_code-code_of b
 
--- there are eight codes
-pub code_below : (state : State) → code_of state < 8
+-- there are as many codes as states
+pub code_below : (state : State) → code_of state < COUNT
 code_below Removed = lit< tt
 code_below Available = lit< tt
 code_below NonOperational = lit< tt

@@ -22,5 +22,5 @@ pub use json::MAX_BYTES;
 pub use row::Row;
 pub use state::State;
 pub use table::Table;
-pub use table_file::TableFault;
+pub use table_file::{MAX_ROWS, MAX_TABLE_TYPES, TableFault};
 pub use type_name::{NameFault, TypeName};

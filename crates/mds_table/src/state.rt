@@ -42,7 +42,7 @@ impl State {
         State::Missing,
     ];
 
-    /// The code of the state, from 0 to 7: its place in [`State::ALL`].
+    /// The code of the state: its place in [`State::ALL`], from 0.
     pub fn code(self) -> u8
         ensures code { result ≡ code_of self }
         ensures place { slice_get State.ALL result ≡ Some self }

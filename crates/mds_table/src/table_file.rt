@@ -21,10 +21,10 @@ use std::error::Error;
 use std::fmt;
 
 /// The most rows of a table.
-const MAX_ROWS: usize = 4096;
+pub const MAX_ROWS: usize = 4096;
 
 /// The most types of a table.
-const MAX_TYPES: usize = 64;
+pub const MAX_TABLE_TYPES: usize = 64;
 
 /// Why a text is no table file. All but the first are looked for in this order, those of the entries entry by entry.
 #[derive(Clone, Copy, Debug, PartialEq, Eq, Hash)]
@@ -39,9 +39,9 @@ pub enum TableFault {
     NotRows,
     /// The entry at this place isn't an object, or one of its three members is absent or not of its form.
     BadRow(usize),
-    /// With this entry there are more than 4096 rows.
+    /// With this entry there are more than [`MAX_ROWS`] rows.
     TooManyRows,
-    /// With this entry there are more than 64 types.
+    /// With this entry there are more than [`MAX_TABLE_TYPES`] types.
     TooManyTypes,
     /// The list `rows` is empty.
     Empty,
@@ -130,7 +130,7 @@ fn rows_of_entries(alloc: Global, entries: &[Value]) -> Result<Vec<Row>, TableFa
             return Err(TableFault::TooManyRows);
         }
         add_kind(&mut kinds, entry.kind)?;
-        if kinds.len() > MAX_TYPES {
+        if kinds.len() > MAX_TABLE_TYPES {
             return Err(TableFault::TooManyTypes);
         }
     }

@@ -6,7 +6,7 @@ use std::alloc::{AllocError, Global};
 use std::test::Fail;
 
 /// Names of states, with the state and its code, and texts that are none.
-const STATES: [(&str, Option<(State, u8)>); 11] = [
+const STATES: &[(&str, Option<(State, u8)>)] = &[
     ("removed", Some((State::Removed, 0))),
     ("available", Some((State::Available, 1))),
     ("non_operational", Some((State::NonOperational, 2))),
@@ -33,7 +33,7 @@ fn state_of(name: &str) -> Option<(State, u8)> {
 
 #[test]
 fn states(rt: HostRuntime) {
-    for (name, state) in &STATES {
+    for (name, state) in STATES {
         assert_eq!(rt; (name, &state_of(name)), (name, state));
     }
 }

@@ -8,6 +8,7 @@ pub mod Replaying
 pub mod Ends
 pub mod Turns
 pub mod Runs
+pub mod Asked
 pub mod SessionLemmas
 pub mod Lawful
 pub mod Accepted

@@ -144,7 +144,7 @@ fits_accepted before accepted history event fits known other = by_key (same_key 
       ]
 
 -- each report stands behind a registration of its vehicle, here or among the requests before
-abbrev AreRegistered : List Request → List Request → Type 0
+abbrev pub AreRegistered : List Request → List Request → Type 0
 AreRegistered before requests = (i : ℕ) (event : Reported) → slice_get requests i ≡ Some (Report event) → Contains (before ++ take i requests) (Register event.key)
 
 registered_rest : (before : List Request) (request : Request) (rest : List Request) → AreRegistered before (request ∷ rest) → AreRegistered (before ++ request ∷ []) rest

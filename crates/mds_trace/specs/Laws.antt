@@ -1,5 +1,5 @@
 -- What holds of replays.
-use Rattle.std.specs.Prelude.{◌≡◌, ℕ, List, [], take, slice_get, Contains, Option, Some, None}
+use Rattle.std.specs.Prelude.{◌≡◌, ℕ, List, [], ◌++◌, map, take, slice_get, Contains, Option, Some, None}
 use Rattle.std.specs.List.{filter_map, zip}
 use Rattle.mds_table.specs.Tables.{Tables}
 use Rattle.mds_core.specs.declared.request.Request.{Request}
@@ -16,7 +16,7 @@ use Rattle.mds_trace.specs.declared.report.Opening.TheVariants.{Removed}
 use Rattle.mds_trace.specs.declared.report.Report.{Report as Replayed}
 use Rattle.mds_trace.specs.declared.report.Verdict.{Verdict}
 use Rattle.mds_trace.specs.declared.report.Verdict.TheVariants.{Accepted, Refused, NoOpening, Fault}
-use Rattle.mds_trace.specs.Items.{events_of}
+use Rattle.mds_trace.specs.Items.{events_of, vehicles_of}
 use Rattle.mds_trace.specs.Replay.{AreVerdicts, IsReport}
 
 -- the outcome that a verdict tells; of a faulty item there is none
@@ -52,6 +52,15 @@ pub record IsRunOf (tables : Tables) (requests : List Request) (lines : List Ver
 -- whatever registrations and looks stand between
 abbrev pub AreOutcomes : Tables → List EventItem → List Verdict → Type 0
 AreOutcomes tables items lines = (requests : List Request) → reports requests ≡ events_of items → AreRegisteredFirst requests → IsRunOf tables requests lines
+
+-- the requests for items: a registration of each vehicle that they mention, and then a report of each of their events
+abbrev pub requests_for : List EventItem → List Request
+requests_for items = map Register (vehicles_of (events_of items)) ++ map Report (events_of items)
+
+-- there are such requests for all items: those that register each vehicle and then report each event
+abbrev pub ReplaysHaveRequests : Type 0
+ReplaysHaveRequests =
+    (items : List EventItem) → (reports (requests_for items) ≡ events_of items) × AreRegisteredFirst (requests_for items)
 
 -- the verdicts of a replay in which each vehicle begins with a registration are the outcomes of a run of the machine
 abbrev pub ReplaysAreRuns : Type 0

@@ -23,15 +23,15 @@ use uuid::Uuid;
 /// The vehicles that were mentioned, in the order of first mention.
 pub type Vehicles = IndexMap<Key, Followed>;
 
-/// The accepted events by their vehicles and identifiers.
-pub type SeenIdentifiers = IndexSet<(Key, Uuid)>;
+/// The names of the accepted events: the vehicle and the identifier of each.
+pub type AcceptedNames = IndexSet<(Key, Uuid)>;
 
 /// The verdict on an item, with which what is kept of its vehicle goes on.
 pub fn judge_item(
     table: &Table,
     opening: Opening,
     vehicles: &mut Vehicles,
-    names: &mut SeenIdentifiers,
+    names: &mut AcceptedNames,
     item: &EventItem,
 ) -> Result<Verdict, AllocError>
     ensures { IfOk result (λ line. (items : List Item) (lines : List Line)
@@ -49,7 +49,7 @@ fn judge_event(
     table: &Table,
     opening: Opening,
     vehicles: &mut Vehicles,
-    names: &mut SeenIdentifiers,
+    names: &mut AcceptedNames,
     event: &Event,
 ) -> Result<Verdict, AllocError>
     ensures { IfOk result (λ line. (mentioned : List Vehicle) (accepted : List Reported)

@@ -1,6 +1,6 @@
 //! What holds of the definitions alone: of verdicts and runs, and of sessions, whoever computes them. Each law is a
 //! function that does nothing; its contract is the law.
-ghost use Rattle.mds_trace.specs.Laws.{ReplaysAreRuns, ReportsAreOne};
+ghost use Rattle.mds_trace.specs.Laws.{ReplaysAreRuns, ReplaysHaveRequests, ReportsAreOne};
 ghost use Rattle.mds_trace.specs.SessionLaws.{LawfulReportsOpen, AcceptedEventsOpen};
 
 /// The verdicts of a replay with [`Opening::Removed`](crate::Opening::Removed) are the outcomes of the machine's run over
@@ -8,6 +8,12 @@ ghost use Rattle.mds_trace.specs.SessionLaws.{LawfulReportsOpen, AcceptedEventsO
 /// is asked between.
 pub fn replays_are_runs()
     ensures { ReplaysAreRuns }
+{}
+
+/// For any items there are requests of which [`replays_are_runs`] speaks: a registration of each vehicle that the items
+/// mention, and then a report of each event, report the same events, each behind a registration of its vehicle.
+pub fn replays_have_requests()
+    ensures { ReplaysHaveRequests }
 {}
 
 /// In a lawful history, a session over the events of a registered vehicle may be opened from removed, and it shows the

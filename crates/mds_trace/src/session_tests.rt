@@ -354,3 +354,40 @@ fn session_succeeds_after_a_refused_growth(rt: HostRuntime) -> Result<(), Fail> 
     );
     Ok(())
 }
+
+/// How many events a long session has.
+const MANY: u64 = 1100;
+
+/// A session over many events of A at one time: by turns its battery goes low, and is charged.
+fn long_session(alloc: Global) -> Result<Session, Fail> {
+    let key = Key {
+        provider: Uuid::parse_str(PROVIDER)?,
+        device: Uuid::parse_str(A)?,
+    };
+    let low = [TypeName::new("battery_low")?];
+    let charged = [TypeName::new("battery_charged")?];
+    let mut events = Vec::new(alloc);
+    for number in 0..MANY {
+        let (types, state) = if number % 2 == 0 {
+            (&low, NonOperational)
+        } else {
+            (&charged, Available)
+        };
+        let id = Uuid::from_u64_pair(0x4000, number);
+        events.push(Event::new(key, id, state, types, 1000, None)?)?;
+    }
+    Ok(Session::open(alloc, Table::profile(alloc)?, Available, events)?)
+}
+
+#[test]
+fn many_events(rt: HostRuntime) -> Result<(), Fail> {
+    let mut session = long_session(rt.alloc())?;
+    for _ in 0..MANY {
+        session.next_event()?;
+    }
+    assert_eq!(rt;
+        (session.state(), session.next_event()),
+        (Available, Err(Halt::AtEnd))
+    );
+    Ok(())
+}

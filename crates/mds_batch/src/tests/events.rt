@@ -2,7 +2,7 @@
 use crate::ItemFault::{self, Bad, Missing, NotObject};
 use crate::Member::{EventId, EventTypes, LocationE7, ProviderId, Timestamp, VehicleState};
 use crate::{EventItem, read_events};
-use mds_core::{Event, Key, Position};
+use mds_core::{Event, Key, MAX_EVENT_TYPES, Position};
 use mds_table::{State, TypeName};
 use std::alloc::Global;
 use std::test::Fail;
@@ -15,18 +15,8 @@ const EVENT: &str = r#"{"provider_id":"00000000-0000-4000-8000-000000000001",
 "timestamp":1000,"location_e7":{"lat":525200000,"lng":134050000}}"#;
 
 /// Pieces of the event, what stands in their place, and the fault that is then found, if any.
-const FAULTS: [(&str, &str, Option<ItemFault>); 23] = [
-    // numbers and names of types
-    (
-        r#""trip_end","battery_low""#,
-        r#""a","b","c","d","e","f","g","h","i","j","k","l","m","n","o""#,
-        None,
-    ),
-    (
-        r#""trip_end","battery_low""#,
-        r#""a","b","c","d","e","f","g","h","i","j","k","l","m","n","o","p""#,
-        Some(Bad(EventTypes)),
-    ),
+const FAULTS: [(&str, &str, Option<ItemFault>); 21] = [
+    // names of types
     (
         r#""trip_end","battery_low","trip_end""#,
         "",
@@ -140,6 +130,20 @@ fn faults(rt: HostRuntime) -> Result<(), Fail> {
         let found = fault_with(rt.alloc(), piece, other)?;
         assert_eq!(rt; (other, &found), (other, fault));
     }
+    Ok(())
+}
+
+/// The fault of the event with so many types more than its three.
+fn fault_with_more(alloc: Global, more: usize) -> Result<Option<ItemFault>, Fail> {
+    let types = r#""battery_low","#.repeat(alloc, more + 1)?;
+    fault_with(alloc, r#""battery_low","#, types.as_str())
+}
+
+#[test]
+fn most_types(rt: HostRuntime) -> Result<(), Fail> {
+    let most = fault_with_more(rt.alloc(), MAX_EVENT_TYPES - 3)?;
+    let one_too_many = fault_with_more(rt.alloc(), MAX_EVENT_TYPES - 2)?;
+    assert_eq!(rt; (most, one_too_many), (None, Some(Bad(EventTypes))));
     Ok(())
 }
 

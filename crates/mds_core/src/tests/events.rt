@@ -1,6 +1,6 @@
 //! Positions, events and requests.
 use super::{A, E1, key, types_of, uuid};
-use crate::{Event, EventFault, MAX_TIME, Position, Refusal};
+use crate::{Event, EventFault, MAX_EVENT_TYPES, MAX_TIME, Position, Refusal};
 use mds_table::{State, TypeName};
 use std::test::Fail;
 
@@ -51,17 +51,17 @@ fn event_gives_back_what_went_in(rt: HostRuntime) -> Result<(), Fail> {
 
 const NO_TYPES: &[&str] = &[];
 
-const SIXTEEN: &[&str] = &["located"; 16];
+const MOST_TYPES: &[&str] = &["located"; MAX_EVENT_TYPES];
 
-const SEVENTEEN: &[&str] = &["located"; 17];
+const ONE_TOO_MANY: &[&str] = &["located"; MAX_EVENT_TYPES + 1];
 
 /// Types and times of an event, and its fault.
 const FAULTS: [(&[&str], u64, Option<EventFault>); 6] = [
     (NO_TYPES, MAX_TIME + 1, Some(EventFault::NoTypes)),
-    (SEVENTEEN, MAX_TIME + 1, Some(EventFault::TooManyTypes)),
-    (SEVENTEEN, 0, Some(EventFault::TooManyTypes)),
-    (SIXTEEN, MAX_TIME + 1, Some(EventFault::BadTime)),
-    (SIXTEEN, MAX_TIME, None),
+    (ONE_TOO_MANY, MAX_TIME + 1, Some(EventFault::TooManyTypes)),
+    (ONE_TOO_MANY, 0, Some(EventFault::TooManyTypes)),
+    (MOST_TYPES, MAX_TIME + 1, Some(EventFault::BadTime)),
+    (MOST_TYPES, MAX_TIME, None),
     (&["located"], 0, None),
 ];
 

@@ -1,14 +1,14 @@
 //! Table files: how many rows a file stands for, or its first fault.
-use crate::Table;
 use crate::TableFault::{
     self, BadRow, Empty, NotJson, NotRows, TooLong, TooManyRows, TooManyTypes,
 };
+use crate::{MAX_ROWS, MAX_TABLE_TYPES, Table};
 use std::alloc::{AllocError, Global};
 
-/// One state, and each of the states.
+/// One state, and eight states: an entry that leads from each of the eight to each of them has 64 rows.
 const ONE: &str = r#""removed""#;
 
-const EACH: &str =
+const EIGHT: &str =
     r#"["removed","available","non_operational","reserved","on_trip","elsewhere","non_contactable","missing"]"#;
 
 /// A file: a text; so many entries, each of a type of its own (`t0`, `t1` ..), and the states that they lead from and to;
@@ -59,21 +59,21 @@ const FILES: [File; 15] = [
     // most types
     (
         r#"{"rows":["#,
-        (63, ONE),
+        (MAX_TABLE_TYPES - 1, ONE),
         r#"{"from":"removed","type":"x","to":"removed"}]}"#,
         0,
-        Ok(64),
+        Ok(MAX_TABLE_TYPES),
     ),
     (
         r#"{"rows":["#,
-        (64, ONE),
-        r#"{"from":"removed","type":"t63","to":"missing"}]}"#,
+        (MAX_TABLE_TYPES, ONE),
+        r#"{"from":"removed","type":"t0","to":"missing"}]}"#,
         0,
-        Ok(65),
+        Ok(MAX_TABLE_TYPES + 1),
     ),
     (
         r#"{"rows":["#,
-        (64, ONE),
+        (MAX_TABLE_TYPES, ONE),
         r#"{"from":"removed","type":"x","to":"removed"}]}"#,
         0,
         Err(TooManyTypes),
@@ -81,24 +81,24 @@ const FILES: [File; 15] = [
     // most rows
     (
         r#"{"rows":["#,
-        (64, EACH),
-        r#"{"from":"removed","type":"t63","to":"missing"}]}"#,
+        (MAX_ROWS / 64, EIGHT),
+        r#"{"from":"removed","type":"t0","to":"missing"}]}"#,
         0,
-        Ok(4096),
+        Ok(MAX_ROWS),
     ),
     (
         r#"{"rows":["#,
-        (64, EACH),
+        (MAX_ROWS / 64, EIGHT),
         r#"{"from":"removed","type":"x","to":"removed"}]}"#,
         0,
         Err(TooManyRows),
     ),
     (
         r#"{"rows":["#,
-        (64, EACH),
+        (MAX_ROWS / 64, EIGHT),
         r#"{"from":"flying","type":"x","to":"removed"}]}"#,
         0,
-        Err(BadRow(64)),
+        Err(BadRow(MAX_ROWS / 64)),
     ),
     // most bytes
     (

@@ -30,7 +30,11 @@ const E4: u128 = 0xe4;
 type Told<'a> = (u128, u128, State, &'a str, u64);
 
 /// An end: the vehicle, the states in which it may have opened, and, where one is known, its state and its events.
-type End = (Key, ArrayVec<State, 8>, Option<(State, usize)>);
+type End = (
+    Key,
+    ArrayVec<State, { State::COUNT }>,
+    Option<(State, usize)>,
+);
 
 /// What a replay comes to: its verdicts, its ends, and how many items were accepted and how many were not.
 #[derive(Clone, Copy)]

@@ -25,8 +25,8 @@ returns-then-len-gt-MAX_ROWS-clause-fault c =
       },
     )
 
-pub returns-then-len-gt-MAX_TYPES-clause-fault : goal.returns-then-len-gt-MAX_TYPES-clause-fault
-returns-then-len-gt-MAX_TYPES-clause-fault c =
+pub returns-then-len-gt-MAX_TABLE_TYPES-clause-fault : goal.returns-then-len-gt-MAX_TABLE_TYPES-clause-fault
+returns-then-len-gt-MAX_TABLE_TYPES-clause-fault c =
     let at = c.loop-at.at in
     let value = view c.index-entries-at.result in
     let good = c.loop-at.invariant in
