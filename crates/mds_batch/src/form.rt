@@ -5,7 +5,7 @@ ghost use Rattle.mds_core.specs.Reported.{max_event_types, max_time};
 ghost use Rattle.mds_batch.specs.Forms.{uuid_in, all_types, few_types, types_in, time_in, whole_in, position_of};
 
 use arrayvec::ArrayVec;
-use mds_core::{MAX_TIME, MAX_EVENT_TYPES, Position};
+use mds_core::{MAX_EVENT_TYPES, MAX_TIME, Position};
 use mds_table::TypeName;
 use mds_table::json::type_name_of;
 use serde_json::Value;
@@ -51,7 +51,10 @@ fn fill_few_types(values: &[Value], types: &mut ArrayVec<TypeName, MAX_EVENT_TYP
 
 /// Fills an empty list with the types that the value lists, if it lists 1 to 16.
 #[tactic(auto, using(crate::proofs::Listed::values_items_of))]
-pub(crate) fn fill_types(value: &Value, types: &mut ArrayVec<TypeName, MAX_EVENT_TYPES>) -> Option<()>
+pub(crate) fn fill_types(
+    value: &Value,
+    types: &mut ArrayVec<TypeName, MAX_EVENT_TYPES>,
+) -> Option<()>
     requires { types.old.items ≡ [] }
     ensures types { OnSome result (types_in (view value.now) ≡ Some types.new.items) }
     ensures some { OnSome result (1 ≤ length types.new.items) }

@@ -12,6 +12,6 @@ mod tests;
 
 pub use connection::{ServeFault, Served, serve_one};
 pub use desk::{Desk, SeatDesk};
-pub use mds_response::{Found, bytes_of, memory_bytes};
 pub use mds_request::{Face, HttpFault, Plan, plan_of};
+pub use mds_response::{Found, bytes_of, memory_bytes};
 pub use reading::read_plan;
