@@ -3,7 +3,7 @@ ghost use Rattle.std.specs.Prelude.{◌≡◌, Some};
 ghost use Rattle.mds_batch.specs.Items.{item_fault_text, item_fault_word};
 
 use crate::Member;
-use mds_core::{Event, Key};
+use mds_core::{Event, Key, Request};
 use std::error::Error;
 use std::fmt;
 
@@ -62,4 +62,69 @@ pub enum EventItem {
     Event(Event),
     /// What is wrong with the item.
     Fault(ItemFault),
+}
+
+/// An item of a batch: it asks for a request, or something is wrong with it.
+pub trait BatchItem {
+    ghost use Rattle.std.specs.Prelude.{◌≡◌, Option};
+    ghost use Rattle.mds_core.specs.declared.request.Request.{Request as Asked};
+    ghost use Rattle.mds_batch.specs.declared.item.ItemFault.{ItemFault as Wrong};
+
+    /// The request that an item asks for; none where something is wrong with it.
+    ghost asked: { Self → Option Asked };
+
+    /// What is wrong with an item, if anything is.
+    ghost wrong: { Self → Option Wrong };
+
+    /// The request that the item asks for, or `None` where something is wrong with it.
+    fn request(&self) -> Option<Request>
+        ensures { result ≡ asked self.now };
+
+    /// What is wrong with the item, or `None` where it asks for a request.
+    fn fault(&self) -> Option<ItemFault>
+        ensures { result ≡ wrong self.now };
+}
+
+impl BatchItem for VehicleItem {
+    ghost use Rattle.mds_batch.specs.Asking.{registration_of, vehicle_fault};
+
+    ghost asked = { registration_of };
+
+    ghost wrong = { vehicle_fault };
+
+    fn request(&self) -> Option<Request> {
+        match self {
+            VehicleItem::Vehicle(key) => Some(Request::Register(*key)),
+            VehicleItem::Fault(_) => None,
+        }
+    }
+
+    fn fault(&self) -> Option<ItemFault> {
+        match self {
+            VehicleItem::Vehicle(_) => None,
+            VehicleItem::Fault(fault) => Some(*fault),
+        }
+    }
+}
+
+impl BatchItem for EventItem {
+    ghost use Rattle.mds_batch.specs.Asking.{event_fault, report_in};
+
+    ghost asked = { report_in };
+
+    ghost wrong = { event_fault };
+
+    fn request(&self) -> Option<Request> {
+        match self {
+            EventItem::Event(event) => Some(Request::Report(event.copy())),
+            EventItem::Fault(_) => None,
+        }
+    }
+
+    fn fault(&self) -> Option<ItemFault> {
+        match self {
+            EventItem::Event(_) => None,
+            EventItem::Fault(fault) => Some(*fault),
+        }
+    }
 }

@@ -16,5 +16,5 @@ mod read;
 mod tests;
 
 pub use batch::{BatchFault, MAX_ITEMS, read_events, read_vehicles};
-pub use item::{EventItem, ItemFault, VehicleItem};
+pub use item::{BatchItem, EventItem, ItemFault, VehicleItem};
 pub use member::Member;

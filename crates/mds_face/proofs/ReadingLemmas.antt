@@ -6,18 +6,19 @@ use Rattle.std.proofs.KnownBytes.{Consumes-nil, Consumes-trans}
 use Rattle.mds_io.specs.declared.device.ReadError.{ReadError}
 use Rattle.mds_io.specs.declared.device.ReadError.TheVariants.{Memory, Device, TooManyTurns}
 use Rattle.mds_io.specs.Device.{ConsumesUpTo, Gains, StopsAt}
+use Rattle.mds_core.specs.declared.key.Key.{Key}
 use Rattle.mds_request.specs.declared.aim.Aim.{Aim}
-use Rattle.mds_request.specs.declared.step.Step.{Step}
-use Rattle.mds_request.specs.declared.step.Step.TheVariants.{Short, Never, Fixed, Ready}
+use Rattle.mds_request.specs.declared.head_status.HeadStatus.{HeadStatus}
+use Rattle.mds_request.specs.declared.head_status.HeadStatus.TheVariants.{Partial, Invalid, Rejected, Complete}
 use Rattle.mds_request.specs.Asked.{Asked}
 use Rattle.mds_request.specs.Plan.{IsPlan}
-use Rattle.mds_request.specs.Step.{IsStep}
-use Rattle.mds_request.proofs.PlanLaws.{never_settles, short_settles, fixed_settles, ready_needs, steps_stay}
+use Rattle.mds_request.specs.HeadStatus.{IsHeadStatus}
+use Rattle.mds_request.proofs.PlanLaws.{invalid_determines, partial_determines, rejected_determines, complete_determines, statuses_stay}
 use Rattle.mds_face.specs.Reading.{Grows, IsEnough, ReadsNoFurther, wanted}
 
--- the step of some bytes is that of the same bytes
-pub step_of_same : (a b : List ℕ) (step : Step) → a ≡ b → IsStep a step → IsStep b step
-step_of_same a b step same is = subst (λ bytes. IsStep bytes step) same is
+-- some bytes have the status of the same bytes
+pub status_of_same : (a b : List ℕ) (status : HeadStatus) → a ≡ b → IsHeadStatus a status → IsHeadStatus b status
+status_of_same a b status same is = subst (λ bytes. IsHeadStatus bytes status) same is
 
 -- nothing was read yet
 pub read_none : (a : Option (List ℕ)) (bytes : List ℕ) → bytes ≡ [] → Consumes a a bytes
@@ -40,37 +41,37 @@ pub plan_of_read : (a b : Option (List ℕ)) (bytes : List ℕ) (asked : Asked) 
 plan_of_read None b bytes asked p enough plan = tt
 plan_of_read (Some x) None bytes asked p enough plan = absurd p
 plan_of_read (Some x) (Some y) bytes asked p (inl end) plan = subst (λ stream. IsPlan stream asked) (sym (p ∙ ap (λ l. bytes ++ l) end ∙ append-nil bytes)) plan
-plan_of_read (Some x) (Some y) bytes asked p (inr settled) plan = subst (λ stream. IsPlan stream asked) (sym p) (settled y asked plan)
+plan_of_read (Some x) (Some y) bytes asked p (inr determined) plan = subst (λ stream. IsPlan stream asked) (sym p) (determined y asked plan)
 
 -- no whole head, at the stream's end or in as many bytes as a head may have, is enough
-pub short_enough : (left : Option (List ℕ)) (bytes : List ℕ) → IsStep bytes Short → (length bytes < 16384 → IsAtEnd left) → IsEnough left bytes
-short_enough left bytes step end =
+pub partial_enough : (left : Option (List ℕ)) (bytes : List ℕ) → IsHeadStatus bytes Partial → (length bytes < 16384 → IsAtEnd left) → IsEnough left bytes
+partial_enough left bytes status end =
     elim (cases_lt (length bytes) 16384) [
       | inl below ↦ inl (end below)
-      | inr above ↦ inr (short_settles bytes step above)
+      | inr above ↦ inr (partial_determines bytes status above)
     ]
 
 -- a head without a fault and its body, or all that there is of it, are enough
-pub ready_enough : (aim : Aim) (start len most : ℕ) (a b : Option (List ℕ)) (held grown : List ℕ) → IsStep held (Ready aim start len) → Gains most a b held grown
+pub complete_enough : (aim : Aim Key) (start len most : ℕ) (a b : Option (List ℕ)) (held grown : List ℕ) → IsHeadStatus held (Complete aim start len) → Gains most a b held grown
     → (length grown < start + len → IsAtEnd b) → IsEnough b grown
-ready_enough aim start len most a b held grown step gains end =
+complete_enough aim start len most a b held grown status gains end =
     elim (cases_lt (length grown) (start + len)) [
       | inl below ↦ inl (end below)
-      | inr above ↦ inr (rw gains.2 (ready_needs held aim start len step gains.0 (rw gains.2 at above)))
+      | inr above ↦ inr (rw gains.2 (complete_determines held aim start len status gains.0 (rw gains.2 at above)))
     ]
 
 -- bytes behind a head without a fault leave it as it is
-pub ready_stays : (aim : Aim) (start len most : ℕ) (a b : Option (List ℕ)) (held grown : List ℕ) → IsStep held (Ready aim start len) → Gains most a b held grown
-    → IsStep grown (Ready aim start len)
-ready_stays aim start len most a b held grown step gains = rw gains.2 ((steps_stay held gains.0).2 aim start len step)
+pub complete_stays : (aim : Aim Key) (start len most : ℕ) (a b : Option (List ℕ)) (held grown : List ℕ) → IsHeadStatus held (Complete aim start len) → Gains most a b held grown
+    → IsHeadStatus grown (Complete aim start len)
+complete_stays aim start len most a b held grown status gains = rw gains.2 ((statuses_stay held gains.0).2 aim start len status)
 
 -- where no body is announced, the bytes at which a head is no longer waited for are enough
-pub head_enough : (step : Step) (left : Option (List ℕ)) (bytes : List ℕ) → IsStep bytes step → (step ≡ Short → length bytes < 16384 → IsAtEnd left)
-    → ((aim : Aim) (start len : ℕ) → step ≡ Ready aim start len → ⊥) → IsEnough left bytes
-head_enough Short left bytes is end bodiless = short_enough left bytes is (end refl)
-head_enough Never left bytes is end bodiless = inr (never_settles bytes is)
-head_enough (Fixed fault) left bytes is end bodiless = inr (fixed_settles bytes fault is)
-head_enough (Ready aim start len) left bytes is end bodiless = absurd (bodiless aim start len refl)
+pub head_enough : (status : HeadStatus) (left : Option (List ℕ)) (bytes : List ℕ) → IsHeadStatus bytes status → (status ≡ Partial → length bytes < 16384 → IsAtEnd left)
+    → ((aim : Aim Key) (start len : ℕ) → status ≡ Complete aim start len → ⊥) → IsEnough left bytes
+head_enough Partial left bytes is end bodiless = partial_enough left bytes is (end refl)
+head_enough Invalid left bytes is end bodiless = inr (invalid_determines bytes is)
+head_enough (Rejected fault) left bytes is end bodiless = inr (rejected_determines bytes fault is)
+head_enough (Complete aim start len) left bytes is end bodiless = absurd (bodiless aim start len refl)
 
 -- what was read when reading stopped
 pub stop_loses : (fault : ReadError) (most : ℕ) (a b : Option (List ℕ)) (held grown : List ℕ) → StopsAt fault most a b held grown → ConsumesUpTo most a b
@@ -101,17 +102,17 @@ no_more a b c held few p q =
     (held ++ q.0, Consumes-trans a b c held q.0 p q.2, inl fits)
 
 -- a head's bytes, and those that its body waits for, are no more than the request's
-pub no_further : (step : Step) (a b c : Option (List ℕ)) (held : List ℕ) → length held ≤ 16384 → IsStep held step → Consumes a b held → ConsumesUpTo (wanted step (length held)) b c → ReadsNoFurther a c
-no_further (Ready aim start len) a b c held few is p q =
+pub no_further : (status : HeadStatus) (a b c : Option (List ℕ)) (held : List ℕ) → length held ≤ 16384 → IsHeadStatus held status → Consumes a b held → ConsumesUpTo (wanted status (length held)) b c → ReadsNoFurther a c
+no_further (Complete aim start len) a b c held few is p q =
     let bytes = held ++ q.0 in
     let taken = Consumes-trans a b c held q.0 p q.2 in
     let counted : length bytes ≡ length held + length q.0 = length-append held q.0 in
     elim (cases_lt (length held) (start + len)) [
       | inl below ↦
           let fits : length bytes ≤ start + len = omega (arith, q.1) in
-          (bytes, taken, inr (aim, start, len, (steps_stay held q.0).2 aim start len is, fits))
+          (bytes, taken, inr (aim, start, len, (statuses_stay held q.0).2 aim start len is, fits))
       | inr above ↦ let fits : length bytes ≤ 16384 = omega (arith, q.1) in (bytes, taken, inl fits)
     ]
-no_further Short a b c held few is p q = no_more a b c held few p q
-no_further Never a b c held few is p q = no_more a b c held few p q
-no_further (Fixed fault) a b c held few is p q = no_more a b c held few p q
+no_further Partial a b c held few is p q = no_more a b c held few p q
+no_further Invalid a b c held few is p q = no_more a b c held few p q
+no_further (Rejected fault) a b c held few is p q = no_more a b c held few p q

@@ -1,22 +1,8 @@
--- What the items of a batch ask for.
+-- What the items of a batch ask for, and their turns at a desk.
 use Rattle.std.specs.Prelude.{◌≡◌, ◌++◌, ◌∷◌, List, [], Option, Some, None}
 use Rattle.mds_core.specs.declared.request.Request.{Request}
-use Rattle.mds_core.specs.declared.request.Request.TheVariants.{Register, Report}
 use Rattle.mds_core.specs.declared.reply.Reply.{Reply}
-use Rattle.mds_batch.specs.declared.item.VehicleItem.{VehicleItem}
-use Rattle.mds_batch.specs.declared.item.VehicleItem.TheVariants as vehicle
-use Rattle.mds_batch.specs.declared.item.EventItem.{EventItem}
-use Rattle.mds_batch.specs.declared.item.EventItem.TheVariants as event
-
--- a vehicle asks for its registration, a fault for nothing
-abbrev pub registration_of : VehicleItem → Option Request
-registration_of (vehicle.Vehicle key) = Some (Register key)
-registration_of (vehicle.Fault fault) = None
-
--- an event asks to be reported, a fault for nothing
-abbrev pub report_in : EventItem → Option Request
-report_in (event.Event reported) = Some (Report reported)
-report_in (event.Fault fault) = None
+pub use Rattle.mds_batch.specs.Asking.{registration_of, report_in}
 
 -- the turn of an item: nothing is done for one that asks for nothing; else the call is made, and its reply stands behind the others
 abbrev pub IsTurn : {S : Type 0} → (S → Request → Option Reply → S → Type 0) → S → Option Request → List Reply → S → List Reply → Type 0

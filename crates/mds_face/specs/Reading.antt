@@ -1,11 +1,12 @@
 -- What was read of a stream, and whether it says what the stream asks for.
 use Rattle.std.specs.Prelude.{◌≡◌, ◌⊎◌, ℕ, ◌+◌, ◌-◌, ◌≤◌, List, ◌++◌, length, Option}
 use Rattle.std.specs.Io.KnownBytes.{Consumes, IsAtEnd}
+use Rattle.mds_core.specs.declared.key.Key.{Key}
 use Rattle.mds_request.specs.declared.aim.Aim.{Aim}
-use Rattle.mds_request.specs.declared.step.Step.{Step}
-use Rattle.mds_request.specs.declared.step.Step.TheVariants.{Ready}
+use Rattle.mds_request.specs.declared.head_status.HeadStatus.{HeadStatus}
+use Rattle.mds_request.specs.declared.head_status.HeadStatus.TheVariants.{Complete}
 use Rattle.mds_request.specs.Head.{max_head}
-use Rattle.mds_request.specs.Step.{IsSettled, IsStep}
+use Rattle.mds_request.specs.HeadStatus.{DeterminesPlan, IsHeadStatus}
 
 -- the bytes held grew by what the reader lost
 abbrev pub Grows : Option (List ℕ) → Option (List ℕ) → List ℕ → List ℕ → Type 0
@@ -13,14 +14,14 @@ Grows old new held grown = (more : List ℕ) × (grown ≡ held ++ more) × Cons
 
 -- the bytes read say what the whole stream asks for: nothing is left of it, or what is left doesn't matter
 abbrev pub IsEnough : Option (List ℕ) → List ℕ → Type 0
-IsEnough left bytes = IsAtEnd left ⊎ IsSettled bytes
+IsEnough left bytes = IsAtEnd left ⊎ DeterminesPlan bytes
 
 -- the reader lost no more than a head may have, or than its request has: a head without a fault, and its body
 abbrev pub ReadsNoFurther : Option (List ℕ) → Option (List ℕ) → Type 0
 ReadsNoFurther old new = (bytes : List ℕ) × Consumes old new bytes
-    × ((length bytes ≤ max_head) ⊎ ((aim : Aim) × (start : ℕ) × (len : ℕ) × IsStep bytes (Ready aim start len) × (length bytes ≤ start + len)))
+    × ((length bytes ≤ max_head) ⊎ ((aim : Aim Key) × (start : ℕ) × (len : ℕ) × IsHeadStatus bytes (Complete aim start len) × (length bytes ≤ start + len)))
 
--- how many bytes more than there are a step waits for
-abbrev pub wanted : Step → ℕ → ℕ
-wanted (Ready aim start len) there = start + len - there
+-- how many bytes are yet wanting of a body that is announced
+abbrev pub wanted : HeadStatus → ℕ → ℕ
+wanted (Complete aim start len) there = start + len - there
 wanted other there = 0

@@ -5,62 +5,25 @@ ghost use Rattle.mds_face.specs.Desk.{AreCalls};
 ghost use Rattle.mds_face.specs.Asking.{IsTurn, IsLastTurn};
 
 use crate::Desk;
-use mds_batch::{EventItem, VehicleItem};
-use mds_core::{Reply, Request};
+use mds_batch::BatchItem;
+use mds_core::Reply;
 use std::alloc::{AllocError, Global};
-
-/// An item of a batch, by the request that it asks for.
-pub(crate) trait Asks {
-    ghost use Rattle.std.specs.Prelude.{◌≡◌, Option};
-    ghost use Rattle.mds_core.specs.declared.request.Request.{Request as Asked};
-
-    /// The request that an item asks for; none where the item is at fault.
-    ghost asked: { Self → Option Asked };
-
-    /// The request that the item asks for, or `None` where it is at fault.
-    fn request(&self) -> Option<Request>
-        ensures { result ≡ asked self.now };
-}
-
-impl Asks for VehicleItem {
-    ghost use Rattle.mds_face.specs.Asking.{registration_of};
-
-    ghost asked = { registration_of };
-
-    fn request(&self) -> Option<Request> {
-        match self {
-            VehicleItem::Vehicle(key) => Some(Request::Register(*key)),
-            VehicleItem::Fault(_) => None,
-        }
-    }
-}
-
-impl Asks for EventItem {
-    ghost use Rattle.mds_face.specs.Asking.{report_in};
-
-    ghost asked = { report_in };
-
-    fn request(&self) -> Option<Request> {
-        match self {
-            EventItem::Event(event) => Some(Request::Report(event.copy())),
-            EventItem::Fault(_) => None,
-        }
-    }
-}
 
 /// Puts the request of an item that isn't at fault to the desk, and its reply behind the others, for which there is room.
 ///
 /// # Errors
 ///
 /// `AllocError` where the call found no memory: there is no reply then.
-fn ask_one<D: Desk, I: Asks>(
+fn ask_one<D: Desk, I: BatchItem>(
     desk: &mut D,
     item: &I,
     replies: &mut Vec<Reply>,
 ) -> Result<(), AllocError>
     requires room { vec_len replies.old < vec_capacity replies.old }
-    ensures ok { OnOk result (IsTurn D.calls desk.old (I.asked item.now) replies.old.items desk.new replies.new.items) }
-    ensures err { OnErr result (IsLastTurn D.calls desk.old (I.asked item.now) replies.old.items desk.new replies.new.items) }
+    ensures ok { OnOk result (IsTurn D.calls desk.old (I.asked item.now) replies.old.items
+        desk.new replies.new.items) }
+    ensures err { OnErr result (IsLastTurn D.calls desk.old (I.asked item.now) replies.old.items
+        desk.new replies.new.items) }
     ensures capacity { vec_capacity replies.old ≤ vec_capacity replies.new }
     ensures len { vec_len replies.new ≤ vec_len replies.old + 1 }
 {
@@ -81,12 +44,13 @@ fn ask_one<D: Desk, I: Asks>(
 /// # Errors
 ///
 /// `AllocError` where there is no memory for the replies; no call was made then.
-pub(crate) fn ask_all<D: Desk, I: Asks>(
+pub(crate) fn ask_all<D: Desk, I: BatchItem>(
     alloc: Global,
     desk: &mut D,
     items: &[I],
 ) -> Result<Vec<Reply>, AllocError>
-    ensures calls { IfOk result (λ replies. AreCalls D.calls desk.old (filter_map I.asked items.now) replies.items desk.new) }
+    ensures calls { IfOk result (λ replies.
+        AreCalls D.calls desk.old (filter_map I.asked items.now) replies.items desk.new) }
     ensures unchanged { OnErr result (desk.new ≡ desk.old) }
 {
     let mut replies = Vec::with_capacity(alloc, items.len())?;

@@ -84,8 +84,12 @@ pub fn serve_one<R: Read, W: Write, D: Desk>(
     writer: &mut W,
     desk: &mut D,
 ) -> Result<Served, ServeFault>
-    ensures served { IfOk result (IsServed D.calls D.gives_events D.gives_rows (R.remaining reader.old) desk.old desk.new (W.contents writer.old) (W.contents writer.new)) }
-    ensures stopped { IfErr result (Stops D.calls D.gives_events D.gives_rows (R.remaining reader.old) desk.old desk.new (W.contents writer.old) (W.contents writer.new)) }
+    ensures served { IfOk result (IsServed D.calls D.gives_events D.gives_rows
+        (R.remaining reader.old) desk.old desk.new
+        (W.contents writer.old) (W.contents writer.new)) }
+    ensures stopped { IfErr result (Stops D.calls D.gives_events D.gives_rows
+        (R.remaining reader.old) desk.old desk.new
+        (W.contents writer.old) (W.contents writer.new)) }
     ensures no_further { ReadsNoFurther (R.remaining reader.old) (R.remaining reader.new) }
 {
     match read_plan(alloc, face, reader) {
@@ -108,8 +112,10 @@ fn answer<W: Write, D: Desk>(
     desk: &mut D,
     plan: &Plan,
 ) -> Result<Served, ServeFault>
-    ensures answered { IfOk result (IsAnsweredWhole D.calls D.gives_events D.gives_rows (asked_in plan.now) desk.old desk.new (W.contents writer.old) (W.contents writer.new)) }
-    ensures stopped { IfErr result (StopsAsked D.calls D.gives_events D.gives_rows (asked_in plan.now) desk.old desk.new (W.contents writer.old) (W.contents writer.new)) }
+    ensures answered { IfOk result (IsAnsweredWhole D.calls D.gives_events D.gives_rows
+        (asked_in plan.now) desk.old desk.new (W.contents writer.old) (W.contents writer.new)) }
+    ensures stopped { IfErr result (StopsAsked D.calls D.gives_events D.gives_rows
+        (asked_in plan.now) desk.old desk.new (W.contents writer.old) (W.contents writer.new)) }
 {
     let Ok(found) = find(alloc, desk, plan) else {
         return Err(out_of_memory(writer));
@@ -129,8 +135,10 @@ fn answer<W: Write, D: Desk>(
 ///
 /// `AllocError` where there is no memory for the replies of a POST, and no call was made then, or for what a GET looks at.
 fn find<D: Desk>(alloc: Global, desk: &mut D, plan: &Plan) -> Result<Found, AllocError>
-    ensures finds { IfOk result (λ found. Finds D.calls D.gives_events D.gives_rows desk.old (asked_in plan.now) (finding_in found) desk.new) }
-    ensures memory { OnErr result (FindsNoMemory D.calls D.gives_events D.gives_rows desk.old (asked_in plan.now) desk.new) }
+    ensures finds { IfOk result (λ found. Finds D.calls D.gives_events D.gives_rows
+        desk.old (asked_in plan.now) (finding_in found) desk.new) }
+    ensures memory { OnErr result (FindsNoMemory D.calls D.gives_events D.gives_rows
+        desk.old (asked_in plan.now) desk.new) }
 {
     match plan {
         Plan::Fixed(_) => Ok(Found::Nothing),
@@ -161,7 +169,8 @@ fn served_of(plan: &Plan, found: &Found) -> Served
 /// out, with the number of bytes that were written.
 fn write_answer<W: Write>(writer: &mut W, bytes: &[u8]) -> Result<(), ServeFault>
     ensures ok { OnOk result (Appends (W.contents writer.old) (W.contents writer.new) bytes.now) }
-    ensures err { IfErr result (IsUnwritten bytes.now (W.contents writer.old) (W.contents writer.new)) }
+    ensures err { IfErr result
+        (IsUnwritten bytes.now (W.contents writer.old) (W.contents writer.new)) }
 {
     match write_all_of(writer, bytes) {
         Ok(()) => Ok(()),
@@ -174,7 +183,8 @@ fn write_answer<W: Write>(writer: &mut W, bytes: &[u8]) -> Result<(), ServeFault
 
 /// Writes the fixed answer of status 503, as far as the writer takes it: the fault that says so. It takes no memory.
 fn out_of_memory<W: Write>(writer: &mut W) -> ServeFault
-    ensures { (sent : ℕ) × (result ≡ ServeFault.Memory sent) × IsFixedAnswer (W.contents writer.old) (W.contents writer.new) sent }
+    ensures { (sent : ℕ) × (result ≡ ServeFault.Memory sent)
+        × IsFixedAnswer (W.contents writer.old) (W.contents writer.new) sent }
 {
     let sent = match write_all_of(writer, memory_bytes()) {
         Ok(()) => memory_bytes().len(),

@@ -37,7 +37,8 @@ pub trait Desk {
     ///
     /// `AllocError` where there is no memory for it.
     fn call(&mut self, request: &Request) -> Result<Reply, AllocError>
-        ensures { MatchResult result (λ reply. calls self.old request.now (Some reply) self.new) (λ _. calls self.old request.now None self.new) };
+        ensures { MatchResult result (λ reply. calls self.old request.now (Some reply) self.new)
+            (λ _. calls self.old request.now None self.new) };
 
     /// The accepted events of a vehicle in their order, or `None` where it isn't registered. They leave the desk as it was.
     ///
@@ -45,7 +46,8 @@ pub trait Desk {
     ///
     /// `AllocError` where there is no memory for the list.
     fn events(&mut self, key: &Key) -> Result<Option<Vec<Event>>, AllocError>
-        ensures events { IfOk result (λ events. gives_events self.old key.now (option_map (λ v. v.items) events)) }
+        ensures events { IfOk result (λ events.
+            gives_events self.old key.now (option_map (λ v. v.items) events)) }
         ensures unchanged { self.new ≡ self.old };
 
     /// The rows of the table in their order. They leave the desk as it was.
@@ -58,7 +60,8 @@ pub trait Desk {
         ensures unchanged { self.new ≡ self.old };
 
     /// A reply has an outcome that the rules have for such a request.
-    ghost of_its_kind: { (old : Self) (request : Asked) (reply : Replied) (new : Self) → calls old request (Some reply) new → IsOutcomeFor request reply.outcome };
+    ghost of_its_kind: { (old : Self) (request : Asked) (reply : Replied) (new : Self)
+        → calls old request (Some reply) new → IsOutcomeFor request reply.outcome };
 }
 
 impl Desk for Fleet {
@@ -74,7 +77,8 @@ impl Desk for Fleet {
 
     ghost gives_rows = { λ fleet rows. rows ≡ fleet.tables };
 
-    ghost of_its_kind = { λ old request reply new calls. given_is_for old.tables (requests_of old.history (key_of request)) request reply.outcome (calls.answer).outcome };
+    ghost of_its_kind = { λ old request reply new calls. given_is_for old.tables
+        (requests_of old.history (key_of request)) request reply.outcome (calls.answer).outcome };
 
     fn call(&mut self, request: &Request) -> Result<Reply, AllocError> {
         self.step(request)
@@ -109,13 +113,17 @@ impl<R: Wait, L: ShardLedger, M: ShardLedger> Desk for SeatDesk<'_, R, L, M> {
     ghost use Rattle.mds_book.specs.Books.{GivesEvents};
     ghost use Rattle.mds_face.specs.Seats.{SeatCalls};
 
-    ghost calls = { λ old request reply new. (new.book ≡ old.book) × (new.seat.ghost_name ≡ old.seat.ghost_name) × SeatCalls old.book.now.tables old.seat.now request reply new.seat.now };
+    ghost calls = { λ old request reply new. (new.book ≡ old.book)
+        × (new.seat.ghost_name ≡ old.seat.ghost_name)
+        × SeatCalls old.book.now.tables old.seat.now request reply new.seat.now };
 
     ghost gives_events = { λ desk. GivesEvents desk.book.now.tables };
 
     ghost gives_rows = { λ desk rows. rows ≡ desk.book.now.tables };
 
-    ghost of_its_kind = { λ old request reply new calls. let answered = calls.2.0 in given_is_for old.book.now.tables (requests_of answered.history (key_of request)) request reply.outcome (answered.answer).outcome };
+    ghost of_its_kind = { λ old request reply new calls. let answered = calls.2.0 in
+        given_is_for old.book.now.tables (requests_of answered.history (key_of request)) request
+        reply.outcome (answered.answer).outcome };
 
     fn call(&mut self, request: &Request) -> Result<Reply, AllocError> {
         self.book.call(self.rt, self.seat, request)

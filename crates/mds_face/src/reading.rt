@@ -1,15 +1,15 @@
 //! Reading a request: what it asks for, of the bytes that a reader gives, however they are cut.
-ghost use Rattle.std.specs.Prelude.{◌≡◌, ◌<◌, ◌≤◌, [], length, OnOk, OnErr, IfOk, IfSome};
+ghost use Rattle.std.specs.Prelude.{◌≡◌, ◌<◌, ◌≤◌, [], length, OnOk, OnErr, IfOk, IfSome, IsErrOf};
 ghost use Rattle.std.specs.Io.KnownBytes.{Consumes, IsAtEnd};
 ghost use Rattle.mds_io.specs.Device.{ConsumesUpTo};
 ghost use Rattle.mds_request.specs.Asked.{asked_in};
 ghost use Rattle.mds_request.specs.Head.{max_head};
 ghost use Rattle.mds_request.specs.Plan.{IsPlan};
-ghost use Rattle.mds_request.specs.Step.{IsInReach, IsStep};
+ghost use Rattle.mds_request.specs.HeadStatus.{IsInReach, IsHeadStatus};
 ghost use Rattle.mds_face.specs.Reading.{Grows, IsEnough, ReadsNoFurther, wanted};
 
 use mds_io::{MAX_CALLS, ReadError, read_more, read_up_to};
-use mds_request::{Face, MAX_HEAD, Plan, Step};
+use mds_request::{Face, HeadStatus, MAX_HEAD, Plan};
 use std::alloc::{AllocError, Global};
 use std::io::Read;
 
@@ -25,7 +25,8 @@ use std::io::Read;
 /// `Memory` where there was none for the bytes or the items, `Device` where a call failed, `TooManyTurns` where the calls ran
 /// out. The reader has then lost what it gave.
 pub fn read_plan<R: Read>(alloc: Global, face: &Face, reader: &mut R) -> Result<Plan, ReadError>
-    ensures plan { IfOk result (λ plan. IfSome (R.remaining reader.old) (λ stream. IsPlan stream (asked_in plan))) }
+    ensures plan { IfOk result (λ plan.
+        IfSome (R.remaining reader.old) (λ stream. IsPlan stream (asked_in plan))) }
     ensures no_further { ReadsNoFurther (R.remaining reader.old) (R.remaining reader.new) }
 {
     let mut bytes = Vec::new(alloc);
@@ -43,23 +44,24 @@ fn plan_into<R: Read>(
 ) -> Result<Plan, ReadError>
     requires none { bytes.old.items ≡ [] }
     requires room { 0 < length room.old }
-    ensures plan { IfOk result (λ plan. IfSome (R.remaining reader.old) (λ stream. IsPlan stream (asked_in plan))) }
+    ensures plan { IfOk result (λ plan.
+        IfSome (R.remaining reader.old) (λ stream. IsPlan stream (asked_in plan))) }
     ensures no_further { ReadsNoFurther (R.remaining reader.old) (R.remaining reader.new) }
 {
     let mut calls = MAX_CALLS;
-    let step = match read_head(face, reader, bytes, room, &mut calls) {
-        Ok(step) => step,
+    let status = match read_head(face, reader, bytes, room, &mut calls) {
+        Ok(status) => status,
         Err(fault) => return Err(fault),
     };
-    read_body(&step, reader, bytes, room, &mut calls)?;
-    match step.plan(alloc, bytes) {
+    read_body(&status, reader, bytes, room, &mut calls)?;
+    match status.plan(alloc, bytes) {
         Ok(plan) => Ok(plan),
         Err(AllocError) => Err(ReadError::Memory),
     }
 }
 
-/// Reads behind none until the bytes have a head, can't come to have one, or are `MAX_HEAD` or all that the reader has: how far
-/// they come.
+/// Reads behind none until the bytes have a head, can't come to have one, or are `MAX_HEAD` or all that the reader has: what
+/// they say of the head.
 ///
 /// They are parsed after each call of `read`, so that no call is made that the answer doesn't wait for.
 fn read_head<R: Read>(
@@ -68,47 +70,55 @@ fn read_head<R: Read>(
     bytes: &mut Vec<u8>,
     room: &mut [u8],
     calls: &mut u32,
-) -> Result<Step, ReadError>
+) -> Result<HeadStatus, ReadError>
     requires none { bytes.old.items ≡ [] }
     requires room { 0 < length room.old }
-    ensures step { IfOk result (λ step. IsStep bytes.new.items step) }
-    ensures in_reach { IfOk result (λ step. IsInReach bytes.new.items step) }
-    ensures short { IfOk result (λ step. step ≡ Step.Short → length bytes.new.items < max_head → IsAtEnd (R.remaining reader.new)) }
-    ensures taken { IfOk result (λ step. Consumes (R.remaining reader.old) (R.remaining reader.new) bytes.new.items) }
-    ensures few { IfOk result (λ step. length bytes.new.items ≤ max_head) }
-    ensures lost { OnErr result (ConsumesUpTo max_head (R.remaining reader.old) (R.remaining reader.new)) }
+    ensures status { IfOk result (λ status. IsHeadStatus bytes.new.items status) }
+    ensures in_reach { IfOk result (λ status. IsInReach bytes.new.items status) }
+    ensures partial { IfOk result (λ status. status ≡ HeadStatus.Partial
+        → length bytes.new.items < max_head → IsAtEnd (R.remaining reader.new)) }
+    ensures taken { IfOk result (λ status.
+        Consumes (R.remaining reader.old) (R.remaining reader.new) bytes.new.items) }
+    ensures few { IfOk result (λ status. length bytes.new.items ≤ max_head) }
+    ensures lost { OnErr result
+        (ConsumesUpTo max_head (R.remaining reader.old) (R.remaining reader.new)) }
+    ensures turns { IsErrOf result ReadError.TooManyTurns → calls.new ≡ 0 }
 {
     while bytes.len() < MAX_HEAD {
         if read_more(reader, bytes, room, MAX_HEAD, calls)? {
-            return Ok(face.step(bytes));
+            return Ok(face.head_status(bytes));
         }
-        let step = face.step(bytes);
-        if !matches!(step, Step::Short) {
-            return Ok(step);
+        let status = face.head_status(bytes);
+        if !matches!(status, HeadStatus::Partial) {
+            return Ok(status);
         }
     }
-    Ok(face.step(bytes))
+    Ok(face.head_status(bytes))
 }
 
 /// Reads the body that a head without a fault announces, behind the bytes that are there, or to the reader's end.
 fn read_body<R: Read>(
-    step: &Step,
+    status: &HeadStatus,
     reader: &mut R,
     bytes: &mut Vec<u8>,
     room: &mut [u8],
     calls: &mut u32,
 ) -> Result<(), ReadError>
-    requires step { IsStep bytes.old.items step.now }
-    requires in_reach { IsInReach bytes.old.items step.now }
-    requires short { step.now ≡ Step.Short → length bytes.old.items < max_head → IsAtEnd (R.remaining reader.old) }
+    requires status { IsHeadStatus bytes.old.items status.now }
+    requires in_reach { IsInReach bytes.old.items status.now }
+    requires partial { status.now ≡ HeadStatus.Partial → length bytes.old.items < max_head
+        → IsAtEnd (R.remaining reader.old) }
     requires room { 0 < length room.old }
-    ensures step { OnOk result (IsStep bytes.new.items step.now) }
-    ensures in_reach { OnOk result (IsInReach bytes.new.items step.now) }
+    ensures status { OnOk result (IsHeadStatus bytes.new.items status.now) }
+    ensures in_reach { OnOk result (IsInReach bytes.new.items status.now) }
     ensures enough { OnOk result (IsEnough (R.remaining reader.new) bytes.new.items) }
-    ensures grown { OnOk result (Grows (R.remaining reader.old) (R.remaining reader.new) bytes.old.items bytes.new.items) }
-    ensures lost { ConsumesUpTo (wanted step.now (length bytes.old.items)) (R.remaining reader.old) (R.remaining reader.new) }
+    ensures grown { OnOk result (Grows (R.remaining reader.old) (R.remaining reader.new)
+        bytes.old.items bytes.new.items) }
+    ensures lost { ConsumesUpTo (wanted status.now (length bytes.old.items))
+        (R.remaining reader.old) (R.remaining reader.new) }
+    ensures turns { IsErrOf result ReadError.TooManyTurns → calls.new ≡ 0 }
 {
-    let Step::Ready { start, len, .. } = step else {
+    let HeadStatus::Complete { start, len, .. } = status else {
         return Ok(());
     };
     read_up_to(reader, bytes, room, start + len, calls)?;

@@ -2,6 +2,7 @@
 mod cases;
 mod faults;
 mod growths;
+mod lengths;
 mod reading;
 mod seats;
 

@@ -5,14 +5,14 @@ use Rattle.httparse.specs.Grammar.{RequestHead, ReadsRequest}
 use Rattle.httparse.specs.Spans.{header_bytes, name_and_value, IsRequestAt, RequestOverflows}
 use Rattle.httparse.specs.declared.spans.RequestSpans.{RequestSpans}
 use Rattle.httparse.specs.declared.spans.HeaderSpan.{HeaderSpan}
-use Rattle.mds_request.specs.declared.step.Step.{Step}
-use Rattle.mds_request.specs.declared.step.Step.TheVariants.{Short, Never, Fixed, Ready}
+use Rattle.mds_request.specs.declared.head_status.HeadStatus.{HeadStatus}
+use Rattle.mds_request.specs.declared.head_status.HeadStatus.TheVariants.{Partial, Invalid, Rejected, Complete}
 use Rattle.mds_request.specs.Head.{max_head, max_fields, HasHead, NeverHasHead}
 use Rattle.mds_request.specs.Fields.{ArePartsOf}
 use Rattle.mds_request.specs.Asked.{BadHead}
 use Rattle.mds_request.specs.Asked as asked
 use Rattle.mds_request.specs.Plan.{IsPlan}
-use Rattle.mds_request.specs.Step.{IsJudged, IsStep}
+use Rattle.mds_request.specs.HeadStatus.{IsJudged, IsHeadStatus}
 
 -- the first bytes of bytes with more behind them
 take-append : (n : ℕ) (bytes more : List ℕ) → take n (bytes ++ more) ≡ take n bytes ++ take (n - length bytes) more
@@ -58,14 +58,14 @@ pub parts_of : (bytes : List ℕ) (headers : List HeaderSpan) (spans : RequestSp
 parts_of bytes headers spans head read =
     record { method = read.method; target = read.path; text = read.reads.0.target_text; fields = read.fields; len = read.len }
 
--- a head at the front and what it comes to are a step
-pub judged_step : (front : List ℕ) (step : Step) (head : RequestHead) → HasHead front head → IsJudged head step → IsStep front step
-judged_step front Short head has judged = absurd judged
-judged_step front Never head has judged = absurd judged
-judged_step front (Fixed fault) head has judged = (head, has, judged)
-judged_step front (Ready aim start len) head has judged = (head, has, judged)
+-- a head at the front has the status that it comes to
+pub judged_status : (front : List ℕ) (status : HeadStatus) (head : RequestHead) → HasHead front head → IsJudged head status → IsHeadStatus front status
+judged_status front Partial head has judged = absurd judged
+judged_status front Invalid head has judged = absurd judged
+judged_status front (Rejected fault) head has judged = (head, has, judged)
+judged_status front (Complete aim start len) head has judged = (head, has, judged)
 
 -- what no head begins with asks for nothing
-pub headless_plan : (stream : List ℕ) (step : Step) → (step ≡ Short) ⊎ (step ≡ Never) → IsStep stream step → IsPlan stream (asked.Fixed BadHead)
-headless_plan stream step (inl short) is = inl ((subst (IsStep stream) short is).0, refl)
-headless_plan stream step (inr never) is = inl (λ head has. subst (IsStep stream) never is [] head (subst (λ all. HasHead all head) (sym (append-nil stream)) has), refl)
+pub headless_plan : (stream : List ℕ) (status : HeadStatus) → (status ≡ Partial) ⊎ (status ≡ Invalid) → IsHeadStatus stream status → IsPlan stream (asked.Fixed BadHead)
+headless_plan stream status (inl partial) is = inl ((subst (IsHeadStatus stream) partial is).0, refl)
+headless_plan stream status (inr invalid) is = inl (λ head has. subst (IsHeadStatus stream) invalid is [] head (subst (λ all. HasHead all head) (sym (append-nil stream)) has), refl)

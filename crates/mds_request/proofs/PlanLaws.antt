@@ -1,4 +1,4 @@
--- Which bytes settle what a stream asks for, and that it is one thing.
+-- Which bytes determine what a stream asks for, and that it is one thing.
 use Rattle.std.proofs.Common.{◌≡◌, ◌≤◌, ◌⊎◌, inl, inr, ℕ, ◌+◌, ◌-◌, List, [], ◌++◌, length, take, Option, Some, None, MatchOption, ap, ◌∙◌, sym, subst, arith, append_assoc, length-append, length-drop}
 use Rattle.std.proofs.lemmas.List.{append-nil, take-append-le, drop-append-le}
 use Rattle.serde_json.specs.Data.{Data}
@@ -10,14 +10,15 @@ use Rattle.mds_batch.specs.Items.{IsVehicleItem, IsEventItem}
 use Rattle.mds_batch.specs.Batch.{HasItems, HasFault}
 use Rattle.mds_batch.proofs.BatchLaws.{batches_have_no_fault, batches_have_one_fault, one_list}
 use Rattle.mds_batch.proofs.ItemLaws.{one_vehicle_item, one_event_item}
+use Rattle.mds_core.specs.declared.key.Key.{Key}
 use Rattle.mds_request.specs.declared.aim.Aim.{Aim}
 use Rattle.mds_request.specs.declared.aim.Aim.TheVariants as aim
 use Rattle.mds_request.specs.Asked.{Fault, Asked, Fixed, Vehicles, Events, fault_in}
 use Rattle.mds_request.specs.Head.{max_head, HasHead, after_head}
 use Rattle.mds_request.specs.Routes.{aim_in}
 use Rattle.mds_request.specs.Plan.{body_fault, IsBatch, IsPosted, IsAsked, IsPlanOf, head_fault, body_length}
-use Rattle.mds_request.specs.Step.{IsReady}
-use Rattle.mds_request.specs.Laws.{PlansAreOne, NeverSettles, ShortSettles, FixedSettles, ReadyNeeds, StepsStay}
+use Rattle.mds_request.specs.HeadStatus.{IsComplete}
+use Rattle.mds_request.specs.Laws.{PlansAreOne, InvalidDetermines, PartialDetermines, RejectedDetermines, CompleteDetermines, StatusesStay}
 use Rattle.mds_request.proofs.HeadLemmas.{head_bytes-append}
 
 -- ---- heads
@@ -41,31 +42,31 @@ head_less : (bytes more : List ℕ) (head : RequestHead) → max_head ≤ length
 head_less bytes more head long has =
     record { rest = has.rest; reads = subst (λ all. ReadsRequest all head has.rest) (take-append-le max_head bytes more long) has.reads; few = has.few }
 
-pub steps_stay : StepsStay
-steps_stay bytes more = (
-  λ never after head has. never (more ++ after) head (subst (λ stream. HasHead stream head) (append_assoc bytes more after) has),
+pub statuses_stay : StatusesStay
+statuses_stay bytes more = (
+  λ invalid after head has. invalid (more ++ after) head (subst (λ stream. HasHead stream head) (append_assoc bytes more after) has),
   λ fault is. (is.0, head_more bytes more is.0 is.1, is.2),
   λ aim start len is. (is.0, head_more bytes more is.0 is.1, is.2),
 )
 
--- ---- what settles a plan
+-- ---- what determines a plan
 
-pub never_settles : NeverSettles
-never_settles bytes never more asked (inl none) = inl (never more, none.1)
-never_settles bytes never more asked (inr some) = absurd (never [] some.0 (subst (λ stream. HasHead stream some.0) (sym (append-nil bytes)) some.1))
+pub invalid_determines : InvalidDetermines
+invalid_determines bytes invalid more asked (inl none) = inl (invalid more, none.1)
+invalid_determines bytes invalid more asked (inr some) = absurd (invalid [] some.0 (subst (λ stream. HasHead stream some.0) (sym (append-nil bytes)) some.1))
 
-pub short_settles : ShortSettles
-short_settles bytes short long more asked (inl none) = inl (λ head has. none.0 head (head_less bytes more head long has), none.1)
-short_settles bytes short long more asked (inr some) = absurd (short.0 some.0 some.1)
+pub partial_determines : PartialDetermines
+partial_determines bytes partial long more asked (inl none) = inl (λ head has. none.0 head (head_less bytes more head long has), none.1)
+partial_determines bytes partial long more asked (inr some) = absurd (partial.0 some.0 some.1)
 
 -- of a head with a fault the bytes behind it don't matter
 same_fault : {A : Type 0} (found : Option A) (fault : A) (Plan Other : Type 0) (Told : A → Type 0) → found ≡ Some fault → MatchOption found Plan Told → MatchOption found Other Told
 same_fault None fault Plan Other Told is asked = let no : None ≡ Some fault = is in cc
 same_fault (Some told) fault Plan Other Told is asked = asked
 
-pub fixed_settles : FixedSettles
-fixed_settles bytes fault is more asked (inl none) = absurd (none.0 is.0 is.1)
-fixed_settles bytes fault is more asked (inr some) =
+pub rejected_determines : RejectedDetermines
+rejected_determines bytes fault is more asked (inl none) = absurd (none.0 is.0 is.1)
+rejected_determines bytes fault is more asked (inr some) =
     let same = one_head bytes is.0 some.0 is.1 some.1 in
     inr (some.0, head_more bytes more some.0 some.1, same_fault (head_fault some.0) (fault_in fault) _ _ _ (subst (λ head. head_fault head ≡ Some (fault_in fault)) same is.2) some.2)
 
@@ -84,7 +85,7 @@ posted_more Asks len after more asked there (inl short) = absurd (omega (arith, 
 posted_more Asks len after more asked there (inr whole) =
     inr (omega (arith, there, length-append after more), subst (λ body. Asks body asked) (sym (take-append-le len after more there)) whole.1)
 
-asked_more : (about : Aim) (len : ℕ) (after more : List ℕ) (asked : Asked) → len ≤ length after → IsAsked about len after asked → IsAsked about len (after ++ more) asked
+asked_more : (about : Aim Key) (len : ℕ) (after more : List ℕ) (asked : Asked) → len ≤ length after → IsAsked about len after asked → IsAsked about len (after ++ more) asked
 asked_more aim.Vehicles len after more asked there is = posted_more (IsBatch IsVehicleItem Vehicles) len after more asked there is
 asked_more aim.Events len after more asked there is = posted_more (IsBatch IsEventItem Events) len after more asked there is
 asked_more (aim.One key) len after more asked there is = is
@@ -92,25 +93,25 @@ asked_more (aim.History key) len after more asked there is = is
 asked_more aim.Rows len after more asked there is = is
 
 -- what a head without a fault asks for, with its body there, it goes on asking for
-plan_more : (head : RequestHead) (about : Aim) (start len : ℕ) (stream more : List ℕ) (asked : Asked) → IsReady head about start len → start + len ≤ length stream
+plan_more : (head : RequestHead) (about : Aim Key) (start len : ℕ) (stream more : List ℕ) (asked : Asked) → IsComplete head about start len → start + len ≤ length stream
     → IsPlanOf head (after_head head stream) asked → IsPlanOf head (after_head head (stream ++ more)) asked
-plan_more head about start len stream more asked ready there is =
-    let start_is = ready.start_is in
-    let len_is = ready.len_is in
+plan_more head about start len stream more asked complete there is =
+    let start_is = complete.start_is in
+    let len_is = complete.len_is in
     let behind : after_head head (stream ++ more) ≡ after_head head stream ++ more = drop-append-le (length (print_request head)) stream more (omega (arith, start_is, there)) in
     let enough : body_length head ≤ length (after_head head stream) = omega (arith, start_is, len_is, there, length-drop (length (print_request head)) stream) in
     same_aim (head_fault head) (aim_in head.target) about
     (λ aim. IsAsked aim (body_length head) (after_head head stream) asked) (λ aim. IsAsked aim (body_length head) (after_head head (stream ++ more)) asked) (λ fault. asked ≡ Fixed fault)
-    ready.faultless ready.aim_is
+    complete.faultless complete.aim_is
     (λ was. subst (λ after. IsAsked about (body_length head) after asked) (sym behind) (asked_more about (body_length head) (after_head head stream) more asked enough was))
     is
 
-pub ready_needs : ReadyNeeds
-ready_needs bytes about start len is more there after asked (inl none) = absurd (none.0 is.0 (head_more bytes more is.0 is.1))
-ready_needs bytes about start len is more there after asked (inr some) =
+pub complete_determines : CompleteDetermines
+complete_determines bytes about start len is more there after asked (inl none) = absurd (none.0 is.0 (head_more bytes more is.0 is.1))
+complete_determines bytes about start len is more there after asked (inr some) =
     let same = one_head (bytes ++ more) is.0 some.0 (head_more bytes more is.0 is.1) some.1 in
-    let ready : IsReady some.0 about start len = subst (λ head. IsReady head about start len) same is.2 in
-    inr (some.0, head_more (bytes ++ more) after some.0 some.1, plan_more some.0 about start len (bytes ++ more) after asked ready there some.2)
+    let complete : IsComplete some.0 about start len = subst (λ head. IsComplete head about start len) same is.2 in
+    inr (some.0, head_more (bytes ++ more) after some.0 some.1, plan_more some.0 about start len (bytes ++ more) after asked complete there some.2)
 
 -- ---- one plan
 
@@ -141,7 +142,7 @@ one_posted Asks one len after asked other (inl short) (inr whole) = absurd (omeg
 one_posted Asks one len after asked other (inr whole) (inl short) = absurd (omega (arith, short.0, whole.0))
 one_posted Asks one len after asked other (inr whole) (inr wholes) = one (take len after) asked other whole.1 wholes.1
 
-one_asked : (about : Aim) (len : ℕ) (after : List ℕ) (asked other : Asked) → IsAsked about len after asked → IsAsked about len after other → asked ≡ other
+one_asked : (about : Aim Key) (len : ℕ) (after : List ℕ) (asked other : Asked) → IsAsked about len after asked → IsAsked about len after other → asked ≡ other
 one_asked aim.Vehicles len after asked other is are =
     one_posted (IsBatch IsVehicleItem Vehicles)
     (one_batch IsVehicleItem Vehicles (one_list IsVehicleItem one_vehicle_item) (λ bytes items fault has. batches_have_no_fault bytes fault (inl (items, has))))
@@ -154,7 +155,7 @@ one_asked (aim.One key) len after asked other is are = is ∙ sym are
 one_asked (aim.History key) len after asked other is are = is ∙ sym are
 one_asked aim.Rows len after asked other is are = is ∙ sym are
 
-one_plan_of : (found : Option Fault) (about : Option Aim) (len : ℕ) (after : List ℕ) (asked other : Asked)
+one_plan_of : (found : Option Fault) (about : Option (Aim Key)) (len : ℕ) (after : List ℕ) (asked other : Asked)
     → MatchOption found (MatchOption about ⊥ (λ aim. IsAsked aim len after asked)) (λ fault. asked ≡ Fixed fault)
     → MatchOption found (MatchOption about ⊥ (λ aim. IsAsked aim len after other)) (λ fault. other ≡ Fixed fault) → asked ≡ other
 one_plan_of (Some fault) about len after asked other is are = is ∙ sym are

@@ -4,8 +4,7 @@ use Rattle.matchit.specs.Route.{Scan}
 use Rattle.matchit.specs.Router.{nearest, Refused, InsertsRead}
 use Rattle.matchit.specs.declared.error.InsertError.{InsertError}
 use Rattle.matchit.specs.declared.error.InsertError.TheVariants.{Conflict, InvalidParam, InvalidParamSegment, InvalidCatchAll, OutOfMemory}
-use Rattle.mds_request.specs.declared.face.Route.{Route}
-use Rattle.mds_request.specs.Routes.{Routes, Fits, with_scan}
+use Rattle.mds_request.specs.Routes.{Route, Routes, Fits, with_scan}
 
 -- one that goes with the others is refused only for want of memory
 refused_memory : (pattern : List ℕ) (rows : Routes) (error : InsertError) → nearest pattern rows ≡ None → Refused pattern rows error → error ≡ OutOfMemory

@@ -7,14 +7,14 @@ use Rattle.httparse.specs.declared.spans.HeaderSpan.{HeaderSpan}
 use Rattle.mds_request.specs.declared.fault.HttpFault.{HttpFault}
 use Rattle.mds_request.specs.Asked.{fault_in}
 use Rattle.mds_request.specs.Plan.{length_faults, first_fault, announced}
-use Rattle.mds_request.specs.declared.field.Given.{Given}
-use Rattle.mds_request.specs.declared.field.Given.TheVariants.{Nothing, Once, Often}
+use Rattle.mds_request.specs.declared.field.FieldValues.{FieldValues}
+use Rattle.mds_request.specs.declared.field.FieldValues.TheVariants.{Nothing, Once, Often}
 
 -- of all the values of a name this is said: there are none, there is this one, or there are several
-abbrev pub IsGiven : List (List ℕ) → Given → Type 0
-IsGiven values Nothing = values ≡ []
-IsGiven values (Once value) = values ≡ value.now ∷ []
-IsGiven values Often = 1 < length values
+abbrev pub AreFieldValues : List (List ℕ) → FieldValues → Type 0
+AreFieldValues values Nothing = values ≡ []
+AreFieldValues values (Once value) = values ≡ value.now ∷ []
+AreFieldValues values Often = 1 < length values
 
 -- these are the parts of a head, as they stand in bytes
 pub record ArePartsOf (bytes : List ℕ) (spans : RequestSpans) (headers : List HeaderSpan) (head : RequestHead) : Type 0 where

@@ -3,5 +3,5 @@ pub mod Head
 pub mod Fields
 pub mod Routes
 pub mod Plan
-pub mod Step
+pub mod HeadStatus
 pub mod Laws

@@ -11,6 +11,7 @@ use Rattle.mds_batch.specs.Items.{IsVehicleItem, IsEventItem}
 use Rattle.mds_batch.specs.Batch.{HasItems, HasFault}
 use Rattle.mds_batch.specs.declared.batch.BatchFault.{BatchFault}
 use Rattle.mds_batch.specs.declared.batch.BatchFault.TheVariants as batch
+use Rattle.mds_core.specs.declared.key.Key.{Key}
 use Rattle.mds_request.specs.declared.aim.Aim.{Aim}
 use Rattle.mds_request.specs.declared.aim.Aim.TheVariants as aim
 use Rattle.mds_request.specs.Asked.{Fault, BadHead, TransferEncoding, NotFound, MethodNotAllowed, LengthRequired, BadLength, TooLong, CutShort, NotJson, NotList, TooMany, Asked, Fixed, Vehicles, Events, One, History, Rows}
@@ -18,13 +19,13 @@ use Rattle.mds_request.specs.Head.{HasHead, HasNoHead, after_head, encodings, le
 use Rattle.mds_request.specs.Routes.{aim_in}
 
 -- whether something is posted: items
-abbrev pub is_post : Option Aim → Bool
+abbrev pub is_post : Option (Aim Key) → Bool
 is_post (Some aim.Vehicles) = true
 is_post (Some aim.Events) = true
 is_post other = false
 
 -- the method of a route
-abbrev pub method_for : Option Aim → List ℕ
+abbrev pub method_for : Option (Aim Key) → List ℕ
 method_for aim = if is_post aim then codes "POST" else codes "GET"
 
 -- a length is given once, as one or more digits
@@ -83,7 +84,7 @@ abbrev pub IsPosted : (List ℕ → Asked → Type 0) → ℕ → List ℕ → A
 IsPosted Asks len after asked = ((length after < len) × (asked ≡ Fixed CutShort)) ⊎ ((len ≤ length after) × Asks (take len after) asked)
 
 -- what a request asks for by what it is about, the length of its body, and the bytes behind its head
-abbrev pub IsAsked : Aim → ℕ → List ℕ → Asked → Type 0
+abbrev pub IsAsked : Aim Key → ℕ → List ℕ → Asked → Type 0
 IsAsked aim.Vehicles len after asked = IsPosted (IsBatch IsVehicleItem Vehicles) len after asked
 IsAsked aim.Events len after asked = IsPosted (IsBatch IsEventItem Events) len after asked
 IsAsked (aim.One key) len after asked = asked ≡ One key

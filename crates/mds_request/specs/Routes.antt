@@ -10,9 +10,11 @@ use Rattle.matchit.specs.Router.{RouteOf, route_from, nearest}
 use Rattle.matchit.specs.declared.error.InsertError.{InsertError}
 use Rattle.mds_core.specs.declared.key.Key.{Key}
 use Rattle.mds_request.specs.declared.aim.Aim.{Aim}
-use Rattle.mds_request.specs.declared.aim.Aim.TheVariants as aim
-use Rattle.mds_request.specs.declared.face.Route.{Route}
-use Rattle.mds_request.specs.declared.face.Route.TheVariants.{Vehicles, Events, One, History, Rows}
+use Rattle.mds_request.specs.declared.aim.Aim.TheVariants.{Vehicles, Events, One, History, Rows}
+
+-- a route: what its requests are about, whatever vehicle they name
+abbrev pub Route : Type 0
+Route = Aim (Unit {0})
 
 -- what a router holds
 abbrev pub Routes : Type 0
@@ -39,8 +41,8 @@ routes =
     with_routes
     ((codes "/vehicles", Vehicles)
     ∷ (codes "/events", Events)
-    ∷ (codes "/vehicles/{provider}/{device}", One)
-    ∷ (codes "/vehicles/{provider}/{device}/events", History)
+    ∷ (codes "/vehicles/{provider}/{device}", One tt)
+    ∷ (codes "/vehicles/{provider}/{device}/events", History tt)
     ∷ (codes "/table", Rows)
     ∷ [])
     []
@@ -62,14 +64,14 @@ piece (suc place) path = piece place (after_first (λ byte. byte == 47) path)
 abbrev pub key_in : List ℕ → Option Key
 key_in path = option_and_then (λ provider. option_map (λ device. record { provider = provider; device = device }) (parsed (piece 3 path))) (parsed (piece 2 path))
 
--- what a request of a route is about
-abbrev pub aim_on : Route → List ℕ → Option Aim
-aim_on Vehicles path = Some aim.Vehicles
-aim_on Events path = Some aim.Events
-aim_on One path = option_map aim.One (key_in path)
-aim_on History path = option_map aim.History (key_in path)
-aim_on Rows path = Some aim.Rows
+-- what a request of a route is about, with the vehicle that its path names
+abbrev pub aim_on : Route → List ℕ → Option (Aim Key)
+aim_on Vehicles path = Some Vehicles
+aim_on Events path = Some Events
+aim_on (One any) path = option_map One (key_in path)
+aim_on (History any) path = option_map History (key_in path)
+aim_on Rows path = Some Rows
 
 -- what a request of a target is about, where it has a route and its identifiers are ones
-abbrev pub aim_in : List ℕ → Option Aim
+abbrev pub aim_in : List ℕ → Option (Aim Key)
 aim_in target = option_and_then (λ route. aim_on route (path_of target)) (route_at (path_of target))

@@ -3,19 +3,10 @@ ghost use Rattle.std.specs.Prelude.{◌≡◌, Some, None, IfOk, OnOk};
 ghost use Rattle.matchit.specs.Route.{parse_route};
 ghost use Rattle.mds_request.specs.Routes.{Fits, with_scan, routes, route_at};
 
+use crate::aim::Route;
 use matchit::{InsertError, Router};
 use std::alloc::{AllocError, Global};
 use std::marker::Model;
-
-/// A route.
-#[derive(Clone, Copy, Debug, PartialEq, Eq, Hash)]
-pub(crate) enum Route {
-    Vehicles,
-    Events,
-    One,
-    History,
-    Rows,
-}
 
 /// The routes that requests are matched against.
 #[derive(Drop)]
@@ -85,11 +76,11 @@ fn router_of(alloc: Global) -> Result<Router<Route>, AllocError>
     let mut router = Router::new(alloc);
     add_route(&mut router, "/vehicles", Route::Vehicles)?;
     add_route(&mut router, "/events", Route::Events)?;
-    add_route(&mut router, "/vehicles/{provider}/{device}", Route::One)?;
+    add_route(&mut router, "/vehicles/{provider}/{device}", Route::One(()))?;
     add_route(
         &mut router,
         "/vehicles/{provider}/{device}/events",
-        Route::History,
+        Route::History(()),
     )?;
     add_route(&mut router, "/table", Route::Rows)?;
     Ok(router)

@@ -8,15 +8,16 @@ ghost use Rattle.httparse.specs.Spans.{header_bytes, IsHeaderWithin};
 ghost use Rattle.mds_table.specs.Json.{max_bytes};
 ghost use Rattle.mds_request.specs.Head.{values_of};
 ghost use Rattle.mds_request.specs.Plan.{is_post};
-ghost use Rattle.mds_request.specs.Fields.{IsGiven, IsLengthOf};
+ghost use Rattle.mds_request.specs.Fields.{AreFieldValues, IsLengthOf};
 
 use crate::{Aim, HttpFault};
 use httparse::spans::HeaderSpan;
+use mds_core::Key;
 use mds_table::MAX_BYTES;
 
 /// What the fields of a name give.
 #[derive(Clone, Copy)]
-pub(crate) enum Given<'a> {
+pub(crate) enum FieldValues<'a> {
     /// Nothing: there is no such field.
     Nothing,
     /// One value, without the spaces and tabs round it.
@@ -34,26 +35,34 @@ fn has_name(field: &[u8], name: &str) -> bool
 }
 
 /// What the fields of a name give, with one more field, which may have this name or another.
-fn with_field<'a>(found: Given<'a>, bytes: &'a [u8], header: &HeaderSpan, name: &str) -> Given<'a>
+fn with_field<'a>(
+    found: FieldValues<'a>,
+    bytes: &'a [u8],
+    header: &HeaderSpan,
+    name: &str,
+) -> FieldValues<'a>
     requires { IsHeaderWithin (length bytes.now) header.now }
-    ensures { (fields : List (List ℕ × List ℕ)) → IsGiven (values_of name.now fields) found.entry
-        → IsGiven (values_of name.now (fields ++ header_bytes bytes.now header.now ∷ [])) result }
+    ensures { (fields : List (List ℕ × List ℕ))
+        → AreFieldValues (values_of name.now fields) found.entry
+        → AreFieldValues
+        (values_of name.now (fields ++ header_bytes bytes.now header.now ∷ [])) result }
 {
     if !has_name(header.name.of(bytes), name) {
         return found;
     }
     match found {
-        Given::Nothing => Given::Once(header.value.of(bytes)),
-        Given::Once(_) | Given::Often => Given::Often,
+        FieldValues::Nothing => FieldValues::Once(header.value.of(bytes)),
+        FieldValues::Once(_) | FieldValues::Often => FieldValues::Often,
     }
 }
 
 /// What the fields of a name give, whatever the case of its letters. The fields lie in these bytes.
-pub(crate) fn look_up<'a>(bytes: &'a [u8], headers: &[HeaderSpan], name: &str) -> Given<'a>
+pub(crate) fn look_up<'a>(bytes: &'a [u8], headers: &[HeaderSpan], name: &str) -> FieldValues<'a>
     requires { All (IsHeaderWithin (length bytes.now)) headers.now }
-    ensures { IsGiven (values_of name.now (map (header_bytes bytes.now) headers.now)) result }
+    ensures { AreFieldValues
+        (values_of name.now (map (header_bytes bytes.now) headers.now)) result }
 {
-    let mut found = Given::Nothing;
+    let mut found = FieldValues::Nothing;
     for header in headers {
         found = with_field(found, bytes, header, name);
     }
@@ -77,7 +86,8 @@ pub(crate) fn is_number(value: &[u8]) -> bool
 /// The number that digits write, if it's a length of at most [`MAX_BYTES`].
 pub(crate) fn length_of(digits: &[u8]) -> Option<usize>
     requires { IsTrue (list_all is_ascii_digit digits.now) }
-    ensures { MatchOption result (max_bytes < digits_value 10 digits.now) (λ len. (len ≡ digits_value 10 digits.now) × (len ≤ max_bytes)) }
+    ensures { MatchOption result (max_bytes < digits_value 10 digits.now)
+        (λ len. (len ≡ digits_value 10 digits.now) × (len ≤ max_bytes)) }
 {
     let mut len = 0;
     for digit in digits {
@@ -95,21 +105,22 @@ pub(crate) fn length_of(digits: &[u8]) -> Option<usize>
 ///
 /// No length is given for a POST, more than one, one that is no number, or one over [`MAX_BYTES`].
 pub(crate) fn body_length(
-    aim: &Aim,
+    aim: &Aim<Key>,
     bytes: &[u8],
     headers: &[HeaderSpan],
 ) -> Result<usize, HttpFault>
     requires { All (IsHeaderWithin (length bytes.now)) headers.now }
     ensures get { is_post (Some aim.now) ≡ false → result ≡ Ok 0 }
-    ensures post { is_post (Some aim.now) ≡ true → IsLengthOf (values_of (codes "content-length") (map (header_bytes bytes.now) headers.now)) result }
+    ensures post { is_post (Some aim.now) ≡ true → IsLengthOf (values_of (codes "content-length")
+        (map (header_bytes bytes.now) headers.now)) result }
     ensures few { IfOk result (λ len. len ≤ max_bytes) }
 {
     if matches!(aim, Aim::One(_) | Aim::History(_) | Aim::Rows) {
         return Ok(0);
     }
     match look_up(bytes, headers, "content-length") {
-        Given::Nothing => Err(HttpFault::LengthRequired),
-        Given::Once(value) if is_number(value) => length_of(value).ok_or(HttpFault::TooLong),
-        Given::Once(_) | Given::Often => Err(HttpFault::BadLength),
+        FieldValues::Nothing => Err(HttpFault::LengthRequired),
+        FieldValues::Once(value) if is_number(value) => length_of(value).ok_or(HttpFault::TooLong),
+        FieldValues::Once(_) | FieldValues::Often => Err(HttpFault::BadLength),
     }
 }

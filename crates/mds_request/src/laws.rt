@@ -1,33 +1,33 @@
 //! What holds of the definitions alone: of what streams ask for, whoever reads them. Each law is a function that does
 //! nothing; its contract is the law.
-ghost use Rattle.mds_request.specs.Laws.{PlansAreOne, NeverSettles, ShortSettles, FixedSettles, ReadyNeeds, StepsStay};
+ghost use Rattle.mds_request.specs.Laws.{PlansAreOne, InvalidDetermines, PartialDetermines, RejectedDetermines, CompleteDetermines, StatusesStay};
 
 /// A stream asks for one thing.
 pub fn plans_are_one()
     ensures { PlansAreOne }
 {}
 
-/// Where no head begins with some bytes, whatever follows them, they settle what is asked for.
-pub fn never_settles()
-    ensures { NeverSettles }
+/// Bytes with which no head begins, whatever follows them, determine what is asked for.
+pub fn invalid_determines()
+    ensures { InvalidDetermines }
 {}
 
-/// Where there is no head in as many bytes as a head may have, they settle it.
-pub fn short_settles()
-    ensures { ShortSettles }
+/// As many bytes as a head may have determine it, where they hold no head.
+pub fn partial_determines()
+    ensures { PartialDetermines }
 {}
 
-/// A head with a fault settles it.
-pub fn fixed_settles()
-    ensures { FixedSettles }
+/// A head with a fault determines it.
+pub fn rejected_determines()
+    ensures { RejectedDetermines }
 {}
 
-/// A head without a fault and a body of its length settle it.
-pub fn ready_needs()
-    ensures { ReadyNeeds }
+/// A head without a fault determines it, together with a body of its length.
+pub fn complete_determines()
+    ensures { CompleteDetermines }
 {}
 
 /// Bytes that follow change nothing once a head is there, or can't come any more.
-pub fn steps_stay()
-    ensures { StepsStay }
+pub fn statuses_stay()
+    ensures { StatusesStay }
 {}

@@ -14,9 +14,9 @@ mod aim;
 mod face;
 mod fault;
 mod field;
+mod head_status;
 pub mod laws;
 mod plan;
-mod step;
 mod target;
 #[cfg(test)]
 mod tests;
@@ -24,5 +24,5 @@ mod tests;
 pub use aim::Aim;
 pub use face::Face;
 pub use fault::HttpFault;
+pub use head_status::{HeadStatus, MAX_FIELDS, MAX_HEAD};
 pub use plan::{Plan, plan_of};
-pub use step::{MAX_FIELDS, MAX_HEAD, Step};

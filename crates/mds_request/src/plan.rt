@@ -5,7 +5,7 @@ ghost use Rattle.mds_batch.specs.Items.{IsVehicleItem, IsEventItem};
 ghost use Rattle.mds_batch.specs.declared.batch.BatchFault.TheVariants.{Memory, TooLong};
 ghost use Rattle.mds_request.specs.Asked.{asked_in, fault_in, Vehicles, Events};
 ghost use Rattle.mds_request.specs.Plan.{is_post, body_fault, IsBatch, IsAsked, IsPlan};
-ghost use Rattle.mds_request.specs.Step.{HoldsBody};
+ghost use Rattle.mds_request.specs.HeadStatus.{HoldsBody};
 
 use crate::{Aim, Face, HttpFault};
 use mds_batch::{BatchFault, EventItem, VehicleItem, read_events, read_vehicles};
@@ -73,7 +73,7 @@ fn plan_of_events(alloc: Global, body: &[u8]) -> Result<Plan, AllocError>
 /// What a request asks for by what it is about, the length of its body, and the bytes behind its head.
 pub(crate) fn plan_about(
     alloc: Global,
-    aim: &Aim,
+    aim: &Aim<Key>,
     len: usize,
     after: &[u8],
 ) -> Result<Plan, AllocError>
@@ -101,5 +101,5 @@ pub fn plan_of(alloc: Global, face: &Face, stream: &[u8]) -> Result<Plan, AllocE
     ensures plan { IfOk result (λ plan. IsPlan stream.now (asked_in plan)) }
     ensures memory { OnErr result (HoldsBody stream.now) }
 {
-    face.step(stream).plan(alloc, stream)
+    face.head_status(stream).plan(alloc, stream)
 }

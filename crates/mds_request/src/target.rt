@@ -5,7 +5,7 @@ ghost use Rattle.uuid.specs.Text.{parsed};
 ghost use Rattle.mds_request.specs.Routes.{piece, key_in, aim_in};
 ghost use Rattle.mds_request.specs.Plan.{method_for};
 
-use crate::face::Route;
+use crate::aim::Route;
 use crate::{Aim, Face};
 use mds_core::Key;
 use uuid::Uuid;
@@ -49,21 +49,21 @@ fn key_of(path: &str) -> Option<Key>
 }
 
 /// What a request of a target is about.
-pub(crate) fn aim_of(face: &Face, target: &str) -> Option<Aim>
+pub(crate) fn aim_of(face: &Face, target: &str) -> Option<Aim<Key>>
     ensures { result ≡ aim_in target.now }
 {
     let (path, _) = cut(target, '?');
     match face.route_of(path)? {
         Route::Vehicles => Some(Aim::Vehicles),
         Route::Events => Some(Aim::Events),
-        Route::One => Some(Aim::One(key_of(path)?)),
-        Route::History => Some(Aim::History(key_of(path)?)),
+        Route::One(()) => Some(Aim::One(key_of(path)?)),
+        Route::History(()) => Some(Aim::History(key_of(path)?)),
         Route::Rows => Some(Aim::Rows),
     }
 }
 
 /// The method of a route, as a field `allow` names it.
-pub(crate) fn method_of(aim: &Aim) -> &'static str
+pub(crate) fn method_of(aim: &Aim<Key>) -> &'static str
     ensures { result.now ≡ method_for (Some aim.now) }
 {
     match aim {

@@ -7,10 +7,11 @@ use Rattle.mds_core.specs.declared.reply.Reply.{Reply}
 use Rattle.mds_core.specs.Reported.{Reported}
 use Rattle.mds_core.specs.Refusal.{refusal_word}
 use Rattle.mds_batch.specs.declared.item.ItemFault.{ItemFault}
+use Rattle.mds_batch.specs.Asking.{vehicle_fault, event_fault}
 use Rattle.mds_request.specs.Asked.{Asked, Fixed, Vehicles, Events, One, History, Rows, Fault, fault_word}
 use Rattle.mds_request.specs.Asked.{BadHead, TransferEncoding, NotFound, MethodNotAllowed, LengthRequired, BadLength, TooLong, CutShort, NotJson, NotList, TooMany}
 use Rattle.mds_response.specs.Found.{Finding, replies_in, standing_in, events_in, rows_in, accepted_in}
-use Rattle.mds_response.specs.Verdicts.{vehicle_fault, event_fault, verdicts, failures_from}
+use Rattle.mds_response.specs.Verdicts.{verdicts, failures_from}
 use Rattle.mds_response.specs.Json.{standing_text}
 use Rattle.mds_response.specs.Bodies.{fault_body, memory_body, batch_body, events_body, rows_body}
 use Rattle.mds_response.specs.Head.{Answer}

@@ -5,23 +5,9 @@ use Rattle.mds_core.specs.declared.reply.Outcome.{Outcome}
 use Rattle.mds_core.specs.declared.reply.Outcome.TheVariants.{Done, Seen, Refused}
 use Rattle.mds_core.specs.declared.reply.Reply.{Reply}
 use Rattle.mds_batch.specs.declared.item.ItemFault.{ItemFault}
-use Rattle.mds_batch.specs.declared.item.VehicleItem.{VehicleItem}
-use Rattle.mds_batch.specs.declared.item.VehicleItem.TheVariants as vehicle
-use Rattle.mds_batch.specs.declared.item.EventItem.{EventItem}
-use Rattle.mds_batch.specs.declared.item.EventItem.TheVariants as event
 use Rattle.mds_response.specs.declared.failure.Cause.{Cause}
 use Rattle.mds_response.specs.declared.failure.Cause.TheVariants as cause
 use Rattle.mds_response.specs.declared.failure.Failure.{Failure}
-
--- what is wrong with an item of a batch of registrations, if anything is
-abbrev pub vehicle_fault : VehicleItem → Option ItemFault
-vehicle_fault (vehicle.Vehicle key) = None
-vehicle_fault (vehicle.Fault fault) = Some fault
-
--- what is wrong with an item of a batch of events, if anything is
-abbrev pub event_fault : EventItem → Option ItemFault
-event_fault (event.Event reported) = None
-event_fault (event.Fault fault) = Some fault
 
 -- why an item with such an outcome wasn't accepted, if it wasn't
 abbrev pub cause_of : Outcome → Option Cause

@@ -21,7 +21,8 @@ use std::alloc::{AllocError, Global};
 ///
 /// There was no memory for the bytes.
 pub fn bytes_of(alloc: Global, plan: &Plan, found: &Found) -> Result<Vec<u8>, AllocError>
-    ensures { IfOk result (λ bytes. bytes.items ≡ answer_text (answer_to (asked_in plan.now) (finding_in found.now))) }
+    ensures { IfOk result (λ bytes. bytes.items
+        ≡ answer_text (answer_to (asked_in plan.now) (finding_in found.now))) }
 {
     let body = body_of(alloc, plan, found)?;
     whole_answer(alloc, status_of(plan, found), allow_of(plan), &body)

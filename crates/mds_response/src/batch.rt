@@ -2,53 +2,20 @@
 ghost use Rattle.std.specs.Prelude.{◌≡◌, ◌+◌, ◌++◌, ◌∷◌, [], List, Option, IfSome, IfNone, IfOk, OnOk, map, length};
 ghost use Rattle.mds_batch.specs.declared.item.ItemFault.{ItemFault as Wrong};
 ghost use Rattle.mds_response.specs.declared.failure.Cause.{Cause as Because};
-ghost use Rattle.mds_response.specs.Verdicts.{vehicle_fault, event_fault, verdicts, failures_from};
+ghost use Rattle.mds_response.specs.Verdicts.{verdicts, failures_from};
 
 use crate::{Cause, Failure};
-use mds_batch::{EventItem, ItemFault, VehicleItem};
+use mds_batch::{BatchItem, ItemFault};
 use mds_core::Reply;
 use std::alloc::{AllocError, Global};
-
-/// An item of a batch.
-pub(crate) trait Item {
-    ghost use Rattle.std.specs.Prelude.{◌≡◌, Option};
-    ghost use Rattle.mds_batch.specs.declared.item.ItemFault.{ItemFault as Wrong};
-
-    /// What is wrong with it, if anything is.
-    ghost wrong: { Self → Option Wrong };
-
-    /// What is wrong with it, if anything is.
-    fn fault(&self) -> Option<ItemFault>
-        ensures { result ≡ wrong self.now };
-}
-
-impl Item for VehicleItem {
-    ghost wrong = { vehicle_fault };
-
-    fn fault(&self) -> Option<ItemFault> {
-        match self {
-            VehicleItem::Vehicle(_) => None,
-            VehicleItem::Fault(fault) => Some(*fault),
-        }
-    }
-}
-
-impl Item for EventItem {
-    ghost wrong = { event_fault };
-
-    fn fault(&self) -> Option<ItemFault> {
-        match self {
-            EventItem::Event(_) => None,
-            EventItem::Fault(fault) => Some(*fault),
-        }
-    }
-}
 
 /// Why an item with this fault, if any, wasn't accepted, if it wasn't, and the replies that are left for the items behind
 /// it; `None` where there is no reply for it.
 fn verdict_on(fault: Option<ItemFault>, replies: &[Reply]) -> Option<(Option<Cause>, &[Reply])>
-    ensures some { IfSome result (λ said. (later : List (Option Wrong)) → verdicts (fault ∷ later) replies.now ≡ said.0 ∷ verdicts later said.1.now) }
-    ensures none { IfNone result ((later : List (Option Wrong)) → verdicts (fault ∷ later) replies.now ≡ []) }
+    ensures some { IfSome result (λ said. (later : List (Option Wrong))
+        → verdicts (fault ∷ later) replies.now ≡ said.0 ∷ verdicts later said.1.now) }
+    ensures none { IfNone result ((later : List (Option Wrong))
+        → verdicts (fault ∷ later) replies.now ≡ []) }
 {
     if let Some(fault) = fault {
         return Some((Some(Cause::Fault(fault)), replies));
@@ -57,8 +24,8 @@ fn verdict_on(fault: Option<ItemFault>, replies: &[Reply]) -> Option<(Option<Cau
     Some((Cause::of_outcome(reply.outcome), left))
 }
 
-/// The number of items of which something is said: all of them, or those before the first that found no memory.
-pub(crate) fn told<I: Item>(items: &[I], replies: &[Reply]) -> usize
+/// How many items are answered: all of them, or those before the first that found no memory.
+pub(crate) fn answered_items<I: BatchItem>(items: &[I], replies: &[Reply]) -> usize
     ensures { result ≡ length (verdicts (map I.wrong items.now) replies.now) }
 {
     if replies.len() >= items.len() {
@@ -75,12 +42,13 @@ pub(crate) fn told<I: Item>(items: &[I], replies: &[Reply]) -> usize
 }
 
 /// The items that weren't accepted, in order of index, up to the first that found no memory.
-pub(crate) fn failures_of<I: Item>(
+pub(crate) fn failures_of<I: BatchItem>(
     alloc: Global,
     items: &[I],
     replies: &[Reply],
 ) -> Result<Vec<Failure>, AllocError>
-    ensures { IfOk result (λ failures. failures.items ≡ failures_from 0 (verdicts (map I.wrong items.now) replies.now)) }
+    ensures { IfOk result (λ failures. failures.items
+        ≡ failures_from 0 (verdicts (map I.wrong items.now) replies.now)) }
 {
     let mut failures = Vec::new(alloc);
     let mut left = replies;
@@ -100,7 +68,9 @@ fn add_failure(
     index: usize,
     cause: Option<Cause>,
 ) -> Result<(), AllocError>
-    ensures { OnOk result ((later : List (Option Because)) → failures.new.items ++ failures_from (index + 1) later ≡ failures.old.items ++ failures_from index (cause ∷ later)) }
+    ensures { OnOk result ((later : List (Option Because))
+        → failures.new.items ++ failures_from (index + 1) later
+        ≡ failures.old.items ++ failures_from index (cause ∷ later)) }
 {
     if let Some(cause) = cause {
         failures.push(Failure { index, cause })?;

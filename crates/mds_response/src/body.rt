@@ -6,9 +6,10 @@ ghost use Rattle.mds_response.specs.Bodies.{fault_body, rows_body};
 ghost use Rattle.mds_response.specs.Answer.{answer_to, batch_content, look_content, events_content};
 
 use crate::Found;
-use crate::batch::{Item, failures_of, told};
+use crate::batch::{answered_items, failures_of};
 use crate::found::accepted;
 use crate::json::{Commas, StandingText};
+use mds_batch::BatchItem;
 use mds_core::{Event, Key, Refusal, Reply, Standing};
 use mds_request::Plan;
 use mds_table::Row;
@@ -21,7 +22,8 @@ use std::fmt::Display;
 ///
 /// There was no memory for it.
 pub(crate) fn body_of(alloc: Global, plan: &Plan, found: &Found) -> Result<String, AllocError>
-    ensures { IfOk result (λ body. string_bytes body ≡ (answer_to (asked_in plan.now) (finding_in found.now)).body) }
+    ensures { IfOk result (λ body. string_bytes body
+        ≡ (answer_to (asked_in plan.now) (finding_in found.now)).body) }
 {
     match plan {
         Plan::Fixed(fault) => fault_body(alloc, fault),
@@ -35,17 +37,23 @@ pub(crate) fn body_of(alloc: Global, plan: &Plan, found: &Found) -> Result<Strin
 
 /// The body of a fault of this word.
 fn fault_body<D: Display>(alloc: Global, word: &D) -> Result<String, AllocError>
-    ensures { IfOk result (λ body. IfSome (D.output word.now) (λ word. string_bytes body ≡ fault_body word)) }
+    ensures { IfOk result (λ body.
+        IfSome (D.output word.now) (λ word. string_bytes body ≡ fault_body word)) }
 {
     format!(in alloc; "{{\"error\":\"{word}\"}}")
 }
 
 /// The body of a POST of these items, to which these are the replies.
-fn batch_body<I: Item>(alloc: Global, items: &[I], replies: &[Reply]) -> Result<String, AllocError>
-    ensures { IfOk result (λ body. string_bytes body ≡ (batch_content (map I.wrong items.now) replies.now).body) }
+fn batch_body<I: BatchItem>(
+    alloc: Global,
+    items: &[I],
+    replies: &[Reply],
+) -> Result<String, AllocError>
+    ensures { IfOk result (λ body. string_bytes body
+        ≡ (batch_content (map I.wrong items.now) replies.now).body) }
 {
     let total = items.len();
-    let index = told(items, replies);
+    let index = answered_items(items, replies);
     if index < total {
         return format!(in alloc; "{{\"error\":\"out_of_memory\",\"index\":{index}}}");
     }
@@ -70,7 +78,8 @@ fn look_body(alloc: Global, key: &Key, seen: Option<Standing>) -> Result<String,
 
 /// The body of the events of a vehicle, or `None` where it isn't registered.
 fn events_body(alloc: Global, events: Option<&[Event]>) -> Result<String, AllocError>
-    ensures { IfOk result (λ body. string_bytes body ≡ (events_content (option_map (λ events. events.now) events.entry)).body) }
+    ensures { IfOk result (λ body. string_bytes body
+        ≡ (events_content (option_map (λ events. events.now) events.entry)).body) }
 {
     match events {
         Some(items) => {

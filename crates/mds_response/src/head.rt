@@ -32,7 +32,11 @@ pub(crate) fn whole_answer(
     allow: Option<&str>,
     body: &str,
 ) -> Result<Vec<u8>, AllocError>
-    ensures { IfOk result (λ bytes. bytes.items ≡ answer_text record { status = status; allow = option_map (λ method. method.now) allow.entry; body = body.now }) }
+    ensures { IfOk result (λ bytes. bytes.items ≡ answer_text record {
+      status = status;
+      allow = option_map (λ method. method.now) allow.entry;
+      body = body.now;
+    }) }
 {
     let length = body.len();
     let mut text = String::with_capacity(alloc, length.saturating_add(HEAD_ROOM))?;
@@ -48,7 +52,8 @@ pub(crate) fn whole_answer(
 
 /// Adds the field that names the route's method, where another one was asked for (RFC 9110, section 10.2.1).
 fn add_allow(text: &mut String, allow: Option<&str>) -> Result<(), AllocError>
-    ensures { OnOk result (string_bytes text.new ≡ string_bytes text.old ++ allow_line (option_map (λ method. method.now) allow.entry)) }
+    ensures { OnOk result (string_bytes text.new
+        ≡ string_bytes text.old ++ allow_line (option_map (λ method. method.now) allow.entry)) }
 {
     match allow {
         Some(method) => write!(text, "allow: {method}\r\n"),

@@ -5,8 +5,9 @@ ghost use Rattle.mds_response.specs.Found.{finding_in};
 ghost use Rattle.mds_response.specs.Answer.{answer_to, batch_content, fault_status};
 
 use crate::Found;
-use crate::batch::{Item, told};
+use crate::batch::answered_items;
 use http::StatusCode;
+use mds_batch::BatchItem;
 use mds_core::Reply;
 use mds_request::{HttpFault, Plan};
 
@@ -44,10 +45,10 @@ fn fault_status(fault: &HttpFault) -> StatusCode
 }
 
 /// The status of a POST of these items, to which these are the replies.
-fn batch_status<I: Item>(items: &[I], replies: &[Reply]) -> StatusCode
+fn batch_status<I: BatchItem>(items: &[I], replies: &[Reply]) -> StatusCode
     ensures { result ≡ (batch_content (map I.wrong items.now) replies.now).status }
 {
-    if told(items, replies) < items.len() {
+    if answered_items(items, replies) < items.len() {
         StatusCode::SERVICE_UNAVAILABLE
     } else {
         StatusCode::OK

@@ -43,13 +43,15 @@ impl Desk for Wanting<'_> {
     ghost use Rattle.mds_core.specs.Answer.{Answers};
     ghost use Rattle.mds_core.proofs.OfTheirKind.{given_is_for};
 
-    ghost calls = { λ old request reply new. IfSome reply (Answers old.fleet.now.tables old.fleet.now.history request) };
+    ghost calls = { λ old request reply new.
+        IfSome reply (Answers old.fleet.now.tables old.fleet.now.history request) };
 
     ghost gives_events = { λ desk key events. Unit {0} };
 
     ghost gives_rows = { λ desk rows. Unit {0} };
 
-    ghost of_its_kind = { λ old request reply new answers. given_is_for old.fleet.now.tables (requests_of old.fleet.now.history (key_of request)) request reply.outcome answers.outcome };
+    ghost of_its_kind = { λ old request reply new answers. given_is_for old.fleet.now.tables
+        (requests_of old.fleet.now.history (key_of request)) request reply.outcome answers.outcome };
 
     fn call(&mut self, request: &Request) -> Result<Reply, AllocError> {
         if self.left == 0 {

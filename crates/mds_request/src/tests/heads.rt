@@ -1,6 +1,7 @@
 //! Heads: how long they are, how many fields they have, how lengths are written, and how far their first bytes come.
 use super::{Pieces, text_of};
-use crate::{Aim, Face, Step};
+use crate::{Aim, Face, HeadStatus};
+use mds_core::Key;
 use std::test::Fail;
 
 /// Requests by pieces, and how many bytes of body each has; or that it has no head.
@@ -144,10 +145,10 @@ const HEADS: [(Pieces, Option<usize>); 25] = [
 
 /// How many bytes a body has behind a head that is as long as the request; or that there is no head.
 fn body_of(face: &Face, request: &str) -> Result<Option<usize>, Fail> {
-    match face.step(request.as_bytes()) {
-        Step::Ready { start, len, .. } if start == request.len() => Ok(Some(len)),
-        Step::Short | Step::Never => Ok(None),
-        _ => Err("another step")?,
+    match face.head_status(request.as_bytes()) {
+        HeadStatus::Complete { start, len, .. } if start == request.len() => Ok(Some(len)),
+        HeadStatus::Partial | HeadStatus::Invalid => Ok(None),
+        _ => Err("another status")?,
     }
 }
 
@@ -162,59 +163,59 @@ fn heads(rt: HostRuntime) -> Result<(), Fail> {
     Ok(())
 }
 
-/// A step without its fault.
+/// A status without its fault.
 #[derive(Clone, Copy, Debug, PartialEq, Eq)]
-enum Reach {
-    Short,
-    Never,
-    Fixed,
-    Ready(Aim, usize, usize),
+enum Outline {
+    Partial,
+    Invalid,
+    Rejected,
+    Complete(Aim<Key>, usize, usize),
 }
 
-/// Beginnings of requests, and how far they come.
-const STEPS: [(&str, Reach); 13] = [
-    ("", Reach::Short),
-    ("\r\n", Reach::Short),
-    ("GET /table HTTP/1.1\r\nx: y\r\n", Reach::Short),
+/// Beginnings of requests, and what they say of the head.
+const FRONTS: [(&str, Outline); 13] = [
+    ("", Outline::Partial),
+    ("\r\n", Outline::Partial),
+    ("GET /table HTTP/1.1\r\nx: y\r\n", Outline::Partial),
     (
         "POST /events HTTP/1.1\r\ncontent-length: x\r\n",
-        Reach::Short,
+        Outline::Partial,
     ),
-    ("GET /table HTTP/2", Reach::Never),
-    ("\0", Reach::Never),
-    ("GET /table HTTP/1.1\r\nx y", Reach::Never),
-    ("DELETE /nothing HTTP/1.1\r\n\r\n", Reach::Fixed),
-    ("DELETE /table HTTP/1.1\r\n\r\n", Reach::Fixed),
-    ("POST /events HTTP/1.1\r\n\r\n[]", Reach::Fixed),
+    ("GET /table HTTP/2", Outline::Invalid),
+    ("\0", Outline::Invalid),
+    ("GET /table HTTP/1.1\r\nx y", Outline::Invalid),
+    ("DELETE /nothing HTTP/1.1\r\n\r\n", Outline::Rejected),
+    ("DELETE /table HTTP/1.1\r\n\r\n", Outline::Rejected),
+    ("POST /events HTTP/1.1\r\n\r\n[]", Outline::Rejected),
     (
         "GET /table HTTP/1.1\r\n\r\nmore",
-        Reach::Ready(Aim::Rows, 23, 0),
+        Outline::Complete(Aim::Rows, 23, 0),
     ),
     (
         "POST /events HTTP/1.1\r\nContent-Length: 2\r\n\r\n[",
-        Reach::Ready(Aim::Events, 44, 2),
+        Outline::Complete(Aim::Events, 44, 2),
     ),
     (
         "POST /vehicles HTTP/1.1\r\nContent-Length: 2\r\n\r\n[]more",
-        Reach::Ready(Aim::Vehicles, 46, 2),
+        Outline::Complete(Aim::Vehicles, 46, 2),
     ),
 ];
 
-/// How far the bytes come.
-fn reach_of(face: &Face, front: &str) -> Reach {
-    match face.step(front.as_bytes()) {
-        Step::Short => Reach::Short,
-        Step::Never => Reach::Never,
-        Step::Fixed(_) => Reach::Fixed,
-        Step::Ready { aim, start, len } => Reach::Ready(aim, start, len),
+/// What the bytes say of the head.
+fn outline_of(face: &Face, front: &str) -> Outline {
+    match face.head_status(front.as_bytes()) {
+        HeadStatus::Partial => Outline::Partial,
+        HeadStatus::Invalid => Outline::Invalid,
+        HeadStatus::Rejected(_) => Outline::Rejected,
+        HeadStatus::Complete { aim, start, len } => Outline::Complete(aim, start, len),
     }
 }
 
 #[test]
-fn steps(rt: HostRuntime) -> Result<(), Fail> {
+fn statuses(rt: HostRuntime) -> Result<(), Fail> {
     let face = Face::open(rt.alloc())?;
-    for (front, expected) in STEPS {
-        assert_eq!(rt; (front, reach_of(&face, front)), (front, expected));
+    for (front, expected) in FRONTS {
+        assert_eq!(rt; (front, outline_of(&face, front)), (front, expected));
     }
     Ok(())
 }

@@ -1,6 +1,7 @@
 //! Targets: routes, what is cut off, and the forms of identifiers.
 use super::{fault_of, vehicle};
-use crate::{Aim, Face, HttpFault, Step};
+use crate::{Aim, Face, HeadStatus, HttpFault};
+use mds_core::Key;
 use std::test::Fail;
 
 /// Heads of requests of the table.
@@ -29,9 +30,9 @@ const HISTORY: [&[u8]; 2] = [
 ];
 
 /// What a head of a request that looks is about.
-fn aim_of(face: &Face, request: &[u8]) -> Option<Aim> {
-    match face.step(request) {
-        Step::Ready { aim, .. } => Some(aim),
+fn aim_of(face: &Face, request: &[u8]) -> Option<Aim<Key>> {
+    match face.head_status(request) {
+        HeadStatus::Complete { aim, .. } => Some(aim),
         _ => None,
     }
 }

@@ -1,6 +1,6 @@
 use Rattle.std.proofs.Common.{rules}
 use Rattle.mds_io.specs.Device.{ConsumesUpTo}
-use Rattle.mds_face.proofs.ReadingLemmas.{gains_few, loses_next, read_next, step_of_same, stop_loses}
+use Rattle.mds_face.proofs.ReadingLemmas.{gains_few, loses_next, read_next, status_of_same, stop_loses}
 use Rattle.mds_face.proofs.reading.read_head.Goals as goal
 
 pub loop-reader-preserved : goal.loop-reader-preserved
@@ -16,8 +16,8 @@ returns-in_err-read_more-clause-lost g c =
     loses_next _ _ _ _ _ c.loop-reader.invariant.few c.loop-reader.invariant.taken (stop_loses _ _ _ _ _ _ c.in_err-read_more.ensures.err) in
     search rules
 
-pub returns-then-branch-clause-step : goal.returns-then-branch-clause-step
-returns-then-branch-clause-step g c = step_of_same _ _ _ c.deref.ensures.value c.step.ensures.step
+pub returns-then-branch-clause-status : goal.returns-then-branch-clause-status
+returns-then-branch-clause-status g c = status_of_same _ _ _ c.deref.ensures.value c.head_status.ensures.status
 
 pub returns-then-branch-clause-taken : goal.returns-then-branch-clause-taken
 returns-then-branch-clause-taken g c = read_next _ _ _ _ _ _ c.loop-reader.invariant.taken c.in_ok-read_more.ensures.ok
@@ -25,8 +25,8 @@ returns-then-branch-clause-taken g c = read_next _ _ _ _ _ _ c.loop-reader.invar
 pub returns-then-branch-clause-few : goal.returns-then-branch-clause-few
 returns-then-branch-clause-few g c = gains_few _ _ _ _ _ c.loop-reader.invariant.few c.in_ok-read_more.ensures.ok
 
-pub returns-then-not-matches-clause-step : goal.returns-then-not-matches-clause-step
-returns-then-not-matches-clause-step g c = step_of_same _ _ _ c.deref-in-loop-reader.ensures.value c.step-step.ensures.step
+pub returns-then-not-matches-clause-status : goal.returns-then-not-matches-clause-status
+returns-then-not-matches-clause-status g c = status_of_same _ _ _ c.deref-in-loop-reader.ensures.value c.head_status-status.ensures.status
 
-pub returns-clause-step : goal.returns-clause-step
-returns-clause-step g c = step_of_same _ _ _ c.deref-2.ensures.value c.step-2.ensures.step
+pub returns-clause-status : goal.returns-clause-status
+returns-clause-status g c = status_of_same _ _ _ c.deref-2.ensures.value c.head_status-2.ensures.status

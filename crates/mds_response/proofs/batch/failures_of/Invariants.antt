@@ -5,5 +5,5 @@ use Rattle.mds_response.proofs.batch.failures_of.Given as goal
 -- the failures so far, with those of the items that are left, are all of them
 abbrev pub invariant-loop-index : goal.invariant-loop-index
 invariant-loop-index g l =
-    l.failures.items ++ failures_from l.index (verdicts (map g.I.Item.wrong (drop l.index l.items)) l.left)
-    ≡ failures_from 0 (verdicts (map g.I.Item.wrong l.items) l.replies)
+    l.failures.items ++ failures_from l.index (verdicts (map g.I.BatchItem.wrong (drop l.index l.items)) l.left)
+    ≡ failures_from 0 (verdicts (map g.I.BatchItem.wrong l.items) l.replies)

@@ -1,17 +1,18 @@
-//! How far the first bytes of a stream come.
+//! What the first bytes of a stream say of the head of the request.
 ghost use Rattle.std.specs.Prelude.{◌≡◌, ◌≤◌, length, All};
 ghost use Rattle.httparse.specs.Grammar.{RequestHead};
 ghost use Rattle.httparse.specs.Spans.{IsWithin, IsHeaderWithin};
 ghost use Rattle.mds_table.specs.Json.{max_bytes};
 ghost use Rattle.mds_request.specs.Fields.{ArePartsOf};
-ghost use Rattle.mds_request.specs.Step.{IsJudged, IfReady};
+ghost use Rattle.mds_request.specs.HeadStatus.{IsJudged, IfComplete};
 
-use crate::field::{Given, body_length, look_up};
+use crate::field::{FieldValues, body_length, look_up};
 use crate::plan::plan_about;
 use crate::target::{aim_of, method_of};
 use crate::{Aim, Face, HttpFault, Plan};
 use httparse::Status;
 use httparse::spans::{EMPTY_HEADER_SPAN, HeaderSpan, RequestSpans, parse_request};
+use mds_core::Key;
 use std::alloc::{AllocError, Global};
 use std::str;
 
@@ -21,19 +22,19 @@ pub const MAX_HEAD: usize = 16_384;
 /// The most fields of a request's head.
 pub const MAX_FIELDS: usize = 64;
 
-/// How far the bytes of a stream come that are there so far.
+/// What the bytes of a stream that are there so far say of the head of the request.
 #[derive(Clone, Copy, Debug, PartialEq, Eq)]
-pub enum Step {
-    /// There is no whole head yet. Where these bytes are all of the stream, or [`MAX_HEAD`] of them are there, none comes.
-    Short,
+pub enum HeadStatus {
+    /// There is no whole head yet. None comes where these bytes are all of the stream, or [`MAX_HEAD`] of them are there.
+    Partial,
     /// There is no head, whatever bytes follow.
-    Never,
+    Invalid,
     /// The head has a fault, whatever bytes follow.
-    Fixed(HttpFault),
+    Rejected(HttpFault),
     /// The head has no fault.
-    Ready {
+    Complete {
         /// What the request is about.
-        aim: Aim,
+        aim: Aim<Key>,
         /// How many bytes the head has: where the body starts.
         start: usize,
         /// How many bytes the body has: as many as a POST says, at most 4194304, and none of a GET.
@@ -42,11 +43,11 @@ pub enum Step {
 }
 
 impl Face {
-    ghost use Rattle.mds_request.specs.Step.{IsStep, IsInReach};
+    ghost use Rattle.mds_request.specs.HeadStatus.{IsHeadStatus, IsInReach};
 
-    /// How far these bytes of a stream come, its first ones. Their head is parsed once, and no body is looked at.
-    pub fn step(&self, front: &[u8]) -> Step
-        ensures step { IsStep front.now result }
+    /// What these bytes of a stream, its first ones, say of the head. They are parsed once, and no body is looked at.
+    pub fn head_status(&self, front: &[u8]) -> HeadStatus
+        ensures status { IsHeadStatus front.now result }
         ensures in_reach { IsInReach front.now result }
     {
         let bytes = &front[..front.len().min(MAX_HEAD)];
@@ -55,65 +56,72 @@ impl Face {
             Ok(Status::Complete(spans)) => {
                 judge_head(self, bytes, &spans, &headers[..spans.headers])
             }
-            Ok(Status::Partial) => Step::Short,
-            Err(_) => Step::Never,
+            Ok(Status::Partial) => HeadStatus::Partial,
+            Err(_) => HeadStatus::Invalid,
         }
     }
 }
 
 /// What a whole head comes to, its parts standing in these bytes.
-fn judge_head(face: &Face, bytes: &[u8], spans: &RequestSpans, headers: &[HeaderSpan]) -> Step
+fn judge_head(face: &Face, bytes: &[u8], spans: &RequestSpans, headers: &[HeaderSpan]) -> HeadStatus
     requires method { IsWithin (length bytes.now) spans.now.method }
     requires target { IsWithin (length bytes.now) spans.now.path }
     requires headers { All (IsHeaderWithin (length bytes.now)) headers.now }
-    ensures judged { (head : RequestHead) → ArePartsOf bytes.now spans.now headers.now head → IsJudged head result }
-    ensures few { IfReady result (λ start len. (start ≡ spans.now.len) × (len ≤ max_bytes)) }
+    ensures judged { (head : RequestHead) → ArePartsOf bytes.now spans.now headers.now head
+        → IsJudged head result }
+    ensures few { IfComplete result (λ start len. (start ≡ spans.now.len) × (len ≤ max_bytes)) }
 {
-    if !matches!(look_up(bytes, headers, "transfer-encoding"), Given::Nothing) {
-        return Step::Fixed(HttpFault::TransferEncoding);
+    let codings = look_up(bytes, headers, "transfer-encoding");
+    if !matches!(codings, FieldValues::Nothing) {
+        return HeadStatus::Rejected(HttpFault::TransferEncoding);
     }
     let Ok(target) = str::from_utf8(spans.path.of(bytes)) else {
-        return Step::Fixed(HttpFault::NotFound);
+        return HeadStatus::Rejected(HttpFault::NotFound);
     };
     let Some(aim) = aim_of(face, target) else {
-        return Step::Fixed(HttpFault::NotFound);
+        return HeadStatus::Rejected(HttpFault::NotFound);
     };
     let allow = method_of(&aim);
     if spans.method.of(bytes) != allow.as_bytes() {
-        return Step::Fixed(HttpFault::MethodNotAllowed { allow });
+        return HeadStatus::Rejected(HttpFault::MethodNotAllowed { allow });
     }
     match body_length(&aim, bytes, headers) {
-        Ok(len) => Step::Ready {
+        Ok(len) => HeadStatus::Complete {
             aim,
             start: spans.len,
             len,
         },
-        Err(fault) => Step::Fixed(fault),
+        Err(fault) => HeadStatus::Rejected(fault),
     }
 }
 
-impl Step {
+impl HeadStatus {
     ghost use Rattle.std.specs.Prelude.{IfOk, OnErr};
     ghost use Rattle.mds_request.specs.Asked.{asked_in};
     ghost use Rattle.mds_request.specs.Plan.{IsPlan};
-    ghost use Rattle.mds_request.specs.Step.{IsStep, IsInReach, HasBody};
+    ghost use Rattle.mds_request.specs.HeadStatus.{IsHeadStatus, IsInReach, HasBody};
 
-    /// What a stream asks for, these bytes being all that count, and this the step that they come to. Items are read from where
+    /// What a stream asks for: these bytes are all that count, and this is what they say of the head. Items are read from where
     /// they stand in the stream.
     ///
     /// # Errors
     ///
     /// There was no memory for the items of a body that is all there.
     pub fn plan(&self, alloc: Global, stream: &[u8]) -> Result<Plan, AllocError>
-        requires step { IsStep stream.now self.now }
+        requires status { IsHeadStatus stream.now self.now }
         requires in_reach { IsInReach stream.now self.now }
         ensures plan { IfOk result (λ plan. IsPlan stream.now (asked_in plan)) }
         ensures memory { OnErr result (HasBody stream.now self.now) }
     {
         match self {
-            Step::Short | Step::Never => Ok(Plan::Fixed(HttpFault::BadHead)),
-            Step::Fixed(fault) => Ok(Plan::Fixed(*fault)),
-            Step::Ready { aim, start, len } => plan_about(alloc, aim, *len, &stream[*start..]),
+            HeadStatus::Partial | HeadStatus::Invalid => Ok(Plan::Fixed(HttpFault::BadHead)),
+            HeadStatus::Rejected(fault) => Ok(Plan::Fixed(*fault)),
+            HeadStatus::Complete { aim, start, len } => plan_about(
+                alloc,
+                aim,
+                *len,
+                &stream[*start..],
+            ),
         }
     }
 }
