@@ -140,7 +140,8 @@ where
     P::Out: Send,
     requires first { (opening.first.name ≡ L.name) × (opening.first.parts ≡ L.parts) }
     requires second { (opening.second.name ≡ M.name) × (opening.second.parts ≡ M.parts) }
-    requires parts { (opening.first.parts ≡ opening.seats) × (opening.second.parts ≡ opening.seats) }
+    requires parts { (opening.first.parts ≡ opening.seats)
+        × (opening.second.parts ≡ opening.seats) }
     requires table { (opening.table ≡ L.tables) × (opening.table ≡ M.tables) }
     requires seats { IsSeatCount opening.seats }
     ensures { Serves opening.table opening.seats result
