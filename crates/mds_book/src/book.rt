@@ -64,7 +64,8 @@ impl<L: ShardLedger, M: ShardLedger> Model for Book<L, M> {
 
     ghost view = { λ book. record { tables = book.table; seats = book.seats } };
 
-    ghost invariant = { λ book. (book.table ≡ L.tables) × (book.table ≡ M.tables) × (book.seats ≡ L.parts) × (book.seats ≡ M.parts) × (0 < book.seats) };
+    ghost invariant = { λ book. (book.table ≡ L.tables) × (book.table ≡ M.tables)
+        × (book.seats ≡ L.parts) × (book.seats ≡ M.parts) × (0 < book.seats) };
 }
 
 /// Seats that were told nothing, so many of them, each with a part of each ledger.
@@ -103,7 +104,8 @@ fn step_in<R: Wait, L: ShardLedger, const N: usize>(
 ) -> Result<Reply, AllocError>
     requires { number_of (key_of request.now) ≡ N }
     ensures reply { IfOk result (IsAnswered L.tables N request.now) }
-    ensures count { IfOk result (λ reply. part.new.count ≡ part.old.count + count_of reply.outcome) }
+    ensures count { IfOk result (λ reply.
+        part.new.count ≡ part.old.count + count_of reply.outcome) }
     ensures place { IfOk result (λ reply. part.old.count ≤ reply.place) }
     ensures unchanged { OnErr result (part.new.count ≡ part.old.count) }
     ensures look { is_look request.now ≡ true → IsOk result }
@@ -130,7 +132,8 @@ fn events_in<R: Wait, L: ShardLedger, const N: usize>(
     key: &Key,
 ) -> Result<Option<Vec<Event>>, AllocError>
     requires { number_of key.now ≡ N }
-    ensures { IfOk result (λ found. GivesEvents L.tables key.now (option_map (λ events. events.items) found)) }
+    ensures { IfOk result (λ found.
+        GivesEvents L.tables key.now (option_map (λ events. events.items) found)) }
 {
     slot.lock(rt).shard().events(alloc, key)
 }
@@ -148,8 +151,8 @@ fn with_slot<R: Wait, L: ShardLedger, const N: usize, X, F: FnOnce(&Shard) -> X>
 }
 
 impl<L: ShardLedger, M: ShardLedger> Book<L, M> {
-    /// A book over the table with nothing accepted, and its seats, 1 to [`MAX_SEATS`], which were told nothing. Each ledger is handed
-    /// in blank, cut into a part for each seat.
+    /// A book over the table with nothing accepted, and its seats, 1 to [`MAX_SEATS`], which were told nothing. Each ledger
+    /// is handed in blank, cut into a part for each seat.
     ///
     /// # Errors
     ///
@@ -164,10 +167,12 @@ impl<L: ShardLedger, M: ShardLedger> Book<L, M> {
         second: Blank,
     ) -> Result<(Book<L, M>, Vec<Seat<L, M>>), OpenFault>
         requires first { (first.name ≡ L.name) × (first.parts ≡ L.parts) × (first.parts ≡ seats) }
-        requires second { (second.name ≡ M.name) × (second.parts ≡ M.parts) × (second.parts ≡ seats) }
+        requires second { (second.name ≡ M.name) × (second.parts ≡ M.parts)
+            × (second.parts ≡ seats) }
         requires table { (table ≡ L.tables) × (table ≡ M.tables) }
         ensures book { IfOk result (λ opened. opened.0 ≡ record { tables = table; seats = seats }) }
-        ensures seats { IfOk result (λ opened. opened.1.items ≡ replicate seats (fresh (keeps_all keep))) }
+        ensures seats { IfOk result (λ opened.
+            opened.1.items ≡ replicate seats (fresh (keeps_all keep))) }
         ensures range { (result ≡ Err OpenFault.BadSeats) ↔ IsBadCount seats }
     {
         if seats == 0 || seats > MAX_SEATS {
@@ -193,11 +198,13 @@ impl<L: ShardLedger, M: ShardLedger> Book<L, M> {
         second: Blank,
     ) -> Result<(Book<L, M>, Vec<Seat<L, M>>), AllocError>
         requires first { (first.name ≡ L.name) × (first.parts ≡ L.parts) × (first.parts ≡ seats) }
-        requires second { (second.name ≡ M.name) × (second.parts ≡ M.parts) × (second.parts ≡ seats) }
+        requires second { (second.name ≡ M.name) × (second.parts ≡ M.parts)
+            × (second.parts ≡ seats) }
         requires table { (table ≡ L.tables) × (table ≡ M.tables) }
         requires some { 0 < seats }
         ensures book { IfOk result (λ opened. opened.0 ≡ record { tables = table; seats = seats }) }
-        ensures seats { IfOk result (λ opened. opened.1.items ≡ replicate seats (fresh (keeps_all keep))) }
+        ensures seats { IfOk result (λ opened.
+            opened.1.items ≡ replicate seats (fresh (keeps_all keep))) }
     {
         let (first_slot, first_all) = Slot::open(alloc, table.copy(alloc)?, first);
         let (second_slot, second_all) = Slot::open(alloc, table.copy(alloc)?, second);
@@ -241,8 +248,10 @@ impl<L: ShardLedger, M: ShardLedger> Book<L, M> {
         request: &Request,
     ) -> Result<Reply, AllocError>
         ensures seat { IfOk result (λ reply. seat.new ≡ after_call seat.old request.now reply) }
-        ensures place { IfOk result (λ reply. accepted_in seat.old (number_of (key_of request.now)) ≤ reply.place) }
-        ensures reply { IfOk result (IsAnswered self.now.tables (number_of (key_of request.now)) request.now) }
+        ensures place { IfOk result (λ reply.
+            accepted_in seat.old (number_of (key_of request.now)) ≤ reply.place) }
+        ensures reply { IfOk result
+            (IsAnswered self.now.tables (number_of (key_of request.now)) request.now) }
         ensures unchanged { OnErr result (seat.new ≡ seat.old) }
         ensures look { is_look request.now ≡ true → seat.old.keeps_all ≡ false → IsOk result }
     {
@@ -277,7 +286,8 @@ impl<L: ShardLedger, M: ShardLedger> Book<L, M> {
         alloc: Global,
         key: &Key,
     ) -> Result<Option<Vec<Event>>, AllocError>
-        ensures { IfOk result (λ found. GivesEvents self.now.tables key.now (option_map (λ events. events.items) found)) }
+        ensures { IfOk result (λ found.
+            GivesEvents self.now.tables key.now (option_map (λ events. events.items) found)) }
     {
         if shard_of(key) == 0 {
             events_in(rt, alloc, &self.first, key)

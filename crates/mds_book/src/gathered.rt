@@ -28,9 +28,16 @@ impl<L: ShardLedger, M: ShardLedger> Model for Gathered<L, M> {
 
     ghost Value = { Collected };
 
-    ghost view = { λ all. record { tables = all.table; first = all.first.history; second = all.second.history; seats = all.seats.items } };
+    ghost view = { λ all. record {
+      tables = all.table;
+      first = all.first.history;
+      second = all.second.history;
+      seats = all.seats.items;
+    } };
 
-    ghost invariant = { λ all. (all.table ≡ L.tables) × (all.table ≡ M.tables) × (length all.first.history ≡ sum_by (λ seat. seat.first) all.seats.items) × (length all.second.history ≡ sum_by (λ seat. seat.second) all.seats.items) };
+    ghost invariant = { λ all. (all.table ≡ L.tables) × (all.table ≡ M.tables)
+        × (length all.first.history ≡ sum_by (λ seat. seat.first) all.seats.items)
+        × (length all.second.history ≡ sum_by (λ seat. seat.second) all.seats.items) };
 }
 
 /// What is left of a book whose seats all came back with notes that fit. The histories are the order in which the
@@ -60,7 +67,9 @@ fn judged<L: ShardLedger, const N: usize, S: NoteList>(
     slot: &Slot<L, N>,
     seats: &[S],
 ) -> Result<(), usize>
-    ensures { MatchResult result (λ _. IsSettled L.tables N slot.now.history S.seen seats.now) (IsLeastFault L.tables N slot.now.history S.seen seats.now) }
+    ensures { MatchResult result
+        (λ _. IsSettled L.tables N slot.now.history S.seen seats.now)
+        (IsLeastFault L.tables N slot.now.history S.seen seats.now) }
 {
     let shard = slot.shard();
     judge_lawful(shard.table(), N, shard.history(), seats)

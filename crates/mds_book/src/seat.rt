@@ -42,7 +42,12 @@ impl<L: ShardLedger, M: ShardLedger> Model for Seat<L, M> {
 
     ghost Value = { Seated };
 
-    ghost view = { λ seat. record { first = seat.first.count; second = seat.second.count; notes = seat.notes.items; keeps_all = seat.keeps_all } };
+    ghost view = { λ seat. record {
+      first = seat.first.count;
+      second = seat.second.count;
+      notes = seat.notes.items;
+      keeps_all = seat.keeps_all;
+    } };
 }
 
 impl<L: Ledger> Part<L> {

@@ -55,14 +55,19 @@ fn count_seats<L: ShardLedger, M: ShardLedger>(
     others: &mut Share<M>,
     seats: &mut [Seat<L, M>],
 )
-    requires parts { (ones.old.parts + length seats.old ≡ L.parts) × (others.old.parts + length seats.old ≡ M.parts) }
-    requires backed { (ones.old.parts ≡ 0 → ones.old.amount ≡ 0) × (others.old.parts ≡ 0 → others.old.amount ≡ 0) }
+    requires parts { (ones.old.parts + length seats.old ≡ L.parts)
+        × (others.old.parts + length seats.old ≡ M.parts) }
+    requires backed { (ones.old.parts ≡ 0 → ones.old.amount ≡ 0)
+        × (others.old.parts ≡ 0 → others.old.amount ≡ 0) }
     ensures slots { (first.new ≡ first.old) × (second.new ≡ second.old) }
     ensures ones { (ones.new.parts ≡ ones.old.parts) × (ones.new.amount ≡ ones.old.amount) }
-    ensures others { (others.new.parts ≡ others.old.parts) × (others.new.amount ≡ others.old.amount) }
+    ensures others { (others.new.parts ≡ others.old.parts)
+        × (others.new.amount ≡ others.old.amount) }
     ensures seats { seats.new ≡ seats.old }
-    ensures first_total { length first.old.history ≡ ones.old.amount + sum_by (λ seat. seat.first) seats.old }
-    ensures second_total { length second.old.history ≡ others.old.amount + sum_by (λ seat. seat.second) seats.old }
+    ensures first_total { length first.old.history
+        ≡ ones.old.amount + sum_by (λ seat. seat.first) seats.old }
+    ensures second_total { length second.old.history
+        ≡ others.old.amount + sum_by (λ seat. seat.second) seats.old }
 {
     if seats.is_empty() {
         first.audit(ones);

@@ -64,7 +64,9 @@ impl<L: ShardLedger, const N: usize> Model for Slot<L, N> {
 
     ghost view = { λ slot. slot.shard };
 
-    ghost invariant = { λ slot. (slot.shard.tables ≡ L.tables) × AreOfShard N slot.shard.history × (slot.accepted.total ≡ length slot.shard.history) };
+    ghost invariant = { λ slot. (slot.shard.tables ≡ L.tables)
+        × AreOfShard N slot.shard.history
+        × (slot.accepted.total ≡ length slot.shard.history) };
 }
 
 impl<L: ShardLedger, const N: usize> Slot<L, N> {
@@ -118,7 +120,8 @@ impl<L: ShardLedger, const N: usize> Slot<L, N> {
         ensures tables { self.old.tables ≡ L.tables }
         ensures lawful { IsLawful self.old.tables self.old.history }
         ensures of_shard { AreOfShard N self.old.history }
-        ensures share { IfOk result (λ reply. share.new.amount ≡ share.old.amount + count_of reply.outcome) }
+        ensures share { IfOk result (λ reply.
+            share.new.amount ≡ share.old.amount + count_of reply.outcome) }
         ensures place { IfOk result (λ reply. share.old.amount ≤ reply.place) }
         ensures room { IfOk result (λ reply. reply.place + 1 < 2 ^ 64) }
         ensures parts { share.new.parts ≡ share.old.parts }

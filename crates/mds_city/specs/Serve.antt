@@ -1,9 +1,10 @@
 -- What the command that serves does.
-use Rattle.std.specs.Prelude.{◌≡◌, ◌⊎◌, ℕ, ◌<◌, List, length, take, Option, Result, Ok, Err}
+use Rattle.std.specs.Prelude.{◌≡◌, ◌⊎◌, ℕ, ◌<◌, ◌+◌, List, length, take, Option, Result, Ok, Err}
 use Rattle.std.specs.Io.KnownBytes.{Appends, Keeps}
 use Rattle.mds_table.specs.Tables.{Tables}
 use Rattle.mds_io.specs.Device.{AppendsFront, with_newline}
 use Rattle.mds_city.specs.Torn.{torn_text}
+use Rattle.mds_book.specs.Gathering.{Collected}
 use Rattle.mds_pool.specs.Serving.{IsEnded}
 use Rattle.mds_pool.specs.declared.serving.Stop.{Stop}
 use Rattle.mds_pool.specs.declared.serving.Stop.TheVariants as stop
@@ -26,20 +27,27 @@ TellsTorn shard place code old new =
 abbrev pub IsTold : Problem → ℕ → Option (List ℕ) → Option (List ℕ) → Type 0
 IsTold problem code faults faults_new = (code ≡ code_of (status_of problem)) × Tells faults faults_new problem
 
--- what was printed and told of how serving ended: the number of accepted requests; or a front of that line, where the output failed or
--- there was no memory; else nothing, and why
-abbrev pub IsSaid : Result ℕ Stop → ℕ → Option (List ℕ) → Option (List ℕ) → Option (List ℕ) → Option (List ℕ) → Type 0
-IsSaid (Ok accepted) code out out_new faults faults_new =
+-- the number of accepted requests was printed; or a front of that line, where the output failed or there was no memory
+abbrev pub SaysAccepted : ℕ → ℕ → Option (List ℕ) → Option (List ℕ) → Option (List ℕ) → Option (List ℕ) → Type 0
+SaysAccepted accepted code out out_new faults faults_new =
     ((code ≡ code_of status.Done) × Appends out out_new (with_newline (accepted_line accepted)) × Keeps faults faults_new)
-    ⊎ (AppendsFront out out_new (with_newline (accepted_line accepted)) × (IsTold Output code faults faults_new ⊎ IsTold Memory code faults faults_new))
+    ⊎ (AppendsFront out out_new (with_newline (accepted_line accepted))
+    × (IsTold Output code faults faults_new ⊎ IsTold Memory code faults faults_new))
+
+-- what was printed and told of how serving ended: how many requests the settled book accepted, in both shards; else nothing, and why
+abbrev pub IsSaid : Result Collected Stop → ℕ → Option (List ℕ) → Option (List ℕ) → Option (List ℕ) → Option (List ℕ) → Type 0
+IsSaid (Ok all) code out out_new faults faults_new =
+    SaysAccepted (length all.first + length all.second) code out out_new faults faults_new
 IsSaid (Err stop.Memory) code out out_new faults faults_new = Keeps out out_new × IsTold Memory code faults faults_new
-IsSaid (Err stop.Accept) code out out_new faults faults_new = Keeps out out_new × (IsTold Socket code faults faults_new ⊎ IsTold Memory code faults faults_new)
-IsSaid (Err (stop.Torn shard place)) code out out_new faults faults_new = Keeps out out_new × TellsTorn shard place code faults faults_new
+IsSaid (Err stop.Accept) code out out_new faults faults_new =
+    Keeps out out_new × (IsTold Socket code faults faults_new ⊎ IsTold Memory code faults faults_new)
+IsSaid (Err (stop.Torn shard place)) code out out_new faults faults_new =
+    Keeps out out_new × TellsTorn shard place code faults faults_new
 
 -- serving with this table and so many workers ended in some way, and that was said
 abbrev pub Serves : Tables → ℕ → ℕ → Option (List ℕ) → Option (List ℕ) → Option (List ℕ) → Option (List ℕ) → Type 0
 Serves tables workers code out out_new faults faults_new =
-    (ended : Result ℕ Stop) × IsEnded tables workers ended × IsSaid ended code out out_new faults faults_new
+    (ended : Result Collected Stop) × IsEnded tables workers ended × IsSaid ended code out out_new faults faults_new
 
 -- of the command: the known bytes of a table file's reader, and the table file if one is given
 module _ {T : Type 0} (table_bytes : T → Option (List ℕ)) (table : Option (Source T)) where

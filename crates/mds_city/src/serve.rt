@@ -1,18 +1,20 @@
 //! The command that serves vehicles at a port.
 ghost use Rattle.std.specs.Prelude.{◌≡◌, IfOk, IfErr};
 ghost use Rattle.mds_book.specs.Books.{IsSeatCount};
-ghost use Rattle.mds_city.specs.Serve.{CameToServe, IsSaid, Listened, Serves, StopsBefore, TellsTorn};
+ghost use Rattle.mds_city.specs.Serve.{CameToServe, IsSaid, Listened, SaysAccepted, Serves, StopsBefore, TellsTorn};
 
 use crate::page::{AcceptedLine, ListeningLine, print_line};
 use crate::problem::{Problem, tell};
 use crate::source::{Source, table_in};
 use crate::status::Status;
 use crate::torn::torn_line;
+use mds_book::{Settled, ShardLedger};
 use mds_io::write_all_of;
-use mds_pool::{Port, Stop, serve_and_settle};
+use mds_pool::{NewBook, Port, Stop, serve_and_settle};
 use mds_table::Table;
 use std::alloc::Global;
 use std::io::{Read, Write};
+use std::marker::Brand;
 use std::sync::Wait;
 use std::thread::Threads;
 
@@ -83,8 +85,10 @@ fn begun<'a, H: Listens, T: Read + Drop, W: Write>(
     number: u16,
     out: &mut W,
 ) -> Result<(Table, H::Listening), Problem<'a>>
-    ensures ok { IfOk result (λ begun. Listened T.remaining table.entry begun.0 (W.contents out.old) (W.contents out.new)) }
-    ensures err { IfErr result (λ problem. StopsBefore T.remaining table.entry problem (W.contents out.old) (W.contents out.new)) }
+    ensures ok { IfOk result (λ begun. Listened T.remaining table.entry begun.0
+        (W.contents out.old) (W.contents out.new)) }
+    ensures err { IfErr result (λ problem. StopsBefore T.remaining table.entry problem
+        (W.contents out.old) (W.contents out.new)) }
 {
     let table = table_in(alloc, table)?;
     let Some((listening, port)) = host.listen(alloc, number) else {
@@ -94,11 +98,11 @@ fn begun<'a, H: Listens, T: Read + Drop, W: Write>(
     Ok((table, listening))
 }
 
-/// Serves connections of a port over a table, with a new book of so many seats, 1 to [`mds_book::MAX_SEATS`], each of which answers so many of
-/// them. At the end it settles the book, and prints how many requests were accepted. It answers the code of the status that
-/// the program ends with: `Done`; `Torn` where the notes of the accepted requests don't fit the histories; `Fault` where no
-/// further connection could be taken, or an output failed; `NoMemory` for want of memory. What isn't `Done` is told to
-/// `faults` in one line.
+/// Serves connections of a port over a table, with a new book of so many seats, 1 to [`mds_book::MAX_SEATS`], each of which
+/// answers so many of them. At the end it settles the book, and prints how many requests were accepted. It answers the code
+/// of the status that the program ends with: `Done`; `Torn` where the notes of the accepted requests don't fit the
+/// histories; `Fault` where no further connection could be taken, or an output failed; `NoMemory` for want of memory. What
+/// isn't `Done` is told to `faults` in one line.
 pub fn serve_on<R: Threads + Wait + Sync, P: Port + Sync, W: Write, E: Write>(
     rt: &R,
     alloc: Global,
@@ -113,29 +117,71 @@ where
     P::In: Send,
     P::Out: Send,
     requires { IsSeatCount seats }
-    ensures { Serves table seats result (W.contents out.old) (W.contents out.new) (E.contents faults.old) (E.contents faults.new) }
+    ensures { Serves table seats result
+        (W.contents out.old) (W.contents out.new) (E.contents faults.old) (E.contents faults.new) }
 {
-    let ended = serve_and_settle(rt, alloc, table, port, seats, each);
+    let opening = NewBook::of(table, seats);
+    serve_book::<R, P, Brand, Brand, W, E>(rt, alloc, opening, port, each, out, faults)
+}
+
+/// As [`serve_on`], with the ledgers of the book. The clause says that the number is that of some settled book: the book
+/// that was served lives only here, and no caller sees it. That it is this one is what the contracts of
+/// [`serve_and_settle`] and [`say`] say one after the other, and what the tests of this file try.
+fn serve_book<
+    R: Threads + Wait + Sync,
+    P: Port + Sync,
+    L: ShardLedger + Send + Sync,
+    M: ShardLedger + Send + Sync,
+    W: Write,
+    E: Write,
+>(rt: &R, alloc: Global, opening: NewBook, port: &P, each: usize, out: &mut W, faults: &mut E) -> u8
+where
+    P::In: Send,
+    P::Out: Send,
+    requires first { (opening.first.name ≡ L.name) × (opening.first.parts ≡ L.parts) }
+    requires second { (opening.second.name ≡ M.name) × (opening.second.parts ≡ M.parts) }
+    requires parts { (opening.first.parts ≡ opening.seats)
+        × (opening.second.parts ≡ opening.seats) }
+    requires table { (opening.table ≡ L.tables) × (opening.table ≡ M.tables) }
+    requires seats { IsSeatCount opening.seats }
+    ensures { Serves opening.table opening.seats result
+        (W.contents out.old) (W.contents out.new) (E.contents faults.old) (E.contents faults.new) }
+{
+    let ended = serve_and_settle::<R, P, L, M>(rt, alloc, opening, port, each);
     say(alloc, ended, out, faults)
 }
 
-/// Prints how many requests were accepted, or tells why that isn't known.
-fn say<W: Write, E: Write>(
+/// Prints how many requests a settled book accepted, or tells why there is none.
+fn say<L: ShardLedger, M: ShardLedger, W: Write, E: Write>(
     alloc: Global,
-    ended: Result<u128, Stop>,
+    ended: Result<Settled<L, M>, Stop>,
     out: &mut W,
     faults: &mut E,
 ) -> u8
-    ensures { IsSaid ended result (W.contents out.old) (W.contents out.new) (E.contents faults.old) (E.contents faults.new) }
+    ensures { IsSaid ended result
+        (W.contents out.old) (W.contents out.new) (E.contents faults.old) (E.contents faults.new) }
 {
     match ended {
-        Ok(accepted) => match print_line(alloc, out, &AcceptedLine { accepted }) {
-            Ok(()) => Status::Done.code(),
-            Err(fault) => tell(alloc, faults, Problem::from(fault)).code(),
-        },
+        Ok(settled) => say_accepted(alloc, settled.accepted(), out, faults),
         Err(Stop::Memory) => tell(alloc, faults, Problem::Memory).code(),
         Err(Stop::Accept) => tell(alloc, faults, Problem::Socket).code(),
         Err(Stop::Torn { shard, place }) => torn_to(faults, shard, place),
+    }
+}
+
+/// Prints how many requests were accepted.
+fn say_accepted<W: Write, E: Write>(
+    alloc: Global,
+    accepted: u128,
+    out: &mut W,
+    faults: &mut E,
+) -> u8
+    ensures { SaysAccepted accepted result
+        (W.contents out.old) (W.contents out.new) (E.contents faults.old) (E.contents faults.new) }
+{
+    match print_line(alloc, out, &AcceptedLine { accepted }) {
+        Ok(()) => Status::Done.code(),
+        Err(fault) => tell(alloc, faults, Problem::from(fault)).code(),
     }
 }
 

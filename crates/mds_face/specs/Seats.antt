@@ -1,9 +1,10 @@
 -- What a caller's seat at a book does.
-use Rattle.std.specs.Prelude.{◌≡◌, ◌≤◌, ◌++◌, List, Option, Some, None, true, false}
+use Rattle.std.specs.Prelude.{◌≡◌, ◌≤◌, ◌+◌, ◌==◌, ◌&&◌, ◌++◌, ℕ, List, count_by, Option, Some, None, true, false}
 use Rattle.mds_table.specs.Tables.{Tables}
 use Rattle.mds_core.specs.declared.request.Request.{Request}
 use Rattle.mds_core.specs.declared.reply.Reply.{Reply}
 use Rattle.mds_core.specs.History.{key_of}
+use Rattle.mds_core.specs.Headline.{is_done}
 use Rattle.mds_settle.specs.declared.note.Note.{Note}
 use Rattle.mds_book.specs.Shards.{shard_of}
 use Rattle.mds_book.specs.Seats.{Seated, accepted_in, after_call, is_look}
@@ -19,10 +20,14 @@ SeatCalls tables old request (Some reply) new =
     × (new ≡ after_call old request reply)
 SeatCalls tables old request None new = (new ≡ old) × (is_look request ≡ true → old.keeps_all ≡ false → ⊥)
 
--- the earlier notes stand before the others, and no count is less
+-- how many notes of calls that were accepted in this shard there are
+abbrev pub accepted_notes : ℕ → List Note → ℕ
+accepted_notes shard notes = count_by (λ note. (shard == note.shard) && is_done note.reply.outcome) notes
+
+-- the earlier notes stand before the others, and each count rose by as many as the others tell of calls accepted in its shard
 pub record HasGrown (old new : Seated) : Type 0 where
   pub more : List Note
   pub notes : new.notes ≡ old.notes ++ more
-  pub first : old.first ≤ new.first
-  pub second : old.second ≤ new.second
+  pub first : new.first ≡ old.first + accepted_notes 0 more
+  pub second : new.second ≡ old.second + accepted_notes 1 more
   pub keeps_all : new.keeps_all ≡ old.keeps_all

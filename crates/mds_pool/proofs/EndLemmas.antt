@@ -7,10 +7,11 @@ use Rattle.std.proofs.lemmas.List.Elements.{All-replicate, AllZip-get_or}
 use Rattle.std.proofs.lemmas.Slice.Zip.{AllZip-long}
 use Rattle.mds_table.specs.Tables.{Tables}
 use Rattle.mds_book.specs.Seats.{Seated, fresh}
+use Rattle.mds_book.specs.Gathering.{Collected, IsGathered}
 use Rattle.mds_face.specs.Seats.{HasGrown}
 use Rattle.mds_pool.specs.declared.serving.Stop.{Stop}
 use Rattle.mds_pool.specs.declared.serving.Stop.TheVariants.{Memory, Accept, Torn}
-use Rattle.mds_pool.specs.Serving.{AreWorkers, IsEnded, IsSettledEnd}
+use Rattle.mds_pool.specs.Serving.{AreWorkers, IsEnded, IsLeft, IsSettledEnd}
 
 -- seats that were told nothing, and have grown since, are as many, and note what they noted
 pub workers_grown : (count : ℕ) (seats : List Seated) → AllZip HasGrown (replicate count (fresh false)) seats → AreWorkers count seats
@@ -25,9 +26,19 @@ workers_grown count seats grown =
           seat.keeps_all ∙ keep place other inside,
     )
 
+-- what was gathered of a book of the workers' seats is what was left of it
+left : (tables : Tables) (count : ℕ) (seats : List Seated) (all : Collected) → AreWorkers count seats
+    → IsGathered (record { tables = tables; seats = count }) seats all → IsLeft tables count all
+left tables count seats all are gathered = record {
+  tables = gathered.tables;
+  workers = subst (AreWorkers count) (sym gathered.seats) are;
+  whole = gathered.whole;
+}
+
 -- a book of the workers' seats that was settled, or is torn, ended so
-pub ended : (tables : Tables) (count : ℕ) (seats : List Seated) (came : Result ℕ Stop) → AreWorkers count seats → IsSettledEnd tables seats came → IsEnded tables count came
-ended tables count seats (Ok accepted) are settled = (seats, are, settled)
+pub ended : (tables : Tables) (count : ℕ) (seats : List Seated) (came : Result Collected Stop) → AreWorkers count seats
+    → IsSettledEnd (record { tables = tables; seats = count }) seats came → IsEnded tables count came
+ended tables count seats (Ok all) are settled = (left tables count seats all are settled.0, settled.1)
 ended tables count seats (Err Memory) are settled = tt
 ended tables count seats (Err Accept) are settled = tt
-ended tables count seats (Err (Torn shard place)) are settled = (seats, are, settled)
+ended tables count seats (Err (Torn shard place)) are settled = (settled.0, left tables count seats settled.0 are settled.1, settled.2)

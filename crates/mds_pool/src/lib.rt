@@ -8,7 +8,7 @@ mod serving;
 
 pub use pool::{PoolCause, PoolFault, serve};
 pub use port::{Port, PortFault};
-pub use serving::{Stop, serve_and_settle};
+pub use serving::{NewBook, Stop, serve_and_settle};
 
 #[cfg(test)]
 mod tests;

@@ -4,7 +4,7 @@ ghost use Rattle.std.specs.List.{AllZip};
 ghost use Rattle.mds_face.specs.Seats.{HasGrown};
 ghost use Rattle.mds_pool.specs.Pool.{pool_cause_text};
 
-use crate::Port;
+use crate::{Port, PortFault};
 use mds_book::{Book, Gate, Seat, ShardLedger};
 use mds_face::{Face, SeatDesk, serve_one};
 use std::alloc::Global;
@@ -79,19 +79,18 @@ where
     if seats.is_empty() {
         return Ok(seats);
     }
-    let accept_failed = AtomicBool::new(false);
-    answer_all(
+    let workers = Workers {
         rt,
         alloc,
         face,
         port,
         book,
-        seats.as_mut_slice(),
         each,
         gate,
-        &accept_failed,
-    );
-    if accept_failed.load(Ordering::SeqCst) {
+        accept_failed: AtomicBool::new(false),
+    };
+    workers.answer_all(seats.as_mut_slice());
+    if workers.accept_failed.load(Ordering::SeqCst) {
         return Err(PoolFault {
             cause: PoolCause::Accept,
             seats,
@@ -100,102 +99,84 @@ where
     Ok(seats)
 }
 
-/// Runs a worker for each seat. Where one could take no further connection, `accept_failed` is set.
-fn answer_all<
-    R: Threads + Wait + Sync,
-    P: Port + Sync,
-    L: ShardLedger + Send + Sync,
-    M: ShardLedger + Send + Sync,
-    G: Gate + Sync,
->(
-    rt: &R,
+/// What the workers of a port share.
+#[derive(Drop)]
+struct Workers<'a, R: Wait, P: Port, L: ShardLedger, M: ShardLedger, G: Gate> {
+    rt: &'a R,
     alloc: Global,
-    face: &Face,
-    port: &P,
-    book: &Book<L, M>,
-    seats: &mut [Seat<L, M>],
+    face: &'a Face,
+    port: &'a P,
+    book: &'a Book<L, M>,
+    /// How many connections each worker answers.
     each: usize,
-    gate: &G,
-    accept_failed: &AtomicBool,
-)
-where
-    P::In: Send,
-    P::Out: Send,
-    requires { 0 < length seats.old }
-    ensures { AllZip HasGrown seats.old seats.new }
-{
-    let workers = seats.len();
-    let job = |worker: usize, seat: &mut Seat<L, M>|
+    gate: &'a G,
+    /// Whether a worker could take no further connection.
+    accept_failed: AtomicBool,
+}
+
+impl<R: Wait, P: Port, L: ShardLedger, M: ShardLedger, G: Gate> Workers<'_, R, P, L, M, G> {
+    /// Runs a worker for each seat. Where one could take no further connection, `accept_failed` is set.
+    fn answer_all(&self, seats: &mut [Seat<L, M>])
+    where
+        R: Threads + Sync,
+        P: Sync,
+        P::In: Send,
+        P::Out: Send,
+        L: Send + Sync,
+        M: Send + Sync,
+        G: Sync,
+        requires { 0 < length seats.old }
+        ensures { AllZip HasGrown seats.old seats.new }
+    {
+        let workers = seats.len();
+        let job = |worker: usize, seat: &mut Seat<L, M>|
+            ensures { HasGrown seat.old seat.new }
+        {
+            if self.work(seat, worker).is_err() {
+                self.accept_failed.store(true, Ordering::SeqCst);
+            }
+        };
+        thread::for_each_mut(self.rt, seats, workers, &job);
+    }
+
+    /// One worker: takes so many connections and answers them for its seat. It counts those that it answered.
+    ///
+    /// # Errors
+    ///
+    /// [`PortFault`] where it could take no further connection: it ended there.
+    fn work(&self, seat: &mut Seat<L, M>, worker: usize) -> Result<usize, PortFault>
+        ensures grown { HasGrown seat.old seat.new }
+        ensures each { IfOk result (λ answered. answered ≡ self.now.each) }
+    {
+        let mut answered = 0;
+        for nth in 0..self.each {
+            let (input, output) = self.port.accept()?;
+            self.gate.enter(worker, nth);
+            self.answer(seat, input, output);
+            self.gate.leave(worker, nth);
+            answered += 1;
+        }
+        Ok(answered)
+    }
+
+    /// Answers a connection for a seat, and ends it.
+    fn answer(&self, seat: &mut Seat<L, M>, input: P::In, output: P::Out)
         ensures { HasGrown seat.old seat.new }
     {
-        work(
-            rt,
-            alloc,
-            face,
-            port,
-            book,
+        let mut desk = SeatDesk {
+            alloc: self.alloc,
+            rt: self.rt,
+            book: self.book,
             seat,
-            worker,
-            each,
-            gate,
-            accept_failed,
-        )
-    };
-    thread::for_each_mut(rt, seats, workers, &job);
-}
-
-/// One worker: takes so many connections and answers them for its seat. Where it can take no further one, it sets
-/// `accept_failed` and ends.
-fn work<R: Wait, P: Port, L: ShardLedger, M: ShardLedger, G: Gate>(
-    rt: &R,
-    alloc: Global,
-    face: &Face,
-    port: &P,
-    book: &Book<L, M>,
-    seat: &mut Seat<L, M>,
-    worker: usize,
-    each: usize,
-    gate: &G,
-    accept_failed: &AtomicBool,
-)
-    ensures { HasGrown seat.old seat.new }
-{
-    for nth in 0..each {
-        let Ok((input, output)) = port.accept() else {
-            accept_failed.store(true, Ordering::SeqCst);
-            return;
         };
-        gate.enter(worker, nth);
-        answer(rt, alloc, face, book, seat, input, output);
-        gate.leave(worker, nth);
+        answer_at(self.alloc, self.face, input, output, &mut desk);
+        let SeatDesk {
+            alloc: _,
+            rt: _,
+            book: _,
+            seat: _,
+        } = desk;
     }
-}
-
-/// Answers a connection for a seat, and ends it.
-fn answer<R: Wait, I: Read + Drop, O: Write + Drop, L: ShardLedger, M: ShardLedger>(
-    rt: &R,
-    alloc: Global,
-    face: &Face,
-    book: &Book<L, M>,
-    seat: &mut Seat<L, M>,
-    input: I,
-    output: O,
-)
-    ensures { HasGrown seat.old seat.new }
-{
-    let mut desk = SeatDesk {
-        alloc,
-        rt,
-        book,
-        seat,
-    };
-    answer_at(alloc, face, input, output, &mut desk);
-    let SeatDesk {
-        alloc: _,
-        rt: _,
-        book: _,
-        seat: _,
-    } = desk;
 }
 
 /// Answers a connection at a seat's desk, and ends it. One that ends with a fault counts as answered.

@@ -5,16 +5,17 @@ ghost use Rattle.mds_pool.specs.Serving.{IsEnded, IsSettledEnd};
 
 use crate::pool::{PoolCause, serve};
 use crate::port::Port;
-use mds_book::{Book, Keep, OpenFault, OpenGate, Seat, SettleFault, ShardLedger, reconcile};
+use mds_book::{
+    Book, Keep, OpenFault, OpenGate, Seat, SettleFault, Settled, ShardLedger, reconcile,
+};
 use mds_face::Face;
 use mds_table::Table;
 use std::alloc::Global;
-use std::marker::Brand;
 use std::sync::Wait;
 use std::sync::ledger::Blank;
 use std::thread::Threads;
 
-/// Why no number of accepted requests can be told.
+/// Why no settled book was handed out.
 #[derive(Clone, Copy, Debug, PartialEq, Eq, Hash)]
 pub enum Stop {
     /// There was no memory to begin.
@@ -30,57 +31,65 @@ pub enum Stop {
     },
 }
 
-/// Serves a port over a new book with this table: by as many workers as there are seats, each of which answers so many
-/// connections and notes the calls that were accepted. At the end the book is settled, and it tells how many requests were
-/// accepted in all.
+/// What a book is opened with.
+#[derive(Drop)]
+pub struct NewBook {
+    /// Its table.
+    pub table: Table,
+    /// The number of its seats.
+    pub seats: usize,
+    /// The ledger of the first shard, blank, cut into a part for each seat.
+    pub first: Blank,
+    /// The ledger of the second shard, likewise.
+    pub second: Blank,
+}
+
+impl NewBook {
+    /// A book over this table with so many seats, and ledgers that were cut for them.
+    pub fn of(table: Table, seats: usize) -> NewBook
+        ensures table { result.table ≡ table }
+        ensures seats { result.seats ≡ seats }
+        ensures parts { (result.first.parts ≡ seats) × (result.second.parts ≡ seats) }
+    {
+        NewBook {
+            table,
+            seats,
+            first: Blank::new(seats as u64),
+            second: Blank::new(seats as u64),
+        }
+    }
+}
+
+/// Opens a book and serves a port over it, by as many workers as the book has seats. Each worker answers `each`
+/// connections, and notes the calls that were accepted. At the end the book is settled and handed out: it tells how many
+/// requests were accepted in all.
 ///
 /// # Errors
 ///
 /// [`Stop`] says when each comes. The requests that were answered until then were answered as ever.
-pub fn serve_and_settle<R: Threads + Wait + Sync, P: Port + Sync>(
-    rt: &R,
-    alloc: Global,
-    table: Table,
-    port: &P,
-    seats: usize,
-    each: usize,
-) -> Result<u128, Stop>
-where
-    P::In: Send,
-    P::Out: Send,
-    requires seats { IsSeatCount seats }
-    ensures { IsEnded table seats result }
-{
-    let first = Blank::new(seats as u64);
-    let second = Blank::new(seats as u64);
-    serve_with::<R, P, Brand, Brand>(rt, alloc, table, port, seats, each, first, second)
-}
-
-/// As [`serve_and_settle`], with the ledgers of the book.
-fn serve_with<
+pub fn serve_and_settle<
     R: Threads + Wait + Sync,
     P: Port + Sync,
     L: ShardLedger + Send + Sync,
     M: ShardLedger + Send + Sync,
->(
-    rt: &R,
-    alloc: Global,
-    table: Table,
-    port: &P,
-    seats: usize,
-    each: usize,
-    first: Blank,
-    second: Blank,
-) -> Result<u128, Stop>
+>(rt: &R, alloc: Global, opening: NewBook, port: &P, each: usize) -> Result<Settled<L, M>, Stop>
 where
     P::In: Send,
     P::Out: Send,
-    requires first { (first.name ≡ L.name) × (first.parts ≡ L.parts) × (first.parts ≡ seats) }
-    requires second { (second.name ≡ M.name) × (second.parts ≡ M.parts) × (second.parts ≡ seats) }
-    requires table { (table ≡ L.tables) × (table ≡ M.tables) }
-    requires seats { IsSeatCount seats }
-    ensures { IsEnded table seats result }
+    requires first { (opening.first.name ≡ L.name) × (opening.first.parts ≡ L.parts) }
+    requires second { (opening.second.name ≡ M.name) × (opening.second.parts ≡ M.parts) }
+    requires parts { (opening.first.parts ≡ opening.seats)
+        × (opening.second.parts ≡ opening.seats) }
+    requires table { (opening.table ≡ L.tables) × (opening.table ≡ M.tables) }
+    requires seats { IsSeatCount opening.seats }
+    ensures { IsEnded opening.table opening.seats result }
 {
+    let NewBook {
+        table,
+        seats,
+        first,
+        second,
+    } = opening;
     let (book, list) = match Book::<L, M>::open(
         alloc,
         table,
@@ -105,16 +114,20 @@ where
     }
 }
 
-/// Settles a book all of whose seats are handed in, and tells how many requests were accepted.
+/// Settles a book all of whose seats are handed in.
+///
+/// # Errors
+///
+/// [`Stop::Torn`] where the notes don't fit the history of a shard.
 fn settle<L: ShardLedger, M: ShardLedger>(
     book: Book<L, M>,
     seats: Vec<Seat<L, M>>,
-) -> Result<u128, Stop>
+) -> Result<Settled<L, M>, Stop>
     requires { vec_len seats ≡ book.seats }
-    ensures { IsSettledEnd book.tables seats.items result }
+    ensures { IsSettledEnd book seats.items result }
 {
     match reconcile(book, seats) {
-        Ok(settled) => Ok(settled.accepted()),
+        Ok(settled) => Ok(settled),
         Err(SettleFault::Torn { shard, place, .. }) => Err(Stop::Torn { shard, place }),
         Err(SettleFault::Missing { .. }) => unreachable!(),
     }

@@ -1,4 +1,6 @@
 //! What no clause says: that workers work side by side, and what comes of their connections.
+mod gates;
+
 ghost use Rattle.std.specs.Prelude.{◌≡◌};
 
 use crate::{PoolCause, Port, PortFault, serve};

@@ -11,7 +11,9 @@ const MAX_WALKED: usize = 64;
 
 /// The first place below the end that hasn't exactly one accepted note of the shard.
 pub(crate) fn first_miscounted<S: NoteList>(shard: usize, end: usize, lists: &[S]) -> Option<usize>
-    ensures { MatchOption result (AreOnceBelow shard end S.seen lists.now) (IsFirstMiscounted shard end S.seen lists.now) }
+    ensures { MatchOption result
+        (AreOnceBelow shard end S.seen lists.now)
+        (IsFirstMiscounted shard end S.seen lists.now) }
 {
     let place = walked(shard, end, lists);
     if !are_few(shard, place, lists) {
@@ -48,8 +50,8 @@ fn is_found<S: NoteList>(
     lists: &[S],
     cursors: &mut [usize; MAX_WALKED],
 ) -> bool
-    ensures { result ≡ true → Any (λ list.
-        Any (λ note. accepted_at shard place note ≡ true) (S.seen list)) lists.now }
+    ensures { result ≡ true →
+        Any (λ list. Any (λ note. accepted_at shard place note ≡ true) (S.seen list)) lists.now }
 {
     for (list, cursor) in lists.iter().zip(cursors.iter_mut()) {
         let notes = list.notes();
@@ -128,7 +130,9 @@ fn first_twice<S: NoteList>(shard: usize, end: usize, lists: &[S]) -> usize
 
 /// The first place below the end that hasn't exactly one accepted note of the shard, looked for place by place.
 fn first_miscounted_plain<S: NoteList>(shard: usize, end: usize, lists: &[S]) -> Option<usize>
-    ensures { MatchOption result (AreOnceBelow shard end S.seen lists.now) (IsFirstMiscounted shard end S.seen lists.now) }
+    ensures { MatchOption result
+        (AreOnceBelow shard end S.seen lists.now)
+        (IsFirstMiscounted shard end S.seen lists.now) }
 {
     for place in 0..end {
         if !is_once(shard, place, lists) {

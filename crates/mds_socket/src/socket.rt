@@ -1,5 +1,7 @@
 //! A listening socket as a port.
 ghost use Rattle.std.specs.Prelude.{◌≡◌};
+ghost use Rattle.std.specs.IoError.{error_kind, raw_os_error};
+ghost use Rattle.mds_socket.specs.Retries.{retry_by_code, retry_by_kind};
 
 use crate::connection::{SocketIn, SocketOut, ends_of, set_limits};
 use mds_pool::{Port, PortFault};
@@ -80,8 +82,17 @@ enum Retry {
 }
 
 /// What becomes of taking a connection that failed in this way.
-fn retry_of(error: &io::Error) -> Retry {
-    match error.kind() {
+fn retry_of(error: &io::Error) -> Retry
+    ensures { result ≡ retry_by_kind (error_kind error.now) (raw_os_error error.now) }
+{
+    retry_of_kind(error.kind(), error.raw_os_error())
+}
+
+/// The same, by the kind of the error, and by its number where the kind says nothing.
+fn retry_of_kind(kind: ErrorKind, number: Option<i32>) -> Retry
+    ensures { result ≡ retry_by_kind kind number }
+{
+    match kind {
         ErrorKind::Interrupted
         | ErrorKind::ConnectionAborted
         | ErrorKind::ConnectionReset
@@ -92,12 +103,14 @@ fn retry_of(error: &io::Error) -> Retry {
         | ErrorKind::PermissionDenied
         | ErrorKind::Unsupported => Retry::AtOnce,
         ErrorKind::OutOfMemory => Retry::Later,
-        _ => retry_of_number(error.raw_os_error()),
+        _ => retry_of_number(number),
     }
 }
 
-/// The same of an error that has no kind, by its number.
-fn retry_of_number(number: Option<i32>) -> Retry {
+/// The same of an error whose kind says nothing, by its number.
+fn retry_of_number(number: Option<i32>) -> Retry
+    ensures { result ≡ retry_by_code number }
+{
     match number {
         Some(NO_NETWORK | PROTOCOL_ERROR | NO_PROTOCOL | HOST_DOWN) => Retry::AtOnce,
         Some(TOO_MANY_IN_SYSTEM | TOO_MANY_IN_PROCESS | NO_BUFFERS) => Retry::Later,
@@ -132,3 +145,6 @@ impl<C: Clock + Copy> Port for SocketPort<C> {
         Err(PortFault)
     }
 }
+
+#[cfg(test)]
+mod tests;

@@ -1,7 +1,7 @@
 use Rattle.std.proofs.Common.{◌≡◌, length, rules}
 use Rattle.mds_face.specs.Seats.{HasGrown}
 use Rattle.mds_pool.proofs.Places.{zip_by_place}
-use Rattle.mds_pool.proofs.pool.answer_all.Goals as goal
+use Rattle.mds_pool.proofs.pool.Workers.answer_all.Goals as goal
 
 pub returns : goal.returns
 returns g c =
