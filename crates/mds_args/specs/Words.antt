@@ -3,9 +3,7 @@ use Rattle.std.specs.Prelude.{◌≡◌, ◌⊎◌, ◌↔◌, ℕ, List, [], �
 use Rattle.std.specs.Str.Parse.{digits_value, without_leading_plus}
 use Rattle.clap.specs.declared.builder.action.ArgAction.TheVariants.{SetTrue}
 use Rattle.clap.specs.declared.builder.value_parser.ValueParser.TheVariants.{Unsigned}
-use Rattle.clap.specs.Words.{App, HasKind, IsUnsignedIn, Row, Rule, Text, fault_of, first_of, kind_of, new_app, new_rule, with_rule, subcommand_of, with_subcommand}
-use Rattle.clap.specs.declared.error.Error.{Error}
-use Rattle.clap.specs.declared.error.kind.ErrorKind.TheVariants.{MissingSubcommand}
+use Rattle.clap.specs.Words.{App, IsUnsignedIn, Row, Rule, Text, fault_of, first_of, new_app, new_rule, takes, with_rule, subcommand_of, with_subcommand}
 use Rattle.mds_args.specs.declared.words.Command.{Command}
 use Rattle.mds_args.specs.declared.words.Command.TheVariants.{Serve, Replay, Debug, Table}
 
@@ -118,9 +116,10 @@ Asks (Some found) command = (found.0 ≡ name_of command) × HasValues found.1 c
 abbrev pub AsksNothing : Option (Text × List Row) → Type 0
 AsksNothing found = (command : Command) → Asks found command → ⊥
 
--- why these words give no command: `clap` finds such a fault in them, or finds none and they ask for none, which the error
--- says; or memory was refused
-abbrev pub IsErrorOf : List Text → Error → Type 0
-IsErrorOf words error =
-    HasKind (fault_of program_app words) error
-    ⊎ ((fault_of program_app words ≡ []) × AsksNothing (subcommand_of program_app words) × (kind_of error ≡ MissingSubcommand))
+-- the words ask for this command, and `clap` finds no fault in them
+abbrev pub IsAskedBy : List Text → Command → Type 0
+IsAskedBy words command = Asks (subcommand_of program_app words) command × (fault_of program_app words ≡ [])
+
+-- `clap` takes the words, and they ask for some command
+abbrev pub AreTaken : List Text → Type 0
+AreTaken words = (takes program_app words ≡ true) × (AsksNothing (subcommand_of program_app words) → ⊥)

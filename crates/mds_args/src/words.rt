@@ -1,7 +1,16 @@
 //! The words of the command line, read by `clap`.
-ghost use Rattle.std.specs.Prelude.{◌≡◌, ◌↔◌, ◌<◌, ◌^◌, ◌∷◌, [], None, Some, true, false, codes, map, IsTrue, IfOk, IfErr, MatchOption};
-ghost use Rattle.clap.specs.Words.{app_of, fault_of, first_of, found_of, kind_of, rows_of, rule_of, subcommand_of, subcommand_rows_of, takes, with_subcommand};
-ghost use Rattle.mds_args.specs.Words.{Asks, AsksNothing, HasNoNumber, HasValues, IsErrorOf, IsNumber, LacksNumber, LacksOneOf, name_of, any_rule, debug_app, max_each, max_port, max_workers, needed_number_rule, number_rule, program_app, replay_app, serve_app, table_app, table_rule, word_rule, workers_rule};
+ghost use Rattle.std.specs.Prelude.{◌≡◌, ◌↔◌, ◌<◌, ◌^◌, ◌∷◌, [], None, Some, true, false};
+ghost use Rattle.std.specs.Prelude.{codes, map, IsTrue, IfOk, IfErr, MatchOption};
+ghost use Rattle.clap.specs.Words.{app_of, fault_of, first_of, found_of, kind_of, rows_of, rule_of};
+ghost use Rattle.clap.specs.Words.{subcommand_of, subcommand_rows_of, takes, with_subcommand};
+ghost use Rattle.mds_args.specs.Error.{HasCause, IsCause, words_kind};
+ghost use Rattle.mds_args.specs.Words.{Asks, AsksNothing, IsAskedBy, AreTaken};
+ghost use Rattle.mds_args.specs.Words.{HasNoNumber, HasValues, IsNumber, LacksNumber, LacksOneOf};
+ghost use Rattle.mds_args.specs.Words.{name_of, any_rule, debug_app, max_each, max_port, max_workers};
+ghost use Rattle.mds_args.specs.Words.{needed_number_rule, number_rule, program_app, replay_app};
+ghost use Rattle.mds_args.specs.Words.{serve_app, table_app, table_rule, word_rule, workers_rule};
+
+use crate::error::{WordsError, WordsErrorKind};
 
 use clap::builder::ValueParser;
 use clap::error::ErrorKind;
@@ -53,14 +62,32 @@ pub enum Command<'a> {
 
 /// The command that `words` ask for, of which the first is the program's name.
 ///
-/// An error that goes to standard error (`use_stderr`) comes where the words don't parse; one of the
-/// kind `OutOfMemory`, which has no text, where there is no memory to read them. A request for help is
-/// an error too, one that goes to standard output.
-pub fn parse_words<'a, S: AsStr>(alloc: Global, words: &'a [S]) -> Result<Command<'a>, Error>
+/// # Errors
+///
+/// `Help` where the words ask for help, `Mistake` where they don't parse or ask for no command,
+/// `Memory` where there is no memory to read them. `Display` gives the text for the user.
+pub fn parse_words<'a, S: AsStr>(
+    alloc: Global,
+    words: &'a [S],
+) -> Result<Command<'a>, WordsError>
+    ensures ok { IfOk result (IsAskedBy (map S.text words.entry.now)) }
+    ensures cause { IfErr result (HasCause (map S.text words.entry.now)) }
+    // Words that are taken and ask for some command give it, where there is memory.
+    ensures err { IfErr result (λ error. AreTaken (map S.text words.entry.now)
+        → words_kind error ≡ WordsErrorKind.Memory) }
+{
+    match command_in(alloc, words) {
+        Ok(command) => Ok(command),
+        Err(error) => Err(WordsError::new(error)),
+    }
+}
+
+/// The command that `words` ask for, or why `clap` or this crate finds none in them.
+fn command_in<'a, S: AsStr>(alloc: Global, words: &'a [S]) -> Result<Command<'a>, Error>
     ensures ok { IfOk result (Asks (subcommand_of program_app (map S.text words.entry.now))) }
     // Words in which `clap` finds a fault give no command, and the error is of a kind that it finds.
     ensures taken { IfOk result (λ _. fault_of program_app (map S.text words.entry.now) ≡ []) }
-    ensures kind { IfErr result (IsErrorOf (map S.text words.entry.now)) }
+    ensures kind { IfErr result (IsCause (map S.text words.entry.now)) }
     // Words that `clap` takes and that ask for some command give it, where there is memory.
     ensures err { IfErr result (λ error. takes program_app (map S.text words.entry.now) ≡ true
         → (AsksNothing (subcommand_of program_app (map S.text words.entry.now)) → ⊥)
@@ -95,17 +122,22 @@ fn command_of<'a>(matches: &ArgMatches<'a>) -> Option<Command<'a>>
     None
 }
 
-/// The most that each number may be.
+/// The greatest number of a port: TCP writes it in 16 bits.
 const MAX_PORT: u64 = 65_535;
 
+/// The most connections that each worker may be asked to answer. A worker keeps a note of each
+/// request that it accepts until the end, and so many notes still fit the memory of a small machine.
 const MAX_EACH: u64 = 1_000_000;
 
+/// The most workers: each takes a seat of the book, which has at most `mds_book::MAX_SEATS` of them.
+/// It may not be greater than that: the program's proof then fails.
 const MAX_WORKERS: u64 = 64;
 
 /// The command `serve` with these values, or `None` where one of its numbers is missing or out of its range.
 fn serve_of<'a>(values: &ArgMatches<'a>) -> Option<Command<'a>>
     ensures { MatchOption result (LacksNumber (rows_of (found_of values.now)))
-        (λ command. (name_of command ≡ codes "serve") × HasValues (rows_of (found_of values.now)) command) }
+        (λ command. (name_of command ≡ codes "serve")
+        × HasValues (rows_of (found_of values.now)) command) }
 {
     let port = number_of(values, "port", 0, MAX_PORT)?;
     let each = number_of(values, "each", 0, MAX_EACH)?;
@@ -120,7 +152,8 @@ fn serve_of<'a>(values: &ArgMatches<'a>) -> Option<Command<'a>>
 
 /// The number that the value of this name is, or `None` where there is no value or it is no number of this range.
 fn number_of(values: &ArgMatches<'_>, name: &str, least: u64, most: u64) -> Option<u64>
-    ensures { MatchOption result (HasNoNumber least most (first_of name.now (rows_of (found_of values.now))))
+    ensures { MatchOption result
+        (HasNoNumber least most (first_of name.now (rows_of (found_of values.now))))
         (IsNumber least most (first_of name.now (rows_of (found_of values.now)))) }
 {
     number_in(values.get_str(name)?, least, most)
@@ -128,7 +161,8 @@ fn number_of(values: &ArgMatches<'_>, name: &str, least: u64, most: u64) -> Opti
 
 /// The number that this text is, or `None` where it is no number of this range.
 fn number_in(text: &str, least: u64, most: u64) -> Option<u64>
-    ensures { MatchOption result (HasNoNumber least most (Some text.now)) (IsNumber least most (Some text.now)) }
+    ensures { MatchOption result (HasNoNumber least most (Some text.now))
+        (IsNumber least most (Some text.now)) }
 {
     let number = text.parse::<u64>().ok()?;
     if least <= number && number <= most {
@@ -141,7 +175,8 @@ fn number_in(text: &str, least: u64, most: u64) -> Option<u64>
 /// The command `replay` with these values, or `None` where the file is missing.
 fn replay_of<'a>(values: &ArgMatches<'a>) -> Option<Command<'a>>
     ensures { MatchOption result (first_of (codes "FILE") (rows_of (found_of values.now)) ≡ None)
-        (λ command. (name_of command ≡ codes "replay") × HasValues (rows_of (found_of values.now)) command) }
+        (λ command. (name_of command ≡ codes "replay")
+        × HasValues (rows_of (found_of values.now)) command) }
 {
     let file = values.get_str("FILE")?;
     Some(Command::Replay {
@@ -153,7 +188,8 @@ fn replay_of<'a>(values: &ArgMatches<'a>) -> Option<Command<'a>>
 
 /// Whether the flag of this name is set.
 fn is_set(values: &ArgMatches<'_>, name: &str) -> bool
-    ensures { IsTrue result ↔ (first_of name.now (rows_of (found_of values.now)) ≡ Some (codes "true")) }
+    ensures { IsTrue result ↔ (first_of name.now (rows_of (found_of values.now)) ≡ Some
+        (codes "true")) }
 {
     match values.get_str(name) {
         Some(value) => is_true(value),
@@ -170,8 +206,11 @@ fn is_true(value: &str) -> bool
 
 /// The command `debug` with these values, or `None` where the file, the provider or the device is missing.
 fn debug_of<'a>(values: &ArgMatches<'a>) -> Option<Command<'a>>
-    ensures { MatchOption result (LacksOneOf (codes "FILE" ∷ codes "PROVIDER" ∷ codes "DEVICE" ∷ []) (rows_of (found_of values.now)))
-        (λ command. (name_of command ≡ codes "debug") × HasValues (rows_of (found_of values.now)) command) }
+    ensures { MatchOption result
+        (LacksOneOf (codes "FILE" ∷ codes "PROVIDER" ∷ codes "DEVICE" ∷ [])
+        (rows_of (found_of values.now)))
+        (λ command. (name_of command ≡ codes "debug")
+        × HasValues (rows_of (found_of values.now)) command) }
 {
     let file = values.get_str("FILE")?;
     let provider = values.get_str("PROVIDER")?;

@@ -9,7 +9,7 @@ use Rattle.mds_city.specs.declared.problem.Problem.{Problem}
 use Rattle.mds_city.specs.declared.problem.Problem.TheVariants.{CannotRead, NotATable, NotABatch, Socket, Output, Memory}
 use Rattle.mds_city.specs.declared.status.Status.{Status}
 use Rattle.mds_city.specs.declared.status.Status.TheVariants.{Done, Refused}
-use Rattle.mds_io.specs.Device.{AppendsFront}
+use Rattle.mds_io.specs.Page.{AppendsFront}
 use Rattle.mds_city.specs.Status.{code_of}
 use Rattle.mds_city.specs.Problem.{status_of, Tells}
 use Rattle.mds_trace.specs.declared.report.Opening.{Opening}

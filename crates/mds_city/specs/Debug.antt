@@ -1,5 +1,5 @@
 -- What the debugger's command does.
-use Rattle.std.specs.Prelude.{◌≡◌, ◌≢◌, ◌⊎◌, ◌+◌, ◌≤◌, ℕ, List, [], ◌++◌, length, codes, Option, Some}
+use Rattle.std.specs.Prelude.{◌≡◌, ◌≢◌, ◌⊎◌, ◌+◌, ℕ, List, [], ◌++◌, length, codes, Option, Some}
 use Rattle.std.specs.Io.KnownBytes.{Appends, Consumes, Keeps}
 use Rattle.uuid.specs.Text.{parsed}
 use Rattle.mds_table.specs.declared.state.State.TheVariants as state
@@ -13,11 +13,11 @@ use Rattle.mds_trace.specs.Replay.{AreVerdicts, accepted_of, prior_of}
 use Rattle.mds_trace.specs.Walk.{Walk}
 use Rattle.mds_debugger.specs.declared.line.CountsLine.{CountsLine}
 use Rattle.mds_debugger.specs.declared.script.ScriptCommand.{ScriptCommand}
-use Rattle.mds_debugger.specs.Input.{max_script}
+use Rattle.mds_debugger.specs.Input.{IsRead}
 use Rattle.mds_debugger.specs.Printed.{PrintsStart, PrintsScript, PrintsFront}
 use Rattle.mds_debugger.specs.Script.{IsScript}
 use Rattle.mds_debugger.specs.Vehicle.{told_of}
-use Rattle.mds_io.specs.Device.{AppendsFront, with_newline}
+use Rattle.mds_io.specs.Page.{AppendsFront, with_newline}
 use Rattle.mds_city.specs.declared.debug.Named.{Named}
 use Rattle.mds_city.specs.declared.debug.DebugProblem.{DebugProblem}
 use Rattle.mds_city.specs.declared.debug.DebugProblem.TheVariants.{BadIdentifier, NotInFile, Other}
@@ -72,16 +72,16 @@ Debugged walk counts bytes old new =
     (start : List ℕ) × (script : List (Option ScriptCommand)) × (to : Place) × (text : List ℕ)
     × PrintsStart walk counts start × IsScript bytes script × PrintsScript walk script to text × Appends old new (start ++ text)
 
--- besides, the script that was read, a front of what the reader had
+-- besides, the script that was read: all that the reader had or the first of it, or a front where reading broke off
 abbrev pub Shown : Walk → CountsLine → Option (List ℕ) → Option (List ℕ) → Option (List ℕ) → Option (List ℕ) → Type 0
-Shown walk counts input input_new old new = (bytes : List ℕ) × Consumes input input_new bytes × (length bytes ≤ max_script) × Debugged walk counts bytes old new
+Shown walk counts input input_new old new = (bytes : List ℕ) × IsRead input input_new bytes × Debugged walk counts bytes old new
 
 -- the start of a session went out, and then a front of what the script that was read prints
 abbrev pub DebugsPart : Walk → CountsLine → Option (List ℕ) → Option (List ℕ) → Option (List ℕ) → Option (List ℕ) → Type 0
 DebugsPart walk counts input input_new old new =
     (start : List ℕ) × PrintsStart walk counts start × (middle : Option (List ℕ)) × Appends old middle start
     × (Keeps middle new
-    ⊎ ((bytes : List ℕ) × Consumes input input_new bytes × (length bytes ≤ max_script) × (script : List (Option ScriptCommand)) × IsScript bytes script
+    ⊎ ((bytes : List ℕ) × IsRead input input_new bytes × (script : List (Option ScriptCommand)) × IsScript bytes script
     × PrintsFront walk script middle new))
 
 -- a front of what a session's start and a script print went out

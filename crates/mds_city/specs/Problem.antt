@@ -7,14 +7,14 @@ use Rattle.mds_table.specs.declared.table_file.TableFault.TheVariants as table_f
 use Rattle.mds_batch.specs.Batch as batch
 use Rattle.mds_batch.specs.declared.batch.BatchFault.{BatchFault}
 use Rattle.mds_batch.specs.declared.batch.BatchFault.TheVariants as batch_fault
-use Rattle.mds_io.specs.declared.device.PrintError.{PrintError}
-use Rattle.mds_io.specs.declared.device.PrintError.TheVariants as write
+use Rattle.mds_io.specs.declared.page.PrintError.{PrintError}
+use Rattle.mds_io.specs.declared.page.PrintError.TheVariants as write
 use Rattle.mds_city.specs.declared.problem.Telling.{Telling}
 use Rattle.mds_city.specs.declared.problem.Problem.{Problem}
 use Rattle.mds_city.specs.declared.problem.Problem.TheVariants.{CannotRead, NotATable, NotABatch, Socket, Output, Memory}
 use Rattle.mds_city.specs.declared.status.Status.{Status}
 use Rattle.mds_city.specs.declared.status.Status.TheVariants.{Fault, NoMemory}
-use Rattle.mds_io.specs.Device.{AppendsFront, with_newline}
+use Rattle.mds_io.specs.Page.{AppendsFront, with_newline}
 
 -- what is said of a problem
 abbrev pub problem_text : Problem → List ℕ

@@ -1,15 +1,9 @@
 -- What the program does with the words of its command line.
 use Rattle.std.specs.Prelude.{◌≡◌, ◌≢◌, ◌⊎◌, ℕ, ◌<◌, ◌≤◌, List, [], Option, Some, None, Bool, true, false, codes, option_map}
 use Rattle.std.specs.Io.KnownBytes.{Keeps}
-use Rattle.clap.specs.Words.{Text, fault_of, kind_of, subcommand_of}
-use Rattle.clap.specs.declared.error.Error.{Error}
-use Rattle.clap.specs.declared.error.kind.ErrorKind.{ErrorKind}
-use Rattle.clap.specs.declared.error.kind.ErrorKind.TheVariants as kind
 use Rattle.mds_trace.specs.declared.report.Opening.{Opening}
 use Rattle.mds_trace.specs.declared.report.Opening.TheVariants.{Removed, Any}
 use Rattle.mds_book.specs.Books.{IsSeatCount}
-use Rattle.mds_city.specs.declared.program.Answer.{Answer}
-use Rattle.mds_city.specs.declared.program.Answer.TheVariants.{Help, Mistake, NoMemory}
 use Rattle.mds_city.specs.declared.problem.Problem.TheVariants as problem
 use Rattle.mds_city.specs.declared.source.Source.{Source}
 use Rattle.mds_city.specs.declared.status.Status.{Status}
@@ -21,31 +15,28 @@ use Rattle.mds_city.specs.Debug.{Debugs}
 use Rattle.mds_city.specs.Serve.{CameToServe}
 use Rattle.mds_city.specs.Problem.{Tells}
 use Rattle.mds_city.specs.Status.{code_of}
-use Rattle.mds_args.specs.Words.{Asks, IsErrorOf, program_app}
+use Rattle.mds_args.specs.declared.error.WordsError.{WordsError}
+use Rattle.mds_args.specs.declared.error.WordsErrorKind.{WordsErrorKind}
+use Rattle.mds_args.specs.declared.error.WordsErrorKind.TheVariants.{Help, Mistake, Memory}
+use Rattle.mds_args.specs.Error.{HasCause, words_kind}
+use Rattle.mds_args.specs.Words.{IsAskedBy}
 
 -- the number of workers, where there are any, is one of seats that a book may have
 abbrev pub HasWorkers : Command → Type 0
 HasWorkers (Serve port each workers path) = IsSeatCount workers
 HasWorkers other = Unit {0}
 
--- how an error of this kind is answered: help and the version are printed, all else but the want of memory is a mistake
-abbrev pub answer_to : ErrorKind → Answer
-answer_to kind.DisplayHelp = Help
-answer_to kind.DisplayVersion = Help
-answer_to kind.OutOfMemory = NoMemory
-answer_to error = Mistake
-
 -- the want of memory was told
 abbrev pub TellsNoMemory : Status → Option (List ℕ) → Option (List ℕ) → Type 0
 TellsNoMemory ended faults faults_new = (ended ≡ status.NoMemory) × Tells faults faults_new problem.Memory
 
--- what an answer to the words did: help keeps the fault writer, unless the output failed or there was no memory to tell that;
+-- what was done about an error of this kind: help keeps the fault writer, unless the output failed or there was no memory to tell that;
 -- mistakes keep the output
-abbrev pub Explains : Answer → Status → Option (List ℕ) → Option (List ℕ) → Option (List ℕ) → Option (List ℕ) → Type 0
+abbrev pub Explains : WordsErrorKind → Status → Option (List ℕ) → Option (List ℕ) → Option (List ℕ) → Option (List ℕ) → Type 0
 Explains Help ended out out_new faults faults_new =
     ((ended ≡ status.Done) × Keeps faults faults_new) ⊎ ((ended ≡ status.Fault) × Tells faults faults_new problem.Output) ⊎ TellsNoMemory ended faults faults_new
 Explains Mistake ended out out_new faults faults_new = (ended ≡ status.BadWords) × Keeps out out_new
-Explains NoMemory ended out out_new faults faults_new = TellsNoMemory ended faults faults_new × Keeps out out_new
+Explains Memory ended out out_new faults faults_new = TellsNoMemory ended faults faults_new × Keeps out out_new
 
 -- what the vehicles of a replay hold at first: by the flag `--any` nothing is taken for given
 abbrev pub opening_if : Bool → Opening
@@ -78,8 +69,9 @@ module _ {O F : Type 0} (opens : O → List ℕ → Option F → Type 0) (files 
   IsFileNamed (Some path) None = ⊥
   IsFileNamed (Some path) (Some source) = IsFileOf path source
 
-  -- besides, of what reads files and standard input: the bytes that are known of each, and standard input itself
-  module _ {I : Type 0} (file_bytes : F → Option (List ℕ)) (input_bytes : I → Option (List ℕ)) (input : I) where
+  -- besides, of what listens: the relation of a number asked for to what listens and its port's number; and of what reads files and
+  -- standard input: the bytes that are known of each, and standard input itself
+  module _ {L I : Type 0} (listens : O → ℕ → L → ℕ → Type 0) (file_bytes : F → Option (List ℕ)) (input_bytes : I → Option (List ℕ)) (input : I) where
     -- a replay of the file of this path, which is standard input for `-` alone, came to these
     abbrev pub CarriesReplay : Opening → List ℕ → Option (Source F) → ℕ → Option (List ℕ) → Option (List ℕ) → Option (List ℕ) → Option (List ℕ) → Type 0
     CarriesReplay begins path table code out out_new faults faults_new =
@@ -91,7 +83,7 @@ module _ {O F : Type 0} (opens : O → List ℕ → Option F → Type 0) (files 
     -- what a command did: it read the files that it names, and came to these
     abbrev pub Carries : Command → ℕ → Option (List ℕ) → Option (List ℕ) → Option (List ℕ) → Option (List ℕ) → Type 0
     Carries (Serve port each workers path) code out out_new faults faults_new =
-        (table : Option (Source F)) × IsFileNamed (option_map (λ named. named.now) path) table × CameToServe file_bytes table workers code out out_new faults faults_new
+        (table : Option (Source F)) × IsFileNamed (option_map (λ named. named.now) path) table × CameToServe listens files port file_bytes table workers code out out_new faults faults_new
     Carries (Table path) code out out_new faults faults_new =
         (table : Option (Source F)) × IsFileNamed (option_map (λ named. named.now) path) table × CameToTable file_bytes table code out out_new faults faults_new
     Carries (Replay file path any) code out out_new faults faults_new =
@@ -102,9 +94,8 @@ module _ {O F : Type 0} (opens : O → List ℕ → Option F → Type 0) (files 
         × Debugs file_bytes table file_bytes events (record { provider = provider; device = device }) code (input_bytes input) input_new out out_new faults faults_new
 
     -- what the program did with words: it carried out the command that they ask for, or explained why they give none
-    abbrev pub Runs : List Text → ℕ → Option (List ℕ) → Option (List ℕ) → Option (List ℕ) → Option (List ℕ) → Type 0
+    abbrev pub Runs : List (List ℕ) → ℕ → Option (List ℕ) → Option (List ℕ) → Option (List ℕ) → Option (List ℕ) → Type 0
     Runs words code out out_new faults faults_new =
-        ((command : Command) × Asks (subcommand_of program_app words) command × (fault_of program_app words ≡ [])
-        × Carries command code out out_new faults faults_new)
-        ⊎ ((error : Error) × (ended : Status) × IsErrorOf words error × (code ≡ code_of ended)
-        × Explains (answer_to (kind_of error)) ended out out_new faults faults_new)
+        ((command : Command) × IsAskedBy words command × Carries command code out out_new faults faults_new)
+        ⊎ ((error : WordsError) × (ended : Status) × HasCause words error × (code ≡ code_of ended)
+        × Explains (words_kind error) ended out out_new faults faults_new)

@@ -2,7 +2,7 @@
 use Rattle.std.specs.Prelude.{◌≡◌, ◌⊎◌, ℕ, ◌<◌, ◌+◌, List, length, take, Option, Result, Ok, Err}
 use Rattle.std.specs.Io.KnownBytes.{Appends, Keeps}
 use Rattle.mds_table.specs.Tables.{Tables}
-use Rattle.mds_io.specs.Device.{AppendsFront, with_newline}
+use Rattle.mds_io.specs.Page.{AppendsFront, with_newline}
 use Rattle.mds_city.specs.Torn.{torn_text}
 use Rattle.mds_book.specs.Gathering.{Collected}
 use Rattle.mds_pool.specs.Serving.{IsEnded}
@@ -49,11 +49,16 @@ abbrev pub Serves : Tables → ℕ → ℕ → Option (List ℕ) → Option (Lis
 Serves tables workers code out out_new faults faults_new =
     (ended : Result Collected Stop) × IsEnded tables workers ended × IsSaid ended code out out_new faults faults_new
 
--- of the command: the known bytes of a table file's reader, and the table file if one is given
-module _ {T : Type 0} (table_bytes : T → Option (List ℕ)) (table : Option (Source T)) where
+-- of the command: the relation of a host and a number asked for to what listens and its port's number, the host, and the number; the
+-- known bytes of a table file's reader, and the table file if one is given
+module _ {H L T : Type 0} (listens : H → ℕ → L → ℕ → Type 0) (host : H) (number : ℕ) (table_bytes : T → Option (List ℕ)) (table : Option (Source T)) where
+  -- the host listens at the port of this number, as was asked
+  abbrev pub IsPort : ℕ → Type 0
+  IsPort port = (listening : L) × listens host number listening port
+
   -- the table was had, and a front of the line that says where the server listens went out
   abbrev pub PrintsListening : Option (List ℕ) → Option (List ℕ) → Type 0
-  PrintsListening out out_new = (tables : Tables) × HasTableIn table_bytes table tables × ((port : ℕ) × AppendsFront out out_new (with_newline (listening_line port)))
+  PrintsListening out out_new = (tables : Tables) × HasTableIn table_bytes table tables × ((port : ℕ) × IsPort port × AppendsFront out out_new (with_newline (listening_line port)))
 
   -- why nothing was served: a fault of the table file, a port that can't be had, or a line that could not be printed; and what went out
   abbrev pub StopsBefore : Problem → Option (List ℕ) → Option (List ℕ) → Type 0
@@ -66,7 +71,7 @@ module _ {T : Type 0} (table_bytes : T → Option (List ℕ)) (table : Option (S
 
   -- the table was had, and the line that says where the server listens went out
   abbrev pub Listened : Tables → Option (List ℕ) → Option (List ℕ) → Type 0
-  Listened tables out out_new = HasTableIn table_bytes table tables × ((port : ℕ) × Appends out out_new (with_newline (listening_line port)))
+  Listened tables out out_new = HasTableIn table_bytes table tables × ((port : ℕ) × IsPort port × Appends out out_new (with_newline (listening_line port)))
 
   -- what the command came to: nothing was served, for a problem that was told; or it was served, after the first line
   abbrev pub CameToServe : ℕ → ℕ → Option (List ℕ) → Option (List ℕ) → Option (List ℕ) → Option (List ℕ) → Type 0

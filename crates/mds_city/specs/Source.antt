@@ -14,7 +14,7 @@ use Rattle.mds_batch.specs.Batch.{HasItems, HasFault as HasBatchFault}
 use Rattle.mds_city.specs.declared.source.Source.{Source}
 use Rattle.mds_city.specs.declared.problem.Problem.{Problem}
 use Rattle.mds_city.specs.declared.problem.Problem.TheVariants.{CannotRead, NotATable, NotABatch, Socket, Output, Memory}
-use Rattle.mds_io.specs.Device.{HasFront}
+use Rattle.mds_io.specs.Read.{HasFront}
 use Rattle.mds_city.specs.Problem.{table_problem, batch_problem}
 
 -- how many bytes of a file are read at most: one more than are taken, so that a longer file is seen to be too long

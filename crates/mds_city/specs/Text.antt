@@ -13,7 +13,7 @@ use Rattle.mds_trace.specs.declared.report.Verdict.{Verdict}
 use Rattle.mds_trace.specs.declared.report.VehicleEnd.{VehicleEnd}
 use Rattle.mds_trace.specs.declared.report.Report.{Report}
 use Rattle.mds_trace.specs.Verdict.{verdict_text}
-use Rattle.mds_io.specs.Device.{with_newline}
+use Rattle.mds_io.specs.Page.{with_newline}
 
 -- the line of an item: its index, and what is said of it
 abbrev pub item_line : ℕ → Verdict → List ℕ

@@ -27,8 +27,10 @@ pub fn replay_to<T: Read + Drop, R: Read + Drop, W: Write, E: Write>(
     out: &mut W,
     faults: &mut E,
 ) -> u8
-    ensures ran { result < 2 → Replayed opening T.remaining table.entry R.remaining file.entry result
-        (W.contents out.old) (W.contents out.new) × Keeps (E.contents faults.old) (E.contents faults.new) }
+    ensures ran { result < 2 → Replayed opening T.remaining table.entry R.remaining file.entry
+        result
+        (W.contents out.old) (W.contents out.new)
+        × Keeps (E.contents faults.old) (E.contents faults.new) }
     ensures told { 2 ≤ result → Told opening T.remaining table.entry R.remaining file.entry result
         (W.contents out.old) (W.contents out.new) (E.contents faults.old) (E.contents faults.new) }
 {
@@ -57,10 +59,14 @@ fn replay_into<'a, T: Read + Drop, R: Read + Drop, W: Write>(
     opening: Opening,
     out: &mut W,
 ) -> Result<usize, Problem<'a>>
-    ensures ok { IfOk result (λ refused. (report : Report) × HasReport opening T.remaining table.entry R.remaining file.entry report
-        × Appends (W.contents out.old) (W.contents out.new) (report_text opening report) × (refused ≡ report.refused)) }
-    ensures err { IfErr result (λ problem. ExplainsReplay opening T.remaining table.entry R.remaining file.entry problem
-        × WentOut opening T.remaining table.entry R.remaining file.entry problem (W.contents out.old) (W.contents out.new)) }
+    ensures ok { IfOk result (λ refused. (report : Report)
+        × HasReport opening T.remaining table.entry R.remaining file.entry report
+        × Appends (W.contents out.old) (W.contents out.new) (report_text opening report)
+        × (refused ≡ report.refused)) }
+    ensures err { IfErr result (λ problem. ExplainsReplay opening T.remaining table.entry
+        R.remaining file.entry problem
+        × WentOut opening T.remaining table.entry R.remaining file.entry problem
+        (W.contents out.old) (W.contents out.new)) }
 {
     let report = report_on(alloc, table, file, opening)?;
     print_report(alloc, out, &report, opening)?;
@@ -75,7 +81,8 @@ fn report_on<'a, T: Read + Drop, R: Read + Drop>(
     opening: Opening,
 ) -> Result<Report, Problem<'a>>
     ensures ok { IfOk result (HasReport opening T.remaining table.entry R.remaining file.entry) }
-    ensures err { IfErr result (λ problem. ExplainsReplay opening T.remaining table.entry R.remaining file.entry problem
+    ensures err { IfErr result (λ problem. ExplainsReplay opening T.remaining table.entry
+        R.remaining file.entry problem
         × (problem ≢ Problem.Output)) }
 {
     let table = table_in(alloc, table)?;
@@ -92,7 +99,8 @@ pub fn table_to<T: Read + Drop, W: Write, E: Write>(
     out: &mut W,
     faults: &mut E,
 ) -> u8
-    ensures ran { result < 2 → (result ≡ 0) × Tabled T.remaining table.entry (W.contents out.old) (W.contents out.new)
+    ensures ran { result < 2 → (result ≡ 0) × Tabled T.remaining table.entry (W.contents out.old)
+        (W.contents out.new)
         × Keeps (E.contents faults.old) (E.contents faults.new) }
     ensures told { 2 ≤ result → TableTold T.remaining table.entry result
         (W.contents out.old) (W.contents out.new) (E.contents faults.old) (E.contents faults.new) }
@@ -109,7 +117,8 @@ fn table_into<'a, T: Read + Drop, W: Write>(
     table: Option<Source<'a, T>>,
     out: &mut W,
 ) -> Result<(), Problem<'a>>
-    ensures ok { OnOk result (Tabled T.remaining table.entry (W.contents out.old) (W.contents out.new)) }
+    ensures ok { OnOk result (Tabled T.remaining table.entry (W.contents out.old)
+        (W.contents out.new)) }
     ensures err { IfErr result (λ problem. ExplainsPrint T.remaining table.entry problem
         × TableWentOut T.remaining table.entry problem (W.contents out.old) (W.contents out.new)) }
 {
@@ -124,7 +133,8 @@ fn rows_on<'a, T: Read + Drop>(
     table: Option<Source<'a, T>>,
 ) -> Result<Vec<Row>, Problem<'a>>
     ensures ok { IfOk result (λ rows. HasTableIn T.remaining table.entry rows.items) }
-    ensures err { IfErr result (λ problem. ExplainsPrint T.remaining table.entry problem × (problem ≢ Problem.Output)) }
+    ensures err { IfErr result (λ problem. ExplainsPrint T.remaining table.entry problem
+        × (problem ≢ Problem.Output)) }
 {
     let table = table_in(alloc, table)?;
     Ok(table.rows(alloc)?)

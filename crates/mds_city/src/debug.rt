@@ -34,7 +34,8 @@ pub struct Named<'a> {
 impl Named<'_> {
     /// The vehicle, or `None` where a word is no identifier.
     fn key(&self) -> Option<Key>
-        ensures { MatchOption result ((key : Vehicle) → IsNamed self.now key → ⊥) (IsNamed self.now) }
+        ensures { MatchOption result ((key : Vehicle) → IsNamed self.now key
+            → ⊥) (IsNamed self.now) }
     {
         let provider = identifier(self.provider)?;
         let device = identifier(self.device)?;
@@ -107,7 +108,8 @@ pub fn debug_to<T: Read + Drop, R: Read + Drop, I: Read, W: Write, E: Write>(
     out: &mut W,
     faults: &mut E,
 ) -> u8
-    ensures { Debugs T.remaining table.entry R.remaining file.entry named.entry result (I.remaining script.old) (I.remaining script.new)
+    ensures { Debugs T.remaining table.entry R.remaining file.entry named.entry result
+        (I.remaining script.old) (I.remaining script.new)
         (W.contents out.old) (W.contents out.new) (E.contents faults.old) (E.contents faults.new) }
 {
     match debug_into(alloc, table, file, named, script, out) {
@@ -119,8 +121,11 @@ pub fn debug_to<T: Read + Drop, R: Read + Drop, I: Read, W: Write, E: Write>(
 /// Tells the problem in one line, and answers its status. Where there is no memory to lay the line out, the problem that
 /// is told is that. Where the writer fails the status stays.
 fn tell_debug<E: Write>(alloc: Global, faults: &mut E, problem: DebugProblem<'_>) -> Status
-    ensures { ((result ≡ debug_status_of problem.entry) × TellsDebug (E.contents faults.old) (E.contents faults.new) problem.entry)
-        ⊎ (IsOther problem.entry × (result ≡ Status.NoMemory) × TellsDebug (E.contents faults.old) (E.contents faults.new) (DebugProblem.Other Problem.Memory)) }
+    ensures { ((result ≡ debug_status_of problem.entry)
+        × TellsDebug (E.contents faults.old) (E.contents faults.new) problem.entry)
+        ⊎ (IsOther problem.entry × (result ≡ Status.NoMemory)
+        × TellsDebug (E.contents faults.old) (E.contents faults.new)
+        (DebugProblem.Other Problem.Memory)) }
 {
     match problem {
         DebugProblem::BadIdentifier => {
@@ -144,10 +149,14 @@ fn debug_into<'a, T: Read + Drop, R: Read + Drop, I: Read, W: Write>(
     script: &mut I,
     out: &mut W,
 ) -> Result<usize, DebugProblem<'a>>
-    ensures ok { IfOk result (λ refused. (walk : Walk) × (counts : Counts) × HasSession T.remaining table.entry R.remaining file.entry named.entry walk counts
-        × Shown walk counts (I.remaining script.old) (I.remaining script.new) (W.contents out.old) (W.contents out.new) × (refused ≡ counts.refused)) }
-    ensures err { IfErr result (λ problem. ExplainsDebug T.remaining table.entry R.remaining file.entry named.entry problem
-        × DebugWentOut T.remaining table.entry R.remaining file.entry named.entry problem (I.remaining script.old) (I.remaining script.new)
+    ensures ok { IfOk result (λ refused. (walk : Walk) × (counts : Counts)
+        × HasSession T.remaining table.entry R.remaining file.entry named.entry walk counts
+        × Shown walk counts (I.remaining script.old) (I.remaining script.new) (W.contents out.old)
+        (W.contents out.new) × (refused ≡ counts.refused)) }
+    ensures err { IfErr result (λ problem. ExplainsDebug T.remaining table.entry R.remaining
+        file.entry named.entry problem
+        × DebugWentOut T.remaining table.entry R.remaining file.entry named.entry problem
+        (I.remaining script.old) (I.remaining script.new)
         (W.contents out.old) (W.contents out.new)) }
 {
     let opened = session_on(alloc, table, file, named)?;
@@ -170,8 +179,10 @@ fn session_on<'a, T: Read + Drop, R: Read + Drop>(
     file: Source<'a, R>,
     named: Named<'a>,
 ) -> Result<Opened, DebugProblem<'a>>
-    ensures ok { IfOk result (λ opened. HasSession T.remaining table.entry R.remaining file.entry named.entry opened.session opened.counts) }
-    ensures err { IfErr result (λ problem. ExplainsDebug T.remaining table.entry R.remaining file.entry named.entry problem
+    ensures ok { IfOk result (λ opened. HasSession T.remaining table.entry R.remaining file.entry
+        named.entry opened.session opened.counts) }
+    ensures err { IfErr result (λ problem. ExplainsDebug T.remaining table.entry R.remaining
+        file.entry named.entry problem
         × (problem ≢ DebugProblem.Other Problem.Output)) }
 {
     let Some(key) = named.key() else {
@@ -211,7 +222,8 @@ fn open_on(
 /// The session over these events, which lead on from removed.
 fn session_of(alloc: Global, table: Table, events: Vec<Event>) -> Result<Session, AllocError>
     requires { AreOpenFrom table State.Removed events.items }
-    ensures { IfOk result (λ session. session ≡ record { tables = table; opening = State.Removed; events = events.items; place = record { event = 0; passed = 0 } }) }
+    ensures { IfOk result (λ session. session ≡ record { tables = table; opening = State.Removed;
+        events = events.items; place = record { event = 0; passed = 0 } }) }
 {
     match Session::open(alloc, table, State::Removed, events) {
         Ok(session) => Ok(session),
@@ -227,9 +239,12 @@ fn show<'a, I: Read, W: Write>(
     script: &mut I,
     out: &mut W,
 ) -> Result<(), DebugProblem<'a>>
-    ensures ok { OnOk result (Shown opened.session opened.counts (I.remaining script.old) (I.remaining script.new) (W.contents out.old) (W.contents out.new)) }
-    ensures err { IfErr result (λ problem. IsOfShowing problem × DebugsFront opened.session opened.counts
-        (I.remaining script.old) (I.remaining script.new) (W.contents out.old) (W.contents out.new)) }
+    ensures ok { OnOk result (Shown opened.session opened.counts (I.remaining script.old)
+        (I.remaining script.new) (W.contents out.old) (W.contents out.new)) }
+    ensures err { IfErr result (λ problem. IsOfShowing problem
+        × DebugsFront opened.session opened.counts
+        (I.remaining script.old) (I.remaining script.new) (W.contents out.old)
+        (W.contents out.new)) }
 {
     let mut session = opened.session;
     print_start(alloc, out, &session, opened.counts)?;

@@ -1,7 +1,7 @@
 //! Single lines that a server prints.
 ghost use Rattle.std.specs.Prelude.{Some, IfSome, OnOk, OnErr};
 ghost use Rattle.std.specs.Io.KnownBytes.{Appends};
-ghost use Rattle.mds_io.specs.Device.{AppendsFront, with_newline};
+ghost use Rattle.mds_io.specs.Page.{AppendsFront, with_newline};
 ghost use Rattle.mds_city.specs.Text.{accepted_line, listening_line};
 
 use mds_io::{PrintError, add_line, flush_page};
@@ -43,14 +43,19 @@ impl fmt::Display for AcceptedLine {
 
 /// Prints one line.
 ///
-/// At an error a front of it went out: `Memory` where there was none to lay it out, `Device` where the writer failed.
+/// # Errors
+///
+/// `Memory` where there was none to lay it out, `Device` where the writer failed; a front of it went
+/// out.
 pub fn print_line<W: Write, D: fmt::Display>(
     alloc: Global,
     writer: &mut W,
     line: &D,
 ) -> Result<(), PrintError>
-    ensures ok { OnOk result (IfSome (D.output line.now) (λ text. Appends (W.contents writer.old) (W.contents writer.new) (with_newline text))) }
-    ensures err { OnErr result (IfSome (D.output line.now) (λ text. AppendsFront (W.contents writer.old) (W.contents writer.new) (with_newline text))) }
+    ensures ok { OnOk result (IfSome (D.output line.now) (λ text.
+        Appends (W.contents writer.old) (W.contents writer.new) (with_newline text))) }
+    ensures err { OnErr result (IfSome (D.output line.now) (λ text.
+        AppendsFront (W.contents writer.old) (W.contents writer.new) (with_newline text))) }
 {
     let mut page = String::new(alloc);
     add_line(writer, &mut page, line)?;

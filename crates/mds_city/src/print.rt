@@ -1,7 +1,7 @@
 //! Printing a replay's report, and a table.
 ghost use Rattle.std.specs.Prelude.{◌++◌, string_bytes, OnOk, OnErr};
 ghost use Rattle.std.specs.Io.KnownBytes.{Appends};
-ghost use Rattle.mds_io.specs.Device.{AppendsFront, Passes};
+ghost use Rattle.mds_io.specs.Page.{AppendsFront, Passes};
 ghost use Rattle.mds_city.specs.Text.{item_lines, vehicle_lines, report_text, row_lines, table_text};
 
 use crate::lines::{ItemLine, TotalLine, VehicleLine};
@@ -22,8 +22,10 @@ pub fn print_report<W: Write>(
     report: &Report,
     opening: Opening,
 ) -> Result<(), PrintError>
-    ensures ok { OnOk result (Appends (W.contents writer.old) (W.contents writer.new) (report_text opening report.now)) }
-    ensures err { OnErr result (AppendsFront (W.contents writer.old) (W.contents writer.new) (report_text opening report.now)) }
+    ensures ok { OnOk result (Appends (W.contents writer.old) (W.contents writer.new)
+        (report_text opening report.now)) }
+    ensures err { OnErr result (AppendsFront (W.contents writer.old) (W.contents writer.new)
+        (report_text opening report.now)) }
 {
     let mut page = String::new(alloc);
     add_items(writer, &mut page, &report.lines)?;
@@ -42,8 +44,10 @@ fn add_items<W: Write>(
     page: &mut String,
     lines: &[Verdict],
 ) -> Result<(), PrintError>
-    ensures ok { OnOk result (Passes (W.contents writer.old) (W.contents writer.new) (string_bytes page.old ++ item_lines 0 lines.now) (string_bytes page.new)) }
-    ensures err { OnErr result (AppendsFront (W.contents writer.old) (W.contents writer.new) (string_bytes page.old ++ item_lines 0 lines.now)) }
+    ensures ok { OnOk result (Passes (W.contents writer.old) (W.contents writer.new)
+        (string_bytes page.old ++ item_lines 0 lines.now) (string_bytes page.new)) }
+    ensures err { OnErr result (AppendsFront (W.contents writer.old) (W.contents writer.new)
+        (string_bytes page.old ++ item_lines 0 lines.now)) }
 {
     for (index, verdict) in lines.iter().enumerate() {
         let line = ItemLine {
@@ -62,8 +66,10 @@ fn add_vehicles<W: Write>(
     ends: &[VehicleEnd],
     opening: Opening,
 ) -> Result<(), PrintError>
-    ensures ok { OnOk result (Passes (W.contents writer.old) (W.contents writer.new) (string_bytes page.old ++ vehicle_lines opening ends.now) (string_bytes page.new)) }
-    ensures err { OnErr result (AppendsFront (W.contents writer.old) (W.contents writer.new) (string_bytes page.old ++ vehicle_lines opening ends.now)) }
+    ensures ok { OnOk result (Passes (W.contents writer.old) (W.contents writer.new)
+        (string_bytes page.old ++ vehicle_lines opening ends.now) (string_bytes page.new)) }
+    ensures err { OnErr result (AppendsFront (W.contents writer.old) (W.contents writer.new)
+        (string_bytes page.old ++ vehicle_lines opening ends.now)) }
 {
     for end in ends {
         add_line(writer, page, &VehicleLine { end, opening })?;
@@ -75,8 +81,10 @@ fn add_vehicles<W: Write>(
 ///
 /// At an error a front of the text went out, as in [`print_report`].
 pub fn print_table<W: Write>(alloc: Global, writer: &mut W, rows: &[Row]) -> Result<(), PrintError>
-    ensures ok { OnOk result (Appends (W.contents writer.old) (W.contents writer.new) (table_text rows.now)) }
-    ensures err { OnErr result (AppendsFront (W.contents writer.old) (W.contents writer.new) (table_text rows.now)) }
+    ensures ok { OnOk result (Appends (W.contents writer.old) (W.contents writer.new)
+        (table_text rows.now)) }
+    ensures err { OnErr result (AppendsFront (W.contents writer.old) (W.contents writer.new)
+        (table_text rows.now)) }
 {
     let mut page = String::new(alloc);
     add_rows(writer, &mut page, rows)?;
@@ -87,8 +95,10 @@ pub fn print_table<W: Write>(alloc: Global, writer: &mut W, rows: &[Row]) -> Res
 
 /// Adds a line for each row to what the page has, and puts the page out as it fills.
 fn add_rows<W: Write>(writer: &mut W, page: &mut String, rows: &[Row]) -> Result<(), PrintError>
-    ensures ok { OnOk result (Passes (W.contents writer.old) (W.contents writer.new) (string_bytes page.old ++ row_lines rows.now) (string_bytes page.new)) }
-    ensures err { OnErr result (AppendsFront (W.contents writer.old) (W.contents writer.new) (string_bytes page.old ++ row_lines rows.now)) }
+    ensures ok { OnOk result (Passes (W.contents writer.old) (W.contents writer.new)
+        (string_bytes page.old ++ row_lines rows.now) (string_bytes page.new)) }
+    ensures err { OnErr result (AppendsFront (W.contents writer.old) (W.contents writer.new)
+        (string_bytes page.old ++ row_lines rows.now)) }
 {
     for row in rows {
         let line = RowLine { row };

@@ -113,8 +113,10 @@ impl fmt::Display for Problem<'_> {
 /// Tells the problem in one line, and answers its status. Where there is no memory to lay the line out, the problem that
 /// is told is that. Where the writer fails the status stays.
 pub fn tell<E: Write>(alloc: Global, faults: &mut E, problem: Problem<'_>) -> Status
-    ensures { ((result ≡ status_of problem.entry) × Tells (E.contents faults.old) (E.contents faults.new) problem.entry)
-        ⊎ ((result ≡ Status.NoMemory) × Tells (E.contents faults.old) (E.contents faults.new) Problem.Memory) }
+    ensures { ((result ≡ status_of problem.entry)
+        × Tells (E.contents faults.old) (E.contents faults.new) problem.entry)
+        ⊎ ((result ≡ Status.NoMemory) × Tells (E.contents faults.old)
+        (E.contents faults.new) Problem.Memory) }
 {
     tell_whole(alloc, faults, problem).status
 }

@@ -1,9 +1,10 @@
 //! What the program does with the words of its command line, over any files and streams.
 ghost use Rattle.std.specs.Prelude.{◌≡◌, ◌≢◌, ◌↔◌, ℕ, List, Option, ⊤, Err, codes, map, option_map, IsTrue, IfOk, IfErr};
 ghost use Rattle.std.specs.IoError.{error_kind};
-ghost use Rattle.clap.specs.Words.{kind_of};
+ghost use Rattle.mds_args.specs.Error.{words_kind};
 ghost use Rattle.mds_city.specs.Problem.{Tells};
-ghost use Rattle.mds_city.specs.Program.{Carries, Explains, HasWorkers, IsFileNamed, IsFileOf, Runs, answer_to, opening_if};
+ghost use Rattle.mds_city.specs.Program.{Carries, Explains, HasWorkers, IsFileNamed, IsFileOf, Runs};
+ghost use Rattle.mds_city.specs.Program.{opening_if};
 
 use crate::commands::{replay_to, table_to};
 use crate::debug::{Named, debug_to};
@@ -11,8 +12,7 @@ use crate::problem::{Problem, tell};
 use crate::serve::{Listens, ServeOptions, serve_at};
 use crate::source::Source;
 use crate::status::Status;
-use clap::error::ErrorKind;
-use mds_args::{Command, parse_words};
+use mds_args::{Command, WordsError, WordsErrorKind, parse_words};
 use mds_io::write_all_of;
 use mds_trace::Opening;
 use std::alloc::Global;
@@ -46,8 +46,10 @@ pub enum WordsFault {
 
 /// The words of the command line, of which the system gave these or none.
 pub fn words_of(alloc: Global, args: io::Result<Args>) -> Result<Vec<String>, WordsFault>
-    ensures not_text { IfErr args (λ error. error_kind error ≢ ReadKind.OutOfMemory → result ≡ Err WordsFault.NotText) }
-    ensures memory { IfErr args (λ error. error_kind error ≡ ReadKind.OutOfMemory → result ≡ Err WordsFault.Memory) }
+    ensures not_text { IfErr args (λ error. error_kind error ≢ ReadKind.OutOfMemory
+        → result ≡ Err WordsFault.NotText) }
+    ensures memory { IfErr args (λ error. error_kind error ≡ ReadKind.OutOfMemory
+        → result ≡ Err WordsFault.Memory) }
     ensures given { IfOk args (λ _. IfErr result (λ fault. fault ≡ WordsFault.Memory)) }
 {
     match args {
@@ -62,7 +64,8 @@ pub fn words_of(alloc: Global, args: io::Result<Args>) -> Result<Vec<String>, Wo
 /// Tells why the words of the command line can't be read.
 pub fn tell_words<E: Write>(alloc: Global, faults: &mut E, fault: WordsFault) -> Status
     ensures not_text { fault ≡ WordsFault.NotText → result ≡ Status.BadWords }
-    ensures memory { fault ≡ WordsFault.Memory → (result ≡ Status.NoMemory) × Tells (E.contents faults.old) (E.contents faults.new) Problem.Memory }
+    ensures memory { fault ≡ WordsFault.Memory → (result ≡ Status.NoMemory)
+        × Tells (E.contents faults.old) (E.contents faults.new) Problem.Memory }
 {
     match fault {
         WordsFault::Memory => tell(alloc, faults, Problem::Memory),
@@ -86,7 +89,8 @@ pub fn run<
     W: Write,
     E: Write,
 >(rt: &R, alloc: Global, words: &[S], files: &O, input: I, out: &mut W, faults: &mut E) -> u8
-    ensures { Runs O.opens files.now O.File.remaining I.remaining input (map S.text words.now) result
+    ensures { Runs O.opens files.now O.listens O.File.remaining I.remaining input
+        (map S.text words.now) result
         (W.contents out.old) (W.contents out.new) (E.contents faults.old) (E.contents faults.new) }
 {
     match parse_words(alloc, words) {
@@ -95,51 +99,29 @@ pub fn run<
     }
 }
 
-/// How an error of `clap` is answered.
-#[derive(Clone, Copy, Debug, PartialEq, Eq)]
-enum Answer {
-    /// Help was asked for, and goes to the output.
-    Help,
-    /// The words are mistaken, which the fault writer is told.
-    Mistake,
-    /// There was no memory to read them.
-    NoMemory,
-}
-
-/// How an error of this kind is answered.
-fn answer_to(kind: ErrorKind) -> Answer
-    ensures { result ≡ answer_to kind }
-{
-    match kind {
-        ErrorKind::DisplayHelp | ErrorKind::DisplayVersion => Answer::Help,
-        ErrorKind::OutOfMemory => Answer::NoMemory,
-        _ => Answer::Mistake,
-    }
-}
-
 /// Prints the help that was asked for to `out`, or tells `faults` why the words gave no command. Where `faults` fails the
 /// status stays.
 fn explain<W: Write, E: Write>(
     alloc: Global,
-    error: &clap::Error,
+    error: &WordsError,
     out: &mut W,
     faults: &mut E,
 ) -> Status
-    ensures { Explains (answer_to (kind_of error.now)) result
+    ensures { Explains (words_kind error.now) result
         (W.contents out.old) (W.contents out.new) (E.contents faults.old) (E.contents faults.new) }
 {
-    match answer_to(error.kind()) {
-        Answer::Help => {
+    match error.kind() {
+        WordsErrorKind::Help => {
             if write!(out, "{error}").is_ok() {
                 return Status::Done;
             }
             tell(alloc, faults, Problem::Output)
         }
-        Answer::Mistake => {
+        WordsErrorKind::Mistake => {
             let _ = write!(faults, "{error}");
             Status::BadWords
         }
-        Answer::NoMemory => tell(alloc, faults, Problem::Memory),
+        WordsErrorKind::Memory => tell(alloc, faults, Problem::Memory),
     }
 }
 
@@ -155,7 +137,8 @@ fn carry_out<R: Threads + Wait + Sync, O: Opens + Listens, I: Read + Drop, W: Wr
     faults: &mut E,
 ) -> u8
     requires { HasWorkers command }
-    ensures { Carries O.opens files.now O.File.remaining I.remaining input command.entry result
+    ensures { Carries O.opens files.now O.listens O.File.remaining I.remaining input
+        command.entry result
         (W.contents out.old) (W.contents out.new) (E.contents faults.old) (E.contents faults.new) }
 {
     match command {

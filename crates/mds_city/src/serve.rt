@@ -1,5 +1,5 @@
 //! The command that serves vehicles at a port.
-ghost use Rattle.std.specs.Prelude.{◌≡◌, IfOk, IfErr};
+ghost use Rattle.std.specs.Prelude.{◌≡◌, ℕ, ⊤, IfOk, IfErr, IfSome};
 ghost use Rattle.mds_book.specs.Books.{IsSeatCount};
 ghost use Rattle.mds_city.specs.Serve.{CameToServe, IsSaid, Listened, SaysAccepted, Serves, StopsBefore, TellsTorn};
 
@@ -29,9 +29,13 @@ pub trait Listens {
     /// What connections come from.
     type Listening: Port<In = Self::In, Out = Self::Out> + Sync + Drop;
 
+    // what may come of listening at the port of this number: what listens, and the number of its port
+    ghost listens: { Self → ℕ → Self.Listening → ℕ → Type 0 } = { λ _ _ _ _. ⊤ };
+
     /// Listens at 127.0.0.1 and the port of this number, at a free one for 0: what listens, and the number of its port; or
     /// `None` where that can't be had.
-    fn listen(&self, alloc: Global, number: u16) -> Option<(Self::Listening, u16)>;
+    fn listen(&self, alloc: Global, number: u16) -> Option<(Self::Listening, u16)>
+        ensures { IfSome result (λ had. listens self.now number had.0 had.1) };
 }
 
 /// What serving is asked for: at which port, by how many workers, and how many connections each of them answers.
@@ -58,7 +62,7 @@ pub fn serve_at<R: Threads + Wait + Sync, H: Listens, T: Read + Drop, W: Write, 
     faults: &mut E,
 ) -> u8
     requires { IsSeatCount asked.workers }
-    ensures { CameToServe T.remaining table.entry asked.workers result
+    ensures { CameToServe H.listens host.now asked.port T.remaining table.entry asked.workers result
         (W.contents out.old) (W.contents out.new) (E.contents faults.old) (E.contents faults.new) }
 {
     let (table, listening) = match begun(alloc, host, table, asked.port, out) {
@@ -85,9 +89,10 @@ fn begun<'a, H: Listens, T: Read + Drop, W: Write>(
     number: u16,
     out: &mut W,
 ) -> Result<(Table, H::Listening), Problem<'a>>
-    ensures ok { IfOk result (λ begun. Listened T.remaining table.entry begun.0
-        (W.contents out.old) (W.contents out.new)) }
-    ensures err { IfErr result (λ problem. StopsBefore T.remaining table.entry problem
+    ensures ok { IfOk result (λ begun. Listened H.listens host.now number T.remaining table.entry
+        begun.0 (W.contents out.old) (W.contents out.new)) }
+    ensures err { IfErr result (λ problem.
+        StopsBefore H.listens host.now number T.remaining table.entry problem
         (W.contents out.old) (W.contents out.new)) }
 {
     let table = table_in(alloc, table)?;

@@ -1,8 +1,8 @@
 -- Lemmas on reading a script.
 use Rattle.std.proofs.Common.{◌≡◌, ℕ, ◌-◌, ◌<◌, List, [], length, Option}
 use Rattle.std.specs.Io.KnownBytes.{IsAtEnd}
-use Rattle.mds_io.specs.Device.{Gains}
-use Rattle.mds_io.proofs.DeviceLemmas.{read_from_none}
+use Rattle.mds_io.specs.Read.{Gains}
+use Rattle.mds_io.proofs.ReadLemmas.{read_from_none}
 use Rattle.mds_debugger.specs.Input.{HasScript, script_front}
 
 -- reading from none that stopped at the limit or at the reader's end has the script

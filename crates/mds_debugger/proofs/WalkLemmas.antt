@@ -6,7 +6,7 @@ use Rattle.std.proofs.lemmas.List.{drop_all}
 use Rattle.std.proofs.lemmas.List.Sums.{take_while-cons}
 use Rattle.mds_trace.specs.declared.session.Place.{Place}
 use Rattle.mds_trace.specs.Walk.{Walk}
-use Rattle.mds_io.specs.Device.{AppendsFront, Passes, with_newline}
+use Rattle.mds_io.specs.Page.{AppendsFront, Passes, with_newline}
 use Rattle.mds_io.proofs.PageLemmas.{next_item_or, passes_all, passes_front, passes_out, passes_then}
 use Rattle.mds_debugger.specs.declared.script.ScriptCommand.{ScriptCommand}
 use Rattle.mds_debugger.specs.declared.script.ScriptCommand.TheVariants.{Quit}

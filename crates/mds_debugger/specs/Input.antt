@@ -1,5 +1,8 @@
 -- How a script is read.
-use Rattle.std.specs.Prelude.{◌≡◌, ℕ, List, take, Option, IfSome}
+use Rattle.std.specs.Prelude.{◌≡◌, ℕ, ◌≤◌, List, length, take, Option, IfSome}
+use Rattle.std.specs.Io.KnownBytes.{Consumes}
+use Rattle.mds_debugger.specs.declared.input.ScriptEnd.{ScriptEnd}
+use Rattle.mds_debugger.specs.declared.input.ScriptEnd.TheVariants.{Whole}
 
 -- how many bytes of a script are read at most
 abbrev pub max_script : ℕ
@@ -12,3 +15,12 @@ script_front all = take max_script all
 -- where it is known what the reader had left, the bytes are the front of that
 abbrev pub HasScript : Option (List ℕ) → List ℕ → Type 0
 HasScript known bytes = IfSome known (λ all. bytes ≡ script_front all)
+
+-- these bytes were read of a script, and reading ended so: they are what the reader lost, at most so many; where it ended whole
+-- they are all that the reader had, or the first of that
+abbrev pub IsReadTo : Option (List ℕ) → Option (List ℕ) → List ℕ → ScriptEnd → Type 0
+IsReadTo input input_new bytes end = Consumes input input_new bytes × (length bytes ≤ max_script) × (end ≡ Whole → HasScript input bytes)
+
+-- these bytes were read of a script: it is whole, or reading broke off
+abbrev pub IsRead : Option (List ℕ) → Option (List ℕ) → List ℕ → Type 0
+IsRead input input_new bytes = (end : ScriptEnd) × IsReadTo input input_new bytes end

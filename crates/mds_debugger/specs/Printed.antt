@@ -10,7 +10,7 @@ use Rattle.mds_trace.specs.declared.session.Halt.TheVariants.{AtEnd, AtStart}
 use Rattle.mds_trace.specs.SessionFault.{halt_text}
 use Rattle.mds_trace.specs.Walk.{Walk}
 use Rattle.mds_trace.specs.Session.{state_at, ArePossible, IsStep, IsFirstLater, IsPresentChain}
-use Rattle.mds_io.specs.Device.{AppendsFront, with_newline}
+use Rattle.mds_io.specs.Page.{AppendsFront, with_newline}
 use Rattle.mds_debugger.specs.declared.script.Move.{Move}
 use Rattle.mds_debugger.specs.declared.script.Move.TheVariants.{Step, Back, Next, Run}
 use Rattle.mds_debugger.specs.declared.script.ScriptCommand.{ScriptCommand}

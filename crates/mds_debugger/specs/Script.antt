@@ -2,7 +2,7 @@
 use Rattle.std.specs.Prelude.{◌≡◌, ◌≢◌, ◌⊎◌, ℕ, List, [], ◌∷◌, ◌++◌, codes, Option, Some, None}
 use Rattle.std.specs.List.{All, AllZip, flat_map}
 use Rattle.mds_table.specs.State.{name_of}
-use Rattle.mds_io.specs.Device.{with_newline}
+use Rattle.mds_io.specs.Page.{with_newline}
 use Rattle.mds_debugger.specs.declared.script.Move.{Move}
 use Rattle.mds_debugger.specs.declared.script.Move.TheVariants.{Step, Back, Next, Run}
 use Rattle.mds_debugger.specs.declared.script.ScriptCommand.{ScriptCommand}

@@ -1,6 +1,7 @@
 //! Reading a script.
-ghost use Rattle.std.specs.Prelude.{◌≡◌, ◌≤◌, vec_len, IfOk};
+ghost use Rattle.std.specs.Prelude.{◌≡◌, ◌≤◌, vec_len, IfOk, OnErr};
 ghost use Rattle.std.specs.Io.KnownBytes.{Consumes};
+ghost use Rattle.mds_io.specs.Read.{ConsumesUpTo};
 ghost use Rattle.mds_debugger.specs.Input.{max_script, HasScript};
 
 use mds_io::{MAX_CALLS, ReadError, read_up_to};
@@ -39,9 +40,13 @@ pub struct ScriptBytes {
 ///
 /// `AllocError` where there is no memory for the bytes. The reader has then lost a front of its bytes.
 pub fn read_script<R: Read>(alloc: Global, reader: &mut R) -> Result<ScriptBytes, AllocError>
-    ensures taken { IfOk result (λ script. Consumes (R.remaining reader.old) (R.remaining reader.new) script.bytes.items) }
+    ensures taken { IfOk result (λ script.
+        Consumes (R.remaining reader.old) (R.remaining reader.new) script.bytes.items) }
     ensures short { IfOk result (λ script. vec_len script.bytes ≤ max_script) }
-    ensures whole { IfOk result (λ script. script.end ≡ ScriptEnd.Whole → HasScript (R.remaining reader.old) script.bytes.items) }
+    ensures whole { IfOk result (λ script. script.end ≡ ScriptEnd.Whole
+        → HasScript (R.remaining reader.old) script.bytes.items) }
+    ensures lost { OnErr result
+        (ConsumesUpTo max_script (R.remaining reader.old) (R.remaining reader.new)) }
 {
     let mut bytes = Vec::new(alloc);
     let mut room = [0u8; CHUNK_BYTES];

@@ -29,8 +29,10 @@ pub fn vehicle_events(
     verdicts: &[Verdict],
     key: Key,
 ) -> Result<VehicleEvents, AllocError>
-    ensures accepted { IfOk result (λ events. events.accepted.items ≡ prior_of key (accepted_of items.now verdicts.now)) }
-    ensures counted { IfOk result (λ events. length events.accepted.items + events.refused ≡ told_of key items.now) }
+    ensures accepted { IfOk result (λ events. events.accepted.items ≡ prior_of key
+        (accepted_of items.now verdicts.now)) }
+    ensures counted { IfOk result (λ events. length events.accepted.items + events.refused ≡
+        told_of key items.now) }
 {
     let accepted = accepted_events(alloc, items, verdicts, &key)?;
     let refused = count_told(items, key) - accepted.len();
@@ -61,7 +63,8 @@ fn accepted_events(
     verdicts: &[Verdict],
     key: &Key,
 ) -> Result<Vec<Event>, AllocError>
-    ensures { IfOk result (λ accepted. accepted.items ≡ prior_of key.now (accepted_of items.now verdicts.now)) }
+    ensures { IfOk result (λ accepted. accepted.items ≡ prior_of key.now
+        (accepted_of items.now verdicts.now)) }
 {
     let mut accepted = Vec::new(alloc);
     for (index, item) in items.iter().enumerate() {
@@ -80,7 +83,8 @@ fn add_accepted(
     verdict: &Verdict,
     key: &Key,
 ) -> Result<(), AllocError>
-    ensures { OnOk result (accepted.new.items ≡ accepted.old.items ++ prior_of key.now (accepted_by item.now verdict.now)) }
+    ensures { OnOk result (accepted.new.items ≡ accepted.old.items ++ prior_of key.now
+        (accepted_by item.now verdict.now)) }
 {
     match item {
         EventItem::Event(event) if verdict.accepts() && event.key() == key => {

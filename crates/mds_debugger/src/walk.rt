@@ -2,7 +2,7 @@
 ghost use Rattle.std.specs.Prelude.{◌≡◌, ◌≢◌, ◌⊎◌, ◌++◌, Some, string_bytes, OnOk, OnErr, IfOk, IfErr, length};
 ghost use Rattle.std.specs.Io.KnownBytes.{Appends, Keeps};
 ghost use Rattle.std.specs.Prelude.{List, ℕ};
-ghost use Rattle.mds_io.specs.Device.{AppendsFront, Passes, with_newline};
+ghost use Rattle.mds_io.specs.Page.{AppendsFront, Passes, with_newline};
 ghost use Rattle.mds_trace.specs.declared.session.Place.{Place as At};
 ghost use Rattle.mds_steps.specs.StateSet.{AreInCodeOrder};
 ghost use Rattle.mds_trace.specs.Session.{ArePossible, KeepsEvents};
@@ -53,10 +53,12 @@ pub fn print_walk<W: Write>(
     session: &mut Session,
     script: &[Option<ScriptCommand>],
 ) -> Result<(), PrintError>
-    ensures ok { OnOk result ((text : List ℕ) × PrintsScript session.old script.now session.new.place text
+    ensures ok { OnOk result ((text : List ℕ) × PrintsScript session.old script.now
+        session.new.place text
         × Appends (W.contents writer.old) (W.contents writer.new) text) }
     ensures kept { OnOk result (KeepsEvents session.old session.new) }
-    ensures err { OnErr result (PrintsFront session.old script.now (W.contents writer.old) (W.contents writer.new)) }
+    ensures err { OnErr result (PrintsFront session.old script.now (W.contents writer.old)
+        (W.contents writer.new)) }
 {
     let mut page = String::new(alloc);
     for command in script {
@@ -83,12 +85,16 @@ fn add_answer<W: Write>(
     session: &mut Session,
     command: Option<ScriptCommand>,
 ) -> Result<(), PrintError>
-    ensures ok { command ≢ Some Quit → OnOk result ((text : List ℕ) × Prints session.old command session.new.place text
-        × Passes (W.contents writer.old) (W.contents writer.new) (string_bytes page.old ++ with_newline text) (string_bytes page.new)) }
+    ensures ok { command ≢ Some Quit → OnOk result ((text : List ℕ)
+        × Prints session.old command session.new.place text
+        × Passes (W.contents writer.old) (W.contents writer.new)
+        (string_bytes page.old ++ with_newline text) (string_bytes page.new)) }
     ensures kept { KeepsEvents session.old session.new }
-    ensures err { command ≢ Some Quit → OnErr result (Keeps (W.contents writer.old) (W.contents writer.new)
+    ensures err { command ≢ Some Quit → OnErr result (Keeps (W.contents writer.old)
+        (W.contents writer.new)
         ⊎ ((to : At) × (text : List ℕ) × Prints session.old command to text
-        × AppendsFront (W.contents writer.old) (W.contents writer.new) (string_bytes page.old ++ with_newline text))) }
+        × AppendsFront (W.contents writer.old) (W.contents writer.new)
+        (string_bytes page.old ++ with_newline text))) }
 {
     match carry_out(alloc, session, command) {
         Ok(line) => add_line(writer, page, &line),
@@ -102,7 +108,8 @@ fn carry_out(
     session: &mut Session,
     command: Option<ScriptCommand>,
 ) -> Result<Line, AllocError>
-    ensures prints { command ≢ Some Quit → IfOk result (λ line. Prints session.old command session.new.place (line_text line)) }
+    ensures prints { command ≢ Some Quit → IfOk result
+        (λ line. Prints session.old command session.new.place (line_text line)) }
     ensures kept { KeepsEvents session.old session.new }
 {
     match command {
@@ -127,7 +134,8 @@ fn moved_line(session: &mut Session, to_make: Move) -> Line
 fn make_move(session: &mut Session, to_make: Move) -> Result<(), Halt>
     ensures kept { KeepsEvents session.old session.new }
     ensures moved { OnOk result (LeadsTo session.old to_make session.new.place) }
-    ensures halt { IfErr result (λ halt. (halt ≡ halt_of to_make) × ((to : At) → LeadsTo session.old to_make to → ⊥)) }
+    ensures halt { IfErr result (λ halt. (halt ≡ halt_of to_make) × ((to : At)
+        → LeadsTo session.old to_make to → ⊥)) }
     ensures stays { OnErr result (session.new.place ≡ session.old.place) }
 {
     match to_make {

@@ -3,9 +3,9 @@ use Rattle.std.proofs.Common.{◌≡◌, ℕ, ◌+◌, ◌-◌, ◌<◌, ◌≤�
 use Rattle.std.proofs.lemmas.Bool.{cases_lt}
 use Rattle.std.specs.Io.KnownBytes.{Consumes, IsAtEnd}
 use Rattle.std.proofs.KnownBytes.{Consumes-nil, Consumes-trans}
-use Rattle.mds_io.specs.declared.device.ReadError.{ReadError}
-use Rattle.mds_io.specs.declared.device.ReadError.TheVariants.{Memory, Device, TooManyTurns}
-use Rattle.mds_io.specs.Device.{ConsumesUpTo, Gains, StopsAt}
+use Rattle.mds_io.specs.declared.read.ReadError.{ReadError}
+use Rattle.mds_io.specs.declared.read.ReadError.TheVariants.{Memory, Device, TooManyTurns}
+use Rattle.mds_io.specs.Read.{ConsumesUpTo, Gains, StopsAt}
 use Rattle.mds_core.specs.declared.key.Key.{Key}
 use Rattle.mds_request.specs.declared.aim.Aim.{Aim}
 use Rattle.mds_request.specs.declared.head_status.HeadStatus.{HeadStatus}

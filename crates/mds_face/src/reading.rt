@@ -1,7 +1,7 @@
 //! Reading a request: what it asks for, of the bytes that a reader gives, however they are cut.
 ghost use Rattle.std.specs.Prelude.{◌≡◌, ◌<◌, ◌≤◌, [], length, OnOk, OnErr, IfOk, IfSome, IsErrOf};
 ghost use Rattle.std.specs.Io.KnownBytes.{Consumes, IsAtEnd};
-ghost use Rattle.mds_io.specs.Device.{ConsumesUpTo};
+ghost use Rattle.mds_io.specs.Read.{ConsumesUpTo};
 ghost use Rattle.mds_request.specs.Asked.{asked_in};
 ghost use Rattle.mds_request.specs.Head.{max_head};
 ghost use Rattle.mds_request.specs.Plan.{IsPlan};

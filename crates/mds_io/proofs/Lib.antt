@@ -1,3 +1,4 @@
 -- Lemmas of this crate.
-pub mod DeviceLemmas
+pub mod ReadLemmas
+pub mod WriteLemmas
 pub mod PageLemmas

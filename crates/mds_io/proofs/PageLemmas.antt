@@ -3,7 +3,7 @@ use Rattle.std.proofs.Common.{◌≡◌, ℕ, ◌+◌, ◌<◌, List, ◌∷◌,
 use Rattle.std.proofs.Math.Seq.{drop-cons}
 use Rattle.std.specs.Io.KnownBytes.{Appends}
 use Rattle.std.proofs.KnownBytes.{Appends-trans}
-use Rattle.mds_io.specs.Device.{AppendsFront, Passes}
+use Rattle.mds_io.specs.Page.{AppendsFront, Passes, with_newline}
 
 -- a text went out but for what was left, and of that and more all but the new rest
 pub passes_then : (a b c : Option (List ℕ)) (text left more rest : List ℕ) → Passes a b text left → Passes b c (left ++ more) rest → Passes a c (text ++ more) rest
@@ -54,3 +54,29 @@ passes_out a b c text left first second =
 -- a text went out but for what was left, and then that too
 pub passes_all : (a b c : Option (List ℕ)) (text left : List ℕ) → Passes a b text left → Appends b c left → Appends a c text
 passes_all a b c text left first second = subst (λ t. Appends a c t) (sym first.1) (Appends-trans a b c first.0 left first.2 second)
+
+-- a page of lines: of a list's items each has a line, which its place may enter; the lines are laid on a page one by one, and the
+-- page goes out as it fills. `lines` are those of items of which the first has this place
+module _ {X : Type 0} (line : ℕ → X → List ℕ) (lines : ℕ → List X → List ℕ)
+    (first : (i : ℕ) (x : X) (xs : List X) → lines i (x ∷ xs) ≡ with_newline (line i x) ++ lines (i + 1) xs)
+    (items : List X) (old : Option (List ℕ)) (text : List ℕ) where
+  -- of the text all went out but the page, and the lines of the items from the i-th on
+  abbrev pub AreWaiting : ℕ → Option (List ℕ) → List ℕ → Type 0
+  AreWaiting i now page = Passes old now text (page ++ lines i (drop i items))
+
+  -- what is left begins with the line of the i-th item
+  begins : (i : ℕ) (x : X) (now : Option (List ℕ)) (page : List ℕ) → drop i items ≡ x ∷ drop (i + 1) items → AreWaiting i now page
+      → Passes old now text (page ++ (with_newline (line i x) ++ lines (i + 1) (drop (i + 1) items)))
+  begins i x now page is waiting = subst (λ t. Passes old now text (page ++ t)) (ap (lines i) is ∙ first i x (drop (i + 1) items)) waiting
+
+  -- one line more
+  pub line_added : (i : ℕ) (x : X) (now new : Option (List ℕ)) (page next : List ℕ) → drop i items ≡ x ∷ drop (i + 1) items → AreWaiting i now page
+      → Passes now new (page ++ with_newline (line i x)) next → AreWaiting (i + 1) new next
+  line_added i x now new page next is waiting passes =
+      passes_line old now new text page (with_newline (line i x)) (lines (i + 1) (drop (i + 1) items)) next (begins i x now page is waiting) passes
+
+  -- a line at which it stopped
+  pub line_stopped : (i : ℕ) (x : X) (now new : Option (List ℕ)) (page : List ℕ) → drop i items ≡ x ∷ drop (i + 1) items → AreWaiting i now page
+      → AppendsFront now new (page ++ with_newline (line i x)) → AppendsFront old new text
+  line_stopped i x now new page is waiting front =
+      front_of_line old now new text page (with_newline (line i x)) (lines (i + 1) (drop (i + 1) items)) (begins i x now page is waiting) front

@@ -1,2 +1,5 @@
 -- Definitions that the contracts cite.
-pub mod Device
+pub mod Call
+pub mod Read
+pub mod Write
+pub mod Page

@@ -5,9 +5,14 @@
 //! then went over is said.
 #![tactic(auto)]
 
-mod device;
+mod call;
+mod page;
+mod read;
+#[cfg(test)]
+mod tests;
+mod write;
 
-pub use device::{
-    MAX_CALLS, PAGE_BYTES, PrintError, ReadError, WriteError, WriteErrorKind, add_line, flush_page,
-    read_front, read_more, read_up_to, write_all_of,
-};
+pub use call::MAX_CALLS;
+pub use page::{PAGE_BYTES, PrintError, add_line, flush_page};
+pub use read::{ReadError, read_front, read_more, read_up_to};
+pub use write::{WriteError, WriteErrorKind, write_all_of};

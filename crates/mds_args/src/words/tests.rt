@@ -1,5 +1,8 @@
 //! What words ask for.
 use super::{Command, parse_words};
+use crate::WordsErrorKind;
+use std::alloc::{AllocError, Global};
+use std::test::Fail;
 
 /// Words, of which the first is the program's name, and the command that they ask for, if they ask for one.
 type Case<'a> = (&'a [&'a str], Option<Command<'a>>);
@@ -164,4 +167,107 @@ fn words_ask_for_nothing(rt: HostRuntime) {
     for words in &NOTHING {
         assert!(rt; parse_words(rt.alloc(), words).is_err(), "{words:?}");
     }
+}
+
+/// The help on the program.
+const HELP: &str = "\
+Keeps the states of shared vehicles
+
+Usage: mds_city <COMMAND>
+
+Commands:
+  serve   Serves vehicles over HTTP at 127.0.0.1
+  replay  Replays the events of a file
+  debug   Steps through the accepted events of a vehicle, as standard input says
+  table   Prints a table of transitions
+  help    Print this message or the help of the given subcommand(s)
+
+Options:
+  -h, --help  Print help
+";
+
+const SERVE_HELP: &str = "\
+Serves vehicles over HTTP at 127.0.0.1
+
+Usage: mds_city serve [OPTIONS] --port <N> --each <N>
+
+Options:
+      --port <N>      The port's number; 0 is a free one
+      --each <N>      How many connections each worker answers
+      --workers <N>   How many workers there are [default: 4]
+      --table <FILE>  A table of transitions; without it the profile's
+  -h, --help          Print help
+";
+
+const REPLAY_HELP: &str = "\
+Replays the events of a file
+
+Usage: mds_city replay [OPTIONS] <FILE>
+
+Arguments:
+  <FILE>  The file of events; - is standard input
+
+Options:
+      --table <FILE>  A table of transitions; without it the profile's
+      --any           Lets a vehicle hold any state before its first event
+  -h, --help          Print help
+";
+
+const DEBUG_HELP: &str = "\
+Steps through the accepted events of a vehicle, as standard input says
+
+Usage: mds_city debug [OPTIONS] <FILE> <PROVIDER> <DEVICE>
+
+Arguments:
+  <FILE>      The file of events
+  <PROVIDER>  The provider's identifier
+  <DEVICE>    The vehicle's identifier
+
+Options:
+      --table <FILE>  A table of transitions; without it the profile's
+  -h, --help          Print help
+";
+
+const TABLE_HELP: &str = "\
+Prints a table of transitions
+
+Usage: mds_city table [OPTIONS]
+
+Options:
+      --table <FILE>  A table of transitions; without it the profile's
+  -h, --help          Print help
+";
+
+/// The kind of the error that these words come to, and its text.
+fn error_of(alloc: Global, words: &[&str]) -> Result<(WordsErrorKind, String), Fail> {
+    match parse_words(alloc, words) {
+        Ok(_) => Err(Fail::from(AllocError)),
+        Err(error) => Ok((error.kind(), format!(in alloc; "{error}")?)),
+    }
+}
+
+#[test]
+fn help_says_what_there_is(rt: HostRuntime) -> Result<(), Fail> {
+    let cases: [(&[&str], &str); 6] = [
+        (&["mds_city", "--help"], HELP),
+        (&["mds_city", "help"], HELP),
+        (&["mds_city", "serve", "--help"], SERVE_HELP),
+        (&["mds_city", "replay", "-h"], REPLAY_HELP),
+        (&["mds_city", "debug", "--help"], DEBUG_HELP),
+        (&["mds_city", "table", "--help"], TABLE_HELP),
+    ];
+    for (words, text) in cases {
+        let (kind, told) = error_of(rt.alloc(), words)?;
+        assert_eq!(rt; kind, WordsErrorKind::Help);
+        assert_eq!(rt; told.as_str(), text, "{words:?}");
+    }
+    Ok(())
+}
+
+#[test]
+fn mistakes_are_told(rt: HostRuntime) -> Result<(), Fail> {
+    let (kind, told) = error_of(rt.alloc(), &["mds_city", "replay"])?;
+    assert_eq!(rt; kind, WordsErrorKind::Mistake);
+    assert!(rt; told.as_str().starts_with("error: ") && told.as_str().ends_with("\n"));
+    Ok(())
 }

@@ -3,6 +3,8 @@ use super::{Named, debug_to};
 use crate::commands::tests::{FIVE_EVENTS, file};
 use crate::source::Source;
 use std::alloc::Global;
+use std::cell::Cell;
+use std::io::{self, Error, ErrorKind, Read, Write};
 
 /// The provider, the first vehicle, and one that no event names.
 pub const PROVIDER: &str = "00000000-0000-4000-8000-000000000001";
@@ -87,4 +89,77 @@ fn worked_scripts(rt: HostRuntime) {
     for case in &cases {
         assert!(rt; comes_to(rt.alloc(), case), "{case:?}");
     }
+}
+
+/// An output that tells how many lines it has.
+#[derive(Drop)]
+struct Shown<'a> {
+    bytes: Vec<u8>,
+    lines: &'a Cell<usize>,
+}
+
+impl Write for Shown<'_> {
+    fn write(&mut self, buf: &[u8]) -> io::Result<usize> {
+        self.bytes.extend_from_slice(buf)?;
+        for byte in buf {
+            if *byte == b'\n' {
+                self.lines.set(self.lines.get().saturating_add(1));
+            }
+        }
+        Ok(buf.len())
+    }
+
+    fn flush(&mut self) -> io::Result<()> {
+        Ok(())
+    }
+}
+
+/// A script that can't be read before the output has two lines.
+#[derive(Drop)]
+struct Awaits<'a> {
+    script: &'a [u8],
+    lines: &'a Cell<usize>,
+}
+
+impl Read for Awaits<'_> {
+    fn read(&mut self, buf: &mut [u8]) -> io::Result<usize> {
+        if self.lines.get() < 2 {
+            return Err(Error::from(ErrorKind::BrokenPipe));
+        }
+        self.script.read(buf)
+    }
+}
+
+/// The first two lines go out before the script is read.
+#[test]
+fn start_is_shown_before_the_script_is_read(rt: HostRuntime) {
+    let alloc = rt.alloc();
+    let lines = Cell::new(0usize);
+    let mut out = Shown {
+        bytes: Vec::new(alloc),
+        lines: &lines,
+    };
+    let mut script = Awaits {
+        script: SCRIPT.as_bytes(),
+        lines: &lines,
+    };
+    let mut told = Vec::new(alloc);
+    let table: Option<Source<'_, &[u8]>> = None;
+    let named = Named {
+        provider: PROVIDER,
+        device: FIRST,
+    };
+    let file = file("F", TWO_EVENTS);
+    let code = debug_to(
+        alloc,
+        table,
+        file,
+        named,
+        &mut script,
+        &mut out,
+        &mut told,
+    );
+    assert_eq!(rt; code, 0);
+    assert_eq!(rt; out.bytes.as_slice(), SCRIPT_LINES.as_bytes());
+    assert!(rt; told.is_empty());
 }

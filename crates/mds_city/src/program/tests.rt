@@ -42,7 +42,7 @@ impl Port for Closed {
     }
 }
 
-/// Port 1 can't be had.
+/// Port 1 can't be had, and port 4711 is free.
 impl Listens for Folder {
     type In = &'static [u8];
 
@@ -51,10 +51,11 @@ impl Listens for Folder {
     type Listening = Closed;
 
     fn listen(&self, _alloc: Global, number: u16) -> Option<(Closed, u16)> {
-        if number == 1 {
-            return None;
+        match number {
+            0 => Some((Closed, 4711)),
+            1 => None,
+            number => Some((Closed, number)),
         }
-        Some((Closed, number))
     }
 }
 
@@ -103,7 +104,13 @@ const NO_TABLE: &str = "mds_city: not a table: not_rows\n";
 const SOCKET: &str = "mds_city: socket\n";
 
 /// What comes of the files and ports that words name.
-const FILES: [Case<'static>; 13] = [
+const FILES: [Case<'static>; 14] = [
+    (
+        &["mds_city", "serve", "--port", "0", "--each", "0"],
+        0,
+        "listening 127.0.0.1:4711\naccepted 0\n",
+        "",
+    ),
     (
         &["mds_city", "serve", "--port", "80", "--each", "0"],
         0,

@@ -59,6 +59,26 @@ fn no_connections_and_first_accept_fails(rt: HostRuntime) -> Result<(), Fail> {
     Ok(())
 }
 
+/// An output that fails at the last line isn't told as want of memory.
+#[test]
+fn last_line_fails(rt: HostRuntime) -> Result<(), Fail> {
+    let table = Table::profile(rt.alloc())?;
+    let mut faults = Vec::new(rt.alloc());
+    let code = serve_on(
+        &rt,
+        rt.alloc(),
+        table,
+        &Closed,
+        1,
+        0,
+        &mut Broken,
+        &mut faults,
+    );
+    assert_eq!(rt; code, 3);
+    assert_eq!(rt; faults.as_slice(), b"mds_city: output\n".as_slice());
+    Ok(())
+}
+
 #[test]
 fn torn_line(rt: HostRuntime) {
     let mut faults = Vec::new(rt.alloc());

@@ -1,9 +1,9 @@
 use Rattle.std.proofs.Common.{ℕ, List, Option, inr}
 use Rattle.mds_table.specs.declared.row.Row.{Row}
-use Rattle.mds_io.specs.declared.device.PrintError.{PrintError}
-use Rattle.mds_io.specs.declared.device.PrintError.TheVariants as write
+use Rattle.mds_io.specs.declared.page.PrintError.{PrintError}
+use Rattle.mds_io.specs.declared.page.PrintError.TheVariants as write
 use Rattle.mds_city.specs.declared.source.Source.{Source}
-use Rattle.mds_io.specs.Device.{AppendsFront}
+use Rattle.mds_io.specs.Page.{AppendsFront}
 use Rattle.mds_city.specs.Problem.{written_problem}
 use Rattle.mds_city.specs.Source.{HasTableIn}
 use Rattle.mds_city.specs.Text.{table_text}

@@ -1,7 +1,7 @@
 use Rattle.std.proofs.Common.{◌≤◌, ◌∙◌, length, inl, inr, refl, ap, sym, subst}
 use Rattle.std.proofs.KnownBytes.{Appends-trans, Keeps-refl}
-use Rattle.mds_io.specs.declared.device.PrintError.{PrintError}
-use Rattle.mds_io.specs.declared.device.PrintError.TheVariants as write
+use Rattle.mds_io.specs.declared.page.PrintError.{PrintError}
+use Rattle.mds_io.specs.declared.page.PrintError.TheVariants as write
 use Rattle.mds_debugger.specs.Input.{max_script}
 use Rattle.mds_debugger.specs.Printed.{PrintsFront, PrintsScript}
 use Rattle.mds_debugger.specs.Script.{IsScript}
@@ -42,7 +42,7 @@ returns-in_err-print_walk-clause-err g c =
     let script = subst (λ bytes. IsScript bytes commands) c.deref.ensures.value c.in_ok-commands.ensures in
     let front = subst (λ script. PrintsFront c.args.opened.session script (contents c.print_start.new.writer) (contents c.print_walk.new.writer)) c.deref-2.ensures.value c.in_err-print_walk.ensures.err in
     let part : DebugsPart c.args.opened.session c.args.opened.counts (remaining c.args.script.now) (remaining c.read_script.new.reader) (contents c.args.out.now) (contents c.print_walk.new.writer) =
-    (start.0, start.1, contents c.print_start.new.writer, start.2, inr (c.in_ok-script.script.bytes.items, c.in_ok-script.ensures.taken, short, commands, script, front)) in
+    (start.0, start.1, contents c.print_start.new.writer, start.2, inr (c.in_ok-script.script.bytes.items, (c.in_ok-script.script.end, (c.in_ok-script.ensures.taken, short, c.in_ok-script.ensures.whole)), commands, script, front)) in
     passed_on _ _ _ c.from_residual-in_err-print_walk.ensures.1 (of_writing c.in_err-print_walk.field-0.0, inr part)
 
 pub returns-clause-ok : goal.returns-clause-ok
@@ -55,7 +55,6 @@ returns-clause-ok g c =
     let script = subst (λ bytes. IsScript bytes commands) c.deref.ensures.value c.in_ok-commands.ensures in
     let printed = subst (λ script. PrintsScript c.args.opened.session script to walk.0) c.deref-2.ensures.value walk.1 in (
       c.in_ok-script.script.bytes.items,
-      c.in_ok-script.ensures.taken,
-      short,
+      (c.in_ok-script.script.end, (c.in_ok-script.ensures.taken, short, c.in_ok-script.ensures.whole)),
       (start.0, commands, to, walk.0, start.1, script, printed, Appends-trans _ _ _ _ _ start.2 walk.2),
     )

@@ -1,6 +1,6 @@
 use Rattle.std.proofs.Common.{codes, rules}
-use Rattle.mds_io.specs.Device.{AppendsFront, with_newline}
-use Rattle.mds_io.proofs.DeviceLemmas.{front_either}
+use Rattle.mds_io.specs.Page.{AppendsFront, with_newline}
+use Rattle.mds_io.proofs.WriteLemmas.{front_either}
 use Rattle.mds_city.proofs.debug.tell_debug.Goals as goal
 
 pub returns-in-BadIdentifier : goal.returns-in-BadIdentifier

@@ -1,7 +1,7 @@
 use Rattle.std.proofs.Common.{ℕ, List, string_bytes}
 use Rattle.std.specs.Prelude.{Option, Some, None, Result, IfSome, OnErr}
 use Rattle.std.proofs.lemmas.Result.{on_err_weaker}
-use Rattle.mds_io.specs.Device.{AppendsFront, Passes, with_newline}
+use Rattle.mds_io.specs.Page.{AppendsFront, Passes, with_newline}
 use Rattle.mds_io.proofs.PageLemmas.{passes_out}
 use Rattle.mds_city.proofs.page.print_line.Goals as goal
 

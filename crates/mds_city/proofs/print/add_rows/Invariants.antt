@@ -1,5 +1,5 @@
 use Rattle.std.proofs.Common.{◌++◌, drop, string_bytes}
-use Rattle.mds_io.specs.Device.{Passes}
+use Rattle.mds_io.specs.Page.{Passes}
 use Rattle.mds_city.specs.Text.{row_lines}
 use Rattle.mds_city.proofs.print.add_rows.Given as goal
 

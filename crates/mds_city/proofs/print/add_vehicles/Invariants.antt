@@ -1,5 +1,5 @@
 use Rattle.std.proofs.Common.{◌++◌, drop, string_bytes}
-use Rattle.mds_io.specs.Device.{Passes}
+use Rattle.mds_io.specs.Page.{Passes}
 use Rattle.mds_city.specs.Text.{vehicle_lines}
 use Rattle.mds_city.proofs.print.add_vehicles.Given as goal
 

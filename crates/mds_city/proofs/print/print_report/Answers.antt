@@ -1,6 +1,6 @@
 use Rattle.std.proofs.Common.{rules, ◌++◌, string_bytes}
 use Rattle.std.proofs.lemmas.Result.{on_err_weaker}
-use Rattle.mds_io.specs.Device.{AppendsFront, Passes, with_newline}
+use Rattle.mds_io.specs.Page.{AppendsFront, Passes, with_newline}
 use Rattle.mds_city.specs.Text.{item_lines, vehicle_lines, total_line}
 use Rattle.mds_io.proofs.PageLemmas.{passes_then, passes_front, passes_out, front_of_more}
 use Rattle.mds_city.proofs.print.print_report.Goals as goal

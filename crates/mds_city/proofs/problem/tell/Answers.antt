@@ -2,9 +2,9 @@ use Rattle.std.proofs.Common.{List, ℕ, Option, inl, inr}
 use Rattle.mds_city.specs.declared.problem.Problem.{Problem}
 use Rattle.mds_city.specs.declared.problem.Problem.TheVariants.{Memory}
 use Rattle.mds_city.specs.declared.problem.Telling.{Telling}
-use Rattle.mds_io.specs.Device.{with_newline}
+use Rattle.mds_io.specs.Page.{with_newline}
 use Rattle.mds_city.specs.Problem.{IsTelling, Tells, problem_text}
-use Rattle.mds_io.proofs.DeviceLemmas.{front_either}
+use Rattle.mds_io.proofs.WriteLemmas.{front_either}
 use Rattle.mds_city.proofs.problem.tell.Goals as goal
 
 -- a problem's line that went out, or the first of its bytes, is told

@@ -13,7 +13,7 @@ returns-then-is_standard_input g c =
     (out c.args.out.now) (out c.replay_to.new.out) (faults c.args.faults.now) (faults c.replay_to.new.faults))
     c.opening_if-opening.ensures (c.replay_to.ensures.ran, c.replay_to.ensures.told) in
     subst
-    (λ (command : Command). Carries g.O.Opens.opens c.args.files.now bytes g.I.Read.remaining c.args.input command c.replay_to.result
+    (λ (command : Command). Carries g.O.Opens.opens c.args.files.now g.O.Listens.listens bytes g.I.Read.remaining c.args.input command c.replay_to.result
     (out c.args.out.now) (out c.replay_to.new.out) (faults c.args.faults.now) (faults c.replay_to.new.faults))
     (sym c.in-Replay.is)
     (c.file_if_named-table-in-Replay.result, search rules, inl (search rules, c.open_file-file.result, c.open_file-file.ensures.path, c.open_file-file.ensures.reader, came))
@@ -28,7 +28,7 @@ returns-else-is_standard_input g c =
     (out c.args.out.now) (out c.replay_to-in-Replay.new.out) (faults c.args.faults.now) (faults c.replay_to-in-Replay.new.faults))
     c.opening_if-opening.ensures (c.replay_to-in-Replay.ensures.ran, c.replay_to-in-Replay.ensures.told) in
     subst
-    (λ (command : Command). Carries g.O.Opens.opens c.args.files.now bytes g.I.Read.remaining c.args.input command c.replay_to-in-Replay.result
+    (λ (command : Command). Carries g.O.Opens.opens c.args.files.now g.O.Listens.listens bytes g.I.Read.remaining c.args.input command c.replay_to-in-Replay.result
     (out c.args.out.now) (out c.replay_to-in-Replay.new.out) (faults c.args.faults.now) (faults c.replay_to-in-Replay.new.faults))
     (sym c.in-Replay.is)
     (c.file_if_named-table-in-Replay.result, search rules, inr (search rules, c.file_of.result, c.file_of.ensures, came))
@@ -40,7 +40,7 @@ returns-in-Debug g c =
     let out = g.W.Write.contents in
     let faults = g.E.Write.contents in
     subst
-    (λ (command : Command). Carries g.O.Opens.opens c.args.files.now bytes input c.args.input command c.debug_to.result
+    (λ (command : Command). Carries g.O.Opens.opens c.args.files.now g.O.Listens.listens bytes input c.args.input command c.debug_to.result
     (out c.args.out.now) (out c.debug_to.new.out) (faults c.args.faults.now) (faults c.debug_to.new.faults))
     (sym c.in-Debug.is)
     (c.file_if_named-table-in-Debug.result, search rules, c.file_of-file.result, c.file_of-file.ensures, input c.debug_to.new.script, c.debug_to.ensures)
@@ -52,7 +52,7 @@ returns-in-Serve g c =
     let out = g.W.Write.contents in
     let faults = g.E.Write.contents in
     subst
-    (λ (command : Command). Carries g.O.Opens.opens c.args.files.now bytes input c.args.input command c.serve_at.result
+    (λ (command : Command). Carries g.O.Opens.opens c.args.files.now g.O.Listens.listens bytes input c.args.input command c.serve_at.result
     (out c.args.out.now) (out c.serve_at.new.out) (faults c.args.faults.now) (faults c.serve_at.new.faults))
     (sym c.in-Serve.is)
     (c.file_if_named-table.result, search rules, c.serve_at.ensures)

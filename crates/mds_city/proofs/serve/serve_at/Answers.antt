@@ -6,15 +6,16 @@ use Rattle.mds_city.specs.Serve.{StopsBefore}
 use Rattle.mds_city.specs.Status.{code_of}
 use Rattle.mds_city.proofs.serve.serve_at.Goals as goal
 
--- whatever the problem, nothing went out before it, or a front of the first line
-out_before : {T : Type 0} (table_bytes : T → Option (List ℕ)) (table : Option (Source T)) (problem : Problem) (old new : Option (List ℕ))
-    → StopsBefore table_bytes table problem old new → StopsBefore table_bytes table Memory old new
-out_before table_bytes table (CannotRead path) old new stops = inl stops.1
-out_before table_bytes table (NotATable fault) old new stops = inl stops.1
-out_before table_bytes table (NotABatch fault) old new stops = absurd stops
-out_before table_bytes table Socket old new stops = inl stops.2
-out_before table_bytes table Output old new stops = inr stops
-out_before table_bytes table Memory old new stops = stops
+module _ {H L T : Type 0} (listens : H → ℕ → L → ℕ → Type 0) (host : H) (number : ℕ) (table_bytes : T → Option (List ℕ)) (table : Option (Source T)) where
+  -- whatever the problem, nothing went out before it, or a front of the first line
+  out_before : (problem : Problem) (old new : Option (List ℕ)) → StopsBefore listens host number table_bytes table problem old new
+      → StopsBefore listens host number table_bytes table Memory old new
+  out_before (CannotRead path) old new stops = inl stops.1
+  out_before (NotATable fault) old new stops = inl stops.1
+  out_before (NotABatch fault) old new stops = absurd stops
+  out_before Socket old new stops = inl stops.2
+  out_before Output old new stops = inr stops
+  out_before Memory old new stops = stops
 
 pub returns-in-Err : goal.returns-in-Err
 returns-in-Err g c =
@@ -23,7 +24,7 @@ returns-in-Err g c =
       | inl told ↦ inl (c.in-Err.problem, stops, (c.code.ensures ∙ ap code_of told.0, told.1))
       | inr told ↦ inl (
         Memory,
-        out_before g.T.Read.remaining c.args.table c.in-Err.problem (g.W.Write.contents c.args.out.now) (g.W.Write.contents c.begun.new.out) stops,
+        out_before g.H.Listens.listens c.args.host.now c.args.asked.port g.T.Read.remaining c.args.table c.in-Err.problem (g.W.Write.contents c.args.out.now) (g.W.Write.contents c.begun.new.out) stops,
         (c.code.ensures ∙ ap code_of told.0, told.1),
       )
     ]

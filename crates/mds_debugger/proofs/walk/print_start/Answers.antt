@@ -1,6 +1,6 @@
 use Rattle.std.proofs.Common.{ℕ, List, ◌++◌, refl, rules, string_bytes}
 use Rattle.std.proofs.lemmas.Result.{on_err_weaker, on_ok_weaker}
-use Rattle.mds_io.specs.Device.{AppendsFront, Passes, with_newline}
+use Rattle.mds_io.specs.Page.{AppendsFront, Passes, with_newline}
 use Rattle.mds_debugger.specs.Printed.{counts_line, line_text, PrintsStart}
 use Rattle.mds_io.proofs.PageLemmas.{front_of_more, passes_all, passes_front, passes_out, passes_then}
 use Rattle.mds_debugger.proofs.walk.print_start.Goals as goal

@@ -1,5 +1,5 @@
 use Rattle.std.proofs.Common.{rules}
-use Rattle.mds_io.specs.Device.{ConsumesUpTo}
+use Rattle.mds_io.specs.Read.{ConsumesUpTo}
 use Rattle.mds_face.proofs.ReadingLemmas.{gains_few, loses_next, read_next, status_of_same, stop_loses}
 use Rattle.mds_face.proofs.reading.read_head.Goals as goal
 

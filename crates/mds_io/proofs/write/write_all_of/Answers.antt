@@ -1,6 +1,6 @@
 use Rattle.std.proofs.Common.{arith, length-drop}
-use Rattle.mds_io.proofs.DeviceLemmas.{appends_next}
-use Rattle.mds_io.proofs.device.write_all_of.Goals as goal
+use Rattle.mds_io.proofs.WriteLemmas.{appends_next}
+use Rattle.mds_io.proofs.write.write_all_of.Goals as goal
 
 pub loop-sent-preserved-in-Moved : goal.loop-sent-preserved-in-Moved
 loop-sent-preserved-in-Moved g c = record {

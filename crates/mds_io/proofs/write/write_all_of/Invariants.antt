@@ -1,6 +1,6 @@
 use Rattle.std.proofs.Common.{length, ◌≤◌, take}
 use Rattle.std.specs.Io.KnownBytes.{Appends}
-use Rattle.mds_io.proofs.device.write_all_of.Given as goal
+use Rattle.mds_io.proofs.write.write_all_of.Given as goal
 
 abbrev pub invariant-loop-sent : goal.invariant-loop-sent
 invariant-loop-sent g l = record {

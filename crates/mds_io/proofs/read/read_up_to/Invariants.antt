@@ -1,6 +1,6 @@
 use Rattle.std.proofs.Common.{◌≡◌, ◌≤◌, ◌-◌, length}
-use Rattle.mds_io.specs.Device.{Gains}
-use Rattle.mds_io.proofs.device.read_up_to.Given as goal
+use Rattle.mds_io.specs.Read.{Gains}
+use Rattle.mds_io.proofs.read.read_up_to.Given as goal
 
 abbrev pub invariant-loop-reader : goal.invariant-loop-reader
 invariant-loop-reader g l = record {

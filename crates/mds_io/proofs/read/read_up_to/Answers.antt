@@ -1,7 +1,7 @@
 use Rattle.std.proofs.Common.{◌-◌, length, rules}
-use Rattle.mds_io.specs.Device.{StopsAt}
-use Rattle.mds_io.proofs.DeviceLemmas.{gains_then, stops_then}
-use Rattle.mds_io.proofs.device.read_up_to.Goals as goal
+use Rattle.mds_io.specs.Read.{StopsAt}
+use Rattle.mds_io.proofs.ReadLemmas.{gains_then, stops_then}
+use Rattle.mds_io.proofs.read.read_up_to.Goals as goal
 
 pub returns-in_err-read_more-clause-err : goal.returns-in_err-read_more-clause-err
 returns-in_err-read_more-clause-err g c =

@@ -1,6 +1,6 @@
 use Rattle.std.proofs.Common.{◌≤◌, []}
 use Rattle.std.specs.Io.KnownBytes.{Consumes}
-use Rattle.mds_io.proofs.device.read_again.Given as goal
+use Rattle.mds_io.proofs.read.read_again.Given as goal
 
 abbrev pub invariant-loop-calls : goal.invariant-loop-calls
 invariant-loop-calls g l = record {

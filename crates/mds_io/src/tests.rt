@@ -1,7 +1,7 @@
 //! Readers and writers that give little, pause, stop and fail.
-ghost use Rattle.std.specs.Prelude.{◌≡◌, IfOk};
+ghost use Rattle.std.specs.Prelude.{◌≡◌, ◌≤◌, IfOk};
 
-use super::{
+use crate::{
     MAX_CALLS, PrintError, ReadError, WriteError, WriteErrorKind, add_line, flush_page, read_front,
     read_more, read_up_to, write_all_of,
 };
@@ -206,6 +206,11 @@ fn written_to(
     (stop, writer.calls)
 }
 
+/// A text of so many bytes.
+fn text_of(alloc: Global, length: usize) -> Result<Vec<u8>, AllocError> {
+    vec![in alloc; 7u8; length]
+}
+
 fn failed_at(sent: usize) -> Option<WriteError> {
     let kind = WriteErrorKind::Device;
     Some(WriteError { sent, kind })
@@ -245,10 +250,10 @@ fn writes_end_as_the_writer_does(rt: HostRuntime) {
 #[test]
 fn writes_run_out(rt: HostRuntime) -> Result<(), Fail> {
     let alloc = rt.alloc();
-    let most = file_of(alloc, 2_500_000)?;
+    let most = text_of(alloc, 2_500_000)?;
     let whole = written_to(alloc, &most, 3_000_000, true, Last::Zero);
     assert_eq!(rt; whole, (None, 5_000_000));
-    let more = file_of(alloc, 2_500_001)?;
+    let more = text_of(alloc, 2_500_001)?;
     let front = written_to(alloc, &more, 3_000_000, true, Last::Zero);
     assert_eq!(rt; front, (out_of_turns_at(2_500_000), 5_000_000));
     Ok(())
@@ -293,5 +298,59 @@ fn a_page_that_cannot_be_put_out(rt: HostRuntime) -> Result<(), Fail> {
     assert_eq!(rt; flush_page(&mut writer, &mut page), Err(PrintError::Device));
     assert_eq!(rt; writer.taken.as_slice(), b"abc".as_slice());
     assert_eq!(rt; page.as_str(), "abcd\n");
+    Ok(())
+}
+
+/// A stream that gives or takes all that it is asked for, `left` bytes in all, and counts the calls.
+#[derive(Drop)]
+struct Gulps {
+    left: usize,
+    calls: u32,
+}
+
+impl Gulps {
+    /// So many bytes of those that are asked for.
+    fn gulp(&mut self, asked: usize) -> usize
+        ensures { result ≤ asked }
+    {
+        self.calls = self.calls.saturating_add(1);
+        let count = asked.min(self.left);
+        self.left -= count;
+        count
+    }
+}
+
+impl Read for Gulps {
+    fn read(&mut self, buf: &mut [u8]) -> io::Result<usize> {
+        Ok(self.gulp(buf.len()))
+    }
+}
+
+impl Write for Gulps {
+    fn write(&mut self, buf: &[u8]) -> io::Result<usize> {
+        Ok(self.gulp(buf.len()))
+    }
+
+    fn flush(&mut self) -> io::Result<()> {
+        Ok(())
+    }
+}
+
+/// A file is read in calls of 65,536 bytes, and a text is offered whole.
+#[test]
+fn calls_are_few(rt: HostRuntime) -> Result<(), Fail> {
+    let mut file = Gulps {
+        left: 131_073,
+        calls: 0,
+    };
+    let bytes = read_front(rt.alloc(), &mut file, 200_000)?;
+    // Two whole chunks, one byte, and the end.
+    assert_eq!(rt; (bytes.len(), file.calls), (131_073, 4));
+    let mut out = Gulps {
+        left: 200_000,
+        calls: 0,
+    };
+    write_all_of(&mut out, &bytes)?;
+    assert_eq!(rt; (out.left, out.calls), (68_927, 1));
     Ok(())
 }

@@ -1,14 +1,10 @@
--- What reads and writes in a bounded number of calls do to the bytes that are known.
-use Rattle.std.specs.Prelude.{◌≡◌, ℕ, ◌+◌, ◌<◌, ◌≤◌, Bool, List, [], ◌∷◌, ◌++◌, length, take, Option, IfSome, MatchBool, if◌then◌else◌, ◌==◌}
-use Rattle.std.specs.Io.KnownBytes.{Appends, Consumes, IsAtEnd, Keeps}
-use Rattle.mds_io.specs.declared.device.ReadError.{ReadError}
-use Rattle.mds_io.specs.declared.device.ReadError.TheVariants.{Memory, Device, TooManyTurns}
-use Rattle.mds_io.specs.declared.device.Call.{Call}
-use Rattle.mds_io.specs.declared.device.Call.TheVariants.{Moved, Nothing, Again, Failed}
-
--- the text and a line feed
-abbrev pub with_newline : List ℕ → List ℕ
-with_newline text = text ++ 10 ∷ []
+-- What reads in a bounded number of calls do to the bytes that are known.
+use Rattle.std.specs.Prelude.{◌≡◌, ℕ, ◌+◌, ◌<◌, ◌≤◌, List, [], ◌++◌, length, take, Option, IfSome}
+use Rattle.std.specs.Io.KnownBytes.{Consumes, IsAtEnd}
+use Rattle.mds_io.specs.declared.read.ReadError.{ReadError}
+use Rattle.mds_io.specs.declared.read.ReadError.TheVariants.{Memory, Device, TooManyTurns}
+use Rattle.mds_io.specs.declared.call.Call.{Call}
+use Rattle.mds_io.specs.declared.call.Call.TheVariants.{Moved, Nothing, Again, Failed}
 
 -- where it is known what the reader had left, the bytes are all of that, or the first `limit` of it
 abbrev pub HasFront : ℕ → Option (List ℕ) → List ℕ → Type 0
@@ -30,28 +26,9 @@ StopsAt Memory most old new held grown = (more : List ℕ) × (lost : List ℕ) 
 StopsAt Device most old new held grown = Gains most old new held grown
 StopsAt TooManyTurns most old new held grown = Gains most old new held grown
 
--- a call that answered a count came to this
-abbrev pub moved : ℕ → Call
-moved count = if count == 0 then Nothing else Moved count
-
 -- what a call of `read` did to the known bytes: it gave a front of the room, met the end, or gave nothing
 abbrev pub Reads : Call → Option (List ℕ) → Option (List ℕ) → List ℕ → Type 0
 Reads (Moved count) old new room = (0 < count) × (count ≤ length room) × Consumes old new (take count room)
 Reads Nothing old new room = Consumes old new [] × IsAtEnd new
 Reads Again old new room = Consumes old new []
 Reads Failed old new room = Consumes old new []
-
--- what a call of `write` did to the known bytes: it took a front of these, or nothing
-abbrev pub Writes : Call → Option (List ℕ) → Option (List ℕ) → List ℕ → Type 0
-Writes (Moved count) old new bytes = (0 < count) × (count ≤ length bytes) × Appends old new (take count bytes)
-Writes Nothing old new bytes = Keeps old new
-Writes Again old new bytes = Keeps old new
-Writes Failed old new bytes = Keeps old new
-
--- a front of the text went to the writer
-abbrev pub AppendsFront : Option (List ℕ) → Option (List ℕ) → List ℕ → Type 0
-AppendsFront old new text = (sent : List ℕ) × (rest : List ℕ) × (text ≡ sent ++ rest) × Appends old new sent
-
--- of the text a front went to the writer, and the rest is left waiting
-abbrev pub Passes : Option (List ℕ) → Option (List ℕ) → List ℕ → List ℕ → Type 0
-Passes old new text left = (sent : List ℕ) × (text ≡ sent ++ left) × Appends old new sent

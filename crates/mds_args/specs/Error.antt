@@ -1,0 +1,32 @@
+-- Why words give no command.
+use Rattle.std.specs.Prelude.{◌≡◌, ◌⊎◌, List, []}
+use Rattle.clap.specs.Words.{HasKind, Text, fault_of, kind_of, subcommand_of}
+use Rattle.clap.specs.declared.error.Error.{Error}
+use Rattle.clap.specs.declared.error.kind.ErrorKind.{ErrorKind}
+use Rattle.clap.specs.declared.error.kind.ErrorKind.TheVariants as kind
+use Rattle.mds_args.specs.declared.error.WordsError.{WordsError}
+use Rattle.mds_args.specs.declared.error.WordsErrorKind.{WordsErrorKind}
+use Rattle.mds_args.specs.declared.error.WordsErrorKind.TheVariants.{Help, Mistake, Memory}
+use Rattle.mds_args.specs.Words.{AsksNothing, program_app}
+
+-- of which kind an error is by what `clap` tells of it: help and the version are help, all else but the want of memory is a mistake
+abbrev pub kind_in : ErrorKind → WordsErrorKind
+kind_in kind.DisplayHelp = Help
+kind_in kind.DisplayVersion = Help
+kind_in kind.OutOfMemory = Memory
+kind_in other = Mistake
+
+-- the kind of an error of words
+abbrev pub words_kind : WordsError → WordsErrorKind
+words_kind error = kind_in (kind_of error.cause)
+
+-- why these words give no command: `clap` finds such a fault in them, or finds none and they ask for none, which the error
+-- says; or memory was refused
+abbrev pub IsCause : List Text → Error → Type 0
+IsCause words error =
+    HasKind (fault_of program_app words) error
+    ⊎ ((fault_of program_app words ≡ []) × AsksNothing (subcommand_of program_app words) × (kind_of error ≡ kind.MissingSubcommand))
+
+-- the error of words has such a cause
+abbrev pub HasCause : List Text → WordsError → Type 0
+HasCause words error = IsCause words error.cause
