@@ -222,8 +222,12 @@ fn open_on(
 /// The session over these events, which lead on from removed.
 fn session_of(alloc: Global, table: Table, events: Vec<Event>) -> Result<Session, AllocError>
     requires { AreOpenFrom table State.Removed events.items }
-    ensures { IfOk result (λ session. session ≡ record { tables = table; opening = State.Removed;
-        events = events.items; place = record { event = 0; passed = 0 } }) }
+    ensures { IfOk result (λ session. session ≡ record {
+      tables = table;
+      opening = State.Removed;
+      events = events.items;
+      place = record { event = 0; passed = 0 };
+    }) }
 {
     match Session::open(alloc, table, State::Removed, events) {
         Ok(session) => Ok(session),
