@@ -7,13 +7,12 @@ import sys
 import time
 from pathlib import Path
 
-ROOT = Path(__file__).resolve().parent.parent
-sys.path.append(str(ROOT / "tests"))
-
+from cases.replays import P, identifier, turn
+from harness.building import loading_client
 from serving.server import Server, success_of
+from serving.settling import settled
 from serving.wire import ask, get, post
 
-PROVIDER = "00000000-0000-4000-8000-000000000001"
 VEHICLES = 1000
 LOOKS = 20000
 REPORTS = 20000
@@ -21,27 +20,27 @@ BATCHES, EVENTS = 512, 100
 WORKERS = (1, 4)
 CLIENTS = (1, 16)
 KEPT = 100000
-
-
-def identifier(group, number):
-    """A UUID of this group with this number."""
-    return f"00000000-0000-4000-8{group:03x}-{number:012x}"
+SEATS = 16
+SETTLED = {300000: (2, 9375), 2240000: (14, 10000)}
+"""Numbers of accepted requests that are settled, each as turns and the items of each seat in a turn. The second one puts more
+than a million into either shard."""
+MOST_SETTLING = 10
+"""How many seconds the first of them may take; the others as much for each request."""
 
 
 def vehicle(number):
-    return {"provider_id": PROVIDER, "device_id": identifier(1, number)}
+    return {"provider_id": P, "device_id": identifier(1, number)}
 
 
-def event(number, turn):
+def event(number, at):
     """The event of this turn of a vehicle, which the profile's table accepts."""
-    first = ("available", "provider_drop_off")
-    state, kind = first if turn == 0 else (("available", "battery_charged"), ("non_operational", "battery_low"))[turn % 2]
+    state, kind = turn(at)
     return {
         **vehicle(number),
-        "event_id": identifier(2, turn),
+        "event_id": identifier(2, at),
         "vehicle_state": state,
         "event_types": [kind],
-        "timestamp": 1700000000000 + turn,
+        "timestamp": 1700000000000 + at,
     }
 
 
@@ -53,7 +52,7 @@ def events_of(client, clients, count):
 
 def looks(client, clients):
     own = range(client, VEHICLES, clients)
-    return [get(f"/vehicles/{PROVIDER}/{identifier(1, own[at % len(own)])}") for at in range(LOOKS // clients)]
+    return [get(f"/vehicles/{P}/{identifier(1, own[at % len(own)])}") for at in range(LOOKS // clients)]
 
 
 def reports(client, clients):
@@ -76,13 +75,6 @@ def processor_time(child):
     """The seconds of the processors that a process took so far."""
     fields = Path(f"/proc/{child.pid}/stat").read_text().rpartition(")")[2].split()
     return (int(fields[11]) + int(fields[12])) / 100
-
-
-def built(folder):
-    """The client, built from bench/client.c."""
-    client = Path(folder, "client")
-    subprocess.run(["cc", "-O2", "-pthread", "-o", client, ROOT / "bench/client.c"], check=True)
-    return client
 
 
 def files_of(folder, requests_of, clients):
@@ -115,7 +107,7 @@ class ServeBench:
         self.program = program
         self.runs = runs
         self.folder = folder
-        self.client = built(folder)
+        self.client = loading_client()
 
     def once(self, paths, count, success, workers):
         """The requests a second, the two percentiles in microseconds, and the processor time of the server and of the client
@@ -161,3 +153,11 @@ class ServeBench:
         grown = (after - before) / 2**20
         print(f"\n{KEPT:,} accepted events: {grown:.1f} MiB more, {grown * 2**20 / KEPT:,.0f} bytes each.")
         print(f"Settling {KEPT + VEHICLES:,} accepted requests, and ending: {seconds:.3f} s.")
+
+    def settle(self):
+        """Prints how long the server settles what many seats accepted. It ends the benchmark where that takes too long."""
+        for count, (turns, items) in SETTLED.items():
+            seconds = settled(self.program, SEATS, turns, items)
+            print(f"Settling {count:,} accepted requests of {SEATS} seats, and ending: {seconds:.3f} s.", flush=True)
+            if seconds > MOST_SETTLING * count / min(SETTLED):
+                sys.exit("settling takes too long")

@@ -1,9 +1,11 @@
 """The cases of tests/program, by subject."""
 
 from cases.batches import batches, items
-from cases.commands import commands, examples, help_asked_for, orders, paths, wrong_words
-from cases.debugging import faults, scripts
+from cases.commands import commands, examples, orders, paths, spaced_paths, wrong_words
+from cases.debugging import faults, long_sessions, scripts, starts_before_its_script
+from cases.helps import help_asked_for
 from cases.replays import replays
+from cases.serve import outputs_of_serve, ports, tables_of_serve, words_of_serve
 from cases.streams import memory, streams
 from cases.tables import table_files
 
@@ -13,13 +15,22 @@ SUBJECTS = [
     help_asked_for,
     wrong_words,
     paths,
+    spaced_paths,
     orders,
     table_files,
     batches,
     items,
     replays,
     scripts,
+    long_sessions,
     faults,
     streams,
     memory,
+    words_of_serve,
+    tables_of_serve,
+    ports,
+    outputs_of_serve,
 ]
+"""What yields cases."""
+INTERPLAYS = [starts_before_its_script]
+"""What runs the program by itself, and says what is wrong."""

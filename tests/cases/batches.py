@@ -2,9 +2,9 @@
 
 import json
 
-from cases.case import MAX_BYTES, MAX_ITEMS, lists, not_a_batch, padded, started, told
 from cases.replays import MEMBERS, A, B, batch, item, replayed
 from cases.tables import ONE_ROW
+from harness.case import MAX_BYTES, MAX_ITEMS, lists, not_a_batch, padded, started, told
 
 FAULTS = [
     (" " * (MAX_BYTES + 1), "too_long"),
@@ -60,6 +60,10 @@ def batches():
 
 NAMES = list(MEMBERS)
 SEVENTEEN = json.dumps(["trip_end"] * 17)
+BACKWARDS = "{%s}" % ", ".join(f'"{name}": {MEMBERS[name]}' for name in NAMES[::-1])
+ESCAPED = item().replace("timestamp", "time\\u0073tamp")
+# Texts of JSON that are no objects.
+NO_OBJECTS = ["7", "null", "[]", '"text"', "false", '["provider_id"]']
 # Texts of JSON that no member that has to be there takes.
 OTHERS = ["null", "true", "7.5", '""', '"-"', "[]", "[7]", "{}"]
 # Texts that are no ten-millionths of a degree.
@@ -167,13 +171,11 @@ def items():
         yield replayed(batch([item(**changed)]), [f"fault {fault}"], [], name=str(changed))
     twice = item(timestamp='3000, "timestamp": -1')
     yield replayed(twice, ["fault bad_param timestamp"], [], name="a time twice, the last one bad")
-    for text in ("7", "null", "[]", '"text"', "false", '["provider_id"]'):
+    for text in NO_OBJECTS:
         yield replayed(f"[{text}]", ["fault not_object"], [], name=text)
     for changed, verdict in REFUSED:
         yield replayed(item(**changed), [verdict], [(A, "removed", 0)], name=str(changed))
-    escaped = item().replace("timestamp", "time\\u0073tamp")
-    backwards = "{%s}" % ", ".join(f'"{name}": {MEMBERS[name]}' for name in NAMES[::-1])
-    for text in (escaped, backwards, *[item(**changed) for changed in ACCEPTED]):
+    for text in (ESCAPED, BACKWARDS, *[item(**changed) for changed in ACCEPTED]):
         yield replayed(text, ["ok available"], [(A, "available", 1)], name=text)
     neighbours = [item(), item(device_id=None), item(device_id=f'"{B}"')]
     verdicts = ["ok available", "fault missing_param device_id", "ok available"]

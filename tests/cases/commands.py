@@ -1,14 +1,14 @@
 """The words of the command line, and the files that they name."""
 
 import json
-from pathlib import Path
 
-from cases.case import CLOSED, FOLDER, FULL, GONE, NOT_TEXT, OUTPUT, SOME, Case
-from cases.case import cannot_read, not_a_batch, not_a_table, told
 from cases.replays import A, P, batch, event, replayed
 from cases.tables import ONE_ROW, ONE_ROW_PRINTED
+from harness.case import CLOSED, FOLDER, FULL, NO_STREAMS, NOT_TEXT, SOME, Case
+from harness.case import cannot_read, not_a_batch, not_a_table, told
+from harness.counting import ROOT
 
-EXAMPLES = Path(__file__).resolve().parent.parent.parent / "examples"
+EXAMPLES = ROOT / "examples"
 EVENTS = batch([event(A, "e1", "wake", "available", 1000)])
 """What the table of one row accepts, and the profile's doesn't."""
 NOTHING = "accepted 0 refused 0\n"
@@ -55,17 +55,6 @@ def commands():
         yield replayed(EVENTS, ["ok available"], [(A, "available", 1, "removed")], words=words, files=files)
 
 
-def help_asked_for():
-    """Help, which goes to standard output."""
-    for words in ("--help", "-h", "help", "help help", "help replay", "help debug", "help table", "help serve"):
-        yield Case(words, out=SOME)
-    for words in ("replay --help", "replay -h", "debug --help", "table --help", "table -h", "replay events.json --help"):
-        yield Case(words, out=SOME)
-    for stdout in (FULL, GONE, CLOSED):
-        yield told("--help", OUTPUT, stdout=stdout)
-        yield told("--help", "", stdout=stdout, stderr=FULL)
-
-
 WRONG = [
     [],
     [""],
@@ -103,9 +92,6 @@ WRONG = [
     ["table", "--any"],
     ["replay", "events.json", "--lines"],
     ["replay", "events.json", "--workers", "4"],
-    # the words of `serve` are those of tests/clients
-    ["serve"],
-    ["serve", "--port", "0"],
     ["debug"],
     ["debug", "events.json"],
     ["debug", "events.json", P],
@@ -133,7 +119,7 @@ def wrong_words():
         yield Case(words, status=2, faults=SOME, files=files)
     for words in NO_TEXTS:
         yield Case(words, status=2, faults=NOT_TEXT, files=files)
-    for stderr in (FULL, GONE, CLOSED):
+    for stderr in NO_STREAMS:
         for stdout in (None, FULL):
             yield Case("bogus", status=2, stdout=stdout, stderr=stderr)
             yield Case([b"\xff"], status=2, stdout=stdout, stderr=stderr)
@@ -167,6 +153,29 @@ def paths():
     yield Case("replay -", out=NOTHING, files=here, given="[]")
     yield Case("replay ./-", out=NOTHING, files={"-": "[]"}, given="{")
     yield replayed(EVENTS, ["ok available"], [(A, "available", 1)], words="replay - --table -", files=here)
+
+
+SPACED = [" {}", "{} ", " {} ", "\t{}", "{}\n", "\u00a0{}"]
+"""Ways to put spaces round a name."""
+
+
+def spaced_paths():
+    """Files whose names begin or end with spaces are read as they are named. A file of the trimmed name, with other content,
+    isn't."""
+    accepted = [["ok available"], [(A, "available", 1)]]
+    for form in SPACED:
+        events, table, dash = form.format("events.json"), form.format("table.json"), form.format("-")
+        files = {events: EVENTS, "events.json": "7", table: ONE_ROW, "table.json": "{", dash: EVENTS, "-": "7"}
+        for words in (["table", "--table", table], ["table", f"--table={table}"]):
+            yield Case(words, out=ONE_ROW_PRINTED, files=files)
+        yield replayed("7", *accepted, words=["replay", events, "--table", table], files=files)
+        yield replayed("7", *accepted, words=["replay", "--table", table, "--", dash], files=files)
+        debugged = "events 1 refused 0\n0 0 removed possible removed\n"
+        yield Case(["debug", events, P, A, "--table", table], out=debugged, files=files)
+        trimmed = {"events.json": EVENTS, "table.json": ONE_ROW}
+        yield told(["replay", events, "--table", "table.json"], cannot_read(events), files=trimmed)
+        yield told(["replay", "events.json", "--table", table], cannot_read(table), files=trimmed)
+        yield told(["serve", "--port", "0", "--each", "0", "--table", table], cannot_read(table), files=trimmed)
 
 
 def orders():

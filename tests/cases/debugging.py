@@ -1,13 +1,15 @@
 """The debugger: scripts, and what they print of a session."""
 
-from pathlib import Path
+import select
+import subprocess
 
-from cases.case import CLOSED, FOLDER, FULL, GONE, MAX_BYTES, MAX_ITEMS, OUTPUT, Case
-from cases.case import cannot_read, not_a_batch, not_a_table, told
-from cases.replays import A, ANY_RUNS, B, P, batch, event
+from cases.replays import A, ANY_RUNS, B, P, batch, event, history, turn
 from cases.tables import ONE_ROW
+from harness.case import CLOSED, FOLDER, MAX_BYTES, MAX_ITEMS, NO_STREAMS, OUTPUT, Case
+from harness.case import cannot_read, not_a_batch, not_a_table, told
+from harness.counting import ROOT
 
-EXAMPLE = Path(__file__).resolve().parent.parent.parent / "examples" / "lost-and-back"
+EXAMPLE = ROOT / "examples/lost-and-back"
 EVENTS = batch(
     [
         event(A, "e1", "comms_lost", "non_contactable", 1000),
@@ -80,6 +82,53 @@ def scripts():
     yield debugged("", "", stdin=CLOSED)
 
 
+MANY = 2000
+
+
+def place(number, passed=0):
+    """The line of a place in the history of a vehicle, before the event of this number or behind its one type."""
+    held = turn(number - 1)[0] if number else "removed"
+    return f"{number} {passed} {held} possible {turn(number)[0] if passed else held}\n"
+
+
+def long_sessions():
+    """A vehicle of 2000 events, walked through from its first place to its end, and back."""
+    events = batch(history(A, 0, MANY))
+    forth = "".join(place(number) for number in range(1, MANY + 1))
+    yield debugged("next\n" * (MANY + 1), f"{forth}at end\n", events, (MANY, 0), name="next")
+    steps = [place(number // 2, number % 2) for number in range(2 * MANY + 1)]
+    back = "".join(steps[-2::-1])
+    script = "step\n" * (2 * MANY + 1) + "back\n" * (2 * MANY + 1)
+    yield debugged(script, f"{''.join(steps[1:])}at end\n{back}at start\n", events, (MANY, 0), name="step and back")
+    last = [*history(A, 0, MANY - 1), event(A, "ffff", "battery_low comms_lost", "non_contactable", 9000)]
+    found = f"{MANY} 0 non_contactable possible non_contactable\n"
+    chain = "available non_operational non_contactable\n"
+    inside = f"{MANY - 1} 2 available possible non_contactable\n{MANY - 1} 1 available possible non_operational\n"
+    script = "run non_contactable\nback\nback\nchain\n"
+    yield debugged(script, found + inside + chain, batch(last), (MANY, 0), name="run to the last event")
+
+
+def starts_before_its_script(program):
+    """The first two lines come before anything of standard input does, which is read then."""
+    words = [program, "debug", str(EXAMPLE.with_suffix(".json")), P, A]
+    child = subprocess.Popen(words, stdin=subprocess.PIPE, stdout=subprocess.PIPE, bufsize=0)
+    try:
+        found, wanted = b"", f"events 2 refused 0\n{START}".encode()
+        while len(found) < len(wanted) and select.select([child.stdout], [], [], 10)[0]:
+            piece = child.stdout.read(1000)
+            if not piece:
+                break
+            found += piece
+        if found != wanted:
+            yield f"{found!r}, in place of {wanted!r}, before anything of standard input"
+        rest, _ = child.communicate(b"step\n", timeout=60)
+        if (child.returncode, rest) != (0, STEPPED.encode()):
+            yield f"status {child.returncode} and {rest!r} behind `step`"
+    finally:
+        child.kill()
+        child.communicate()
+
+
 def faults():
     """Each fault, in the order in which they are looked for."""
     files = {"events.json": EVENTS, "bad": "{", "rows": ONE_ROW, "folder": FOLDER}
@@ -101,8 +150,8 @@ def faults():
     for words in (["debug", "events.json", P, B], ["debug", "events.json", A, A]):
         yield Case(words, status=1, faults=NOBODY, given="step\n", files=files)
     yield Case(["debug", "empty", P, A], status=1, faults=NOBODY, files={"empty": "[7]"})
-    for stderr in (FULL, GONE, CLOSED):
+    for stderr in NO_STREAMS:
         yield Case(["debug", "events.json", P, B], status=1, files=files, stderr=stderr)
         yield Case(["debug", "events.json", "P", B], status=2, files=files, stderr=stderr)
-    for stdout in (FULL, GONE, CLOSED):
+    for stdout in NO_STREAMS:
         yield told(WORDS, OUTPUT, given="step\n", files=files, stdout=stdout)

@@ -2,7 +2,13 @@
 
 import json
 
-from cases.case import MAX_ITEMS, Case
+from harness.case import MAX_ITEMS, Case
+
+
+def identifier(group, number):
+    """A UUID of this group with this number."""
+    return f"00000000-0000-4000-8{group:03x}-{number:012x}"
+
 
 P = "00000000-0000-4000-8000-000000000001"
 A = "00000000-0000-4000-8000-00000000000a"
@@ -37,6 +43,20 @@ def event(device, number, types, state, time):
 
 def batch(items):
     return f"[{', '.join(items)}]"
+
+
+def turn(number):
+    """The state that the event of this number of a vehicle reports, and its type. The profile's table accepts these events."""
+    if number == 0:
+        return "available", "provider_drop_off"
+    return ("non_operational", "battery_low") if number % 2 else ("available", "battery_charged")
+
+
+def history(device, front, behind):
+    """The JSON of the events of a device from one number up to another, each as its turn has it."""
+    for number in range(front, behind):
+        state, kind = turn(number)
+        yield event(device, f"{number:x}", kind, state, 1000 + number)
 
 
 def replayed(text, verdicts, vehicles, words="replay -", **more):
@@ -146,19 +166,23 @@ ANY_RUNS = [
 ]
 
 
+def second_events():
+    """The same runs of each event of `SECOND`, behind the one that makes its vehicle hold the state."""
+    for held, types, reported, verdict in SECOND:
+        events = [((A, "e0", FIRST[held], held, 1000), f"ok {held}"), ((A, "e1", types, reported, 2000), verdict)]
+        ends = (A, reported, 2) if verdict.startswith("ok") else (A, held, 1)
+        yield f"{held}, {types}, {reported}", events, [ends]
+
+
 def replays():
     """What the machine answers."""
-    for held, types, reported, verdict in SECOND:
-        events = [event(A, "e0", FIRST[held], held, 1000), event(A, "e1", types, reported, 2000)]
-        ends = (A, reported, 2) if verdict.startswith("ok") else (A, held, 1)
-        yield replayed(batch(events), [f"ok {held}", verdict], [ends], name=f"{held}, {types}, {reported}")
-    for name, events, vehicles in RUNS:
+    for name, events, vehicles in (*second_events(), *RUNS):
         text = batch(event(*of_event) for of_event, _ in events)
         yield replayed(text, [verdict for _, verdict in events], vehicles, name=name)
     for name, events, vehicles in ANY_RUNS:
         text = batch(event(*of_event) for of_event, _ in events)
         yield replayed(text, [verdict for _, verdict in events], vehicles, words="replay --any -", name=f"{name}, any")
-    devices = [f"00000000-0000-4000-8001-{number:012x}" for number in range(MAX_ITEMS)]
+    devices = [identifier(1, number) for number in range(MAX_ITEMS)]
     text = batch(event(device, "e1", "provider_drop_off", "available", 1000) for device in devices)
     vehicles = [(device, "available", 1) for device in devices]
     yield replayed(text, ["ok available"] * MAX_ITEMS, vehicles, name="as many vehicles as items can be")

@@ -1,10 +1,9 @@
 """Streams that fail, and memory that is refused."""
 
-from cases.case import CLOSED, FULL, GONE, NO_MEMORY, OUTPUT, Case, cannot_read, not_a_batch, not_a_table, told
 from cases.replays import A, batch, item, replayed
 from cases.tables import MOST_ROWS, ONE_ROW, table_file
+from harness.case import FULL, NO_MEMORY, NO_STREAMS, OUTPUT, Case, cannot_read, not_a_batch, not_a_table, told
 
-NO_STREAMS = (FULL, GONE, CLOSED)
 ONE = batch([item()])
 
 

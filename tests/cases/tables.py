@@ -2,7 +2,7 @@
 
 import json
 
-from cases.case import MAX_BYTES, Case, lists, not_a_table, padded, started, told
+from harness.case import MAX_BYTES, Case, lists, not_a_table, padded, started, told
 
 STATES = "removed available non_operational reserved on_trip elsewhere non_contactable missing".split()
 PARKED = "available non_operational elsewhere non_contactable missing"

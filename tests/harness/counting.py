@@ -43,7 +43,7 @@ class Count:
                 self.skipped += 1
                 print(f"skipped {name}: {why}", flush=True)
             return
-        except (OSError, Unwell) as fault:
+        except Exception as fault:  # whatever it is, the case didn't pass
             wrong = [f"{type(fault).__name__}: {fault}"]
         with self.lock:
             self.passed, self.failed = self.passed + (not wrong), self.failed + bool(wrong)

@@ -7,7 +7,7 @@ import subprocess
 import tempfile
 from pathlib import Path
 
-from cases.case import CLOSED, FOLDER, FULL, GONE, SOME
+from harness.case import CLOSED, FOLDER, FULL, GONE, SOME
 from harness.texts import as_bytes, difference
 
 NAME = "mds_city"

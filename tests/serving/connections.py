@@ -1,12 +1,12 @@
 """Connections that are slow, broken, silent, or sent more than is read."""
 
 import select
-import time
 
-from cases.http import BAD_HEADS, EMPTY, HEAD_BYTES, A, B, Exchange, P, changed, done, head, look, registered, vehicle
-from cases.replays import batch, event, item
+from cases.replays import A, B, P, batch, identifier, item
+from harness.texts import differing
+from serving.http import BAD_HEADS, EMPTY, HEAD_BYTES, Exchange, changed, done, head, look, registered, vehicle
 from serving.server import Server
-from serving.talking import differing, sent, talk_over
+from serving.talking import sent, talk_over
 from serving.wire import connect, error, get, hang_up, post, read_all
 
 REGISTER = post("/vehicles", [vehicle()])
@@ -115,7 +115,7 @@ def hanging_up(program):
     """Clients that hang up, with an end and with a reset: in their head, in their body, and before the answer. One worker takes
     them in turn, so that looks behind them show what came of them: nothing of what wasn't sent whole, all of what was sent
     whole and ended, and either of what was reset."""
-    devices = [f"00000000-0000-4000-8002-{number:012x}" for number in range(40)]
+    devices = [identifier(2, number) for number in range(40)]
     requests = [post("/vehicles", [vehicle(device)]) for device in devices]
     with Server(program, 400) as server:
         for request in requests:
@@ -189,51 +189,6 @@ def answers_of(connections):
                 yield f"a silent client that went on was answered {found[:200]!r}"
 
 
-def let_go(program):
-    """Clients that keep the server waiting, in their head, in their body, and by not reading a long answer: each is let go
-    after half a minute, and the next client is answered then."""
-    with Server(program, 5, workers=3) as server:
-        yield from talk_over(server, registered(A))
-        for front in (0, 10000):
-            yield from talk_over(server, Exchange(post("/events", many_events(front)), done(10000)))
-        server.count(4)
-        keeping = [connect(server.port, room=4096) for _ in range(3)]
-        for connection, part in zip(keeping, (EVENT[:20], EVENT[:-1], get(f"/vehicles/{P}/{A}/events"))):
-            connection.sendall(part)
-        start = time.monotonic()
-        with connect(server.port) as waiting:
-            waiting.sendall(REGISTER)
-            answered = read_all(waiting)
-        yield from differing(answered, done(1, [{"error": "already_registered", "index": 0}]))
-        if not 10 < time.monotonic() - start < 55:
-            yield f"let go after {time.monotonic() - start:.0f} s"
-        for connection in keeping[:2]:
-            if not is_over(connection):
-                yield "something was answered to a request that wasn't whole"
-        keeping[2].close()
-        yield from server.end()
-
-
-def many_events(front):
-    """10000 events of vehicle A, behind so many."""
-    turns = [("non_operational", "battery_low"), ("available", "battery_charged")]
-    first = ("available", "provider_drop_off")
-    events = []
-    for number in range(front, front + 10000):
-        state, kind = turns[(number + 1) % 2] if number else first
-        events.append(event(A, f"{number:x}", kind, state, 1000 + number))
-    return batch(events)
-
-
-def is_over(connection):
-    """Whether nothing more comes on a connection; it is closed."""
-    with connection:
-        try:
-            return read_all(connection) == b""
-        except ConnectionResetError:
-            return True
-
-
 CONNECTIONS = [
     three_connections,
     in_slow_pieces,
@@ -245,5 +200,4 @@ CONNECTIONS = [
     hanging_up,
     hanging_up_before_a_long_answer,
     silent_beside_working,
-    let_go,
 ]

@@ -1,18 +1,15 @@
 """A server of one worker with each growth of memory refused in turn."""
 
 import os
-import subprocess
-import tempfile
 from concurrent.futures import ThreadPoolExecutor
-from pathlib import Path
 
-from cases.case import NO_MEMORY
-from cases.http import E1, LOOK, A, B, P, Exchange, batch, done, item, look, registered
-from serving.program import SOCKET
+from cases.replays import A, B, P, batch, item
+from harness.building import Refusal
+from harness.case import NO_MEMORY, SOCKET
+from serving.http import E1, LOOK, Exchange, done, look, registered
 from serving.server import NotListening, Server
 from serving.wire import answer, ask, error, get, post
 
-ROOT = Path(__file__).resolve().parent.parent
 AT_ONCE = 32
 MOST = 20000
 FIXED = b"HTTP/1.1 503 Service Unavailable\r\ncontent-length: 0\r\nconnection: close\r\n\r\n"
@@ -68,18 +65,16 @@ def served(server):
     return True, complaints
 
 
-def refused(program, shim, number):
+def refused(program, number):
     """What is wrong with a run with this growth refused, and whether the run came to it."""
-    with tempfile.TemporaryDirectory() as folder:
-        mark = Path(folder, "refused")
-        env = {**os.environ, "LD_PRELOAD": str(shim), "REFUSE": str(number), "REFUSED": str(mark)}
+    with Refusal(number) as refusal:
         try:
-            with Server(program, len(TURNS) + 1, env=env) as server:
+            with Server(program, len(TURNS) + 1, env=refusal.env) as server:
                 wrong = list(judged(server))
         except NotListening as fault:
             allowed = [(4, "", NO_MEMORY), (3, "", SOCKET)]
             wrong = [] if fault.ended in allowed else [str(fault)]
-        return [f"growth {number}: {text}" for text in wrong], mark.exists()
+        return [f"growth {number}: {text}" for text in wrong], refusal.came()
 
 
 def judged(server):
@@ -102,13 +97,10 @@ def each_growth_refused(program):
     """Each growth in turn, until they run out: each answer is the right one, or one of the two that say that there was no
     memory, after which the same request is answered; what is accepted is counted; and where the server ends for want of
     memory, or because it could take no connection, it says so."""
-    with tempfile.TemporaryDirectory() as folder, ThreadPoolExecutor(os.cpu_count()) as pool:
-        shim = Path(folder) / "refuse-growth.so"
-        source = ROOT / "refuse-growth.c"
-        subprocess.run(["cc", "-shared", "-fPIC", "-O1", "-o", shim, source, "-ldl"], check=True)
+    with ThreadPoolExecutor(os.cpu_count()) as pool:
         for start in range(1, MOST, AT_ONCE):
             numbers = range(start, start + AT_ONCE)
-            ends = list(pool.map(lambda number: refused(program, shim, number), numbers))
+            ends = list(pool.map(lambda number: refused(program, number), numbers))
             for wrong, _ in ends:
                 yield from wrong
             if start == 1 and not ends[0][1]:

@@ -3,12 +3,13 @@
 import json
 from dataclasses import dataclass, field
 
-from cases.batches import ACCEPTED, FAULTS, FAULTY, GOOD, NAMES, REFUSED
-from cases.case import MAX_BYTES, MAX_ITEMS, lists, padded, started
-from cases.replays import FIRST, MEMBERS, RUNS, SECOND, A, B, P, batch, event, item
+from cases.batches import ACCEPTED, BACKWARDS, ESCAPED, FAULTS, FAULTY, GOOD, NAMES, NO_OBJECTS, REFUSED
+from cases.replays import RUNS, A, B, P, batch, event, item, second_events
 from cases.tables import ONE_ROW, PROFILE_ROWS
+from harness.case import MAX_BYTES, MAX_ITEMS, lists, padded, started
+from harness.texts import as_bytes
 from serving.model import Table
-from serving.wire import answer, as_bytes, error, get, post
+from serving.wire import answer, error, get, post
 
 C = "00000000-0000-4000-8000-00000000000c"
 HEAD_BYTES = 16384
@@ -420,14 +421,12 @@ def items():
         told = failure(fault) if of_vehicle else {"error": "already_registered", "index": 0}
         registrations.append(Exchange(post("/vehicles", item(**change)), done(1, [told]), name=str(change)))
     yield Talk(registrations)
-    for text in ("7", "null", "[]", '"text"', "false", '["provider_id"]'):
+    for text in NO_OBJECTS:
         told = done(1, [{"error": "not_object", "index": 0}])
         yield Talk([Exchange(post(target, f"[{text}]"), told) for target in ("/events", "/vehicles")])
     refused = [Exchange(post("/events", item(**it)), done(1, [failure(verdict)])) for it, verdict in REFUSED]
     yield Talk([registered(A), *refused, look(A, "removed", 0, None)])
-    backwards = "{%s}" % ", ".join(f'"{name}": {MEMBERS[name]}' for name in NAMES[::-1])
-    escaped = item().replace("timestamp", "time\\u0073tamp")
-    for text in (backwards, escaped, *[item(**change) for change in ACCEPTED]):
+    for text in (BACKWARDS, ESCAPED, *[item(**change) for change in ACCEPTED]):
         count = Exchange(post("/events", text), done(1), name=text)
         again = Exchange(post("/events", text), done(1, [{"error": "repeated", "index": 0}]), name=text)
         yield Talk([registered(A), count, again])
@@ -453,11 +452,7 @@ def positions():
 
 def runs():
     """Lists of events with their verdicts: in one batch, and one by one."""
-    second = []
-    for held, types, reported, verdict in SECOND:
-        events = [((A, "e0", FIRST[held], held, 1000), f"ok {held}"), ((A, "e1", types, reported, 2000), verdict)]
-        second.append((f"{held}, {types}, {reported}", events))
-    for name, events in [*second, *[(name, events) for name, events, _ in RUNS]]:
+    for name, events, _ in (*second_events(), *RUNS):
         texts, verdicts = [event(*it) for it, _ in events], [verdict for _, verdict in events]
         whole = Exchange(post("/events", batch(texts)), done(len(texts), failures(verdicts)), name=name)
         single = []

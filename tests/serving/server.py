@@ -5,15 +5,12 @@ import subprocess
 import tempfile
 from pathlib import Path
 
+from harness.counting import Unwell
 from serving.wire import ask, error, get
 
 LISTENING = re.compile(r"listening 127\.0\.0\.1:([0-9]+)\n")
 SECONDS = 120
 """How long a server that has answered all its connections may take to end."""
-
-
-class Unwell(Exception):
-    """What a server did that it mustn't, in words."""
 
 
 class NotListening(Unwell):
@@ -26,18 +23,20 @@ class NotListening(Unwell):
 
 class Server:
     """A server on a port that was free, with so many connections for each of so many workers. As a context it is taken down
-    where it hasn't ended."""
+    where it hasn't ended. Given a number of open files, it can have no more of them."""
 
-    def __init__(self, program, each, workers=1, table=None, env=None):
+    def __init__(self, program, each, workers=1, table=None, env=None, open_files=None):
         self.folder = tempfile.TemporaryDirectory()
-        words = ["serve", "--port", "0", "--each", str(each), "--workers", str(workers)]
+        words = [program, "serve", "--port", "0", "--each", str(each), "--workers", str(workers)]
+        if open_files is not None:
+            words = ["sh", "-c", f'ulimit -n {open_files} && exec "$0" "$@"', *words]
         if table is not None:
             path = Path(self.folder.name, "table.json")
             path.write_text(table)
             words += ["--table", str(path)]
         self.faults = open(Path(self.folder.name, "faults"), "w+b")
         self.child = subprocess.Popen(
-            [program, *words],
+            words,
             stdin=subprocess.DEVNULL,
             stdout=subprocess.PIPE,
             stderr=self.faults,
@@ -94,7 +93,11 @@ class Server:
     def end(self):
         """Makes the connections that are left, and says what is wrong with how the server then ends."""
         for _ in range(self.left):
-            answered = self.ask(get("/"))
+            try:
+                answered = self.ask(get("/"))
+            except OSError as fault:
+                yield f"a connection at the end, {type(fault).__name__}: {fault}"
+                break
             if answered != error(404, "not_found"):
                 yield f"a connection at the end, {answered[:200]!r}"
         ended = self.ended()

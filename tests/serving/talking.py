@@ -1,16 +1,8 @@
 """One exchange with a server, and what is wrong with it."""
 
+from harness.texts import differing
 from serving.server import success_of
 from serving.wire import ask_in_pieces
-
-
-def differing(found, wanted, what="answered"):
-    """What an answer is, in place of what is wanted; nothing where it is that."""
-    if found != wanted:
-        least = min(len(found), len(wanted))
-        at = next((place for place in range(least) if found[place] != wanted[place]), least)
-        front = max(at - 60, 0)
-        yield f"{what}, at byte {at}: {found[front : at + 100]!r}, in place of {wanted[front : at + 100]!r}"
 
 
 def sent(server, pieces, wanted, pause=0.0, ends=False):

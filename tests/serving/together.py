@@ -12,6 +12,7 @@ import threading
 import time
 from dataclasses import dataclass, field
 
+from cases.replays import identifier
 from cases.tables import PROFILE, STATES
 from serving.model import EVENT, VEHICLE, Fleet, Table, Vehicle, key_of, refusal_by
 from serving.server import Server, success_of
@@ -22,11 +23,6 @@ MOVES = {state: [] for state in STATES}
 for kind, pairs in Table().rows.items():
     for start, end in sorted(pairs):
         MOVES[start].append((kind, end))
-
-
-def identifier(group, number):
-    """A UUID of this group with this number."""
-    return f"00000000-0000-4000-8{group:03x}-{number:012x}"
 
 
 def some_event(random, key, identifier, held, time):
@@ -230,8 +226,8 @@ def sharer(port, number, seed, keys, requests, seen):
             return
 
 
-def body_of(answered):
-    """The value of a body of JSON, of an answer with status 200."""
+def value_of(answered):
+    """The value that the body of an answer with status 200 is."""
     head, _, body = answered.partition(b"\r\n\r\n")
     if answered != answer(200, body.decode()):
         raise ValueError(f"{answered[:200]!r}")
@@ -245,7 +241,7 @@ def looked_at(port, number, chance, keys, held, seen):
     start = time.monotonic_ns()
     answered = ask(port, request)
     end = time.monotonic_ns()
-    said = body_of(answered)
+    said = value_of(answered)
     seen.append(Seen(number, start, end, key, said=said["events"] if whole else said))
     if not whole:
         held[key] = said["vehicle_state"]
@@ -263,7 +259,7 @@ def reported(port, number, chance, keys, held, seen, turn):
     start = time.monotonic_ns()
     answered = ask(port, post("/events", events))
     end = time.monotonic_ns()
-    said = body_of(answered)
+    said = value_of(answered)
     refusals = {it.pop("index"): it for it in said["failures"]}
     if len(refusals) != len(said["failures"]) or len(refusals) + said["success"] != len(events) != said["total"]:
         raise ValueError(f"{answered[:500]!r}")
@@ -323,7 +319,7 @@ def judged(port, key, seen):
     """What is wrong with what was seen of a vehicle, in words."""
     target = f"/vehicles/{key[0]}/{key[1]}"
     try:
-        events, standing = body_of(ask(port, get(f"{target}/events")))["events"], body_of(ask(port, get(target)))
+        events, standing = value_of(ask(port, get(f"{target}/events")))["events"], value_of(ask(port, get(target)))
     except (OSError, ValueError) as fault:
         return [f"{key}: {type(fault).__name__}: {fault}"]
     fronts = Fronts(key, events)

@@ -7,19 +7,15 @@ import shutil
 import subprocess
 import tempfile
 import time
-from pathlib import Path
 
-from cases.http import A, E1, EMPTY, LOOK, MAX_BYTES, P, batch, done, item, look, padded, vehicle
+from cases.replays import A, P, batch, item
+from harness.case import MAX_BYTES, padded
+from harness.counting import Skipped
+from harness.texts import differing
+from serving.http import E1, EMPTY, LOOK, done, look, vehicle
 from serving.server import Server, success_of
-from serving.talking import differing, talk_over
+from serving.talking import talk_over
 from serving.wire import answer, error
-
-ROOT = Path(__file__).resolve().parent.parent.parent
-SHOWN = re.compile(r"```sh\n(.*?)```\n\n```json\n(.*?)\n```\n", re.DOTALL)
-
-
-class Skipped(Exception):
-    """A case that isn't run, and why."""
 
 
 def installed(name):
@@ -106,24 +102,6 @@ def by_curl(program):
         yield from server.end()
 
 
-def examples_of_the_document(program):
-    """The lines of docs/http.md that are followed by what comes of them, in their order, and before them its identifiers."""
-    installed("curl")
-    text = (ROOT / "docs/http.md").read_text()
-    names = re.search(r"```sh\n(P=.*?)```", text, re.DOTALL).group(1)
-    shown = SHOWN.findall(text)
-    if len(shown) < 5:
-        yield f"{len(shown)} examples"
-    with Server(program, len(shown) + 1) as server:
-        for line, wanted in shown:
-            script = names + line.replace("127.0.0.1:8080", f"127.0.0.1:{server.port}").replace("curl ", "curl -sS ")
-            found = subprocess.run(["sh", "-c", script], capture_output=True).stdout
-            server.count(1, success_of(found))
-            front, cut, _ = wanted.partition(",..")
-            yield from differing(found[: len(front)] if cut else found, front.encode(), line)
-        yield from server.end()
-
-
 def by_ab(program):
     """`ab`: looks and events, eight at a time."""
     installed("ab")
@@ -142,4 +120,4 @@ def by_ab(program):
         yield from server.end()
 
 
-TOOLS = [by_http_client, by_curl, examples_of_the_document, by_ab]
+TOOLS = [by_http_client, by_curl, by_ab]

@@ -4,6 +4,7 @@ import socket
 import struct
 import time
 
+from harness.texts import as_bytes
 from serving.model import compact
 
 SECONDS = 60
@@ -36,10 +37,6 @@ def answer(status, value, allow=None):
 
 def error(status, name, allow=None):
     return answer(status, {"error": name}, allow)
-
-
-def as_bytes(text):
-    return text.encode() if isinstance(text, str) else text
 
 
 def get(target):

@@ -1,0 +1,86 @@
+"""What help says, whole: the texts of the commands and of their words, in the layout of `clap`."""
+
+from harness.case import NO_STREAMS, OUTPUT, Case, told
+
+ALL = """Keeps the states of shared vehicles
+
+Usage: mds_city <COMMAND>
+
+Commands:
+  serve   Serves vehicles over HTTP at 127.0.0.1
+  replay  Replays the events of a file
+  debug   Steps through the accepted events of a vehicle, as standard input says
+  table   Prints a table of transitions
+  help    Print this message or the help of the given subcommand(s)
+
+Options:
+  -h, --help  Print help
+"""
+SERVE = """Serves vehicles over HTTP at 127.0.0.1
+
+Usage: mds_city serve [OPTIONS] --port <N> --each <N>
+
+Options:
+      --port <N>      The port's number; 0 is a free one
+      --each <N>      How many connections each worker answers
+      --workers <N>   How many workers there are [default: 4]
+      --table <FILE>  A table of transitions; without it the profile's
+  -h, --help          Print help
+"""
+REPLAY = """Replays the events of a file
+
+Usage: mds_city replay [OPTIONS] <FILE>
+
+Arguments:
+  <FILE>  The file of events; - is standard input
+
+Options:
+      --table <FILE>  A table of transitions; without it the profile's
+      --any           Lets a vehicle hold any state before its first event
+  -h, --help          Print help
+"""
+DEBUG = """Steps through the accepted events of a vehicle, as standard input says
+
+Usage: mds_city debug [OPTIONS] <FILE> <PROVIDER> <DEVICE>
+
+Arguments:
+  <FILE>      The file of events
+  <PROVIDER>  The provider's identifier
+  <DEVICE>    The vehicle's identifier
+
+Options:
+      --table <FILE>  A table of transitions; without it the profile's
+  -h, --help          Print help
+"""
+TABLE = """Prints a table of transitions
+
+Usage: mds_city table [OPTIONS]
+
+Options:
+      --table <FILE>  A table of transitions; without it the profile's
+  -h, --help          Print help
+"""
+HELP = """Print this message or the help of the given subcommand(s)
+
+Usage: mds_city help [COMMAND]...
+
+Arguments:
+  [COMMAND]...  Print help for the subcommand(s)
+"""
+COMMANDS = {"serve": SERVE, "replay": REPLAY, "debug": DEBUG, "table": TABLE}
+
+
+def help_asked_for():
+    """Help, which goes to standard output, in each way to ask for it."""
+    for words in ("--help", "-h", "help"):
+        yield Case(words, out=ALL)
+    yield Case("help help", out=HELP)
+    for command, out in COMMANDS.items():
+        for words in (f"help {command}", f"{command} --help", f"{command} -h"):
+            yield Case(words, out=out)
+    yield Case("replay events.json --help", out=REPLAY)
+    yield Case("serve --port 0 --each 0 --help", out=SERVE)
+    for stdout in NO_STREAMS:
+        for words in ("--help", "help serve", "debug -h"):
+            yield told(words, OUTPUT, stdout=stdout)
+            yield told(words, "", stdout=stdout, stderr="/dev/full")

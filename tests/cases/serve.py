@@ -1,0 +1,84 @@
+"""The words of `serve` on the command line, its texts and statuses: servers that take no connection."""
+
+import re
+import socket
+
+from cases.tables import FAULTS, ONE_ROW
+from harness.case import NO_STREAMS, OUTPUT, SOCKET, SOME, Case, cannot_read, not_a_table, told
+
+WRONG = [
+    "serve",
+    "serve --port 0",
+    "serve --each 1",
+    "serve --port 0 --each",
+    "serve --port --each 1",
+    "serve --port x --each 1",
+    "serve --port -1 --each 1",
+    "serve --port 65536 --each 1",
+    "serve --port 0 --each -1",
+    "serve --port 0 --each 1000001",
+    "serve --port 0 --each 1.5",
+    "serve --port 0 --each 99999999999999999999",
+    "serve --port 0 --each 0 --workers 0",
+    "serve --port 0 --each 0 --workers 65",
+    "serve --port 0 --each 0 --workers x",
+    "serve --port 0 --each 0 --workers",
+    "serve --port 0 --port 0 --each 0",
+    "serve --port 0 --each 0 --each 0",
+    "serve --port 0 --each 0 --workers 1 --workers 1",
+    "serve --port 0 --each 0 --table",
+    "serve --port 0 --each 0 more",
+    "serve --port 0 --each 0 --any",
+    "serve --port 0 --each 0 --bogus",
+    "serve --port 0 --each 0 --workers 65 --table nothing.json",
+]
+RIGHT = [
+    "serve --port 0 --each 0",
+    "serve --each 0 --port 0",
+    "serve --port=0 --each=0 --workers=64",
+    "serve --workers 1 --port 0 --each 0",
+    "serve --port 0 --each 0 --workers 64",
+    "serve --port 0 --each 0 --table table.json",
+]
+NO_CONNECTION = "serve --port 0 --each 0"
+SERVED = re.compile(r"listening 127\.0\.0\.1:[1-9][0-9]{0,4}\naccepted 0\n")
+ROUNDS = 20
+
+
+def served_at(port):
+    return f"listening 127.0.0.1:{port}\naccepted 0\n"
+
+
+def words_of_serve():
+    """Words that don't parse print nothing on standard output. Others, with no connections, give the two lines."""
+    for words in WRONG:
+        yield Case(words, status=2, faults=SOME)
+    for words in RIGHT:
+        yield Case(words, out=SERVED, files={"table.json": ONE_ROW})
+
+
+def tables_of_serve():
+    """A table file that isn't there, or has a fault, is told before the port is looked at."""
+    with socket.create_server(("127.0.0.1", 0)) as taken:
+        port = taken.getsockname()[1]
+        for name in (0, port):
+            yield told(f"serve --port {name} --each 0 --table missing.json", cannot_read("missing.json"))
+        for text, fault in FAULTS:
+            words = f"serve --port {port} --each 0 --table table.json"
+            yield told(words, not_a_table(fault), files={"table.json": text})
+
+
+def ports():
+    """A port that is taken, and one that was said: it is free at once for the next server."""
+    with socket.create_server(("127.0.0.1", 0)) as taken:
+        port = taken.getsockname()[1]
+        yield told(f"serve --port {port} --each 0", SOCKET, name="a port that is taken")
+    for turn in range(ROUNDS):
+        yield Case(f"serve --port {port} --each 0", out=served_at(port), name=f"round {turn}")
+
+
+def outputs_of_serve():
+    """A first line that can't be written."""
+    for stdout in NO_STREAMS:
+        yield told(NO_CONNECTION, OUTPUT, stdout=stdout)
+        yield told(NO_CONNECTION, "", stdout=stdout, stderr="/dev/full")

@@ -1,0 +1,197 @@
+"""How long one client, or a lack of open files, may hold the server.
+
+These tests wait more than they work. So tests/clients runs them beside the others, each in a thread of its own."""
+
+import socket
+import threading
+import time
+
+from cases.replays import A, B, P, batch, history
+from harness.case import SOCKET
+from harness.counting import Unwell
+from harness.texts import differing
+from serving.connections import EVENT, silent
+from serving.http import Exchange, done, look, registered
+from serving.server import Server, success_of
+from serving.talking import talk_over
+from serving.wire import connect, error, get, post, read_all
+
+NOWHERE = get("/")
+CALL = (25, 45)
+"""Between how many seconds a client is let go that keeps one call of `read` or `write` waiting: 30, and 2 behind."""
+WRITING = (25, 160)
+"""The same for a long answer: 30 for each of some calls of `write`, since each but the last takes a part of it."""
+LAST_READ = (1, 8)
+"""The same for a client that sends nothing behind its answer: 2."""
+LAST_READS = (8, 20)
+"""The same for one that goes on sending: 10, and the read before it."""
+MOST_LAST_SECONDS = 8
+"""How long a client may be read from that sends all that it can: the limit of bytes comes first."""
+OPEN_FILES = 5
+"""Standard input, output and error, the listening socket, and one connection."""
+LACK, MOST_LACK = 3, 36
+"""A lack of open files, in seconds, that passes, and one that is longer than the server waits for."""
+AT_ONCE = 1 << 16
+
+
+def next_answer(server, least, most):
+    """What is wrong with the next client's answer, while another one holds the only worker: it comes so many seconds later."""
+    start = time.monotonic()
+    server.count()
+    with connect(server.port) as waiting:
+        waiting.settimeout(most)
+        waiting.sendall(NOWHERE)
+        try:
+            found = read_all(waiting)
+        except socket.timeout:
+            raise Unwell(f"the next client had no answer after {most} s") from None
+    seconds = time.monotonic() - start
+    yield from differing(found, error(404, "not_found"))
+    if not least < seconds < most:
+        yield f"the next client was answered after {seconds:.1f} s, in place of {least} to {most}"
+
+
+def let_go_before_its_answer(program, part):
+    """A client that keeps the server waiting for the rest of its request is let go, without an answer."""
+    with Server(program, 2) as server:
+        server.count()
+        keeping = connect(server.port)
+        keeping.sendall(part)
+        yield from next_answer(server, *CALL)
+        if not is_over(keeping):
+            yield "something was answered to a request that wasn't whole"
+        yield from server.end()
+
+
+def is_over(connection):
+    """Whether nothing more comes on a connection; it is closed."""
+    with connection:
+        try:
+            return read_all(connection) == b""
+        except ConnectionResetError:
+            return True
+
+
+def let_go_in_its_head(program):
+    """A client that stops in its head."""
+    return let_go_before_its_answer(program, EVENT[:20])
+
+
+def let_go_in_its_body(program):
+    """A client that stops before the last byte of its body."""
+    return let_go_before_its_answer(program, EVENT[:-1])
+
+
+def let_go_without_reading(program):
+    """A client that reads nothing of an answer longer than the system takes in."""
+    with Server(program, 5) as server:
+        yield from talk_over(server, registered(A))
+        for front in (0, 10000):
+            events = batch(history(A, front, front + 10000))
+            yield from talk_over(server, Exchange(post("/events", events), done(10000)))
+        server.count()
+        with connect(server.port, room=4096) as keeping:
+            keeping.sendall(get(f"/vehicles/{P}/{A}/events"))
+            yield from next_answer(server, *WRITING)
+        yield from server.end()
+
+
+def answered(server):
+    """A connection on which a whole answer was read, and which the client doesn't end."""
+    server.count()
+    connection = connect(server.port)
+    connection.sendall(NOWHERE)
+    if read_all(connection) != error(404, "not_found"):
+        raise Unwell("the client that goes on had no answer")
+    return connection
+
+
+def going_on(connection, piece, pause, over):
+    """Sends the piece again and again, with a pause behind each, until it is over or the server is gone."""
+    try:
+        while not over.wait(pause):
+            connection.sendall(piece)
+    except OSError:
+        pass
+
+
+def let_go_behind_its_answer(program, least, most, piece=None, pause=0.0):
+    """A client that doesn't end behind its answer, and goes on sending this piece, if one is given, is let go."""
+    with Server(program, 2) as server:
+        over = threading.Event()
+        with answered(server) as connection:
+            sender = threading.Thread(target=going_on, args=(connection, piece, pause, over))
+            if piece:
+                sender.start()
+            try:
+                yield from next_answer(server, least, most)
+            finally:
+                over.set()
+                connection.close()
+                if piece:
+                    sender.join()
+        yield from server.end()
+
+
+def silent_behind_its_answer(program):
+    """A client that neither sends nor ends behind its answer."""
+    return let_go_behind_its_answer(program, *LAST_READ)
+
+
+def trickling_behind_its_answer(program):
+    """A client that sends a byte each second behind its answer."""
+    return let_go_behind_its_answer(program, *LAST_READS, piece=b"x", pause=1)
+
+
+def flooding_behind_its_answer(program):
+    """A client that sends all that it can behind its answer, without end."""
+    return let_go_behind_its_answer(program, -1, MOST_LAST_SECONDS, piece=b"x" * AT_ONCE)
+
+
+def short_of_open_files(program):
+    """Two workers, of which one has no file to open for a while: when the other's client has gone, the next one is answered."""
+    with Server(program, 4, workers=2, open_files=OPEN_FILES) as server:
+        yield from talk_over(server, registered(A))
+        server.count(2)
+        with connect(server.port) as held, connect(server.port) as waiting:
+            held.sendall(EVENT[:20])
+            waiting.sendall(get(f"/vehicles/{P}/{A}"))
+            if not silent(waiting, LACK):
+                yield "an answer where no file could be opened for its connection"
+            held.sendall(EVENT[20:])
+            found = read_all(held)
+            server.count(0, success_of(found))
+            yield from differing(found, done(1))
+            held.close()
+            yield from differing(read_all(waiting), look(A, "available", 1, 1000).answer)
+        yield from talk_over(server, Exchange(get(f"/vehicles/{P}/{B}"), error(404, "unregistered")))
+        yield from server.end()
+
+
+def short_of_open_files_for_long(program):
+    """The same lack for longer than the server waits: one worker gives up, the other goes on, and the end tells of it."""
+    with Server(program, 3, workers=2, open_files=OPEN_FILES) as server:
+        with connect(server.port) as held:
+            server.count()
+            for _ in range(MOST_LACK):
+                held.sendall(b"\n")
+                time.sleep(1)
+            held.sendall(NOWHERE)
+            yield from differing(read_all(held), error(404, "not_found"))
+        for _ in range(2):
+            yield from talk_over(server, Exchange(NOWHERE, error(404, "not_found")))
+        ended, wanted = server.ended(), (3, "", SOCKET)
+        if ended != wanted:
+            yield f"ended with {ended}, in place of {wanted}"
+
+
+LIMITS = [
+    let_go_in_its_head,
+    let_go_in_its_body,
+    let_go_without_reading,
+    silent_behind_its_answer,
+    trickling_behind_its_answer,
+    flooding_behind_its_answer,
+    short_of_open_files,
+    short_of_open_files_for_long,
+]

@@ -1,0 +1,70 @@
+"""Numbers past those at which something could end: connections of a worker, accepted calls of a seat, bytes of an answer."""
+
+import json
+import struct
+import subprocess
+import tempfile
+from pathlib import Path
+
+from cases.replays import A, P, batch, history
+from harness.building import loading_client
+from serving.http import Exchange, done, registered
+from serving.model import compact
+from serving.server import Server
+from serving.settling import settled
+from serving.talking import talk_over
+from serving.wire import answer, get, post
+
+CONNECTIONS = 65600
+CLIENTS = 4
+BATCHES, EVENTS = 7, 10000
+SEATS, TURNS, ITEMS = 16, 2, 9375
+MOST_SETTLING = 10
+"""How many seconds a server may take to settle 300000 accepted requests, and to end."""
+
+
+def files_of_looks(folder):
+    """A file of requests for each client, which look at a vehicle."""
+    request = get(f"/vehicles/{P}/{A}")
+    for client in range(CLIENTS):
+        path = Path(folder, f"requests-{client}")
+        path.write_bytes((struct.pack("<I", len(request)) + request) * (CONNECTIONS // CLIENTS))
+        yield str(path)
+
+
+def many_connections_of_one_worker(program):
+    """One worker that has more connections than 16 bits can count answers each of them, and ends then."""
+    with tempfile.TemporaryDirectory() as folder, Server(program, CONNECTIONS + 1) as server:
+        yield from talk_over(server, registered(A))
+        words = [loading_client(), str(server.port), *files_of_looks(folder)]
+        ran = subprocess.run(words, capture_output=True, text=True, timeout=300)
+        if ran.returncode or ran.stdout.split()[:2] != [str(CONNECTIONS)] * 2:
+            yield f"status {ran.returncode}, {ran.stdout!r} {ran.stderr!r}, in place of {CONNECTIONS} answers"
+            return
+        server.count(CONNECTIONS)
+        yield from server.end()
+
+
+def many_calls_of_one_seat(program):
+    """One worker accepts more calls than 16 bits can count, and gives the vehicle's history whole: each event as it was
+    reported, in an answer of 20 MB."""
+    with Server(program, BATCHES + 2) as server:
+        yield from talk_over(server, registered(A))
+        listed = []
+        for at in range(BATCHES):
+            events = list(history(A, EVENTS * at, EVENTS * (at + 1)))
+            yield from talk_over(server, Exchange(post("/events", batch(events)), done(EVENTS)))
+            listed += [compact({**json.loads(event), "location_e7": None}) for event in events]
+        wanted = answer(200, f'{{"events":[{",".join(listed)}]}}')
+        yield from talk_over(server, Exchange(get(f"/vehicles/{P}/{A}/events"), wanted))
+        yield from server.end()
+
+
+def many_requests_of_many_seats(program):
+    """A server that accepted 300000 requests, as many in each of 16 seats, settles in seconds."""
+    seconds = settled(program, SEATS, TURNS, ITEMS)
+    if seconds > MOST_SETTLING:
+        yield f"{seconds:.1f} s, in place of {MOST_SETTLING} at most"
+
+
+SIZES = [many_connections_of_one_worker, many_calls_of_one_seat, many_requests_of_many_seats]

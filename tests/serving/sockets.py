@@ -1,0 +1,126 @@
+"""What a server does at its edges: the address at which it listens, the options of its connections, its last line."""
+
+import ctypes
+import errno
+import os
+import socket
+import struct
+import time
+from pathlib import Path
+
+from cases.replays import A, batch, item
+from harness.case import OUTPUT
+from harness.counting import Skipped, Unwell
+from serving.http import Exchange, done, registered
+from serving.server import Server
+from serving.talking import talk_over
+from serving.wire import connect, error, get, post
+
+LOOPBACK = "0100007F"
+"""127.0.0.1, as the system's list of sockets has it."""
+LISTENING = "0A"
+OTHER_ADDRESS = "127.0.0.2"
+PIDFD_GETFD = 438
+SECONDS = 10
+
+
+def addresses_of(port):
+    """The addresses at which a socket listens on this port, by the system's lists."""
+    for name in ("tcp", "tcp6"):
+        path = Path("/proc/net", name)
+        for line in path.read_text().splitlines()[1:] if path.exists() else ():
+            fields = line.split()
+            address, number = fields[1].split(":")
+            if fields[3] == LISTENING and int(number, 16) == port:
+                yield address
+
+
+def at_one_address(program):
+    """It listens at 127.0.0.1, and at no other address of this machine."""
+    with Server(program, 1) as server:
+        addresses = list(addresses_of(server.port))
+        if addresses != [LOOPBACK]:
+            yield f"it listens at {addresses}, in place of {[LOOPBACK]}"
+        try:
+            socket.create_connection((OTHER_ADDRESS, server.port), SECONDS).close()
+            server.count()
+            yield f"{OTHER_ADDRESS} was answered"
+        except ConnectionRefusedError:
+            pass
+        yield from server.end()
+
+
+def taken_by(server, connection):
+    """The server's end of a connection, shared with its process."""
+    process = os.pidfd_open(server.child.pid)
+    try:
+        for _ in range(10 * SECONDS):
+            for name in os.listdir(f"/proc/{server.child.pid}/fd"):
+                number = shared(process, int(name))
+                if number is not None and is_end_of(number, connection):
+                    return socket.socket(fileno=number)
+                if number is not None:
+                    os.close(number)
+            time.sleep(0.1)
+    finally:
+        os.close(process)
+    raise Unwell("the server didn't take the connection")
+
+
+def shared(process, number):
+    """A file of another process under a number of this one, or None where it was closed meanwhile."""
+    found = ctypes.CDLL(None, use_errno=True).syscall(PIDFD_GETFD, process, number, 0)
+    fault = ctypes.get_errno()
+    if found < 0 and fault != errno.EBADF:
+        raise Skipped(f"no file of another process can be had here: {os.strerror(fault)}")
+    return None if found < 0 else found
+
+
+def is_end_of(number, connection):
+    """Whether the file of this number is the other end of a connection."""
+    if not os.readlink(f"/proc/self/fd/{number}").startswith("socket:"):
+        return False
+    other = socket.socket(fileno=os.dup(number))
+    with other:
+        try:
+            return other.getpeername() == connection.getsockname()
+        except OSError:
+            return False
+
+
+def options_of_a_connection(program):
+    """What is written is sent at once, and each read and each write waits 30 seconds at most."""
+    if not hasattr(os, "pidfd_open"):
+        raise Skipped("no `pidfd_open` here")
+    with Server(program, 1) as server:
+        server.count()
+        with connect(server.port) as connection:
+            # the options are set behind the call that takes the connection
+            taken_by(server, connection).close()
+            time.sleep(0.2)
+            with taken_by(server, connection) as other:
+                if not other.getsockopt(socket.IPPROTO_TCP, socket.TCP_NODELAY):
+                    yield "TCP_NODELAY isn't set"
+                for name in ("SO_RCVTIMEO", "SO_SNDTIMEO"):
+                    size = struct.calcsize("ll")
+                    found = struct.unpack("ll", other.getsockopt(socket.SOL_SOCKET, getattr(socket, name), size))
+                    if found != (30, 0):
+                        yield f"{name} is {found}, in place of 30 seconds"
+        yield from server.end()
+
+
+def last_line_that_nobody_reads(program):
+    """Where nobody reads the last line any more, that is told, as of any other output."""
+    with Server(program, 3) as server:
+        server.child.stdout.close()
+        for exchange in (registered(A), Exchange(post("/events", batch([item()])), done(1))):
+            yield from talk_over(server, exchange)
+        yield from talk_over(server, Exchange(get("/"), error(404, "not_found")))
+        status = server.child.wait(timeout=60)
+        server.faults.seek(0)
+        found, wanted = (status, server.faults.read().decode()), (3, OUTPUT)
+        if found != wanted:
+            yield f"ended with {found}, in place of {wanted}"
+
+
+SOCKETS = [at_one_address, options_of_a_connection, last_line_that_nobody_reads]
