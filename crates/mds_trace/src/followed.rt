@@ -53,10 +53,14 @@ impl Followed {
     /// The verdict on one more event of the vehicle, and what is kept of the vehicle then. The event is repeated where the
     /// vehicle has an accepted one with its identifier.
     pub fn judge(self, table: &Table, event: &Event, repeated: bool) -> (Verdict, Followed)
-        ensures verdict { (opening : Openings) (prior : List Reported) → IsFollowed opening table.now event.now.key prior self
-            → repeated ≡ has_event (as_requests event.now.key prior) event.now.id → IsVerdictOn opening table.now prior event.now result.0 }
-        ensures followed { (opening : Openings) (prior : List Reported) → IsFollowed opening table.now event.now.key prior self → length prior < usize.MAX
-            → IsFollowed opening table.now event.now.key (prior ++ accepted_by (item.Event event.now) result.0) result.1 }
+        ensures verdict { (opening : Openings) (prior : List Reported)
+            → IsFollowed opening table.now event.now.key prior self
+            → repeated ≡ has_event (as_requests event.now.key prior) event.now.id
+            → IsVerdictOn opening table.now prior event.now result.0 }
+        ensures followed { (opening : Openings) (prior : List Reported)
+            → IsFollowed opening table.now event.now.key prior self → length prior < usize.MAX
+            → IsFollowed opening table.now event.now.key
+            (prior ++ accepted_by (item.Event event.now) result.0) result.1 }
     {
         let Some(standing) = self.standing else {
             return judge_first(table, event);
@@ -81,7 +85,8 @@ impl Followed {
 /// The verdict on an event of a vehicle of which no state is known, and what is kept of the vehicle then.
 fn judge_first(table: &Table, event: &Event) -> (Verdict, Followed)
     ensures verdict { IsFirst table.now event.now result.0 }
-    ensures followed { IsFollowed Opening.Any table.now event.now.key (accepted_by (item.Event event.now) result.0) result.1 }
+    ensures followed { IsFollowed Opening.Any table.now event.now.key
+        (accepted_by (item.Event event.now) result.0) result.1 }
 {
     let openings = openings(table, event.types(), event.state());
     if openings.states().is_empty() {

@@ -35,8 +35,10 @@ pub fn judge_item(
     item: &EventItem,
 ) -> Result<Verdict, AllocError>
     ensures { IfOk result (λ line. (items : List Item) (lines : List Line)
-        → IsReplayed opening table.now items lines vehicles.old.entries names.old.keys → length items < usize.MAX
-        → IsReplayed opening table.now (items ++ item.now ∷ []) (lines ++ line ∷ []) vehicles.new.entries names.new.keys) }
+        → IsReplayed opening table.now items lines vehicles.old.entries names.old.keys
+        → length items < usize.MAX
+        → IsReplayed opening table.now (items ++ item.now ∷ []) (lines ++ line ∷ [])
+        vehicles.new.entries names.new.keys) }
 {
     match item {
         EventItem::Event(event) => judge_event(table, opening, vehicles, names, event),
@@ -53,9 +55,12 @@ fn judge_event(
     event: &Event,
 ) -> Result<Verdict, AllocError>
     ensures { IfOk result (λ line. (mentioned : List Vehicle) (accepted : List Reported)
-        → AreFollowed opening table.now mentioned accepted vehicles.old.entries names.old.keys → length accepted < usize.MAX
+        → AreFollowed opening table.now mentioned accepted vehicles.old.entries names.old.keys
+        → length accepted < usize.MAX
         → IsVerdictOn opening table.now (prior_of event.now.key accepted) event.now line
-        × AreFollowed opening table.now (insert_key same_key mentioned event.now.key) (accepted ++ accepted_by (item.Event event.now) line) vehicles.new.entries names.new.keys) }
+        × AreFollowed opening table.now (insert_key same_key mentioned event.now.key)
+        (accepted ++ accepted_by (item.Event event.now) line)
+        vehicles.new.entries names.new.keys) }
 {
     let name = (*event.key(), event.id());
     let vehicle = vehicle_at(vehicles, event.key(), opening);
@@ -69,8 +74,10 @@ fn judge_event(
 
 /// What is kept of a vehicle so far.
 fn vehicle_at(vehicles: &Vehicles, key: &Key, opening: Opening) -> Followed
-    ensures { (tables : Tables) (mentioned : List Vehicle) (accepted : List Reported) (seen : List (Vehicle × List ℕ))
-        → AreFollowed opening tables mentioned accepted vehicles.now.entries seen → IsFollowed opening tables key.now (prior_of key.now accepted) result }
+    ensures { (tables : Tables) (mentioned : List Vehicle) (accepted : List Reported)
+        (seen : List (Vehicle × List ℕ))
+        → AreFollowed opening tables mentioned accepted vehicles.now.entries seen
+        → IsFollowed opening tables key.now (prior_of key.now accepted) result }
 {
     match vehicles.get(key) {
         Some(vehicle) => vehicle.copy(),

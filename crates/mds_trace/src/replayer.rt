@@ -36,7 +36,8 @@ pub fn replay(
     ensures report { IfOk result (IsReport opening table items.now) }
     // With `Removed` the verdicts are the outcomes of the machine, asked anything that reports the same events, each behind
     // a registration of its vehicle.
-    ensures runs { IfOk result (λ report. opening ≡ Opening.Removed → AreOutcomes table items.now report.lines.items) }
+    ensures runs { IfOk result (λ report.
+        opening ≡ Opening.Removed → AreOutcomes table items.now report.lines.items) }
 {
     let (lines, vehicles) = judge_all(alloc, &table, items, opening)?;
     let accepted = count_accepted(&lines);
@@ -57,9 +58,13 @@ fn judge_all(
     items: &[EventItem],
     opening: Opening,
 ) -> Result<(Vec<Verdict>, Vehicles), AllocError>
-    ensures verdicts { IfOk result (λ judged. AreVerdicts opening table.now items.now judged.0.items) }
-    ensures vehicles { IfOk result (λ judged.
-        AreEntries (λ key vehicle. IsFollowed opening table.now key (prior_of key (accepted_of items.now judged.0.items)) vehicle) (vehicles_of (events_of items.now)) judged.1.entries) }
+    ensures verdicts { IfOk result (λ judged.
+        AreVerdicts opening table.now items.now judged.0.items) }
+    ensures vehicles { IfOk result (λ judged. AreEntries
+        (λ key vehicle.
+        IsFollowed opening table.now key
+        (prior_of key (accepted_of items.now judged.0.items)) vehicle)
+        (vehicles_of (events_of items.now)) judged.1.entries) }
 {
     let mut vehicles = IndexMap::new(alloc);
     let mut names = IndexSet::new(alloc);

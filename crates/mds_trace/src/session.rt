@@ -66,9 +66,15 @@ impl Model for Session {
 
     ghost Value = { Walk };
 
-    ghost view = { λ session. record { tables = session.table; opening = session.opening; events = session.events.items; place = session.place } };
+    ghost view = { λ session. record {
+      tables = session.table;
+      opening = session.opening;
+      events = session.events.items;
+      place = session.place;
+    } };
 
-    ghost invariant = { λ session. IsWalk session.table session.opening session.events.items session.place };
+    ghost invariant = { λ session.
+        IsWalk session.table session.opening session.events.items session.place };
 }
 
 impl Session {
@@ -85,10 +91,16 @@ impl Session {
         opening: State,
         events: Vec<Event>,
     ) -> Result<Session, SessionFault>
-        ensures opened { IfOk result (λ session. session ≡ record { tables = table; opening = opening; events = events.items; place = record { event = 0; passed = 0 } }) }
+        ensures opened { IfOk result (λ session. session ≡ record {
+          tables = table;
+          opening = opening;
+          events = events.items;
+          place = record { event = 0; passed = 0 };
+        }) }
         ensures open { OnOk result (AreOpenFrom table opening events.items) }
         ensures fault { IfErr result (IsFaultOf table opening events.items) }
-        ensures refused { IfErr result (λ fault. fault ≢ Memory → AreOpenFrom table opening events.items → ⊥) }
+        ensures refused { IfErr result (λ fault.
+            fault ≢ Memory → AreOpenFrom table opening events.items → ⊥) }
     {
         check_events(alloc, &table, opening, &events)?;
         Ok(Session {
@@ -133,7 +145,9 @@ impl Session {
     ///
     /// `AllocError` where there is no memory for its states.
     pub fn chain(&self, alloc: Global) -> Result<Option<Vec<State>>, AllocError>
-        ensures { IfOk result (λ chain. MatchOption chain (self.now.place.event ≡ length self.now.events) (λ states. IsPresentChain self.now states.items)) }
+        ensures { IfOk result (λ chain. MatchOption chain
+            (self.now.place.event ≡ length self.now.events)
+            (λ states. IsPresentChain self.now states.items)) }
     {
         match self.events.get(self.place.event) {
             Some(event) => least_chain(
@@ -155,7 +169,8 @@ impl Session {
     pub fn step(&mut self) -> Result<(), Halt>
         ensures kept { KeepsEvents self.old self.new }
         ensures moved { OnOk result (IsStep self.old.events self.old.place self.new.place) }
-        ensures halt { IfErr result (λ halt. (halt ≡ AtEnd) × ((to : At) → IsStep self.old.events self.old.place to → ⊥)) }
+        ensures halt { IfErr result (λ halt.
+            (halt ≡ AtEnd) × ((to : At) → IsStep self.old.events self.old.place to → ⊥)) }
         ensures stays { OnErr result (self.new.place ≡ self.old.place) }
     {
         let place = self.place;
@@ -184,7 +199,8 @@ impl Session {
     pub fn back(&mut self) -> Result<(), Halt>
         ensures kept { KeepsEvents self.old self.new }
         ensures moved { OnOk result (IsStep self.old.events self.new.place self.old.place) }
-        ensures halt { IfErr result (λ halt. (halt ≡ AtStart) × ((from : At) → IsStep self.old.events from self.old.place → ⊥)) }
+        ensures halt { IfErr result (λ halt.
+            (halt ≡ AtStart) × ((from : At) → IsStep self.old.events from self.old.place → ⊥)) }
         ensures stays { OnErr result (self.new.place ≡ self.old.place) }
     {
         let place = self.place;
@@ -210,8 +226,11 @@ impl Session {
     /// `AtEnd` at the end; the session stays there.
     pub fn next_event(&mut self) -> Result<(), Halt>
         ensures kept { KeepsEvents self.old self.new }
-        ensures moved { OnOk result ((self.new.place ≡ record { event = self.old.place.event + 1; passed = 0 }) × (self.old.place.event < length self.old.events)) }
-        ensures halt { IfErr result (λ halt. (halt ≡ AtEnd) × (self.old.place.event ≡ length self.old.events)) }
+        ensures moved { OnOk result (
+            (self.new.place ≡ record { event = self.old.place.event + 1; passed = 0 })
+            × (self.old.place.event < length self.old.events)) }
+        ensures halt { IfErr result (λ halt.
+            (halt ≡ AtEnd) × (self.old.place.event ≡ length self.old.events)) }
         ensures stays { OnErr result (self.new.place ≡ self.old.place) }
     {
         if self.place.event == self.events.len() {
@@ -232,7 +251,9 @@ impl Session {
     pub fn run_to(&mut self, state: State) -> Result<(), Halt>
         ensures kept { KeepsEvents self.old self.new }
         ensures moved { OnOk result (IsFirstLater self.old state self.new.place) }
-        ensures halt { IfErr result (λ halt. (halt ≡ AtEnd) × ((i : ℕ) → self.old.place.event < i → i ≤ length self.old.events → held_at self.old.opening self.old.events i ≢ state)) }
+        ensures halt { IfErr result (λ halt. (halt ≡ AtEnd)
+            × ((i : ℕ) → self.old.place.event < i → i ≤ length self.old.events
+            → held_at self.old.opening self.old.events i ≢ state)) }
         ensures stays { OnErr result (self.new.place ≡ self.old.place) }
     {
         match first_reporting(&self.events, self.place.event, state) {

@@ -71,8 +71,10 @@ fn keeps_order(
     before: &[Event],
     event: &Event,
 ) -> Result<bool, AllocError>
-    ensures { IfOk result (λ keeps. seen.old.keys ≡ identifiers_of before.now → AreInOrder before.now
-        → (IsTrue keeps ↔ AreInOrder (before.now ++ event.now ∷ [])) × (IsTrue keeps → seen.new.keys ≡ identifiers_of (before.now ++ event.now ∷ []))) }
+    ensures { IfOk result (λ keeps.
+        seen.old.keys ≡ identifiers_of before.now → AreInOrder before.now
+        → (IsTrue keeps ↔ AreInOrder (before.now ++ event.now ∷ []))
+        × (IsTrue keeps → seen.new.keys ≡ identifiers_of (before.now ++ event.now ∷ []))) }
 {
     let is_new = is_new(seen, event)?;
     Ok(is_new && follows_on(before, event))
@@ -81,7 +83,8 @@ fn keeps_order(
 /// Whether the event has an identifier that none of those seen has; it is then seen too.
 fn is_new(seen: &mut IndexSet<Uuid>, event: &Event) -> Result<bool, AllocError>
     ensures { IfOk result (λ new. (before : List Reported) → seen.old.keys ≡ identifiers_of before
-        → (IsTrue new ↔ IsNewAfter before event.now) × (IsTrue new → seen.new.keys ≡ identifiers_of (before ++ event.now ∷ []))) }
+        → (IsTrue new ↔ IsNewAfter before event.now)
+        × (IsTrue new → seen.new.keys ≡ identifiers_of (before ++ event.now ∷ []))) }
 {
     Ok(seen.insert(event.id())?)
 }

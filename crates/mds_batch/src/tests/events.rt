@@ -133,16 +133,16 @@ fn faults(rt: HostRuntime) -> Result<(), Fail> {
     Ok(())
 }
 
-/// The fault of the event with so many types more than its three.
-fn fault_with_more(alloc: Global, more: usize) -> Result<Option<ItemFault>, Fail> {
-    let types = r#""battery_low","#.repeat(alloc, more + 1)?;
+/// The fault of the event with so many types between its first and its last.
+fn fault_with_between(alloc: Global, count: usize) -> Result<Option<ItemFault>, Fail> {
+    let types = r#""battery_low","#.repeat(alloc, count)?;
     fault_with(alloc, r#""battery_low","#, types.as_str())
 }
 
 #[test]
 fn most_types(rt: HostRuntime) -> Result<(), Fail> {
-    let most = fault_with_more(rt.alloc(), MAX_EVENT_TYPES - 3)?;
-    let one_too_many = fault_with_more(rt.alloc(), MAX_EVENT_TYPES - 2)?;
+    let most = fault_with_between(rt.alloc(), MAX_EVENT_TYPES - 2)?;
+    let one_too_many = fault_with_between(rt.alloc(), MAX_EVENT_TYPES - 1)?;
     assert_eq!(rt; (most, one_too_many), (None, Some(Bad(EventTypes))));
     Ok(())
 }
