@@ -131,7 +131,7 @@ where
 
 /// As [`serve_on`], with the ledgers of the book. The clause says that the number is that of some settled book: the book
 /// that was served lives only here, and no caller sees it. That it is this one is what the contracts of
-/// [`serve_and_settle`] and [`say`] say one after the other, and what the tests of this file try.
+/// [`serve_and_settle`] and [`say`] say one after the other, and what the clients of `tests/clients` try.
 fn serve_book<
     R: Threads + Wait + Sync,
     P: Port + Sync,
