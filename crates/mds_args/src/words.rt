@@ -11,7 +11,6 @@ ghost use Rattle.mds_args.specs.Words.{needed_number_rule, number_rule, program_
 ghost use Rattle.mds_args.specs.Words.{serve_app, table_app, table_rule, word_rule, workers_rule};
 
 use crate::error::{WordsError, WordsErrorKind};
-
 use clap::builder::ValueParser;
 use clap::error::ErrorKind;
 use clap::{Arg, ArgAction, ArgMatches, Error};
@@ -66,10 +65,7 @@ pub enum Command<'a> {
 ///
 /// `Help` where the words ask for help, `Mistake` where they don't parse or ask for no command,
 /// `Memory` where there is no memory to read them. `Display` gives the text for the user.
-pub fn parse_words<'a, S: AsStr>(
-    alloc: Global,
-    words: &'a [S],
-) -> Result<Command<'a>, WordsError>
+pub fn parse_words<'a, S: AsStr>(alloc: Global, words: &'a [S]) -> Result<Command<'a>, WordsError>
     ensures ok { IfOk result (IsAskedBy (map S.text words.entry.now)) }
     ensures cause { IfErr result (HasCause (map S.text words.entry.now)) }
     // Words that are taken and ask for some command give it, where there is memory.

@@ -14,10 +14,10 @@ use crate::source::{Source, items_in, table_in};
 use crate::status::Status;
 use mds_batch::EventItem;
 use mds_core::{Event, Key};
+use mds_debugger::{CountsLine, print_start, print_walk, read_script, script_of, vehicle_events};
 use mds_io::{PrintError, write_all_of};
 use mds_table::{State, Table};
 use mds_trace::{Opening, Session, SessionFault, replay};
-use mds_debugger::{CountsLine, print_start, print_walk, read_script, script_of, vehicle_events};
 use std::alloc::{AllocError, Global};
 use std::io::{Read, Write};
 use uuid::Uuid;
@@ -222,8 +222,12 @@ fn open_on(
 /// The session over these events, which lead on from removed.
 fn session_of(alloc: Global, table: Table, events: Vec<Event>) -> Result<Session, AllocError>
     requires { AreOpenFrom table State.Removed events.items }
-    ensures { IfOk result (λ session. session ≡ record { tables = table; opening = State.Removed;
-        events = events.items; place = record { event = 0; passed = 0 } }) }
+    ensures { IfOk result (λ session. session ≡ record {
+      tables = table;
+      opening = State.Removed;
+      events = events.items;
+      place = record { event = 0; passed = 0 };
+    }) }
 {
     match Session::open(alloc, table, State::Removed, events) {
         Ok(session) => Ok(session),

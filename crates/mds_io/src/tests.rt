@@ -140,7 +140,10 @@ fn reads_end_as_the_reader_does(rt: HostRuntime) {
 fn reads_no_more_than_the_limit(rt: HostRuntime) -> Result<(), Fail> {
     let mut reader = b"abcdefg".as_slice();
     let read = read_front(rt.alloc(), &mut reader, 6)?;
-    assert_eq!(rt; (read.as_slice(), reader), (b"abcdef".as_slice(), b"g".as_slice()));
+    assert_eq!(rt;
+        (read.as_slice(), reader),
+        (b"abcdef".as_slice(), b"g".as_slice())
+    );
     Ok(())
 }
 

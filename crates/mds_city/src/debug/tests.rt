@@ -150,15 +150,7 @@ fn start_is_shown_before_the_script_is_read(rt: HostRuntime) {
         device: FIRST,
     };
     let file = file("F", TWO_EVENTS);
-    let code = debug_to(
-        alloc,
-        table,
-        file,
-        named,
-        &mut script,
-        &mut out,
-        &mut told,
-    );
+    let code = debug_to(alloc, table, file, named, &mut script, &mut out, &mut told);
     assert_eq!(rt; code, 0);
     assert_eq!(rt; out.bytes.as_slice(), SCRIPT_LINES.as_bytes());
     assert!(rt; told.is_empty());
