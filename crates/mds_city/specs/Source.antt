@@ -26,10 +26,14 @@ max_read = max_bytes + 1
 abbrev pub HasBytes : {R : Type 0} → (R → Option (List ℕ)) → Source R → List ℕ → Type 0
 HasBytes {R} remaining source bytes = (reader : R) × (source.reader ≡ Some reader) × HasFront max_read (remaining reader) bytes
 
--- the path told is the file's, or there was no memory for it
+-- the file was opened
+abbrev pub IsOpen : {R : Type 0} → Source R → Type 0
+IsOpen {R} source = (reader : R) × (source.reader ≡ Some reader)
+
+-- the path told is the file's, or there was no memory for what a file that was opened has
 abbrev pub IsReadProblem : {R : Type 0} → Source R → Problem → Type 0
 IsReadProblem source (CannotRead path) = path.now ≡ source.path.now
-IsReadProblem source Memory = Unit {0}
+IsReadProblem source Memory = IsOpen source
 IsReadProblem source (NotATable fault) = ⊥
 IsReadProblem source (NotABatch fault) = ⊥
 IsReadProblem source Socket = ⊥
@@ -47,11 +51,12 @@ IsBatchProblem bytes problem = (fault : BatchFault) × HasBatchFault bytes fault
 abbrev pub HasTableOf : {R : Type 0} → (R → Option (List ℕ)) → Source R → Tables → Type 0
 HasTableOf remaining source tables = (bytes : List ℕ) × HasBytes remaining source bytes × HasTable bytes tables
 
--- why a table file has no table: it has this fault, its path is told as one that can't be read, or there was no memory
+-- why a table file has no table: it has this fault, its path is told as one that can't be read, or it was opened and there was no
+-- memory
 abbrev pub ExplainsTableFile : {R : Type 0} → (R → Option (List ℕ)) → Source R → Problem → Type 0
 ExplainsTableFile remaining source (NotATable fault) = (fault ≢ table.Memory) × (bytes : List ℕ) × HasBytes remaining source bytes × HasTableFault bytes fault
 ExplainsTableFile remaining source (CannotRead path) = path.now ≡ source.path.now
-ExplainsTableFile remaining source Memory = Unit {0}
+ExplainsTableFile remaining source Memory = IsOpen source
 ExplainsTableFile remaining source (NotABatch fault) = ⊥
 ExplainsTableFile remaining source Socket = ⊥
 ExplainsTableFile remaining source Output = ⊥
@@ -70,11 +75,12 @@ ExplainsTable remaining (Some source) problem = ExplainsTableFile remaining sour
 abbrev pub HasItemsIn : {R : Type 0} → (R → Option (List ℕ)) → Source R → List EventItem → Type 0
 HasItemsIn remaining source items = (bytes : List ℕ) × HasBytes remaining source bytes × HasItems IsEventItem bytes items
 
--- why there are no items: the file has this fault, its path is told as one that can't be read, or there was no memory
+-- why there are no items: the file has this fault, its path is told as one that can't be read, or it was opened and there was no
+-- memory
 abbrev pub ExplainsFile : {R : Type 0} → (R → Option (List ℕ)) → Source R → Problem → Type 0
 ExplainsFile remaining source (NotABatch fault) = (fault ≢ batch.Memory) × (bytes : List ℕ) × HasBytes remaining source bytes × HasBatchFault bytes fault
 ExplainsFile remaining source (CannotRead path) = path.now ≡ source.path.now
-ExplainsFile remaining source Memory = Unit {0}
+ExplainsFile remaining source Memory = IsOpen source
 ExplainsFile remaining source (NotATable fault) = ⊥
 ExplainsFile remaining source Socket = ⊥
 ExplainsFile remaining source Output = ⊥

@@ -12,7 +12,7 @@ use Rattle.mds_city.proofs.source.table_of_file.Goals as goal
 -- a fault of the file's bytes explains the problem that is made of it
 explained : {R : Type 0} (remaining : R → Option (List ℕ)) (source : Source R) (bytes : List ℕ) (fault : TableFault) → HasBytes remaining source bytes
     → HasFault bytes fault → ExplainsTableFile remaining source (table_problem fault)
-explained remaining source bytes Memory has wrong = tt
+explained remaining source bytes Memory has wrong = (has.0, has.1)
 explained remaining source bytes fault has wrong = ((λ same. cc), bytes, has, wrong)
 
 -- and so does the problem that its bytes are
