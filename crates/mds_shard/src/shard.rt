@@ -37,7 +37,8 @@ impl Model for Shard {
 
     ghost view = { λ shard. record { tables = shard.table; history = shard.history.items } };
 
-    ghost invariant = { λ shard. IsReplay shard.table shard.history.items shard.before.items shard.vehicles shard.identifiers };
+    ghost invariant = { λ shard. IsReplay shard.table shard.history.items
+        shard.before.items shard.vehicles shard.identifiers };
 }
 
 impl Shard {

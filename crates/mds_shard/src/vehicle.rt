@@ -71,7 +71,8 @@ pub fn keep(
     vehicle: Vehicle,
 ) -> Result<(), AllocError>
     requires { report_of request.now ≢ None → get key_cmp vehicles.old (key_of request.now) ≢ None }
-    ensures vehicles { OnOk result (PutsVehicle (key_of request.now) vehicle vehicles.old vehicles.new) }
+    ensures vehicles { OnOk result
+        (PutsVehicle (key_of request.now) vehicle vehicles.old vehicles.new) }
     ensures identifiers { OnOk result (AddsIdentifier request.now identifiers.old identifiers.new) }
     ensures no_vehicle { OnErr result (IsUnchanged vehicles.old vehicles.new) }
     ensures no_identifier { OnErr result (identifiers.new ≡ identifiers.old) }

@@ -27,7 +27,8 @@ impl States {
     /// Marks the state.
     fn mark(&mut self, state: State)
         ensures marked { is_marked self.new state ≡ true }
-        ensures others { (other : State) → code_of other ≢ code_of state → is_marked self.new other ≡ is_marked self.old other }
+        ensures others { (other : State) → code_of other ≢ code_of state →
+            is_marked self.new other ≡ is_marked self.old other }
     {
         self.marks[usize::from(state.code())] = true;
     }

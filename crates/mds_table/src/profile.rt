@@ -104,7 +104,8 @@ fn add_line(
     from: &[State],
     to: &[State],
 ) -> Result<(), AllocError>
-    ensures { OnOk result (rows.new.items ≡ rows.old.items ++ rows_of_line (line kind.now from.now to.now)) }
+    ensures { OnOk result (rows.new.items
+        ≡ rows.old.items ++ rows_of_line (line kind.now from.now to.now)) }
 {
     for state in from {
         add_rows(rows, *state, kind, to)?;

@@ -78,7 +78,8 @@ impl Ord for Row {
 }
 
 impl Hash for Row {
-    ghost hash_input = { λ row. fed.slice fed.u8 row.kind ++ fed.u8 (code_of row.from) ++ fed.u8 (code_of row.to) };
+    ghost hash_input = { λ row. fed.slice fed.u8 row.kind
+        ++ fed.u8 (code_of row.from) ++ fed.u8 (code_of row.to) };
 
     ghost respects_eq = { Prim.search (hashing, rules) };
 

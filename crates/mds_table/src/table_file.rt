@@ -116,7 +116,8 @@ fn entries_of(file: &Value) -> Option<&[Value]>
 
 /// The rows that the entries stand for, in row order.
 fn rows_of_entries(alloc: Global, entries: &[Value]) -> Result<Vec<Row>, TableFault>
-    ensures rows { IfOk result (λ rows. (kinds : List (List ℕ)) × AreGood (map view entries.now) rows.items kinds) }
+    ensures rows { IfOk result (λ rows.
+        (kinds : List (List ℕ)) × AreGood (map view entries.now) rows.items kinds) }
     ensures fault { IfErr result (λ fault. HasFaultIn (map view entries.now) fault) }
 {
     let mut rows = Vec::new(alloc);
@@ -167,7 +168,8 @@ fn add_rows_from_each(
 ) -> Result<(), AllocError>
     requires { in_order rows.old.items ≡ true }
     ensures order { OnOk result (in_order rows.new.items ≡ true) }
-    ensures rows { OnOk result (Adds rows.old.items rows.new.items (λ row. Contains states.now row.from × HasRow entry.now row)) }
+    ensures rows { OnOk result (Adds rows.old.items rows.new.items
+        (λ row. Contains states.now row.from × HasRow entry.now row)) }
 {
     for from in states {
         if entry.from.has(*from) {
@@ -186,7 +188,8 @@ fn add_rows_from(
 ) -> Result<(), AllocError>
     requires { in_order rows.old.items ≡ true }
     ensures order { OnOk result (in_order rows.new.items ≡ true) }
-    ensures rows { OnOk result (Adds rows.old.items rows.new.items (IsRowTo from entry.now states.now)) }
+    ensures rows { OnOk result (Adds rows.old.items rows.new.items
+        (IsRowTo from entry.now states.now)) }
 {
     for to in states {
         if entry.to.has(*to) {
