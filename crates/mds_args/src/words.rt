@@ -121,8 +121,8 @@ fn command_of<'a>(matches: &ArgMatches<'a>) -> Option<Command<'a>>
 /// The greatest number of a port: TCP writes it in 16 bits.
 const MAX_PORT: u64 = 65_535;
 
-/// The most connections that each worker may be asked to answer. A worker keeps a note of each
-/// request that it accepts until the end, and so many notes still fit the memory of a small machine.
+/// The most connections that each worker may be asked to answer: a day's at eleven a second. A number
+/// with a digit too many is refused so.
 const MAX_EACH: u64 = 1_000_000;
 
 /// The most workers: each takes a seat of the book, which has at most `mds_book::MAX_SEATS` of them.
