@@ -121,8 +121,8 @@ fn command_of<'a>(matches: &ArgMatches<'a>) -> Option<Command<'a>>
 /// The greatest number of a port: TCP writes it in 16 bits.
 const MAX_PORT: u64 = 65_535;
 
-/// The most connections that each worker may be asked to answer: a day's at eleven a second. A number
-/// with a digit too many is refused so.
+/// The most connections that each worker may be asked to answer: a server has to end, since it settles
+/// at its end.
 const MAX_EACH: u64 = 1_000_000;
 
 /// The most workers: each takes a seat of the book, which has at most `mds_book::MAX_SEATS` of them.
