@@ -11,7 +11,7 @@ ghost use Rattle.mds_debugger.specs.Printed.{goes_on, halt_of, line_text, moved_
 
 use crate::line::{Chain, CountsLine, Line};
 use crate::{Move, ScriptCommand};
-use mds_io::{PrintError, add_line, flush_page};
+use mds_io::{PrintError, add_line, end_page, flush_page};
 use mds_steps::StateSet;
 use mds_trace::{Halt, Session};
 use std::alloc::{AllocError, Global};
@@ -37,8 +37,7 @@ pub fn print_start<W: Write>(
     let line = place_line(session);
     let mut page = String::new(alloc);
     add_line(writer, &mut page, &counts)?;
-    add_line(writer, &mut page, &line)?;
-    flush_page(writer, &mut page)
+    end_page(writer, &mut page, &line)
 }
 
 /// Carries out the commands of a script up to the first `quit`, and prints a line for each.

@@ -18,6 +18,12 @@ passes_front a b c text left more first second =
     let whole = passes_then a b c text left more second.1 first (second.0, second.2, second.3) in
     (whole.0, second.1, whole.1, whole.2)
 
+-- a text went out but for what was left, and then that and more
+pub passes_to_end : (a b c : Option (List ℕ)) (text left more : List ℕ) → Passes a b text left → Appends b c (left ++ more) → Appends a c (text ++ more)
+passes_to_end a b c text left more first second =
+    let joined : (text ++ more) ≡ first.0 ++ (left ++ more) = ap (λ t. t ++ more) first.1 ∙ append_assoc first.0 left more in
+    subst (λ t. Appends a c t) (sym joined) (Appends-trans a b c first.0 (left ++ more) first.2 second)
+
 -- a front of a text is a front of a longer one
 pub front_of_more : (a b : Option (List ℕ)) (text more : List ℕ) → AppendsFront a b text → AppendsFront a b (text ++ more)
 front_of_more a b text more front =

@@ -13,6 +13,6 @@ mod tests;
 mod write;
 
 pub use call::MAX_CALLS;
-pub use page::{PAGE_BYTES, PrintError, add_line, flush_page};
+pub use page::{PAGE_BYTES, PrintError, add_line, end_page, flush_page};
 pub use read::{ReadError, read_front, read_more, read_up_to};
 pub use write::{WriteError, WriteErrorKind, write_all_of};

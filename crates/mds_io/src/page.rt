@@ -55,12 +55,37 @@ pub fn add_line<W: Write, D: Display>(
     flush_page(writer, page)
 }
 
+/// Lays `line` and a line feed out behind what `page` holds, writes it all out and empties the page:
+/// how a text ends.
+///
+/// # Errors
+///
+/// As for [`add_line`].
+pub fn end_page<W: Write, D: Display>(
+    writer: &mut W,
+    page: &mut String,
+    line: &D,
+) -> Result<(), PrintError>
+    ensures ok { OnOk result (IfSome (D.output line.now) (λ text.
+        Appends (W.contents writer.old) (W.contents writer.new)
+        (string_bytes page.old ++ with_newline text))) }
+    ensures err { OnErr result (IfSome (D.output line.now) (λ text.
+        AppendsFront (W.contents writer.old) (W.contents writer.new)
+        (string_bytes page.old ++ with_newline text))) }
+{
+    if writeln!(page, "{line}").is_err() {
+        return Err(PrintError::Memory);
+    }
+    flush_page(writer, page)
+}
+
 /// Writes out what `page` holds, by at most `MAX_CALLS` calls of `write`, and empties it.
 ///
 /// # Errors
 ///
 /// `Device`, the only fault, where it could not be written whole: a front of it went out, and the
 /// page is as it was.
+#[tactic(auto, using(crate::proofs::WriteLemmas::front_of_sent))]
 pub fn flush_page<W: Write>(writer: &mut W, page: &mut String) -> Result<(), PrintError>
     ensures ok { OnOk result
         (Appends (W.contents writer.old) (W.contents writer.new) (string_bytes page.old)) }

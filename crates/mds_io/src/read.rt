@@ -31,6 +31,7 @@ pub enum ReadError {
 /// `Memory` where there is no memory for the bytes, `Device` where a call fails otherwise,
 /// `TooManyTurns` where the calls run out. The reader has then lost a front of its bytes, at most
 /// `limit` of them.
+#[tactic(auto, using(crate::proofs::ReadLemmas::read_from_none))]
 pub fn read_front<R: Read>(
     alloc: Global,
     reader: &mut R,

@@ -2,7 +2,7 @@ use Rattle.std.proofs.Common.{ℕ, List, ◌++◌, refl, rules, string_bytes}
 use Rattle.std.proofs.lemmas.Result.{on_err_weaker, on_ok_weaker}
 use Rattle.mds_io.specs.Page.{AppendsFront, Passes, with_newline}
 use Rattle.mds_debugger.specs.Printed.{counts_line, line_text, PrintsStart}
-use Rattle.mds_io.proofs.PageLemmas.{front_of_more, passes_all, passes_front, passes_out, passes_then}
+use Rattle.mds_io.proofs.PageLemmas.{front_of_more, passes_front, passes_to_end}
 use Rattle.mds_debugger.proofs.walk.print_start.Goals as goal
 
 pub returns-in_err-add_line-clause-err : goal.returns-in_err-add_line-clause-err
@@ -17,22 +17,6 @@ returns-in_err-add_line-clause-err g c =
     (counts ++ line, (line_text c.place_line-line.result, c.place_line-line.ensures, refl), front_of_more _ _ counts line first) in
     search rules
 
-pub returns-in_err-add_line-2-clause-err : goal.returns-in_err-add_line-2-clause-err
-returns-in_err-add_line-2-clause-err g c =
-    let contents = g.W.Write.contents in
-    let counts = with_newline (counts_line c.args.counts.events c.args.counts.refused) in
-    let line = with_newline (line_text c.place_line-line.result) in
-    let page = string_bytes c.add_line.new.page in
-    let first : Passes (contents c.args.writer.now) (contents c.add_line.new.writer) counts page =
-    rw c.new-page.ensures.bytes at c.in_ok-add_line.ensures.ok in
-    let front : (text : List ℕ) × PrintsStart c.args.session.now c.args.counts text
-    × AppendsFront (contents c.args.writer.now) (contents c.add_line-2.new.writer) text = (
-      counts ++ line,
-      (line_text c.place_line-line.result, c.place_line-line.ensures, refl),
-      passes_front _ _ _ counts page line first c.in_err-add_line-2.ensures.err,
-    ) in
-    search rules
-
 pub returns-clause-ok : goal.returns-clause-ok
 returns-clause-ok g c =
     let contents = g.W.Write.contents in
@@ -41,14 +25,9 @@ returns-clause-ok g c =
     let page = string_bytes c.add_line.new.page in
     let first : Passes (contents c.args.writer.now) (contents c.add_line.new.writer) counts page =
     rw c.new-page.ensures.bytes at c.in_ok-add_line.ensures.ok in
-    let all = passes_then _ _ _ counts page line (string_bytes c.add_line-2.new.page) first c.in_ok-add_line-2.ensures.ok in
-    on_ok_weaker c.flush_page.result
-    (λ out. (
-      counts ++ line,
-      (line_text c.place_line-line.result, c.place_line-line.ensures, refl),
-      passes_all (contents c.args.writer.now) (contents c.add_line-2.new.writer) (contents c.flush_page.new.writer) (counts ++ line) (string_bytes c.add_line-2.new.page) all out,
-    ))
-    c.flush_page.ensures.ok
+    on_ok_weaker c.end_page.result
+    (λ out. (counts ++ line, (line_text c.place_line-line.result, c.place_line-line.ensures, refl), passes_to_end _ _ _ counts page line first out))
+    c.end_page.ensures.ok
 
 pub returns-clause-err : goal.returns-clause-err
 returns-clause-err g c =
@@ -58,11 +37,6 @@ returns-clause-err g c =
     let page = string_bytes c.add_line.new.page in
     let first : Passes (contents c.args.writer.now) (contents c.add_line.new.writer) counts page =
     rw c.new-page.ensures.bytes at c.in_ok-add_line.ensures.ok in
-    let all = passes_then _ _ _ counts page line (string_bytes c.add_line-2.new.page) first c.in_ok-add_line-2.ensures.ok in
-    on_err_weaker c.flush_page.result
-    (λ out. (
-      counts ++ line,
-      (line_text c.place_line-line.result, c.place_line-line.ensures, refl),
-      passes_out (contents c.args.writer.now) (contents c.add_line-2.new.writer) (contents c.flush_page.new.writer) (counts ++ line) (string_bytes c.add_line-2.new.page) all out,
-    ))
-    c.flush_page.ensures.err
+    on_err_weaker c.end_page.result
+    (λ out. (counts ++ line, (line_text c.place_line-line.result, c.place_line-line.ensures, refl), passes_front _ _ _ counts page line first out))
+    c.end_page.ensures.err
