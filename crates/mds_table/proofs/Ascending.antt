@@ -37,7 +37,7 @@ neighbours cmp (x ∷ next ∷ rest) up (suc k) d within =
     let later = neighbours cmp (next ∷ rest) (and_parts (is_lt (cmp x next)) (ascends cmp (next ∷ rest)) up).1 k d (omega arith) in
     rw place later
 
-sorted : {X : Type 0} {cmp : X → X → Ordering} (o : IsTotalOrder cmp) (xs : List X) → ascends cmp xs ≡ true → IsSortedBy (λ a b. is_lt (cmp a b)) xs
+pub sorted : {X : Type 0} {cmp : X → X → Ordering} (o : IsTotalOrder cmp) (xs : List X) → ascends cmp xs ≡ true → IsSortedBy (λ a b. is_lt (cmp a b)) xs
 sorted {X} {cmp} o xs up k d low within =
     ap is_lt (o.antisymm (get_or xs (k + 1) d) (get_or xs k d) ∙ ap ordering_reverse (neighbours cmp xs up k d within))
 
@@ -58,7 +58,7 @@ inserted_after {X} {cmp} o x first (y ∷ ys) (suc i) within up before below abo
     (λ k d low high. below (suc k) d (omega arith) (omega arith)) (λ k d low high. above (suc k) d (omega arith) (omega arith)) in
     rw (parts.0, later) refl
 
-inserted : {X : Type 0} {cmp : X → X → Ordering} (o : IsTotalOrder cmp) (x : X) (xs : List X) (i : ℕ) → i ≤ length xs → ascends cmp xs ≡ true
+pub inserted : {X : Type 0} {cmp : X → X → Ordering} (o : IsTotalOrder cmp) (x : X) (xs : List X) (i : ℕ) → i ≤ length xs → ascends cmp xs ≡ true
     → AllWithin (λ y. cmp y x ≡ Less) xs 0 i → AllWithin (λ y. cmp y x ≡ Greater) xs i (length xs)
     → ascends cmp (insert xs i x) ≡ true
 inserted o x [] zero within up below above = refl
@@ -71,7 +71,7 @@ inserted o x (y ∷ ys) (suc i) within up below above =
     (λ k d low high. below (suc k) d (omega arith) (omega arith)) (λ k d low high. above (suc k) d (omega arith) (omega arith))
 
 -- x is none of those before it and those behind it
-none : {X : Type 0} {cmp : X → X → Ordering} (o : IsTotalOrder cmp) (x : X) (xs : List X) (i : ℕ)
+pub none : {X : Type 0} {cmp : X → X → Ordering} (o : IsTotalOrder cmp) (x : X) (xs : List X) (i : ℕ)
     → AllWithin (λ y. cmp y x ≡ Less) xs 0 i → AllWithin (λ y. cmp y x ≡ Greater) xs i (length xs) → Contains xs x → ⊥
 none {X} {cmp} o x xs i below above found =
     ⊎_elim (λ early. clash Less (below found.0 x (omega arith) early) (λ e. cc)) (λ late. clash Greater (above found.0 x late found.1) (λ e. cc)) (cases_lt found.0 i)

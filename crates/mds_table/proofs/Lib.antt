@@ -9,3 +9,5 @@ pub mod Marks
 pub mod Adding
 pub mod OneTable
 pub mod OneAnswer
+pub mod Bits
+pub mod Sought

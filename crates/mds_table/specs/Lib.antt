@@ -10,3 +10,5 @@ pub mod Printed
 pub mod Json
 pub mod TableFile
 pub mod Entry
+pub mod Mask
+pub mod Moves

@@ -9,6 +9,8 @@
 mod entry;
 pub mod json;
 pub mod laws;
+pub mod mask;
+mod moves;
 mod profile;
 mod row;
 mod state;

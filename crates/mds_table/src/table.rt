@@ -1,11 +1,13 @@
 //! Tables of allowed transitions.
 ghost use Rattle.std.specs.Prelude.{◌≡◌, ◌↔◌, true, IsTrue, IfOk, IfErr, Contains, length};
 ghost use Rattle.mds_table.specs.Row.{row_of, in_order};
+ghost use Rattle.mds_table.specs.Mask.{AreMasks};
 ghost use Rattle.mds_table.specs.Profile.{profile_rows};
 ghost use Rattle.mds_table.specs.TableFile.{HasTable, HasFault};
 
-use crate::row::has_row_of;
-use crate::{Row, State, TableFault, TypeName, profile, table_file};
+use crate::mask::Mask;
+use crate::moves::{Moves, masks_among, moves_of};
+use crate::{Row, State, TableFault, TypeName, mask, profile, table_file};
 use std::alloc::{AllocError, Global};
 use std::marker::Model;
 
@@ -14,18 +16,22 @@ use std::marker::Model;
 #[derive(Debug, Drop)]
 pub struct Table {
     rows: Vec<Row>,
+    /// The same by types, for looking up.
+    moves: Vec<Moves>,
 }
 
 impl Model for Table {
     ghost use Rattle.std.specs.Prelude.{◌≡◌, List, true};
     ghost use Rattle.mds_table.specs.declared.row.Row.{Row};
     ghost use Rattle.mds_table.specs.Row.{in_order};
+    ghost use Rattle.mds_table.specs.Moves.{AreMoves};
 
     ghost Value = { List Row };
 
     ghost view = { λ table. table.rows.items };
 
-    ghost invariant = { λ table. in_order table.rows.items ≡ true };
+    ghost invariant = { λ table. (in_order table.rows.items ≡ true)
+        × AreMoves table.rows.items table.rows.items table.moves.items };
 }
 
 impl Table {
@@ -37,9 +43,7 @@ impl Table {
     pub fn profile(alloc: Global) -> Result<Table, AllocError>
         ensures { IfOk result (λ table. table ≡ profile_rows) }
     {
-        Ok(Table {
-            rows: profile::rows(alloc)?,
-        })
+        Table::of_rows(alloc, profile::rows(alloc)?)
     }
 
     /// The table of a table file: a JSON object with a member `rows`, a list of entries
@@ -54,16 +58,24 @@ impl Table {
         ensures table { IfOk result (λ table. HasTable text.now table) }
         ensures fault { IfErr result (λ fault. HasFault text.now fault) }
     {
-        Ok(Table {
-            rows: table_file::rows_in_file(alloc, text)?,
-        })
+        let rows = table_file::rows_in_file(alloc, text)?;
+        Ok(Table::of_rows(alloc, rows)?)
     }
 
     /// Whether the table has the row by which an event of this type leads from the one state to the other.
     pub fn has_row(&self, from: State, kind: &TypeName, to: State) -> bool
         ensures { IsTrue result ↔ Contains self.now (row_of from kind.now to) }
     {
-        has_row_of(&self.rows, from, kind, to)
+        let masks = self.masks(kind);
+        mask::has(masks[usize::from(from.code())], to)
+    }
+
+    /// The states that events of this type may lead to, from each state by its code: all rows of the type, found at once. A
+    /// type without a row leads nowhere.
+    pub fn masks(&self, kind: &TypeName) -> [Mask; State::COUNT]
+        ensures { AreMasks self.now kind.now result }
+    {
+        masks_among(&self.moves, kind)
     }
 
     /// The rows of the table, each once, in ascending order of type (by bytes), from code and to code.
@@ -97,8 +109,15 @@ impl Table {
     pub fn copy(&self, alloc: Global) -> Result<Table, AllocError>
         ensures { IfOk result (λ table. table ≡ self.now) }
     {
-        Ok(Table {
-            rows: self.rows(alloc)?,
-        })
+        Table::of_rows(alloc, self.rows(alloc)?)
+    }
+
+    /// The table of these rows.
+    fn of_rows(alloc: Global, rows: Vec<Row>) -> Result<Table, AllocError>
+        requires { in_order rows.items ≡ true }
+        ensures { IfOk result (λ table. table ≡ rows.items) }
+    {
+        let moves = moves_of(alloc, &rows)?;
+        Ok(Table { rows, moves })
     }
 }

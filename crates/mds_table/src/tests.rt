@@ -1,6 +1,7 @@
 //! What no clause says: values from outside, and that each call can succeed.
 mod table_files;
 
+use crate::mask::{Mask, bit_of, has};
 use crate::{NameFault, Row, State, Table, TableFault, TypeName};
 use std::alloc::{AllocError, Global};
 use std::test::Fail;
@@ -123,6 +124,27 @@ fn two_entries(alloc: Global) -> Result<Table, TableFault> {
         Err(TableFault::Memory) => Table::from_json(alloc, text),
         table => table,
     }
+}
+
+/// The masks of the profile for this type.
+fn profile_masks(alloc: Global, name: &str) -> Result<[Mask; State::COUNT], Fail> {
+    let masks = profile(alloc)?.masks(&TypeName::new(name)?);
+    Ok(masks)
+}
+
+#[test]
+fn masks(rt: HostRuntime) -> Result<(), Fail> {
+    let ended = profile_masks(rt.alloc(), "trip_end")?;
+    let available = bit_of(State::Available);
+    assert_eq!(rt; ended, [0, 0, 0, 0, available, 0, 0, 0]);
+    let has_each = (
+        has(available, State::Available),
+        has(available, State::OnTrip),
+    );
+    assert_eq!(rt; (available, has_each), (2, (true, false)));
+    let unknown = profile_masks(rt.alloc(), "trip_ends")?;
+    assert_eq!(rt; unknown, [0; State::COUNT]);
+    Ok(())
 }
 
 /// Each call that takes memory, made again where its growth is refused (by `tests/refused-growths`).

@@ -20,7 +20,7 @@ pub const MAX_NAME_BYTES: usize = 32;
 
 /// The name of an event type: 1 to 32 bytes of `a` to `z`, `0` to `9` and `_`. It holds no memory of its own, and takes
 /// 33 bytes.
-#[derive(Drop)]
+#[derive(Clone, Copy)]
 pub struct TypeName {
     /// The bytes of the name, then zeros.
     bytes: [u8; MAX_NAME_BYTES],
@@ -28,14 +28,18 @@ pub struct TypeName {
 }
 
 impl Model for TypeName {
-    ghost use Rattle.std.specs.Prelude.{List, ℕ, ◌≤◌, take};
-    ghost use Rattle.mds_table.specs.TypeName.{IsTypeName};
+    ghost use Rattle.std.specs.Prelude.{List, ℕ, length as count, take};
+    ghost use Rattle.mds_table.specs.TypeName.{padded, IsPadded};
 
     ghost Value = { List ℕ };
 
     ghost view = { λ name. take name.length name.bytes };
 
-    ghost invariant = { λ name. (name.length ≤ 32) × IsTypeName (take name.length name.bytes) };
+    ghost invariant = { λ name. IsPadded name.bytes name.length };
+
+    ghost inverse = { λ name. record { bytes = padded name; length = count name } };
+
+    ghost inverse_ok = { λ _ padded. λ i. record { bytes = padded.whole i; length = padded.count i } };
 }
 
 /// Why a text is no type name.
@@ -180,7 +184,10 @@ impl Default for TypeName {
 
     /// The name `unspecified`, as in MDS; slots of a list that hold no name yet are filled with it.
     fn default() -> TypeName {
-        TypeName::of_bytes(b"unspecified")
+        TypeName {
+            bytes: *b"unspecified\0\0\0\0\0\0\0\0\0\0\0\0\0\0\0\0\0\0\0\0\0",
+            length: 11,
+        }
     }
 }
 
