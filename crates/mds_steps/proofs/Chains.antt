@@ -1,14 +1,14 @@
 -- Chains in two parts.
-use Rattle.std.proofs.Common.{◌≤◌, ℕ, List, [], ◌∷◌, ◌++◌, take, drop, Contains, refl, sym, subst}
-use Rattle.std.proofs.lemmas.List.{take-append-drop, take-take}
+use Rattle.std.proofs.Common.{ℕ, List, [], ◌∷◌, ◌++◌, take, drop, Contains, refl, sym, subst}
+use Rattle.std.proofs.lemmas.List.{take-append-drop}
 use Rattle.mds_table.specs.declared.state.State.{State}
 use Rattle.mds_table.specs.declared.row.Row.{Row}
 use Rattle.mds_table.specs.Row.{row_of}
-use Rattle.mds_table.specs.Chain.{Leads, Passes}
+use Rattle.mds_table.specs.Chain.{Leads}
 
 module _ (rows : List Row) where
   -- without a type, the state held is the one reported
-  leads_nowhere : (state : State) → Leads rows state [] state
+  pub leads_nowhere : (state : State) → Leads rows state [] state
   leads_nowhere state = (state ∷ [], (refl, refl))
 
   -- one type leads where a row of it does
@@ -36,9 +36,3 @@ module _ (rows : List Row) where
   pub split_at : (n : ℕ) (kinds : List (List ℕ)) (from to : State) → Leads rows from kinds to
       → (mid : State) × Leads rows from (take n kinds) mid × Leads rows mid (drop n kinds) to
   split_at n kinds from to leads = split (take n kinds) (drop n kinds) from to (subst (λ all. Leads rows from all to) (sym (take-append-drop n kinds)) leads)
-
-  -- what passes some types passes fewer
-  pub passes_fewer : (n at : ℕ) (kinds : List (List ℕ)) (held : State) → n ≤ at → Passes rows held kinds at → Passes rows held kinds n
-  passes_fewer n at kinds held fewer passes =
-      let parts = split_at n (take at kinds) held passes.0 passes.1 in
-      (parts.0, subst (λ all. Leads rows held all parts.0) (take-take n at kinds fewer) parts.1)

@@ -1,17 +1,21 @@
 -- The least chain, one state after the other.
-use Rattle.std.proofs.Common.{◌≡◌, ◌<◌, ◌≤◌, inl, inr, ℕ, ◌+◌, List, [], ◌∷◌, ◌++◌, append_assoc, length, get_or, drop, Contains, Option, Some, None, IsSome, refl, sym, subst, ◌∙◌, ap, arith}
+use Rattle.std.proofs.Common.{◌≡◌, ◌↔◌, ◌<◌, slice_get, zero, suc, length-append, ◌≤◌, inl, inr, ℕ, ◌+◌, List, [], ◌∷◌, ◌++◌, append_assoc, length, get_or, drop, Contains, Option, Some, None, IsSome, refl, sym, subst, ◌∙◌, ap, arith}
 use Rattle.std.proofs.lemmas.Bool.{cases_lt, cases_order}
-use Rattle.std.proofs.lemmas.List.{get_or_default, drop_more}
-use Rattle.std.proofs.lemmas.List.Elements.{Contains-get_or}
+use Rattle.std.proofs.lemmas.List.{drop_more, get_or_append_left, get_or_push}
 use Rattle.mds_table.specs.declared.state.State.{State}
 use Rattle.mds_table.specs.declared.row.Row.{Row}
 use Rattle.mds_table.specs.Row.{row_of}
 use Rattle.mds_table.specs.State.{code_of}
 use Rattle.mds_table.specs.Chain.{IsChain, Leads}
 use Rattle.mds_table.proofs.Rows.{code_of_injective}
-use Rattle.mds_steps.specs.StateSet.{AreInCodeOrder}
+use Rattle.mds_steps.specs.StateSet.{AreInCodeOrder, AreCommon}
+use Rattle.mds_steps.proofs.Sets.{none_in_empty}
 use Rattle.mds_steps.specs.Opening.{AreOpenings}
 use Rattle.mds_steps.specs.LeastChain.{IsNotAfter, IsLeastChain, IsLeastNext}
+
+-- each of these sets has the openings of as many of the last types as there are sets before it
+abbrev pub HasOpenings : List Row → List (List ℕ) → State → List (List State) → Type 0
+HasOpenings rows kinds reported sets = (at n : ℕ) (d : List State) → n < length sets → at + n ≡ length kinds → AreOpenings rows (drop at kinds) reported (get_or sets n d)
 
 module _ (rows : List Row) where
   -- a chain begins with the state held
@@ -45,43 +49,21 @@ module _ (rows : List Row) where
           | inr (inr more) ↦ absurd (omega (arith, least_code, more))
         ]
 
-  -- the first state of a set to which a row leads is the least one
-  pub first_least : (set : List State) (from next d : State) (kind : List ℕ) (i : ℕ) → AreInCodeOrder set → i < length set
-      → ((k : ℕ) (state : State) → k < i → Contains rows (row_of from kind (get_or set k state)) → ⊥)
-      → next ≡ get_or set i d → Contains rows (row_of from kind next) → IsLeastNext rows from kind set (Some next)
-  first_least set from next d kind i order within none is row = (
-    subst (λ state. Contains set state) (sym is) (Contains-get_or set i d within),
-    row,
-    λ to found step.
-        elim (cases_order i found.0) [
-          | inr (inr before) ↦ absurd (none found.0 to before (subst (λ state. Contains rows (row_of from kind state)) (sym found.2) step))
-          | inl same ↦
-              let at_to : get_or set i to ≡ to = ap (λ k. get_or set k to) same ∙ found.2 in
-              let one : next ≡ to = is ∙ get_or_default set i d to within ∙ at_to in
-              omega (arith, ap code_of one)
-          | inr (inl after) ↦
-              let less : code_of (get_or set i to) < code_of (get_or set found.0 to) = order i found.0 to after found.1 in
-              let one : next ≡ get_or set i to = is ∙ get_or_default set i d to within in
-              omega (arith, less, ap code_of one, ap code_of found.2)
-        ],
-  )
+  -- the first state in code order has the lowest code
+  lowest : (first : State) (rest : List State) → AreInCodeOrder (first ∷ rest) → (state : State) → Contains (first ∷ rest) state → code_of first ≤ code_of state
+  lowest first rest order state (zero, within, is) = omega (arith, ap code_of is)
+  lowest first rest order state (suc k, within, is) =
+      let less : code_of first < code_of (get_or (first ∷ rest) (suc k) state) = order 0 (suc k) state (omega arith) within in
+      omega (arith, less, ap code_of is)
 
-  -- where no row leads to a state of a set, there is no least one
-  pub none_least : (set : List State) (from : State) (kind : List ℕ) (i : ℕ) → length set ≤ i
-      → ((k : ℕ) (state : State) → k < i → Contains rows (row_of from kind (get_or set k state)) → ⊥) → IsLeastNext rows from kind set None
-  none_least set from kind i done none to found step =
-      none found.0 to (omega (arith, found.1, done)) (subst (λ state. Contains rows (row_of from kind state)) (sym found.2) step)
-
-  -- no row leads to the states before a place, nor to the one there
-  pub no_row_at : (set : List State) (from d : State) (kind : List ℕ) (i : ℕ) → i < length set
-      → ((k : ℕ) (state : State) → k < i → Contains rows (row_of from kind (get_or set k state)) → ⊥)
-      → (Contains rows (row_of from kind (get_or set i d)) → ⊥)
-      → (k : ℕ) (state : State) → k < i + 1 → Contains rows (row_of from kind (get_or set k state)) → ⊥
-  no_row_at set from d kind i within before here k state less row =
-      elim (cases_lt k i) [
-        | inl earlier ↦ before k state earlier row
-        | inr rest ↦ let same : k ≡ i = omega arith in here (subst (λ to. Contains rows (row_of from kind to)) (ap (λ j. get_or set j state) same ∙ get_or_default set i state d within) row)
-      ]
+  -- the first of the states to which a row leads, and which are in a set, is the least one
+  pub first_least : (set to common : List State) (from : State) (kind : List ℕ) → AreInCodeOrder common
+      → ((state : State) → Contains to state ↔ Contains rows (row_of from kind state)) → AreCommon to set common
+      → IsLeastNext rows from kind set (slice_get common 0)
+  first_least set to [] from kind order led both = λ state found row. none_in_empty state ((both state).1 ((led state).1 row, found))
+  first_least set to (first ∷ rest) from kind order led both =
+      let here = (both first).0 (0, omega arith, refl) in
+      (here.1, (led first).0 here.0, λ state found row. lowest first rest order state ((both state).1 ((led state).1 row, found)))
 
   -- where an event leads on, some first step of it does
   pub some_next : (from : State) (kind : List ℕ) (kinds : List (List ℕ)) (reported : State) (set : List State) (found : Option State)
@@ -108,3 +90,14 @@ module _ (rows : List Row) where
       → Leads rows from (drop at kinds) reported → Leads rows from (kind ∷ drop (at + 1) kinds) reported
   leads_from kinds at kind from reported within is leads =
       subst (λ all. Leads rows from all reported) (drop_more kinds at kind within ∙ ap (λ one. one ∷ drop (at + 1) kinds) (sym is)) leads
+
+  -- the openings of one type more
+  pub ends_push : (kinds : List (List ℕ)) (at : ℕ) (reported : State) (sets : List (List State)) (set : List State) → length sets + at ≡ length kinds
+      → AreOpenings rows (drop at kinds) reported set → HasOpenings rows kinds reported sets → HasOpenings rows kinds reported (sets ++ set ∷ [])
+  ends_push kinds at reported sets set place now each k n d within sum = elim (cases_lt n (length sets)) [
+    | inl earlier ↦ subst (AreOpenings rows (drop k kinds) reported) (sym (get_or_append_left sets (set ∷ []) d n earlier)) (each k n d earlier sum)
+    | inr rest ↦
+        let here : length sets ≡ n = omega (arith, rest, within, length-append sets (set ∷ [])) in
+        let same : at ≡ k = omega (arith, place, here, sum) in
+        subst (AreOpenings rows (drop k kinds) reported) (sym (get_or_push sets set d n here)) (subst (λ j. AreOpenings rows (drop j kinds) reported set) same now)
+  ]

@@ -1,4 +1,5 @@
-pub mod Told
+pub mod Members
 pub mod Chains
 pub mod Sets
+pub mod Gathered
 pub mod Least

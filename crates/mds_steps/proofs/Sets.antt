@@ -1,5 +1,5 @@
 -- Sets of possible states, type by type.
-use Rattle.std.proofs.Common.{◌≡◌, ◌<◌, ◌≤◌, ◌+◌, ◌-◌, ℕ, zero, suc, get_or, List, [], ◌∷◌, ◌++◌, length, take, drop, Contains, refl, sym, subst, arith}
+use Rattle.std.proofs.Common.{◌≡◌, ◌↔◌, ◌<◌, ◌≤◌, ◌+◌, ◌-◌, ℕ, zero, suc, get_or, List, [], ◌∷◌, ◌++◌, length, take, drop, Contains, refl, sym, subst, arith}
 use Rattle.std.proofs.lemmas.List.{take_all, take_more, drop_more}
 use Rattle.mds_table.specs.declared.state.State.{State}
 use Rattle.mds_table.specs.declared.row.Row.{Row}
@@ -7,8 +7,8 @@ use Rattle.mds_table.specs.Chain.{Leads, Passes, IsStuckAt}
 use Rattle.mds_steps.specs.Step.{AreNext, ArePrevious}
 use Rattle.mds_steps.specs.Reached.{AreReached}
 use Rattle.mds_steps.specs.Opening.{AreOpenings}
-use Rattle.mds_steps.specs.Stuck.{PassesFrom}
-use Rattle.mds_steps.proofs.Chains.{leads_by_row, row_of_step, join, split, split_at, passes_fewer}
+use Rattle.mds_steps.specs.Stuck.{PassesFrom, IsStuckFrom}
+use Rattle.mds_steps.proofs.Chains.{leads_nowhere, leads_by_row, row_of_step, join, split, split_at}
 
 pub none_in_empty : {X : Type 0} (x : X) → Contains [] x → ⊥
 none_in_empty x found = omega (arith, found.1)
@@ -49,17 +49,6 @@ module _ (rows : List Row) where
       → AreReached rows set (take at kinds) reached → AreReached rows set kinds reached
   reached_all set reached kinds at done before = subst (λ all. AreReached rows set all reached) (take_all at kinds done) before
 
-  -- where no state is reached, none is later
-  pub reached_never : (set reached : List State) (kinds : List (List ℕ)) (at : ℕ) → reached ≡ []
-      → AreReached rows set (take at kinds) reached → AreReached rows set kinds reached
-  reached_never set reached kinds at nothing before =
-      let none : (state : State) → Contains reached state → ⊥ = λ state found. none_in_empty state (subst (λ states. Contains states state) nothing found) in λ to. (
-        λ found. absurd (none to found),
-        λ from.
-            let parts = split_at rows at kinds from.0 to from.2 in
-            absurd (none parts.0 ((before parts.0).1 (from.0, from.1, parts.1))),
-      )
-
   -- one more type in front
   pub openings_more : (later previous : List State) (kind : List ℕ) (kinds : List (List ℕ)) (reported : State)
       → AreOpenings rows kinds reported later → ArePrevious rows later kind previous → AreOpenings rows (kind ∷ kinds) reported previous
@@ -97,52 +86,6 @@ module _ (rows : List Row) where
             absurd (none parts.0 ((after parts.0).1 parts.2)),
       )
 
-  -- from one state held
-  pub leads_to_reached : (held to : State) (kinds : List (List ℕ)) (reached : List State) → AreReached rows (held ∷ []) kinds reached
-      → Contains reached to → Leads rows held kinds to
-  leads_to_reached held to kinds reached all found =
-      let from = (all to).0 found in
-      subst (λ state. Leads rows state kinds to) (sym (only_one held from.0 from.1)) from.2
-
-  pub reached_by_leading : (held to : State) (kinds : List (List ℕ)) (reached : List State) → AreReached rows (held ∷ []) kinds reached
-      → Leads rows held kinds to → Contains reached to
-  reached_by_leading held to kinds reached all leads = (all to).1 (held, one_itself held, leads)
-
-  -- where some state is reached by the first types, they can be passed
-  pub passes_to_reached : (held : State) (kinds : List (List ℕ)) (at : ℕ) (reached : List State) → AreReached rows (held ∷ []) (take at kinds) reached
-      → (reached ≡ [] → ⊥) → Passes rows held kinds at
-  passes_to_reached held kinds at reached all not_empty =
-      let some = some_in reached not_empty in
-      (some.0, leads_to_reached held some.0 (take at kinds) reached all some.1)
-
-  -- where no state is reached by the next type, no chain leads on
-  pub stuck_at_type : (held reported : State) (kinds : List (List ℕ)) (at : ℕ) → at < length kinds → Passes rows held kinds at
-      → (next : List State) → next ≡ [] → AreReached rows (held ∷ []) (take (at + 1) kinds) next
-      → (Leads rows held kinds reported → ⊥) × IsStuckAt rows held kinds at
-  stuck_at_type held reported kinds at within passed next nothing all =
-      let no_more = λ (to : State) (leads : Leads rows held (take (at + 1) kinds) to).
-      none_in_empty to (subst (λ states. Contains states to) nothing (reached_by_leading held to (take (at + 1) kinds) next all leads)) in (
-        λ leads. let parts = split_at rows (at + 1) kinds held reported leads in no_more parts.0 parts.1,
-        record {
-          within = omega (arith, within);
-          passed = λ n fewer. passes_fewer rows n at kinds held fewer passed;
-          stuck = λ _ passes. no_more passes.0 passes.1;
-        },
-      )
-
-  -- where all types can be passed and the reported state isn't reached
-  pub stuck_at_end : (held reported : State) (kinds : List (List ℕ)) (at : ℕ) → length kinds ≤ at → Passes rows held kinds at
-      → (reached : List State) → AreReached rows (held ∷ []) (take at kinds) reached → (Contains reached reported → ⊥)
-      → (Leads rows held kinds reported → ⊥) × IsStuckAt rows held kinds (length kinds)
-  stuck_at_end held reported kinds at done passed reached all absent = (
-    λ leads. absent (reached_by_leading held reported kinds reached (reached_all (held ∷ []) reached kinds at done all) leads),
-    record {
-      within = omega arith;
-      passed = λ n fewer. passes_fewer rows n at kinds held (omega (arith, fewer, done)) passed;
-      stuck = λ less. absurd (omega (arith, less));
-    },
-  )
-
   -- from a set: where some state is reached by the first types, they can be passed
   pub passes_from : (set : List State) (kinds : List (List ℕ)) (at : ℕ) (reached : List State) → AreReached rows set (take at kinds) reached
       → (reached ≡ [] → ⊥) → PassesFrom rows set kinds at
@@ -156,3 +99,36 @@ module _ (rows : List Row) where
       → PassesFrom rows set kinds at → ⊥
   passes_none set kinds at reached nothing all passes =
       none_in_empty passes.2.0 (subst (λ states. Contains states passes.2.0) nothing ((all passes.2.0).1 (passes.0, passes.1, passes.2.1)))
+
+  -- where the types get stuck, no state is reached by all of them
+  pub reached_none : (set : List State) (kinds : List (List ℕ)) (at : ℕ) → at < length kinds → IsStuckFrom rows set kinds at → AreReached rows set kinds []
+  reached_none set kinds at within stuck to = (
+    λ found. absurd (none_in_empty to found),
+    λ from. let parts = split_at rows (at + 1) kinds from.0 to from.2 in absurd (stuck.stuck within (from.0, from.1, (parts.0, parts.1))),
+  )
+
+  -- from one state held
+  pub leads_where_reached : (held to : State) (kinds : List (List ℕ)) (reached : List State) → AreReached rows (held ∷ []) kinds reached
+      → Contains reached to ↔ Leads rows held kinds to
+  leads_where_reached held to kinds reached all = (
+    λ found. let from = (all to).0 found in subst (λ state. Leads rows state kinds to) (sym (only_one held from.0 from.1)) from.2,
+    λ leads. (all to).1 (held, one_itself held, leads),
+  )
+
+  pub stuck_at : (held : State) (kinds : List (List ℕ)) (at : ℕ) → IsStuckFrom rows (held ∷ []) kinds at → IsStuckAt rows held kinds at
+  stuck_at held kinds at stuck = record {
+    within = stuck.within;
+    passed = passes;
+    stuck = λ within on. stuck.stuck within (held, one_itself held, on);
+  } where
+    passes : (n : ℕ) → n ≤ at → Passes rows held kinds n
+    passes zero within = (held, leads_nowhere rows held)
+    passes (suc n) within =
+        let from = stuck.passed n (omega (arith, within)) in
+        let place : n + 1 ≡ suc n = omega arith in
+        subst (Passes rows held kinds) place (subst (λ state. Passes rows state kinds (n + 1)) (sym (only_one held from.0 from.1)) from.2)
+
+  pub leads_past_none : (held reported : State) (kinds : List (List ℕ)) (at : ℕ) → at < length kinds → IsStuckFrom rows (held ∷ []) kinds at
+      → Leads rows held kinds reported → ⊥
+  leads_past_none held reported kinds at within stuck leads =
+      let parts = split_at rows (at + 1) kinds held reported leads in stuck.stuck within (held, one_itself held, (parts.0, parts.1))

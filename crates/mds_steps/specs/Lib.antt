@@ -2,6 +2,7 @@ pub use Rattle.mds_table.specs.State
 pub use Rattle.mds_table.specs.Row
 pub use Rattle.mds_table.specs.Chain
 pub mod StateSet
+pub mod Masks
 pub mod Step
 pub mod Reached
 pub mod Opening

@@ -5,7 +5,7 @@ ghost use Rattle.mds_steps.specs.NoChain.{no_chain_text};
 ghost use Rattle.mds_steps.specs.Stuck.{IsStuckFrom};
 
 use crate::StateSet;
-use crate::steps::next_states;
+use crate::reach::follow;
 use mds_table::{State, Table, TypeName};
 use std::error::Error;
 use std::fmt;
@@ -39,14 +39,8 @@ pub fn admit(table: &Table, held: State, types: &[TypeName], reported: State) ->
         (Leads table.now held types.now reported → ⊥)
         × IsStuckAt table.now held types.now fault.at) }
 {
-    let mut possible = StateSet::of(held);
-    for (at, kind) in types.iter().enumerate() {
-        possible = next_states(table, &possible, kind);
-        if possible.is_empty() {
-            return Err(NoChain { at });
-        }
-    }
-    if possible.contains(reported) {
+    let reached = follow(table, &StateSet::of(held), types)?;
+    if reached.contains(reported) {
         Ok(())
     } else {
         Err(NoChain { at: types.len() })
@@ -58,12 +52,8 @@ pub fn admit(table: &Table, held: State, types: &[TypeName], reported: State) ->
 pub fn stuck_from(table: &Table, set: &StateSet, types: &[TypeName]) -> usize
     ensures { IsStuckFrom table.now set.now types.now result }
 {
-    let mut states = set.copy();
-    for (place, kind) in types.iter().enumerate() {
-        states = next_states(table, &states, kind);
-        if states.is_empty() {
-            return place;
-        }
+    match follow(table, set, types) {
+        Ok(_) => types.len(),
+        Err(fault) => fault.at,
     }
-    types.len()
 }

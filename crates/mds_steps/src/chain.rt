@@ -1,9 +1,11 @@
 //! The least of the chains of an event.
 ghost use Rattle.std.specs.Prelude.{IfOk, MatchOption};
 ghost use Rattle.mds_table.specs.Chain.{Leads};
+ghost use Rattle.mds_steps.specs.Opening.{AreOpeningsOfEnds};
 ghost use Rattle.mds_steps.specs.LeastChain.{IsLeastChain, IsLeastNext};
 
-use crate::{StateSet, openings};
+use crate::StateSet;
+use crate::steps::{led_to, previous_states};
 use mds_table::{State, Table, TypeName};
 use std::alloc::{AllocError, Global};
 
@@ -24,28 +26,45 @@ pub fn least_chain(
         (Leads table.now held types.now reported → ⊥)
         (λ chain. IsLeastChain table.now held types.now reported chain.items)) }
 {
-    if !openings(table, types, reported).contains(held) {
+    let onward = openings_of_ends(alloc, table, types, reported)?;
+    if !onward[types.len()].contains(held) {
         return Ok(None);
     }
     let mut chain = Vec::new(alloc);
     let mut state = held;
     for (at, kind) in types.iter().enumerate() {
         chain.push(state)?;
-        let onward = openings(table, &types[at + 1..], reported);
-        state = least_next(table, state, kind, &onward).unwrap();
+        state = least_next(table, state, kind, &onward[types.len() - at - 1]).unwrap();
     }
     chain.push(state)?;
     Ok(Some(chain))
+}
+
+/// The openings of the last types of an event, for each number of them: those of no type stand first, those of all types
+/// last.
+fn openings_of_ends(
+    alloc: Global,
+    table: &Table,
+    types: &[TypeName],
+    reported: State,
+) -> Result<Vec<StateSet>, AllocError>
+    ensures { IfOk result (λ sets. AreOpeningsOfEnds table.now types.now reported sets.items) }
+{
+    let mut sets = Vec::new(alloc);
+    let mut openings = StateSet::of(reported);
+    for at in (0..types.len()).rev() {
+        sets.push(openings)?;
+        openings = previous_states(table, &types[at], &openings);
+    }
+    sets.push(openings)?;
+    Ok(sets)
 }
 
 /// The first state of the set, by code, to which a row of this type leads from this state.
 fn least_next(table: &Table, from: State, kind: &TypeName, onward: &StateSet) -> Option<State>
     ensures { IsLeastNext table.now from kind.now onward.now result }
 {
-    for to in onward.as_slice() {
-        if table.has_row(from, kind, *to) {
-            return Some(*to);
-        }
-    }
-    None
+    let masks = table.masks(kind);
+    let next = led_to(&masks, from).intersection(onward).states();
+    next.first().copied()
 }

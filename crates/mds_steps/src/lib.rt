@@ -16,4 +16,4 @@ mod tests;
 pub use admission::{NoChain, admit, stuck_from};
 pub use chain::least_chain;
 pub use reach::{forward, openings};
-pub use state_set::StateSet;
+pub use state_set::{StateBits, StateSet};

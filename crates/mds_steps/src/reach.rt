@@ -1,23 +1,43 @@
 //! Where events may lead, and from where.
+ghost use Rattle.std.specs.Prelude.{◌<◌, length, IfOk, IfErr};
 ghost use Rattle.mds_steps.specs.Reached.{AreReached};
+ghost use Rattle.mds_steps.specs.Stuck.{IsStuckFrom};
 ghost use Rattle.mds_steps.specs.Opening.{AreOpenings};
 
-use crate::StateSet;
 use crate::steps::{next_states, previous_states};
+use crate::{NoChain, StateSet};
 use mds_table::{State, Table, TypeName};
 
 /// The states in which chains for these types end that begin in a state of the set. Without a type it is the set itself.
 pub fn forward(table: &Table, set: &StateSet, types: &[TypeName]) -> StateSet
     ensures { AreReached table.now set.now types.now result }
 {
-    let mut reached = set.copy();
-    for kind in types {
-        if reached.is_empty() {
-            return reached;
-        }
-        reached = next_states(table, &reached, kind);
+    match follow(table, set, types) {
+        Ok(reached) => reached,
+        Err(_) => StateSet::empty(),
     }
-    reached
+}
+
+/// The same, type by type.
+///
+/// # Errors
+///
+/// [`NoChain`] with the place of the first type that no chain from a state of the set passes: then no state is reached.
+pub(crate) fn follow(table: &Table, set: &StateSet, types: &[TypeName]) -> Result<StateSet, NoChain>
+    ensures reached { IfOk result (λ reached.
+        AreReached table.now set.now types.now reached
+        × IsStuckFrom table.now set.now types.now (length types.now)) }
+    ensures stuck { IfErr result (λ fault. (fault.at < length types.now)
+        × IsStuckFrom table.now set.now types.now fault.at) }
+{
+    let mut reached = *set;
+    for (at, kind) in types.iter().enumerate() {
+        reached = next_states(table, &reached, kind);
+        if reached.is_empty() {
+            return Err(NoChain { at });
+        }
+    }
+    Ok(reached)
 }
 
 /// The states from which an event with these types leads to the state that it reports. Without a type it is that state

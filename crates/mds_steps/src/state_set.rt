@@ -1,78 +1,156 @@
 //! Sets of states.
-ghost use Rattle.std.specs.Prelude.{◌≡◌, ◌≤◌, ◌↔◌, ◌⊎◌, [], ◌∷◌, length, IsTrue, Contains};
+ghost use Rattle.std.specs.Prelude.{◌≡◌, ◌↔◌, ◌⊎◌, [], ◌∷◌, IsTrue, Contains};
 ghost use Rattle.std.specs.Prelude.{Some};
-ghost use Rattle.mds_steps.specs.StateSet.{all_states, names_of, AreInCodeOrder, AreWhere, IsUnion};
+ghost use Rattle.mds_steps.specs.StateSet.{all_states, states_in, mask_of, names_of, AreInCodeOrder, IsUnion, AreCommon};
 
 use arrayvec::ArrayVec;
+use bitflags::{Flag, Flags, bitflag_items};
 use mds_table::State;
+use mds_table::mask::{self, Mask};
 use std::fmt;
 use std::marker::Model;
 
+/// The bits of a set of states: one for each state in it, at the place of the state's code.
+#[derive(Clone, Copy, Debug, PartialEq, Eq)]
+pub struct StateBits(Mask);
+
+bitflag_items! {
+    impl StateBits: Mask {
+        const REMOVED = 1;
+        const AVAILABLE = 2;
+        const NON_OPERATIONAL = 4;
+        const RESERVED = 8;
+        const ON_TRIP = 16;
+        const ELSEWHERE = 32;
+        const NON_CONTACTABLE = 64;
+        const MISSING = 128;
+    }
+}
+
+impl Flags for StateBits {
+    ghost use Rattle.std.specs.Prelude.{⊤};
+    ghost use Rattle.mds_steps.specs.StateSet.{flags_of_states};
+
+    type Bits = Mask;
+
+    ghost exact = { ⊤ };
+
+    ghost table = { flags_of_states };
+
+    ghost set_of = { λ bits. bits.0 };
+
+    fn flags<'a>() -> &'a [Flag<StateBits>] {
+        StateBits::FLAGS
+    }
+
+    fn bits(&self) -> Mask {
+        self.0
+    }
+
+    fn from_bits_retain(bits: Mask) -> StateBits {
+        StateBits(bits)
+    }
+}
+
 /// A set of states. Contracts see it as the list of the states in it, each once, in the order of their codes.
-#[derive(Debug, Drop)]
+#[derive(Clone, Copy, Debug)]
 pub struct StateSet {
-    states: ArrayVec<State, { State::COUNT }>,
+    bits: StateBits,
 }
 
 impl Model for StateSet {
-    ghost use Rattle.std.specs.Prelude.{List};
+    ghost use Rattle.std.specs.Prelude.{List, ◌<◌, ◌^◌};
     ghost use Rattle.mds_table.specs.declared.state.State.{State};
-    ghost use Rattle.mds_steps.specs.StateSet.{AreInCodeOrder};
+    ghost use Rattle.mds_table.specs.declared.state.TheConstants.State.{COUNT};
+    ghost use Rattle.mds_steps.specs.StateSet.{states_in, mask_of};
+    ghost use Rattle.std.specs.Prelude.{refl};
+    ghost use Rattle.mds_steps.specs.Masks.{mask_given_back};
 
     ghost Value = { List State };
 
-    ghost view = { λ set. set.states.items };
+    ghost view = { λ set. states_in set.bits.0 };
 
-    ghost invariant = { λ set. AreInCodeOrder set.states.items };
+    ghost invariant = { λ set. set.bits.0 < 2 ^ COUNT };
+
+    ghost inverse = { λ states. record { bits = record { 0 = mask_of states } } };
+
+    ghost inverse_ok = { λ set fits. Prim.rw (mask_given_back set.bits.0 fits) refl };
 }
 
 impl StateSet {
+    /// The bits of every state.
+    const ALL: Mask = Mask::MAX >> (Mask::BITS as usize - State::COUNT);
+
     /// The set with no state.
+    #[tactic(auto, unfolding(crate::specs::StateSet::states_in, mds_table::specs::Mask::has_bit))]
     pub fn empty() -> StateSet
         ensures { result ≡ [] }
     {
-        StateSet {
-            states: ArrayVec::new(),
-        }
+        StateSet::of_mask(0)
     }
 
     /// The set of every state.
+    #[tactic(auto, unfolding(crate::specs::StateSet::states_in, mds_table::specs::Mask::has_bit))]
     pub fn all() -> StateSet
         ensures { result ≡ all_states }
     {
-        StateSet {
-            states: ArrayVec::from(State::ALL),
-        }
+        StateSet::of_mask(StateSet::ALL)
     }
 
     /// The set of this state alone.
+    #[tactic(auto, using(crate::proofs::Members::one_state))]
     pub fn of(state: State) -> StateSet
         ensures { result ≡ state ∷ [] }
     {
-        let mut states = ArrayVec::new();
-        states.push(state);
-        StateSet { states }
+        StateSet::of_mask(mask::bit_of(state))
+    }
+
+    /// The set of the states whose bits the mask has.
+    #[tactic(auto, using(crate::proofs::Members::known_states))]
+    pub(crate) fn of_mask(mask: Mask) -> StateSet
+        ensures { result ≡ states_in mask }
+    {
+        StateSet {
+            bits: StateBits(mask & StateSet::ALL),
+        }
+    }
+
+    /// The bits of the set.
+    #[tactic(auto, using(crate::specs::Masks::mask_given_back))]
+    pub fn bits(&self) -> StateBits
+        ensures { result.0 ≡ mask_of self.now }
+    {
+        self.bits
     }
 
     /// Whether the state is in the set.
+    #[tactic(auto, using(crate::proofs::Members::members))]
     pub fn contains(&self, state: State) -> bool
         ensures { IsTrue result ↔ Contains self.now state }
     {
-        self.states.contains(&state)
+        mask::has(self.bits.0, state)
     }
 
     /// The states that are in one of the two sets, or in both.
     pub fn union(&self, other: &StateSet) -> StateSet
         ensures { IsUnion self.now other.now result }
     {
-        StateSet::where_true(|state| self.contains(state) || other.contains(state))
+        StateSet::of_mask(self.bits.0 | other.bits.0)
+    }
+
+    /// The states that are in both sets.
+    pub(crate) fn intersection(&self, other: &StateSet) -> StateSet
+        ensures { AreCommon self.now other.now result }
+    {
+        StateSet::of_mask(self.bits.0 & other.bits.0)
     }
 
     /// Whether no state is in the set.
+    #[tactic(auto, using(crate::proofs::Members::none_in_mask), unfolding(crate::specs::StateSet::states_in, mds_table::specs::Mask::has_bit))]
     pub fn is_empty(&self) -> bool
         ensures { IsTrue result ↔ (self.now ≡ []) }
     {
-        self.states.is_empty()
+        self.bits.0 == 0
     }
 
     /// The states in the set, each once, in the order of their codes.
@@ -80,39 +158,30 @@ impl StateSet {
         ensures items { result.items ≡ self.now }
         ensures order { AreInCodeOrder result.items }
     {
-        ArrayVec::try_from(self.as_slice()).unwrap()
+        let mask = self.bits.0;
+        let mut states = ArrayVec::new();
+        for state in State::ALL {
+            if mask::has(mask, state) {
+                states.push(state);
+            }
+        }
+        states
     }
 
     /// The same set again.
     pub fn copy(&self) -> StateSet
         ensures { result ≡ self.now }
     {
-        StateSet {
-            states: self.states(),
-        }
+        *self
     }
+}
 
-    /// The states in the set, where they stand.
-    pub(crate) fn as_slice(&self) -> &[State]
-        ensures states { result.now ≡ self.now }
-        ensures fits { length result.now ≤ State.COUNT }
-        ensures order { AreInCodeOrder result.now }
-    {
-        self.states.as_slice()
-    }
+impl Default for StateSet {
+    ghost is_default = { λ set. set ≡ [] };
 
-    /// The set of the states of which the test is true.
-    pub(crate) fn where_true<F: Fn(State) -> bool + Drop>(test: F) -> StateSet
-        requires { F.IsAlwaysCallable test }
-        ensures { AreWhere (F.post test) result }
-    {
-        let mut found = ArrayVec::new();
-        for state in State::ALL {
-            if test(state) {
-                found.push(state);
-            }
-        }
-        StateSet { states: found }
+    /// The set with no state.
+    fn default() -> StateSet {
+        StateSet::empty()
     }
 }
 
@@ -121,7 +190,8 @@ impl fmt::Display for StateSet {
     ghost output = { λ set. Some (names_of set) };
 
     fn fmt<W: fmt::Write>(&self, f: &mut fmt::Formatter<W>) -> fmt::Result {
-        let Some((first, rest)) = self.as_slice().split_first() else {
+        let states = self.states();
+        let Some((first, rest)) = states.split_first() else {
             return Ok(());
         };
         write!(f, "{first}")?;

@@ -1,4 +1,6 @@
 //! What no clause says: worked cases, and each call once.
+mod lists;
+
 use crate::{NoChain, StateSet, admit, forward, least_chain, openings, stuck_from};
 use mds_table::State::{
     Available, Elsewhere, Missing, NonContactable, NonOperational, OnTrip, Removed, Reserved,

@@ -1,38 +1,36 @@
-use Rattle.std.proofs.Common.{◌+◌, [], ◌∷◌, take}
+use Rattle.std.proofs.Common.{◌↔◌, length, Contains, subst, rules, refl}
+use Rattle.mds_table.specs.Chain.{Leads, IsStuckAt}
+use Rattle.mds_steps.specs.Stuck.{IsStuckFrom}
 use Rattle.mds_steps.specs.Reached.{AreReached}
-use Rattle.mds_steps.proofs.Sets.{reached_next, reached_all, passes_to_reached, leads_to_reached, stuck_at_type, stuck_at_end}
+use Rattle.mds_steps.proofs.Sets.{leads_where_reached, leads_past_none, stuck_at}
 use Rattle.mds_steps.proofs.admission.admit.Goals as goal
-use Rattle.mds_steps.proofs.admission.admit.Goals.{After-next_states-possible}
+use Rattle.mds_steps.proofs.admission.admit.Goals.{After-contains}
 
--- the states after one more type
-next_reached : (c : After-next_states-possible) → AreReached c.args.table.now (c.args.held ∷ []) (take (c.loop-at.at + 1) c.args.types.now) c.next_states-possible.result
-next_reached c =
-    reached_next c.args.table.now (c.args.held ∷ []) _ _ _ c.loop-at.at _ c.loop-at-test.true c.index-types-at.is c.loop-at.invariant.reached c.next_states-possible.ensures
+pub returns-in_err-reached-clause-fault : goal.returns-in_err-reached-clause-fault
+returns-in_err-reached-clause-fault c =
+    let stuck = subst (λ set. IsStuckFrom c.args.table.now set c.args.types.now c.in_err-reached.field-0.0.at) c.of.ensures c.in_err-reached.ensures.stuck.1 in
+    let none : Leads c.args.table.now c.args.held c.args.types.now c.args.reported → ⊥ = leads_past_none _ _ _ _ c.in_err-reached.field-0.0.at c.in_err-reached.ensures.stuck.0 stuck in
+    let at : IsStuckAt c.args.table.now c.args.held c.args.types.now c.in_err-reached.field-0.0.at = stuck_at _ _ _ _ stuck in
+    search rules
 
-pub returns-then-is_empty-clause-fault : goal.returns-then-is_empty-clause-fault
-returns-then-is_empty-clause-fault c =
-    stuck_at_type _ _ _ _ c.loop-at.at c.loop-at-test.true c.loop-at.invariant.passed _ (c.is_empty.ensures.0 c.if-is_empty.true)
-    (next_reached (goal.at.returns-then-is_empty-clause-fault c).After-next_states-possible)
+pub returns-in_err-reached-clause-exact : goal.returns-in_err-reached-clause-exact
+returns-in_err-reached-clause-exact c =
+    let stuck = subst (λ set. IsStuckFrom c.args.table.now set c.args.types.now c.in_err-reached.field-0.0.at) c.of.ensures c.in_err-reached.ensures.stuck.1 in
+    let none : Leads c.args.table.now c.args.held c.args.types.now c.args.reported → ⊥ = leads_past_none _ _ _ _ c.in_err-reached.field-0.0.at c.in_err-reached.ensures.stuck.0 stuck in
+    search rules
 
-pub returns-then-is_empty-clause-exact : goal.returns-then-is_empty-clause-exact
-returns-then-is_empty-clause-exact c = (λ no. cc, λ leads. absurd ((returns-then-is_empty-clause-fault c).0 leads))
-
-pub loop-at-preserved : goal.loop-at-preserved
-loop-at-preserved c =
-    let reached = next_reached (goal.at.loop-at-preserved c).After-next_states-possible in record {
-      reached = reached;
-      passed = passes_to_reached _ _ _ _ _ reached (λ nothing. let yes = c.is_empty.ensures.1 nothing in cc);
-    }
+-- where the state reported is reached, rows lead to it
+leads : (c : After-contains) → Contains c.in_ok-reached.reached c.args.reported ↔ Leads c.args.table.now c.args.held c.args.types.now c.args.reported
+leads c = leads_where_reached _ _ _ _ _ (subst (λ set. AreReached c.args.table.now set c.args.types.now c.in_ok-reached.reached) c.of.ensures c.in_ok-reached.ensures.reached.0)
 
 pub returns-then-contains-clause-exact : goal.returns-then-contains-clause-exact
-returns-then-contains-clause-exact c =
-    let all = reached_all c.args.table.now (c.args.held ∷ []) _ c.args.types.now c.loop-at.at c.loop-at-test.false c.loop-at.invariant.reached in
-    (λ _. leads_to_reached _ _ _ _ _ all (c.contains.ensures.0 c.if-contains.true), λ leads. cc)
+returns-then-contains-clause-exact c = (λ _. (leads (goal.at.returns-then-contains-clause-exact c).After-contains).0 (c.contains.ensures.0 c.if-contains.true), λ _. refl)
 
 pub returns-else-contains-clause-fault : goal.returns-else-contains-clause-fault
-returns-else-contains-clause-fault c =
-    stuck_at_end _ _ _ _ c.loop-at.at c.loop-at-test.false c.loop-at.invariant.passed _ c.loop-at.invariant.reached
-    (λ found. let yes = c.contains.ensures.1 found in cc)
+returns-else-contains-clause-fault c = (
+  λ chain. let found = c.contains.ensures.1 ((leads (goal.at.returns-else-contains-clause-fault c).After-contains).1 chain) in cc (found, c.if-contains.false),
+  stuck_at _ _ _ _ (subst (λ set. IsStuckFrom c.args.table.now set c.args.types.now (length c.args.types.now)) c.of.ensures c.in_ok-reached.ensures.reached.1),
+)
 
 pub returns-else-contains-clause-exact : goal.returns-else-contains-clause-exact
-returns-else-contains-clause-exact c = (λ no. cc, λ leads. absurd ((returns-else-contains-clause-fault c).0 leads))
+returns-else-contains-clause-exact c = (λ no. cc no, λ chain. absurd ((returns-else-contains-clause-fault c).0 chain))
