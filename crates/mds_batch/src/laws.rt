@@ -14,12 +14,14 @@ pub fn faulty_members_are_told()
 
 /// Values that agree on the two members of a registration, and on being objects, are the same vehicle or have the same
 /// fault, whatever else they hold.
+#[tactic(auto, using(crate::proofs::ItemLaws::vehicles_go_by_members))]
 pub fn vehicles_go_by_members()
     ensures { VehiclesGoByMembers }
 {}
 
 /// Values that agree on the seven members of an event, and on being objects, are the same event or have the same fault,
 /// whatever else they hold.
+#[tactic(auto, using(crate::proofs::ItemLaws::events_go_by_members))]
 pub fn events_go_by_members()
     ensures { EventsGoByMembers }
 {}
@@ -35,11 +37,13 @@ pub fn batches_have_one_list_of_events()
 {}
 
 /// Bytes that have items have no fault of the whole, want of memory aside.
+#[tactic(auto, using(crate::proofs::BatchLaws::batches_have_no_fault))]
 pub fn batches_have_no_fault()
     ensures { BatchesHaveNoFault }
 {}
 
 /// Bytes have one first fault, want of memory aside.
+#[tactic(auto, using(crate::proofs::BatchLaws::batches_have_one_fault))]
 pub fn batches_have_one_fault()
     ensures { BatchesHaveOneFault }
 {}

@@ -6,6 +6,7 @@ use Rattle.std.specs.Str.{bytes_eq}
 use Rattle.mds_table.specs.declared.state.State.{State}
 use Rattle.mds_table.specs.declared.state.State.TheVariants.{Removed}
 use Rattle.mds_core.specs.declared.key.Key.{Key}
+use Rattle.mds_core.specs.declared.event_name.EventName.{EventName}
 use Rattle.mds_core.specs.declared.request.Request.{Request}
 use Rattle.mds_core.specs.declared.request.Request.TheVariants.{Register, Report, Look}
 use Rattle.mds_core.specs.declared.reply.Standing.{Standing}
@@ -15,6 +16,10 @@ use Rattle.mds_core.specs.Reported.{Reported}
 -- the same vehicle
 abbrev pub same_key : Key → Key → Bool
 same_key a b = bytes_eq a.provider b.provider && bytes_eq a.device b.device
+
+-- the same event: the same identifier, of the same vehicle
+abbrev pub same_event : EventName → EventName → Bool
+same_event a b = same_key a.key b.key && bytes_eq a.id b.id
 
 -- the vehicle that a request is about
 abbrev pub key_of : Request → Key

@@ -188,9 +188,5 @@ fn copy_types(types: &[TypeName]) -> ArrayVec<TypeName, MAX_EVENT_TYPES>
     requires { length types.now ≤ max_event_types }
     ensures { result.items ≡ types.now }
 {
-    let mut copies = ArrayVec::new();
-    for kind in types {
-        copies.push(kind.copy());
-    }
-    copies
+    ArrayVec::try_from(types).unwrap()
 }

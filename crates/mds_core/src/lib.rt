@@ -8,6 +8,7 @@
 mod answers;
 mod decision;
 mod event;
+mod event_name;
 mod fleet;
 mod key;
 pub mod laws;
@@ -22,6 +23,7 @@ mod tests;
 pub use answers::answer;
 pub use decision::{Known, decide, decide_event};
 pub use event::{Event, EventFault, MAX_EVENT_TYPES, MAX_TIME};
+pub use event_name::EventName;
 pub use fleet::Fleet;
 pub use key::Key;
 pub use lookup::standing_after;
