@@ -17,6 +17,7 @@ use mds_table::Table;
 use std::alloc::{AllocError, Global};
 use std::error::Error;
 use std::fmt;
+use std::hash::RandomState;
 use std::marker::Model;
 use std::sync::ledger::{Blank, Share};
 use std::sync::{Mutex, Wait};
@@ -152,7 +153,7 @@ fn with_slot<R: Wait, L: ShardLedger, const N: usize, X, F: FnOnce(&Shard) -> X>
 
 impl<L: ShardLedger, M: ShardLedger> Book<L, M> {
     /// A book over the table with nothing accepted, and its seats, 1 to [`MAX_SEATS`], which were told nothing. Each ledger
-    /// is handed in blank, cut into a part for each seat.
+    /// is handed in blank, cut into a part for each seat. Each shard hashes by the hasher in its place.
     ///
     /// # Errors
     ///
@@ -165,6 +166,7 @@ impl<L: ShardLedger, M: ShardLedger> Book<L, M> {
         keep: Keep,
         first: Blank,
         second: Blank,
+        hashers: [RandomState; 2],
     ) -> Result<(Book<L, M>, Vec<Seat<L, M>>), OpenFault>
         requires first { (first.name ≡ L.name) × (first.parts ≡ L.parts) × (first.parts ≡ seats) }
         requires second { (second.name ≡ M.name) × (second.parts ≡ M.parts)
@@ -178,7 +180,7 @@ impl<L: ShardLedger, M: ShardLedger> Book<L, M> {
         if seats == 0 || seats > MAX_SEATS {
             return Err(OpenFault::BadSeats);
         }
-        match Book::open_all(alloc, table, seats, keep, first, second) {
+        match Book::open_all(alloc, table, seats, keep, first, second, hashers) {
             Ok(opened) => Ok(opened),
             Err(AllocError) => Err(OpenFault::Memory),
         }
@@ -196,6 +198,7 @@ impl<L: ShardLedger, M: ShardLedger> Book<L, M> {
         keep: Keep,
         first: Blank,
         second: Blank,
+        hashers: [RandomState; 2],
     ) -> Result<(Book<L, M>, Vec<Seat<L, M>>), AllocError>
         requires first { (first.name ≡ L.name) × (first.parts ≡ L.parts) × (first.parts ≡ seats) }
         requires second { (second.name ≡ M.name) × (second.parts ≡ M.parts)
@@ -206,8 +209,14 @@ impl<L: ShardLedger, M: ShardLedger> Book<L, M> {
         ensures seats { IfOk result (λ opened.
             opened.1.items ≡ replicate seats (fresh (keeps_all keep))) }
     {
-        let (first_slot, first_all) = Slot::open(alloc, table.copy(alloc)?, first);
-        let (second_slot, second_all) = Slot::open(alloc, table.copy(alloc)?, second);
+        let [first_hasher, second_hasher] = hashers;
+        let (first_slot, first_all) = Slot::open(alloc, table.copy(alloc)?, first, first_hasher);
+        let (second_slot, second_all) = Slot::open(
+            alloc,
+            table.copy(alloc)?,
+            second,
+            second_hasher,
+        );
         let list = seats_of(alloc, seats, keep, first_all, second_all)?;
         let book = Book {
             table,

@@ -9,6 +9,7 @@ use mds_core::{Key, Outcome, Reply, Request};
 use mds_shard::Shard;
 use mds_table::Table;
 use std::alloc::{AllocError, Global};
+use std::hash::RandomState;
 use std::marker::{Brand, Model};
 use std::sync::ledger::{Blank, Book, Ledger, Share};
 
@@ -71,7 +72,12 @@ impl<L: ShardLedger, const N: usize> Model for Slot<L, N> {
 
 impl<L: ShardLedger, const N: usize> Slot<L, N> {
     /// A slot with nothing accepted, and the share of its ledger that has every part.
-    pub(crate) fn open(alloc: Global, table: Table, blank: Blank) -> (Slot<L, N>, Share<L>)
+    pub(crate) fn open(
+        alloc: Global,
+        table: Table,
+        blank: Blank,
+        hasher: RandomState,
+    ) -> (Slot<L, N>, Share<L>)
         requires blank { (blank.name ≡ L.name) × (blank.parts ≡ L.parts) }
         requires table { table ≡ L.tables }
         ensures slot { result.0 ≡ record { tables = table; history = [] } }
@@ -79,7 +85,7 @@ impl<L: ShardLedger, const N: usize> Slot<L, N> {
         ensures amount { result.1.amount ≡ 0 }
     {
         let (accepted, all) = blank.open::<L>();
-        let shard = Shard::open(alloc, table);
+        let shard = Shard::open(alloc, table, hasher);
         (Slot { shard, accepted }, all)
     }
 

@@ -8,6 +8,8 @@ mod settling;
 use mds_core::{Event, Key, Request, Standing};
 use mds_table::{State, TypeName};
 use std::alloc::{AllocError, Global};
+use std::hash::RandomState;
+use std::random::RandomSource;
 use std::test::Fail;
 use uuid::Uuid;
 
@@ -36,6 +38,11 @@ pub enum Ask<'a> {
     Register(&'a str),
     Report(&'a str, &'a str, &'a [&'a str], State, u64),
     Look(&'a str),
+}
+
+/// A hasher for each shard of a book.
+pub fn hashers<R: RandomSource>(rt: &R) -> Result<[RandomState; 2], Fail> {
+    Ok([RandomState::new(rt)?, RandomState::new(rt)?])
 }
 
 /// The key of a vehicle, by its device.

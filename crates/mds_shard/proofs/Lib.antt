@@ -1,3 +1,3 @@
-pub mod Keys
+pub mod Names
 pub mod Replays
 pub mod Walks

@@ -1,8 +1,8 @@
 -- How what is kept beside a history goes on with one more request.
 use Rattle.std.proofs.Common.{◌≡◌, ◌⊎◌, inl, inr, ℕ, ◌<◌, ◌≤◌, ◌+◌, suc, zero, ◌||◌, ◌&&◌, cond, take, List, [], ◌∷◌, ◌++◌, length, Option, Some, None, Bool, true, false, refl, sym, ◌∙◌, ap, subst, arith, length-append}
 use Rattle.std.specs.Prelude.{slice_get, option_map}
-use Rattle.std.specs.BTreeMap.{BTreeMap, get}
-use Rattle.std.specs.BTreeSet.{BTreeSet, contains}
+use Rattle.indexmap.specs.IndexMap.{get}
+use Rattle.indexmap.specs.IndexSet.{contains}
 use Rattle.std.specs.List.{list_any}
 use Rattle.std.specs.Str.{bytes_eq}
 use Rattle.std.proofs.lemmas.List.{take-append-le, take_all}
@@ -12,17 +12,17 @@ use Rattle.std.proofs.lemmas.List.Folds.{list_any-append}
 use Rattle.std.proofs.lemmas.Option.{slice_get_within}
 use Rattle.mds_table.specs.Tables.{Tables}
 use Rattle.mds_core.specs.declared.key.Key.{Key}
+use Rattle.mds_core.specs.declared.event_name.EventName.{EventName}
 use Rattle.mds_core.specs.declared.request.Request.{Request}
 use Rattle.mds_core.specs.declared.reply.Outcome.TheVariants.{Done}
 use Rattle.mds_core.specs.declared.reply.Standing.{Standing}
-use Rattle.mds_core.specs.History.{key_of, same_key, requests_of, report_of, reports, has_event, standing_of}
+use Rattle.mds_core.specs.History.{key_of, same_key, same_event, requests_of, report_of, reports, has_event, standing_of}
 use Rattle.mds_core.specs.Answer.{MayBeDone}
 use Rattle.mds_core.specs.Known.{standing_if}
 use Rattle.mds_core.proofs.Standings.{standing_if-push, own_few}
 use Rattle.mds_core.proofs.Histories.{same_key_is, requests_of-push_same, requests_of-push_other, lawful_next}
 use Rattle.mds_shard.specs.declared.vehicle.Vehicle.{Vehicle}
-use Rattle.mds_shard.specs.Order.{key_cmp, identifier_cmp}
-use Rattle.mds_shard.specs.Replay.{IsLastPlace, IsLastPlaceIf, IsVehicle, AreBefore, PutsVehicle, AddsIdentifier, IsReplay}
+use Rattle.mds_shard.specs.Replay.{Vehicles, Names, IsLastPlace, IsLastPlaceIf, IsVehicle, AreBefore, PutsVehicle, AddsName, IsReplay}
 
 -- an element of a list stays where more comes behind it
 pub slice_get-append : {X : Type 0} (xs ys : List X) (i : ℕ) → i < length xs → slice_get (xs ++ ys) i ≡ slice_get xs i
@@ -100,11 +100,11 @@ before_push history before request earlier are is = record {
       rw front (subst Q h.1 here)
 
 -- what is kept of every vehicle, with one more request
-vehicles_push : (history : List Request) (request : Request) (old new : BTreeMap Key Vehicle) (standing : Standing)
-    → ((key : Key) → IsVehicle history key (get key_cmp old key))
+vehicles_push : (history : List Request) (request : Request) (old new : Vehicles) (standing : Standing)
+    → ((key : Key) → IsVehicle history key (get same_key old key))
     → standing ≡ standing_of (requests_of history (key_of request) ++ request ∷ [])
     → PutsVehicle (key_of request) (record { standing = standing; last = length history }) old new
-    → (key : Key) → IsVehicle (history ++ request ∷ []) key (get key_cmp new key)
+    → (key : Key) → IsVehicle (history ++ request ∷ []) key (get same_key new key)
 vehicles_push history request old new standing each stands puts key = rw (puts key) (by_key (same_key (key_of request) key) refl) where
   stays : (kept : Option Vehicle) → same_key (key_of request) key ≡ false → IsVehicle history key kept → IsVehicle (history ++ request ∷ []) key kept
   stays None other is = requests_of-push_other history request key other ∙ is
@@ -112,40 +112,42 @@ vehicles_push history request old new standing each stands puts key = rw (puts k
       (is.0 ∙ ap standing_of (sym (requests_of-push_other history request key other)), last_place_stays history request key vehicle.last other is.1)
 
   by_key : (b : Bool) → same_key (key_of request) key ≡ b
-      → IsVehicle (history ++ request ∷ []) key (cond b (Some (record { standing = standing; last = length history })) (get key_cmp old key))
-  by_key false other = stays (get key_cmp old key) other (each key)
+      → IsVehicle (history ++ request ∷ []) key (cond b (Some (record { standing = standing; last = length history })) (get same_key old key))
+  by_key false other = stays (get same_key old key) other (each key)
   by_key true same =
       let own_key : requests_of history (key_of request) ≡ requests_of history key = ap (requests_of history) (same_key_is (key_of request) key same) in
       (stands ∙ ap (λ l. standing_of (l ++ request ∷ [])) own_key ∙ ap standing_of (sym (requests_of-push_same history request key same)), last_place_push history request key same)
 
--- the identifiers, with one more request
-identifiers_push : (history : List Request) (request : Request) (old new : BTreeSet (Key × List ℕ))
-    → ((key : Key) (id : List ℕ) → contains identifier_cmp old (key, id) ≡ has_event (requests_of history key) id) → AddsIdentifier request old new
-    → (key : Key) (id : List ℕ) → contains identifier_cmp new (key, id) ≡ has_event (requests_of (history ++ request ∷ []) key) id
-identifiers_push history request old new each adds key id = adds key id ∙ ap (λ b. b || (same_key (key_of request) key && has_event (request ∷ []) id)) (each key id) ∙ by_key (same_key (key_of request) key) refl where
-  has_event-append : (first second : List Request) → has_event (first ++ second) id ≡ (has_event first id || has_event second id)
+-- the names, with one more request
+names_push : (history : List Request) (request : Request) (old new : Names)
+    → ((name : EventName) → contains same_event old name ≡ has_event (requests_of history name.key) name.id) → AddsName request old new
+    → (name : EventName) → contains same_event new name ≡ has_event (requests_of (history ++ request ∷ []) name.key) name.id
+names_push history request old new each adds name = adds name ∙ ap (λ b. b || (same_key (key_of request) name.key && has_event (request ∷ []) name.id)) (each name) ∙ by_key (same_key (key_of request) name.key) refl where
+  has_event-append : (first second : List Request) → has_event (first ++ second) name.id ≡ (has_event first name.id || has_event second name.id)
   has_event-append first second =
-      ap (list_any (λ e. bytes_eq e.id id)) (filter_map-append report_of first second) ∙ list_any-append (λ e. bytes_eq e.id id) (reports first) (reports second)
+      ap (list_any (λ e. bytes_eq e.id name.id)) (filter_map-append report_of first second) ∙ list_any-append (λ e. bytes_eq e.id name.id) (reports first) (reports second)
 
   or_false : (b : Bool) → (b || false) ≡ b
   or_false false = refl
   or_false true = refl
 
-  by_key : (b : Bool) → same_key (key_of request) key ≡ b → (has_event (requests_of history key) id || (b && has_event (request ∷ []) id)) ≡ has_event (requests_of (history ++ request ∷ []) key) id
-  by_key false other = or_false (has_event (requests_of history key) id) ∙ ap (λ l. has_event l id) (sym (requests_of-push_other history request key other))
-  by_key true same = sym (has_event-append (requests_of history key) (request ∷ [])) ∙ ap (λ l. has_event l id) (sym (requests_of-push_same history request key same))
+  by_key : (b : Bool) → same_key (key_of request) name.key ≡ b
+      → (has_event (requests_of history name.key) name.id || (b && has_event (request ∷ []) name.id)) ≡ has_event (requests_of (history ++ request ∷ []) name.key) name.id
+  by_key false other = or_false (has_event (requests_of history name.key) name.id) ∙ ap (λ l. has_event l name.id) (sym (requests_of-push_other history request name.key other))
+  by_key true same =
+      sym (has_event-append (requests_of history name.key) (request ∷ [])) ∙ ap (λ l. has_event l name.id) (sym (requests_of-push_same history request name.key same))
 
 -- what is kept beside a history goes on with a request that is accepted
-pub replay_push : (tables : Tables) (history : List Request) (before : List (Option ℕ)) (old new : BTreeMap Key Vehicle) (ids new_ids : BTreeSet (Key × List ℕ))
-    (request : Request) (kept : Option Vehicle) (standing : Standing) → IsReplay tables history before old ids → MayBeDone tables history request
+pub replay_push : (tables : Tables) (history : List Request) (before : List (Option ℕ)) (old new : Vehicles) (names new_names : Names)
+    (request : Request) (kept : Option Vehicle) (standing : Standing) → IsReplay tables history before old names → MayBeDone tables history request
     → IsVehicle history (key_of request) kept → standing ≡ standing_of (requests_of history (key_of request) ++ request ∷ [])
-    → PutsVehicle (key_of request) (record { standing = standing; last = length history }) old new → AddsIdentifier request ids new_ids
-    → IsReplay tables (history ++ request ∷ []) (before ++ option_map (λ vehicle. vehicle.last) kept ∷ []) new new_ids
-replay_push tables history before old new ids new_ids request kept standing is may vehicle stands puts adds = record {
+    → PutsVehicle (key_of request) (record { standing = standing; last = length history }) old new → AddsName request names new_names
+    → IsReplay tables (history ++ request ∷ []) (before ++ option_map (λ vehicle. vehicle.last) kept ∷ []) new new_names
+replay_push tables history before old new names new_names request kept standing is may vehicle stands puts adds = record {
   lawful = lawful_next tables history request Done is.lawful may;
   places = before_push history before request (option_map (λ v. v.last) kept) is.places (place_of history (key_of request) kept vehicle);
   standings = vehicles_push history request old new standing is.standings stands puts;
-  held = identifiers_push history request ids new_ids is.held adds;
+  held = names_push history request names new_names is.held adds;
 }
 
 -- a history that fits in memory has few events of each vehicle

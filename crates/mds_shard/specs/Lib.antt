@@ -1,3 +1,2 @@
 pub use Rattle.mds_core.specs.Machine
-pub mod Order
 pub mod Replay

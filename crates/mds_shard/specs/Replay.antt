@@ -1,14 +1,22 @@
 -- What a shard keeps beside its history.
 use Rattle.std.specs.Prelude.{◌≡◌, ℕ, ◌++◌, ◌∷◌, ◌||◌, ◌&&◌, cond, List, [], length, take, Option, Some, None, slice_get}
-use Rattle.std.specs.BTreeMap.{BTreeMap, get}
-use Rattle.std.specs.BTreeSet.{BTreeSet, contains}
+use Rattle.std.specs.declared.hash.RandomState.{RandomState}
+use Rattle.indexmap.specs.IndexMap.{IndexMap, get}
+use Rattle.indexmap.specs.IndexSet.{IndexSet, contains}
 use Rattle.mds_table.specs.Tables.{Tables}
 use Rattle.mds_core.specs.declared.key.Key.{Key}
+use Rattle.mds_core.specs.declared.event_name.EventName.{EventName}
 use Rattle.mds_core.specs.declared.request.Request.{Request}
-use Rattle.mds_core.specs.History.{key_of, same_key, requests_of, has_event, standing_of}
+use Rattle.mds_core.specs.History.{key_of, same_key, same_event, requests_of, has_event, standing_of}
 use Rattle.mds_core.specs.Lawful.{IsLawful}
 use Rattle.mds_shard.specs.declared.vehicle.Vehicle.{Vehicle}
-use Rattle.mds_shard.specs.Order.{key_cmp, identifier_cmp}
+
+-- what is kept of the vehicles, and the names of their events
+abbrev pub Vehicles : Type 0
+Vehicles = IndexMap Key Vehicle RandomState
+
+abbrev pub Names : Type 0
+Names = IndexSet EventName RandomState
 
 -- at this place of the history stands the last request about the vehicle
 pub record IsLastPlace (history : List Request) (key : Key) (place : ℕ) : Type 0 where
@@ -34,17 +42,17 @@ pub record AreBefore (history : List Request) (before : List (Option ℕ)) : Typ
       → IsLastPlaceIf (take place history) (key_of request) earlier
 
 -- the vehicle is kept as this one, and every other as before
-abbrev pub PutsVehicle : Key → Vehicle → BTreeMap Key Vehicle → BTreeMap Key Vehicle → Type 0
-PutsVehicle key vehicle old new = (other : Key) → get key_cmp new other ≡ cond (same_key key other) (Some vehicle) (get key_cmp old other)
+abbrev pub PutsVehicle : Key → Vehicle → Vehicles → Vehicles → Type 0
+PutsVehicle key vehicle old new = (other : Key) → get same_key new other ≡ cond (same_key key other) (Some vehicle) (get same_key old other)
 
--- the identifier of the event that a request reports is kept with its vehicle, beside those that were
-abbrev pub AddsIdentifier : Request → BTreeSet (Key × List ℕ) → BTreeSet (Key × List ℕ) → Type 0
-AddsIdentifier request old new = (key : Key) (id : List ℕ)
-    → contains identifier_cmp new (key, id) ≡ (contains identifier_cmp old (key, id) || (same_key (key_of request) key && has_event (request ∷ []) id))
+-- the name of the event that a request reports is kept beside those that were
+abbrev pub AddsName : Request → Names → Names → Type 0
+AddsName request old new = (name : EventName)
+    → contains same_event new name ≡ (contains same_event old name || (same_key (key_of request) name.key && has_event (request ∷ []) name.id))
 
 -- the history is lawful, and what is kept beside it is what it says of each vehicle
-pub record IsReplay (tables : Tables) (history : List Request) (before : List (Option ℕ)) (vehicles : BTreeMap Key Vehicle) (identifiers : BTreeSet (Key × List ℕ)) : Type 0 where
+pub record IsReplay (tables : Tables) (history : List Request) (before : List (Option ℕ)) (vehicles : Vehicles) (names : Names) : Type 0 where
   pub lawful : IsLawful tables history
   pub places : AreBefore history before
-  pub standings : (key : Key) → IsVehicle history key (get key_cmp vehicles key)
-  pub held : (key : Key) (id : List ℕ) → contains identifier_cmp identifiers (key, id) ≡ has_event (requests_of history key) id
+  pub standings : (key : Key) → IsVehicle history key (get same_key vehicles key)
+  pub held : (name : EventName) → contains same_event names name ≡ has_event (requests_of history name.key) name.id

@@ -8,15 +8,17 @@ ghost use Rattle.mds_core.specs.Known.{is_repeated};
 ghost use Rattle.mds_shard.specs.Replay.{IsVehicle};
 
 use crate::vehicle::{Vehicle, events_to, keep, last_in, standing_in};
-use mds_core::{Event, Key, Known, Outcome, Reply, Request, Standing, decide, standing_after};
+use indexmap::{IndexMap, IndexSet};
+use mds_core::{
+    Event, EventName, Key, Known, Outcome, Reply, Request, Standing, decide, standing_after,
+};
 use mds_table::Table;
 use std::alloc::{AllocError, Global};
-use std::collections::{BTreeMap, BTreeSet};
+use std::hash::RandomState;
 use std::marker::Model;
-use uuid::Uuid;
 
-/// The machine of one shard, over one table. Beside its history it keeps where each vehicle stands, the identifiers that
-/// each vehicle has, and for each entry of the history the place of the vehicle's entry before it; so no call looks
+/// The machine of one shard, over one table. Beside its history it keeps where each vehicle stands, the names of the events
+/// that were accepted, and for each entry of the history the place of the vehicle's entry before it; so no call looks
 /// through the history.
 ///
 /// Every shard is such that its history could have been accepted, and what it keeps beside it is what the history says.
@@ -25,8 +27,8 @@ pub struct Shard {
     table: Table,
     history: Vec<Request>,
     before: Vec<Option<usize>>,
-    vehicles: BTreeMap<Key, Vehicle>,
-    identifiers: BTreeSet<(Key, Uuid)>,
+    vehicles: IndexMap<Key, Vehicle, RandomState>,
+    names: IndexSet<EventName, RandomState>,
 }
 
 impl Model for Shard {
@@ -38,25 +40,26 @@ impl Model for Shard {
     ghost view = { λ shard. record { tables = shard.table; history = shard.history.items } };
 
     ghost invariant = { λ shard. IsReplay shard.table shard.history.items
-        shard.before.items shard.vehicles shard.identifiers };
+        shard.before.items shard.vehicles shard.names };
 }
 
 impl Shard {
-    /// A shard over the table, with nothing accepted yet. It takes no memory.
-    pub fn open(alloc: Global, table: Table) -> Shard
+    /// A shard over the table, with nothing accepted yet. It takes no memory. Its look-ups hash by `hasher`: where that is
+    /// random, nobody can pick keys and identifiers that make them slow.
+    pub fn open(alloc: Global, table: Table, hasher: RandomState) -> Shard
         ensures { result ≡ record { tables = table; history = [] } }
     {
         Shard {
             table,
             history: Vec::new(alloc),
             before: Vec::new(alloc),
-            vehicles: BTreeMap::new(alloc),
-            identifiers: BTreeSet::new(alloc),
+            vehicles: IndexMap::with_hasher(alloc, hasher),
+            names: IndexSet::with_hasher(alloc, hasher),
         }
     }
 
-    /// Answers one request, and keeps it in the history where it was accepted. It costs the logarithm of what the shard
-    /// holds, but for an accepted one for which the history has no room left: its growth moves it.
+    /// Answers one request, and keeps it in the history where it was accepted. It costs the same whatever the shard holds,
+    /// but for an accepted one for which the history or a map has no room left: its growth moves it.
     ///
     /// # Errors
     ///
@@ -86,7 +89,10 @@ impl Shard {
             ≡ is_repeated (requests_of self.now.history (key_of request.now)) request.now }
     {
         match request.event() {
-            Some(event) => self.identifiers.contains(&(*request.key(), event.id())),
+            Some(event) => self.names.contains(&EventName {
+                key: *request.key(),
+                id: event.id(),
+            }),
             None => false,
         }
     }
@@ -117,7 +123,7 @@ impl Shard {
         self.before.reserve(1)?;
         keep(
             &mut self.vehicles,
-            &mut self.identifiers,
+            &mut self.names,
             request,
             Vehicle { standing, last },
         )?;
@@ -134,7 +140,7 @@ impl Shard {
         self.history.as_slice()
     }
 
-    /// Where the vehicle stands, or `None` where it isn't registered. It costs the logarithm of the number of vehicles.
+    /// Where the vehicle stands, or `None` where it isn't registered. It costs the same whatever the shard holds.
     pub fn standing(&self, key: &Key) -> Option<Standing>
         ensures { result ≡ where_it_stands self.now.history key.now }
     {

@@ -8,6 +8,7 @@ use crate::Shard;
 use mds_core::{Event, Key, Reply, Request};
 use mds_table::{State, Table, TypeName};
 use std::alloc::Global;
+use std::hash::RandomState;
 use std::test::Fail;
 use uuid::Uuid;
 
@@ -67,8 +68,12 @@ pub fn request_of(alloc: Global, asked: Ask<'_>) -> Result<Request, Fail> {
 }
 
 /// A shard over the profile that was asked all this, and the reply to each request.
-pub fn asked_all(alloc: Global, asked: &[Ask<'_>]) -> Result<(Shard, Vec<Reply>), Fail> {
-    let mut shard = Shard::open(alloc, Table::profile(alloc)?);
+pub fn asked_all(
+    alloc: Global,
+    hasher: RandomState,
+    asked: &[Ask<'_>],
+) -> Result<(Shard, Vec<Reply>), Fail> {
+    let mut shard = Shard::open(alloc, Table::profile(alloc)?, hasher);
     let mut replies = Vec::new(alloc);
     for one in asked {
         replies.push(shard.step(&request_of(alloc, *one)?)?)?;

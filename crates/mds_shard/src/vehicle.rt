@@ -1,18 +1,18 @@
 //! What a shard keeps of each vehicle, beside its history.
 ghost use Rattle.std.specs.Prelude.{◌≡◌, ◌≢◌, ◌<◌, ◌++◌, ◌∷◌, List, [], None, IfOk, OnOk, OnErr, length, option_map};
 ghost use Rattle.std.below.core.specs.declared.int.usize.TheConstants.{MAX};
-ghost use Rattle.std.specs.BTreeMap.{get, IsUnchanged};
+ghost use Rattle.indexmap.specs.IndexMap.{get, IsUnchanged};
+ghost use Rattle.indexmap.specs.IndexSet.{IsUnchanged as HasSame};
 ghost use Rattle.mds_core.specs.declared.key.Key.{Key};
 ghost use Rattle.mds_core.specs.declared.request.Request.{Request as Requested};
-ghost use Rattle.mds_core.specs.History.{key_of, requests_of, reports, report_of, standing_of};
+ghost use Rattle.mds_core.specs.History.{key_of, same_key, requests_of, reports, report_of, standing_of};
 ghost use Rattle.mds_core.specs.Known.{standing_if};
-ghost use Rattle.mds_shard.specs.Order.{key_cmp};
-ghost use Rattle.mds_shard.specs.Replay.{AreBefore, IsLastPlace, PutsVehicle, AddsIdentifier};
+ghost use Rattle.mds_shard.specs.Replay.{AreBefore, IsLastPlace, PutsVehicle, AddsName};
 
-use mds_core::{Event, Key, Request, Standing};
+use indexmap::{IndexMap, IndexSet};
+use mds_core::{Event, EventName, Key, Request, Standing};
 use std::alloc::{AllocError, Global};
-use std::collections::{BTreeMap, BTreeSet};
-use uuid::Uuid;
+use std::hash::RandomState;
 
 /// What is kept of a vehicle.
 #[derive(Clone, Copy, Debug)]
@@ -37,47 +37,51 @@ pub fn last_in(vehicle: Option<Vehicle>) -> Option<usize>
     vehicle.map(|vehicle| vehicle.last)
 }
 
-/// Keeps the identifier of the event that a request reports, if it reports one.
+/// Keeps the name of the event that a request reports, if it reports one.
 ///
 /// # Errors
 ///
 /// `AllocError` where there is no memory for it; nothing has changed then.
-fn keep_identifier(
-    identifiers: &mut BTreeSet<(Key, Uuid)>,
+fn keep_name(
+    names: &mut IndexSet<EventName, RandomState>,
     request: &Request,
 ) -> Result<(), AllocError>
-    ensures identifiers { OnOk result (AddsIdentifier request.now identifiers.old identifiers.new) }
-    ensures none { report_of request.now ≡ None → identifiers.new ≡ identifiers.old }
-    ensures unchanged { OnErr result (identifiers.new ≡ identifiers.old) }
+    ensures names { OnOk result (AddsName request.now names.old names.new) }
+    ensures none { report_of request.now ≡ None → HasSame names.old names.new }
+    ensures unchanged { OnErr result (HasSame names.old names.new) }
 {
     if let Some(event) = request.event() {
-        let Ok(_) = identifiers.insert((*request.key(), event.id())) else {
+        let name = EventName {
+            key: *request.key(),
+            id: event.id(),
+        };
+        let Ok(_) = names.insert(name) else {
             return Err(AllocError);
         };
     }
     Ok(())
 }
 
-/// Keeps what is to be kept after a request was accepted: the identifier of its event, and the vehicle. A report's vehicle
-/// is kept already, so the insertion of the identifier or of a new vehicle is the only growth.
+/// Keeps what is to be kept after a request was accepted: the name of its event, and the vehicle. A report's vehicle is
+/// kept already, so the insertion of the name or of a new vehicle is the only growth.
 ///
 /// # Errors
 ///
 /// `AllocError` where there is no memory for it; nothing has changed then.
 pub fn keep(
-    vehicles: &mut BTreeMap<Key, Vehicle>,
-    identifiers: &mut BTreeSet<(Key, Uuid)>,
+    vehicles: &mut IndexMap<Key, Vehicle, RandomState>,
+    names: &mut IndexSet<EventName, RandomState>,
     request: &Request,
     vehicle: Vehicle,
 ) -> Result<(), AllocError>
-    requires { report_of request.now ≢ None → get key_cmp vehicles.old (key_of request.now) ≢ None }
+    requires { report_of request.now ≢ None → get same_key vehicles.old (key_of request.now) ≢ None }
     ensures vehicles { OnOk result
         (PutsVehicle (key_of request.now) vehicle vehicles.old vehicles.new) }
-    ensures identifiers { OnOk result (AddsIdentifier request.now identifiers.old identifiers.new) }
+    ensures names { OnOk result (AddsName request.now names.old names.new) }
     ensures no_vehicle { OnErr result (IsUnchanged vehicles.old vehicles.new) }
-    ensures no_identifier { OnErr result (identifiers.new ≡ identifiers.old) }
+    ensures no_name { OnErr result (HasSame names.old names.new) }
 {
-    let Ok(()) = keep_identifier(identifiers, request) else {
+    let Ok(()) = keep_name(names, request) else {
         return Err(AllocError);
     };
     let Ok(_) = vehicles.insert(*request.key(), vehicle) else {

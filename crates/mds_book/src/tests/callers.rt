@@ -1,13 +1,15 @@
 //! Two locks at once, and how many seats a book may have.
 ghost use Rattle.std.specs.Prelude.{◌≡◌};
 
-use super::{A, B};
+use super::{A, B, hashers};
 use crate::{Book, Keep, OpenFault, Seat, ShardLedger};
 use mds_core::Request;
 use mds_shard::Shard;
 use mds_table::Table;
 use std::alloc::{AllocError, Global};
+use std::hash::RandomState;
 use std::marker::Brand;
+use std::random::RandomSource;
 use std::sync::Wait;
 use std::sync::atomic::{AtomicBool, Ordering};
 use std::sync::ledger::Blank;
@@ -59,7 +61,7 @@ fn answer_and_tell<L: ShardLedger, M: ShardLedger, R: Wait + Clock>(
 fn two_locks<
     L: ShardLedger + Send + Sync,
     M: ShardLedger + Send + Sync,
-    R: Threads + Wait + Clock + Sync,
+    R: Threads + Wait + Clock + RandomSource + Sync,
 >(
     rt: &R,
     alloc: Global,
@@ -72,7 +74,15 @@ fn two_locks<
     requires second { (second.name ≡ M.name) × (second.parts ≡ M.parts) × (second.parts ≡ 1) }
     requires table { (table ≡ L.tables) × (table ≡ M.tables) }
 {
-    let (book, mut seats) = Book::<L, M>::open(alloc, table, 1, Keep::All, first, second)?;
+    let (book, mut seats) = Book::<L, M>::open(
+        alloc,
+        table,
+        1,
+        Keep::All,
+        first,
+        second,
+        hashers(rt)?,
+    )?;
     let mut seat = seats.pop().ok_or("a seat")?;
     book.call(rt, &mut seat, &requests[0])?;
     let flags = Flags {
@@ -91,7 +101,7 @@ fn two_locks<
 }
 
 /// The same with ledgers of their own.
-fn turns_of_two_locks<R: Threads + Wait + Clock + Sync>(
+fn turns_of_two_locks<R: Threads + Wait + Clock + RandomSource + Sync>(
     rt: &R,
     alloc: Global,
     table: Table,
@@ -120,18 +130,31 @@ fn fault_of<L: ShardLedger, M: ShardLedger>(
     seats: usize,
     first: Blank,
     second: Blank,
+    hashers: [RandomState; 2],
 ) -> Option<OpenFault>
     requires first { (first.name ≡ L.name) × (first.parts ≡ L.parts) × (first.parts ≡ seats) }
     requires second { (second.name ≡ M.name) × (second.parts ≡ M.parts) × (second.parts ≡ seats) }
     requires table { (table ≡ L.tables) × (table ≡ M.tables) }
 {
-    Book::<L, M>::open(alloc, table, seats, Keep::All, first, second).err()
+    Book::<L, M>::open(alloc, table, seats, Keep::All, first, second, hashers).err()
 }
 
 /// The same with ledgers of their own.
-fn open_fault(alloc: Global, table: Table, seats: usize) -> Option<OpenFault> {
+fn open_fault(
+    alloc: Global,
+    table: Table,
+    seats: usize,
+    hashers: [RandomState; 2],
+) -> Option<OpenFault> {
     let parts = seats as u64;
-    fault_of::<Brand, Brand>(alloc, table, seats, Blank::new(parts), Blank::new(parts))
+    fault_of::<Brand, Brand>(
+        alloc,
+        table,
+        seats,
+        Blank::new(parts),
+        Blank::new(parts),
+        hashers,
+    )
 }
 
 #[test]
@@ -140,7 +163,7 @@ fn seats_of_a_book(rt: HostRuntime) -> Result<(), Fail> {
     let bad = Some(OpenFault::BadSeats);
     for (seats, expected) in [(0, bad), (1, None), (64, None), (65, bad)] {
         assert_eq!(rt;
-            open_fault(alloc, Table::profile(alloc)?, seats),
+            open_fault(alloc, Table::profile(alloc)?, seats, hashers(&rt)?),
             expected,
             "{seats}"
         );

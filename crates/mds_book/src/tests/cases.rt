@@ -1,13 +1,15 @@
 //! The worked cases of vehicles, each asked of a fresh book and a fresh fleet.
 ghost use Rattle.std.specs.Prelude.{◌≡◌};
 
-use super::{A, Ask, B, C, DROP_OFF, E0, E1, E2, available_once, copies, requests_of};
+use super::{A, Ask, B, C, DROP_OFF, E0, E1, E2, available_once, copies, hashers, requests_of};
 use crate::slot::shard_of;
 use crate::{Book, Keep, Seat, ShardLedger, Slot, reconcile};
 use mds_core::{Fleet, Outcome, Reply, Request};
 use mds_table::{State, Table};
 use std::alloc::{AllocError, Global};
+use std::hash::RandomState;
 use std::marker::Brand;
+use std::random::RandomSource;
 use std::sync::Wait;
 use std::sync::ledger::Blank;
 use std::test::Fail;
@@ -25,7 +27,7 @@ struct Found {
 }
 
 /// What comes of the requests in a book of one seat.
-fn in_a_book<L: ShardLedger, M: ShardLedger, R: Wait>(
+fn in_a_book<L: ShardLedger, M: ShardLedger, R: Wait + RandomSource>(
     rt: &R,
     alloc: Global,
     table: Table,
@@ -38,7 +40,7 @@ fn in_a_book<L: ShardLedger, M: ShardLedger, R: Wait>(
     requires second { (second.name ≡ M.name) × (second.parts ≡ M.parts) × (second.parts ≡ 1) }
     requires table { (table ≡ L.tables) × (table ≡ M.tables) }
 {
-    let (book, mut seats) = Book::<L, M>::open(alloc, table, 1, keep, first, second)?;
+    let (book, mut seats) = Book::<L, M>::open(alloc, table, 1, keep, first, second, hashers(rt)?)?;
     let seat = seats.first_mut().ok_or("a seat")?;
     let mut outcomes = Vec::new(alloc);
     for request in requests {
@@ -70,7 +72,7 @@ fn settled_lengths<L: ShardLedger, M: ShardLedger>(
 }
 
 /// The same with ledgers of its own.
-fn found_in_a_book<R: Wait>(
+fn found_in_a_book<R: Wait + RandomSource>(
     rt: &R,
     alloc: Global,
     table: Table,
@@ -267,11 +269,12 @@ fn in_a_slot<L: ShardLedger>(
     table: Table,
     requests: &[Request],
     blank: Blank,
+    hasher: RandomState,
 ) -> Result<Vec<Reply>, AllocError>
     requires blank { (blank.name ≡ L.name) × (blank.parts ≡ L.parts) × (blank.parts ≡ 1) }
     requires table { table ≡ L.tables }
 {
-    let (mut slot, mut share) = Slot::<L, 0>::open(alloc, table, blank);
+    let (mut slot, mut share) = Slot::<L, 0>::open(alloc, table, blank, hasher);
     let mut replies = Vec::new(alloc);
     for request in requests {
         if shard_of(request.key()) != 0 {
@@ -286,7 +289,12 @@ fn in_a_slot<L: ShardLedger>(
 fn first_event_in_a_slot(rt: HostRuntime) -> Result<(), Fail> {
     let alloc = rt.alloc();
     let requests = requests_of(alloc, CASES[0])?;
-    let replies = slot_replies(alloc, Table::profile(alloc)?, &requests)?;
+    let replies = slot_replies(
+        alloc,
+        Table::profile(alloc)?,
+        &requests,
+        RandomState::new(&rt)?,
+    )?;
     let outcomes = [
         Outcome::Done,
         Outcome::Done,
@@ -304,6 +312,7 @@ fn slot_replies(
     alloc: Global,
     table: Table,
     requests: &[Request],
+    hasher: RandomState,
 ) -> Result<Vec<Reply>, AllocError> {
-    in_a_slot::<Brand>(alloc, table, requests, Blank::new(1))
+    in_a_slot::<Brand>(alloc, table, requests, Blank::new(1), hasher)
 }

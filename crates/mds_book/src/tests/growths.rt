@@ -1,12 +1,13 @@
 //! Each call that takes memory, made again where its growth is refused (by `tests/refused-growths`).
 ghost use Rattle.std.specs.Prelude.{◌≡◌};
 
-use super::{A, E1, key};
+use super::{A, E1, hashers, key};
 use crate::{Book, Keep, Seat, ShardLedger, reconcile};
 use mds_core::{Event, Request};
 use mds_table::{State, Table, TypeName};
 use std::alloc::{AllocError, Global};
 use std::marker::Brand;
+use std::random::RandomSource;
 use std::sync::Wait;
 use std::sync::ledger::Blank;
 use std::test::Fail;
@@ -65,7 +66,7 @@ fn asked_again<L: ShardLedger, M: ShardLedger, R: Wait>(
 }
 
 /// A book that was opened where memory allowed, what came of its calls, and how many were accepted once it is settled.
-fn opened<L: ShardLedger, M: ShardLedger, R: Wait>(
+fn opened<L: ShardLedger, M: ShardLedger, R: Wait + RandomSource>(
     rt: &R,
     alloc: Global,
     table: Table,
@@ -76,7 +77,15 @@ fn opened<L: ShardLedger, M: ShardLedger, R: Wait>(
     requires second { (second.name ≡ M.name) × (second.parts ≡ M.parts) × (second.parts ≡ 1) }
     requires table { (table ≡ L.tables) × (table ≡ M.tables) }
 {
-    let Ok((book, mut seats)) = Book::<L, M>::open(alloc, table, 1, Keep::All, first, second) else {
+    let Ok((book, mut seats)) = Book::<L, M>::open(
+        alloc,
+        table,
+        1,
+        Keep::All,
+        first,
+        second,
+        hashers(rt)?,
+    ) else {
         return Ok(None);
     };
     let seat = seats.first_mut().ok_or("a seat")?;
@@ -86,7 +95,7 @@ fn opened<L: ShardLedger, M: ShardLedger, R: Wait>(
 }
 
 /// The same with ledgers of their own.
-fn open<R: Wait>(
+fn open<R: Wait + RandomSource>(
     rt: &R,
     alloc: Global,
     table: Table,

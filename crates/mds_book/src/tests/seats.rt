@@ -1,13 +1,14 @@
 //! Seats of one book that ask about one vehicle, and what each is told.
 ghost use Rattle.std.specs.Prelude.{◌≡◌};
 
-use super::{A, Ask, DROP_OFF, E1, E2, available_once, requests_of};
+use super::{A, Ask, DROP_OFF, E1, E2, available_once, hashers, requests_of};
 use crate::{Book, Keep, ShardLedger};
 use mds_core::Outcome::{Done, Refused, Seen};
 use mds_core::{Outcome, Refusal, Reply, Request};
 use mds_table::{State, Table};
 use std::alloc::Global;
 use std::marker::Brand;
+use std::random::RandomSource;
 use std::sync::Wait;
 use std::sync::ledger::Blank;
 use std::test::Fail;
@@ -20,7 +21,7 @@ struct Asking<'a> {
 }
 
 /// What the second seat of a book is replied.
-fn replied<L: ShardLedger, M: ShardLedger, R: Wait>(
+fn replied<L: ShardLedger, M: ShardLedger, R: Wait + RandomSource>(
     rt: &R,
     alloc: Global,
     table: Table,
@@ -32,7 +33,15 @@ fn replied<L: ShardLedger, M: ShardLedger, R: Wait>(
     requires second { (second.name ≡ M.name) × (second.parts ≡ M.parts) × (second.parts ≡ 2) }
     requires table { (table ≡ L.tables) × (table ≡ M.tables) }
 {
-    let (book, mut seats) = Book::<L, M>::open(alloc, table, 2, Keep::All, first, second)?;
+    let (book, mut seats) = Book::<L, M>::open(
+        alloc,
+        table,
+        2,
+        Keep::All,
+        first,
+        second,
+        hashers(rt)?,
+    )?;
     let mut one = seats.pop().ok_or("a seat")?;
     let mut other = seats.pop().ok_or("a seat")?;
     for request in asking.first {
@@ -46,7 +55,7 @@ fn replied<L: ShardLedger, M: ShardLedger, R: Wait>(
 }
 
 /// The same with ledgers of its own.
-fn replied_in_a_book<R: Wait>(
+fn replied_in_a_book<R: Wait + RandomSource>(
     rt: &R,
     alloc: Global,
     table: Table,

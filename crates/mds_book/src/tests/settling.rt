@@ -1,7 +1,7 @@
 //! Books that are settled once their callers, in threads, are done.
 ghost use Rattle.std.specs.Prelude.{◌≡◌};
 
-use super::{A, Ask, C, DROP_OFF, E0, E1, available_once, copies, key, requests_of};
+use super::{A, Ask, C, DROP_OFF, E0, E1, available_once, copies, hashers, key, requests_of};
 use crate::{Book, Keep, Seat, SettleFault, Settled, ShardLedger, reconcile};
 use mds_core::Outcome::{Done, Seen};
 use mds_core::{Event, Outcome, Refusal, Reply, Request};
@@ -9,6 +9,7 @@ use mds_settle::Note;
 use mds_table::{State, Table, TypeName};
 use std::alloc::{AllocError, Global};
 use std::marker::Brand;
+use std::random::RandomSource;
 use std::sync::Wait;
 use std::sync::ledger::Blank;
 use std::test::Fail;
@@ -118,7 +119,7 @@ fn told_by<L: ShardLedger, M: ShardLedger>(
 fn settled_after<
     L: ShardLedger + Send + Sync,
     M: ShardLedger + Send + Sync,
-    R: Threads + Wait + Sync,
+    R: Threads + Wait + RandomSource + Sync,
 >(
     rt: &R,
     alloc: Global,
@@ -131,7 +132,15 @@ fn settled_after<
     requires second { (second.name ≡ M.name) × (second.parts ≡ M.parts) × (second.parts ≡ 2) }
     requires table { (table ≡ L.tables) × (table ≡ M.tables) }
 {
-    let (book, mut seats) = Book::<L, M>::open(alloc, table, 2, Keep::All, first, second)?;
+    let (book, mut seats) = Book::<L, M>::open(
+        alloc,
+        table,
+        2,
+        Keep::All,
+        first,
+        second,
+        hashers(rt)?,
+    )?;
     if let Some(seat) = seats.first_mut() {
         ask(rt, &book, seat, asking.before);
     }
@@ -142,7 +151,7 @@ fn settled_after<
 }
 
 /// The same with ledgers of their own; each request was noted, or there was no memory for it.
-fn told_after<R: Threads + Wait + Sync>(
+fn told_after<R: Threads + Wait + RandomSource + Sync>(
     rt: &R,
     alloc: Global,
     table: Table,
@@ -284,7 +293,7 @@ fn missed<L: ShardLedger, M: ShardLedger>(
 
 /// How many accepted calls a book of three seats tells, once each seat asked a request of its own, was left out in turn,
 /// and then all are handed in.
-fn accepted_of_three<L: ShardLedger, M: ShardLedger, R: Wait>(
+fn accepted_of_three<L: ShardLedger, M: ShardLedger, R: Wait + RandomSource>(
     rt: &R,
     alloc: Global,
     table: Table,
@@ -296,7 +305,15 @@ fn accepted_of_three<L: ShardLedger, M: ShardLedger, R: Wait>(
     requires second { (second.name ≡ M.name) × (second.parts ≡ M.parts) × (second.parts ≡ 3) }
     requires table { (table ≡ L.tables) × (table ≡ M.tables) }
 {
-    let (mut book, mut seats) = Book::<L, M>::open(alloc, table, 3, Keep::Accepted, first, second)?;
+    let (mut book, mut seats) = Book::<L, M>::open(
+        alloc,
+        table,
+        3,
+        Keep::Accepted,
+        first,
+        second,
+        hashers(rt)?,
+    )?;
     for (seat, request) in seats.iter_mut().zip(requests) {
         book.call(rt, seat, request)?;
     }
@@ -307,7 +324,7 @@ fn accepted_of_three<L: ShardLedger, M: ShardLedger, R: Wait>(
 }
 
 /// The same with ledgers of their own.
-fn three_accepted<R: Wait>(
+fn three_accepted<R: Wait + RandomSource>(
     rt: &R,
     alloc: Global,
     table: Table,
@@ -344,7 +361,7 @@ struct Misfit {
 
 /// What a book tells whose only seat asked a request, and has a note that isn't true, of the request again, for each
 /// shard of these.
-fn misfit_of<L: ShardLedger, M: ShardLedger, R: Wait>(
+fn misfit_of<L: ShardLedger, M: ShardLedger, R: Wait + RandomSource>(
     rt: &R,
     alloc: Global,
     table: Table,
@@ -357,7 +374,15 @@ fn misfit_of<L: ShardLedger, M: ShardLedger, R: Wait>(
     requires second { (second.name ≡ M.name) × (second.parts ≡ M.parts) × (second.parts ≡ 1) }
     requires table { (table ≡ L.tables) × (table ≡ M.tables) }
 {
-    let (book, mut seats) = Book::<L, M>::open(alloc, table, 1, Keep::All, first, second)?;
+    let (book, mut seats) = Book::<L, M>::open(
+        alloc,
+        table,
+        1,
+        Keep::All,
+        first,
+        second,
+        hashers(rt)?,
+    )?;
     if let Some(seat) = seats.first_mut() {
         book.call(rt, seat, request)?;
         note_wrongly(seat, request, wrong)?;
@@ -410,7 +435,7 @@ fn misfit_in<L: ShardLedger, M: ShardLedger>(
 }
 
 /// The same with ledgers of their own.
-fn misfit_after<R: Wait>(
+fn misfit_after<R: Wait + RandomSource>(
     rt: &R,
     alloc: Global,
     table: Table,

@@ -5,6 +5,7 @@ use mds_core::Refusal::{Late, NoChain, Repeated};
 use mds_core::{Reply, Request, Standing};
 use mds_table::State::{Available, NonContactable, NonOperational, OnTrip};
 use std::alloc::{AllocError, Global};
+use std::hash::RandomState;
 use std::test::Fail;
 
 /// Where A stands after one event that brings it out, and after a second that tells of a low battery.
@@ -139,7 +140,7 @@ fn in_turn(alloc: Global, outcomes: &[Outcome]) -> Result<Vec<Reply>, AllocError
 #[test]
 fn cases_of_vehicles(rt: HostRuntime) -> Result<(), Fail> {
     for (asked, outcomes) in CASES {
-        let (_, found) = asked_all(rt.alloc(), asked)?;
+        let (_, found) = asked_all(rt.alloc(), RandomState::new(&rt)?, asked)?;
         assert_eq!(rt; found, in_turn(rt.alloc(), outcomes)?);
     }
     Ok(())
@@ -149,7 +150,7 @@ fn cases_of_vehicles(rt: HostRuntime) -> Result<(), Fail> {
 fn what_a_shard_tells_of_a_first_event(rt: HostRuntime) -> Result<(), Fail> {
     let alloc = rt.alloc();
     let (asked, _) = CASES[0];
-    let (shard, _) = asked_all(alloc, asked)?;
+    let (shard, _) = asked_all(alloc, RandomState::new(&rt)?, asked)?;
     let report = request_of(alloc, asked[1])?;
     let told = (
         shard.len(),
@@ -166,7 +167,7 @@ fn what_a_shard_tells_of_a_first_event(rt: HostRuntime) -> Result<(), Fail> {
 fn events_of_a_vehicle_and_of_nobody(rt: HostRuntime) -> Result<(), Fail> {
     let alloc = rt.alloc();
     let (asked, _) = CASES[0];
-    let (shard, _) = asked_all(alloc, asked)?;
+    let (shard, _) = asked_all(alloc, RandomState::new(&rt)?, asked)?;
     let mut events = shard.events(alloc, &key(A)?)?.ok_or("registered")?;
     let only = events.pop().map(Request::Report);
     assert_eq!(rt; only, Some(request_of(alloc, asked[1])?));

@@ -4,6 +4,7 @@ use crate::Shard;
 use mds_core::{Event, Outcome, Reply, Request};
 use mds_table::{State, Table, TypeName};
 use std::alloc::{AllocError, Global};
+use std::hash::RandomState;
 use std::test::Fail;
 use uuid::Uuid;
 
@@ -46,7 +47,7 @@ fn done(place: usize) -> Reply {
 #[test]
 fn step_succeeds_after_a_refused_growth(rt: HostRuntime) -> Result<(), Fail> {
     let alloc = rt.alloc();
-    let mut shard = Shard::open(alloc, profile(alloc)?);
+    let mut shard = Shard::open(alloc, profile(alloc)?, RandomState::new(&rt)?);
     let requests = two_requests()?;
     assert_eq!(rt; step(&mut shard, &requests[0])?, (done(0), true));
     assert_eq!(rt; step(&mut shard, &requests[1])?, (done(1), true));

@@ -6,12 +6,17 @@ use crate::Shard;
 use mds_core::{Event, Fleet, Key, Outcome, Refusal, Reply, Request};
 use mds_table::{State, Table, TypeName};
 use std::alloc::Global;
+use std::hash::RandomState;
 use std::test::Fail;
 use uuid::Uuid;
 
+/// How many vehicles are registered first, and then only stand there.
+const BYSTANDERS: u64 = 9000;
+
+/// How many other vehicles the requests after that are about, and how many requests those are.
 const VEHICLES: u64 = 1000;
 
-const REQUESTS: usize = 5000;
+const REQUESTS: u64 = 5000;
 
 /// Numbers that look random, always the same ones.
 #[derive(Drop)]
@@ -60,7 +65,16 @@ fn report(numbers: &mut Numbers, key: Key) -> Result<Request, Fail> {
     Ok(Request::Report(Event::new(key, id, state, &types, time, None)?))
 }
 
-/// One of the requests: a registration, a look, or else a report.
+/// The request of this number: a bystander's registration, or else one about another vehicle.
+fn nth(numbers: &mut Numbers, number: u64) -> Result<Request, Fail> {
+    if number < BYSTANDERS {
+        Ok(Request::Register(key(VEHICLES + number)?))
+    } else {
+        request(numbers)
+    }
+}
+
+/// A registration, a look, or else a report.
 fn request(numbers: &mut Numbers) -> Result<Request, Fail> {
     let key = key(numbers.below(VEHICLES))?;
     match numbers.below(5) {
@@ -86,14 +100,14 @@ fn kind_of(outcome: &Outcome) -> usize
 }
 
 /// The replies of a shard and of a fleet to the same requests.
-fn both(alloc: Global) -> Result<(Vec<Reply>, Vec<Reply>), Fail> {
+fn both(alloc: Global, hasher: RandomState) -> Result<(Vec<Reply>, Vec<Reply>), Fail> {
     let mut numbers = Numbers { state: 1 };
-    let mut shard = Shard::open(alloc, Table::profile(alloc)?);
+    let mut shard = Shard::open(alloc, Table::profile(alloc)?, hasher);
     let mut fleet = Fleet::open(alloc, Table::profile(alloc)?);
     let mut found = Vec::new(alloc);
     let mut expected = Vec::new(alloc);
-    for _ in 0..REQUESTS {
-        let request = request(&mut numbers)?;
+    for number in 0..BYSTANDERS + REQUESTS {
+        let request = nth(&mut numbers, number)?;
         found.push(shard.step(&request)?)?;
         expected.push(fleet.step(&request)?)?;
     }
@@ -101,8 +115,8 @@ fn both(alloc: Global) -> Result<(Vec<Reply>, Vec<Reply>), Fail> {
 }
 
 #[test]
-fn many_vehicles_as_a_fleet_has_them(rt: HostRuntime) -> Result<(), Fail> {
-    let (found, expected) = both(rt.alloc())?;
+fn ten_thousand_vehicles_as_a_fleet_has_them(rt: HostRuntime) -> Result<(), Fail> {
+    let (found, expected) = both(rt.alloc(), RandomState::new(&rt)?)?;
     assert_eq!(rt; found.as_slice(), expected.as_slice());
     let mut seen = [false; 7];
     for reply in &expected {

@@ -1,16 +1,15 @@
 use Rattle.std.proofs.Common.{◌∙◌, sym, ap}
-use Rattle.std.specs.BTreeSet as sorted
-use Rattle.mds_core.specs.History.{key_of, requests_of}
-use Rattle.mds_shard.specs.Order.{identifier_cmp}
-use Rattle.mds_shard.proofs.Keys.{is_repeated_report}
+use Rattle.indexmap.specs.IndexSet.{contains}
+use Rattle.mds_core.specs.History.{key_of, same_event, requests_of}
+use Rattle.mds_shard.proofs.Names.{is_repeated_report}
 use Rattle.mds_shard.proofs.shard.Shard.has_event.Goals as goal
 
 pub returns-in-Some : goal.returns-in-Some
 returns-in-Some c =
-    let ids = c.self.inside.identifiers in
     let history = c.self.inside.history.items in
-    let key = key_of c.args.request.now in
+    let request = c.args.request.now in
     let event = c.in-Some.event.now in
     rw (← c.self.view_is) (
-    c.contains.ensures ∙ ap (λ k. sorted.contains identifier_cmp ids (k, c.id.result)) c.key.ensures ∙ ap (λ id. sorted.contains identifier_cmp ids (key, id)) c.id.ensures
-    ∙ c.self.invariant.held key event.id ∙ sym (is_repeated_report (requests_of history key) c.args.request.now event (sym c.in-Some.ensures)))
+    c.contains.ensures ∙ ap (λ key. contains same_event c.self.inside.names (record { key = key; id = c.id.result })) c.key.ensures
+    ∙ ap (λ id. contains same_event c.self.inside.names (record { key = key_of request; id = id })) c.id.ensures
+    ∙ c.self.invariant.held (record { key = key_of request; id = event.id }) ∙ sym (is_repeated_report (requests_of history (key_of request)) request event (sym c.in-Some.ensures)))
