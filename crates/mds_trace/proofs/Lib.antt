@@ -10,6 +10,7 @@ pub mod Turns
 pub mod Runs
 pub mod Asked
 pub mod SessionLemmas
+pub mod Passed
 pub mod Lawful
 pub mod Accepted
 pub mod OneVerdict

@@ -17,14 +17,7 @@ use Rattle.mds_core.specs.Reported.{Reported}
 use Rattle.mds_trace.specs.declared.session_fault.SessionFault.{SessionFault}
 use Rattle.mds_trace.specs.declared.session_fault.SessionFault.TheVariants.{Memory, Unlawful, BadOrder}
 use Rattle.mds_trace.specs.Walk.{Walk}
-use Rattle.mds_trace.specs.Session.{held_at, ArePossibleAfter, IsFirstReporting, IsFirstLater, MayPrecede, AreInOrder, identifiers_of, IsNewAfter, ComesNext, FollowsOn, EachLeads, AreOpenFrom, IsFaultOf}
-
--- the same states are possible, told by equal parts
-pub possible_alike : (tables other : Tables) (held same : State) (kinds types : List (List ℕ)) (set : List State)
-    → tables ≡ other → held ≡ same → kinds ≡ types → ArePossibleAfter tables held kinds set → ArePossibleAfter other same types set
-possible_alike tables other held same kinds types set r h k possible =
-    subst (λ all. ArePossibleAfter other same all set) k
-    (subst (λ state. ArePossibleAfter other state kinds set) h (subst (λ table. ArePossibleAfter table held kinds set) r possible))
+use Rattle.mds_trace.specs.Session.{held_at, IsFirstReporting, IsFirstLater, MayPrecede, AreInOrder, identifiers_of, IsNewAfter, ComesNext, FollowsOn, EachLeads, AreOpenFrom, IsFaultOf}
 
 module _ (opening : State) (events : List Reported) where
   -- after an event the state that it reports is held

@@ -1,5 +1,5 @@
 -- Sessions: a vehicle's events, one after the other, and type by type within an event.
-use Rattle.std.specs.Prelude.{◌≡◌, ◌≢◌, ◌↔◌, ◌⊎◌, ◌<◌, ◌≤◌, ◌+◌, ◌-◌, ℕ, zero, suc, List, [], length, map, take, Contains, Option, Some, None, slice_get}
+use Rattle.std.specs.Prelude.{◌≡◌, ◌≢◌, ◌↔◌, ◌⊎◌, ◌<◌, ◌≤◌, ◌+◌, ◌-◌, ℕ, zero, suc, List, [], ◌∷◌, length, map, take, Contains, Option, Some, None, slice_get, slice_index_or}
 use Rattle.std.specs.List.{All, AllPairs}
 use Rattle.std.specs.Option.{option_map_or}
 use Rattle.mds_table.specs.declared.state.State.{State}
@@ -7,6 +7,7 @@ use Rattle.mds_table.specs.declared.row.Row.{Row}
 use Rattle.mds_table.specs.Tables.{Tables, rows_at}
 use Rattle.mds_table.specs.Chain.{Leads}
 use Rattle.mds_steps.specs.LeastChain.{IsLeastChain}
+use Rattle.mds_steps.specs.Reached.{AreReached}
 use Rattle.mds_core.specs.Reported.{Reported}
 use Rattle.mds_core.specs.Answer.{HasNoChain}
 use Rattle.mds_trace.specs.declared.session.Place.{Place}
@@ -63,10 +64,16 @@ pub record IsPlace (events : List Reported) (place : Place) : Type 0 where
   pub event : place.event ≤ length events
   pub passed : place.passed ≤ length (types_at events place.event)
 
--- a session stands at a place of events over which it may be opened
-pub record IsWalk (tables : Tables) (opening : State) (events : List Reported) (place : Place) : Type 0 where
+-- one set for no type passed, and one for each that is: the i-th is what the first i types reach from the state held
+pub record AreSets (rows : List Row) (held : State) (kinds : List (List ℕ)) (passed : ℕ) (sets : List (List State)) : Type 0 where
+  pub count : length sets ≡ passed + 1
+  pub each : (i : ℕ) (d : List State) → i ≤ passed → AreReached rows (held ∷ []) (take i kinds) (slice_index_or sets i d)
+
+-- a session stands at a place of events over which it may be opened, and keeps the sets of the present event up to there
+pub record IsWalk (tables : Tables) (opening : State) (events : List Reported) (place : Place) (sets : List (List State)) : Type 0 where
   pub open_from : AreOpenFrom tables opening events
   pub within : IsPlace events place
+  pub kept : AreSets (rows_at tables (time_at events place.event)) (held_at opening events place.event) (types_at events place.event) place.passed sets
 
 -- from one place to the next: one more type is passed, or after the last type the next event comes
 abbrev pub IsStep : List Reported → Place → Place → Type 0

@@ -6,6 +6,7 @@ ghost use Rattle.mds_trace.specs.SessionLaws.{LawfulReportsOpen, AcceptedEventsO
 /// The verdicts of a replay with [`Opening::Removed`](crate::Opening::Removed) are the outcomes of the machine's run over
 /// any requests that report the same events in the same order, each behind a registration of its vehicle, whatever else
 /// is asked between.
+#[tactic(auto, using(crate::proofs::Runs::replayed_run))]
 pub fn replays_are_runs()
     ensures { ReplaysAreRuns }
 {}
@@ -30,6 +31,7 @@ pub fn accepted_events_open()
 
 /// Two reports of a replay of the same items, over the same table and with the same opening, have the same verdicts, ends
 /// and counts.
+#[tactic(auto, using(crate::proofs::OneReport::one_report))]
 pub fn reports_are_one()
     ensures { ReportsAreOne }
 {}

@@ -1,15 +1,16 @@
 //! Sessions: a vehicle's events, walked through type by type.
-ghost use Rattle.std.specs.Prelude.{◌≡◌, ◌≢◌, ◌<◌, ◌≤◌, ◌+◌, ℕ, IfOk, IfErr, OnErr, OnOk, MatchOption, length};
+ghost use Rattle.std.specs.Prelude.{◌≡◌, ◌≢◌, ◌<◌, ◌≤◌, ◌+◌, ℕ, [], ◌∷◌, IfOk, IfErr, OnErr, OnOk, MatchOption, length};
 ghost use Rattle.mds_trace.specs.declared.session.Halt.TheVariants.{AtEnd, AtStart};
 ghost use Rattle.mds_trace.specs.declared.session.Place.{Place as At};
 ghost use Rattle.mds_trace.specs.declared.session_fault.SessionFault.TheVariants.{Memory};
-ghost use Rattle.mds_trace.specs.Session.{held_at, state_at, AreOpenFrom, IsPlace, IsStep, ArePossible, ArePossibleAfter, KeepsEvents, IsFirstLater, IsPresentChain, IsFaultOf};
+ghost use Rattle.mds_trace.specs.Session.{held_at, state_at, AreOpenFrom, IsPlace, types_at, IsStep, ArePossible, KeepsEvents, IsFirstLater, IsPresentChain, IsFaultOf};
 
 use crate::SessionFault;
 use crate::session_events::{check_events, first_reporting, held_at, types_at};
-use mds_core::Event;
+use arrayvec::ArrayVec;
+use mds_core::{Event, MAX_EVENT_TYPES};
 use mds_steps::{StateSet, forward, least_chain};
-use mds_table::{State, Table, TypeName};
+use mds_table::{State, Table};
 use std::alloc::{AllocError, Global};
 use std::error::Error;
 use std::fmt;
@@ -49,6 +50,12 @@ impl fmt::Display for Halt {
     }
 }
 
+/// The most places in an event: before its first type, and behind each type.
+const MAX_PLACES: usize = MAX_EVENT_TYPES + 1;
+
+/// The states that are possible at each place in an event, from its first one on.
+type Sets = ArrayVec<StateSet, { MAX_PLACES }>;
+
 /// A walk through a vehicle's events, one type after the other, over one table and from one state held before the
 /// first event. It begins before the first event. Each event leads, by the table, from the state held before it to the
 /// state that it reports.
@@ -58,6 +65,8 @@ pub struct Session {
     opening: State,
     events: Vec<Event>,
     place: Place,
+    /// Those in the present event, up to the present place. A step adds one, and a step back takes it away.
+    sets: Sets,
 }
 
 impl Model for Session {
@@ -74,7 +83,7 @@ impl Model for Session {
     } };
 
     ghost invariant = { λ session.
-        IsWalk session.table session.opening session.events.items session.place };
+        IsWalk session.table session.opening session.events.items session.place session.sets.items };
 }
 
 impl Session {
@@ -111,6 +120,7 @@ impl Session {
                 event: 0,
                 passed: 0,
             },
+            sets: sets_before(opening),
         })
     }
 
@@ -134,8 +144,7 @@ impl Session {
     pub fn possible(&self) -> StateSet
         ensures { ArePossible self.now result }
     {
-        let types = types_at(&self.events, self.place.event);
-        possible_after(&self.table, self.state(), &types[..self.place.passed])
+        self.sets[self.place.passed]
     }
 
     /// The least chain of the present event, from the state held before it to the state that it reports; `None` at the
@@ -177,17 +186,11 @@ impl Session {
         if place.event == self.events.len() {
             return Err(Halt::AtEnd);
         }
-        self.place = if place.passed < types_at(&self.events, place.event).len() {
-            Place {
-                event: place.event,
-                passed: place.passed + 1,
-            }
+        if place.passed < types_at(&self.events, place.event).len() {
+            self.pass_type();
         } else {
-            Place {
-                event: place.event + 1,
-                passed: 0,
-            }
-        };
+            self.stand_before(place.event + 1);
+        }
         Ok(())
     }
 
@@ -205,17 +208,14 @@ impl Session {
     {
         let place = self.place;
         if place.passed > 0 {
+            self.sets.pop();
             self.place.passed = place.passed - 1;
             return Ok(());
         }
         if place.event == 0 {
             return Err(Halt::AtStart);
         }
-        let event = place.event - 1;
-        self.place = Place {
-            event,
-            passed: types_at(&self.events, event).len(),
-        };
+        self.stand_behind(place.event - 1);
         Ok(())
     }
 
@@ -236,10 +236,7 @@ impl Session {
         if self.place.event == self.events.len() {
             return Err(Halt::AtEnd);
         }
-        self.place = Place {
-            event: self.place.event + 1,
-            passed: 0,
-        };
+        self.stand_before(self.place.event + 1);
         Ok(())
     }
 
@@ -258,20 +255,60 @@ impl Session {
     {
         match first_reporting(&self.events, self.place.event, state) {
             Some(event) => {
-                self.place = Place {
-                    event: event + 1,
-                    passed: 0,
-                };
+                self.stand_before(event + 1);
                 Ok(())
             }
             None => Err(Halt::AtEnd),
         }
     }
+
+    /// Goes to the place before this event, or to the end, where only the state held is possible.
+    fn stand_before(&mut self, event: usize)
+        requires { event ≤ length self.old.events }
+        ensures kept { KeepsEvents self.old self.new }
+        ensures place { self.new.place ≡ record { event = event; passed = 0 } }
+    {
+        self.sets = sets_before(held_at(self.opening, &self.events, event));
+        self.place = Place { event, passed: 0 };
+    }
+
+    /// Goes to the place behind the last type of this event. Its sets were not kept, so they are computed again.
+    fn stand_behind(&mut self, event: usize)
+        requires { event < length self.old.events }
+        ensures kept { KeepsEvents self.old self.new }
+        ensures place { self.new.place ≡ record {
+          event = event;
+          passed = length (types_at self.old.events event);
+        } }
+    {
+        self.stand_before(event);
+        for _ in 0..types_at(&self.events, event).len() {
+            self.pass_type();
+        }
+    }
+
+    /// Passes one type of the present event, by one step from the last set.
+    fn pass_type(&mut self)
+        requires { self.old.place.passed < length (types_at self.old.events self.old.place.event) }
+        ensures kept { KeepsEvents self.old self.new }
+        ensures place { self.new.place ≡ record {
+          event = self.old.place.event;
+          passed = self.old.place.passed + 1;
+        } }
+    {
+        let passed = self.place.passed;
+        let types = types_at(&self.events, self.place.event);
+        let next = forward(&self.table, &self.sets[passed], &types[passed..passed + 1]);
+        self.sets.push(next);
+        self.place.passed = passed + 1;
+    }
 }
 
-/// The states in which chains from the state held through these types end.
-fn possible_after(table: &Table, held: State, types: &[TypeName]) -> StateSet
-    ensures { ArePossibleAfter table.now held types.now result }
+/// The sets at the place before an event, with this state held.
+fn sets_before(held: State) -> Sets
+    ensures { result.items ≡ (held ∷ []) ∷ [] }
 {
-    forward(table, &StateSet::of(held), types)
+    let mut sets = ArrayVec::new();
+    sets.push(StateSet::of(held));
+    sets
 }

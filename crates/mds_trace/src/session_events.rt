@@ -1,6 +1,6 @@
 //! The events of a session: what stands at a place, and whether a session over them may be opened.
-ghost use Rattle.std.specs.Prelude.{◌≡◌, ◌↔◌, ◌++◌, List, [], ◌∷◌, IsTrue, IfOk, IfErr, OnOk};
-ghost use Rattle.mds_core.specs.Reported.{Reported};
+ghost use Rattle.std.specs.Prelude.{◌≡◌, ◌↔◌, ◌≤◌, ◌++◌, List, [], ◌∷◌, length, IsTrue, IfOk, IfErr, OnOk};
+ghost use Rattle.mds_core.specs.Reported.{Reported, max_event_types};
 ghost use Rattle.mds_trace.specs.Session.{held_at, types_at, identifiers_of, AreOpenFrom, AreInOrder, IsNewAfter, ComesNext, FollowsOn, IsFirstReporting, IsFaultOf};
 
 use crate::SessionFault;
@@ -26,7 +26,8 @@ pub fn held_at(opening: State, events: &[Event], at: usize) -> State
 
 /// The types of the event at this place; none past the last event.
 pub fn types_at(events: &[Event], at: usize) -> &[TypeName]
-    ensures { result.now ≡ types_at events.now at }
+    ensures types { result.now ≡ types_at events.now at }
+    ensures few { length result.now ≤ max_event_types }
 {
     match events.get(at) {
         Some(event) => event.types(),

@@ -8,9 +8,9 @@ pub returns-in-Some-clause-moved : goal.returns-in-Some-clause-moved
 returns-in-Some-clause-moved c =
     let events : c.deref.result.now ≡ c.args.self.now.events = c.deref.ensures.value ∙ ap (λ (walk : Walk). walk.events) c.self.view_is in
     let place : c.self.inside.place.event ≡ c.args.self.now.place.event = ap (λ (walk : Walk). walk.place.event) c.self.view_is in
-    first_later c.args.self.now c.args.state c.in-Some.event
+    rw c.stand_before.ensures.place (first_later c.args.self.now c.args.state c.in-Some.event
     (subst (λ all. IsFirstReporting all c.args.self.now.place.event c.args.state (Some c.in-Some.event)) events
-    (subst (λ from. IsFirstReporting c.deref.result.now from c.args.state (Some c.in-Some.event)) place c.in-Some.ensures))
+    (subst (λ from. IsFirstReporting c.deref.result.now from c.args.state (Some c.in-Some.event)) place c.in-Some.ensures)))
 
 pub returns-in-None-clause-halt : goal.returns-in-None-clause-halt
 returns-in-None-clause-halt c =

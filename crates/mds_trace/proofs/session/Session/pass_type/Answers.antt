@@ -1,0 +1,13 @@
+use Rattle.std.proofs.Common.{arith}
+use Rattle.mds_trace.proofs.Passed.{one_further}
+use Rattle.mds_trace.proofs.session.Session.pass_type.Goals as goal
+
+pub invariant_of-self : goal.invariant_of-self
+invariant_of-self c =
+    let walk = c.self.invariant in
+    let more = rw (← c.self.view_is) at c.requires in record {
+      open_from = walk.open_from;
+      within = record { event = walk.within.event; passed = omega (arith, more) };
+      kept = rw c.push.ensures.items (one_further _ _ _ _ _ _ _ walk.kept (rw c.deref-2.ensures.0 at c.index-deref-passed.is)
+          (rw (c.types_at-types.ensures.types, c.deref.ensures.value) at c.forward-next.ensures));
+    }
