@@ -4,6 +4,7 @@ ghost use Rattle.mds_face.specs.Laws.{FleetsRun};
 /// What a fleet answers to the items of a batch is a run of the machine from its history: over all requests where each call
 /// finds memory, and else over those before the first that finds none. So the replies are determined by the requests and the
 /// history.
+#[tactic(auto, using(crate::proofs::FleetLemmas::fleet_runs))]
 pub fn fleets_run()
     ensures { FleetsRun }
 {}

@@ -7,7 +7,7 @@ mod port;
 mod serving;
 
 pub use pool::{PoolCause, PoolFault, serve};
-pub use port::{Port, PortFault};
+pub use port::{Ending, Port, PortFault};
 pub use serving::{NewBook, Stop, serve_and_settle};
 
 #[cfg(test)]

@@ -1,18 +1,21 @@
 //! Workers that answer the connections of a port.
-ghost use Rattle.std.specs.Prelude.{◌≡◌, ◌<◌, length, Some, IfOk, IfErr, IsOk, vec_len};
+ghost use Rattle.std.specs.Prelude.{◌≡◌, ◌<◌, ◌↔◌, length, Some, IfOk, IfErr, IsOk, IsOkAnd, vec_len};
 ghost use Rattle.std.specs.List.{AllZip};
 ghost use Rattle.mds_face.specs.Seats.{HasGrown};
 ghost use Rattle.mds_pool.specs.Pool.{pool_cause_text};
 
-use crate::{Port, PortFault};
+use crate::{Ending, Port, PortFault};
 use mds_book::{Book, Gate, Seat, ShardLedger};
-use mds_face::{Face, SeatDesk, serve_one};
+use mds_face::{Face, SeatDesk, ServeFault, Served, serve_one};
 use std::alloc::Global;
 use std::fmt;
 use std::io::{Read, Write};
 use std::sync::Wait;
 use std::sync::atomic::{AtomicBool, Ordering};
 use std::thread::{self, Threads};
+
+/// The status of an answer to a request that was read to its end and granted (RFC 9110, section 15.3.1).
+const OK: u16 = 200;
 
 /// Why workers didn't answer all connections that they were to answer.
 #[derive(Clone, Copy, Debug, PartialEq, Eq, Hash)]
@@ -160,7 +163,7 @@ impl<R: Wait, P: Port, L: ShardLedger, M: ShardLedger, G: Gate> Workers<'_, R, P
     }
 
     /// Answers a connection for a seat, and ends it.
-    fn answer(&self, seat: &mut Seat<L, M>, input: P::In, output: P::Out)
+    fn answer(&self, seat: &mut Seat<L, M>, mut input: P::In, mut output: P::Out)
         ensures { HasGrown seat.old seat.new }
     {
         let mut desk = SeatDesk {
@@ -169,26 +172,38 @@ impl<R: Wait, P: Port, L: ShardLedger, M: ShardLedger, G: Gate> Workers<'_, R, P
             book: self.book,
             seat,
         };
-        answer_at(self.alloc, self.face, input, output, &mut desk);
+        let ending = answer_at(self.alloc, self.face, &mut input, &mut output, &mut desk);
         let SeatDesk {
             alloc: _,
             rt: _,
             book: _,
             seat: _,
         } = desk;
+        self.port.end(input, output, ending);
     }
 }
 
-/// Answers a connection at a seat's desk, and ends it. One that ends with a fault counts as answered.
-fn answer_at<R: Wait, I: Read + Drop, O: Write + Drop, L: ShardLedger, M: ShardLedger>(
+/// Answers a connection at a seat's desk: how it ends. One that ends with a fault counts as answered.
+fn answer_at<R: Wait, I: Read, O: Write, L: ShardLedger, M: ShardLedger>(
     alloc: Global,
     face: &Face,
-    mut input: I,
-    mut output: O,
+    input: &mut I,
+    output: &mut O,
     desk: &mut SeatDesk<'_, R, L, M>,
-)
+) -> Ending
     ensures same_seat { desk.new.seat.ghost_name ≡ desk.old.seat.ghost_name }
     ensures grown { HasGrown desk.old.seat.now desk.new.seat.now }
 {
-    let _ = serve_one(alloc, face, &mut input, &mut output, desk);
+    let served = serve_one(alloc, face, input, output, desk);
+    ending_of(served)
+}
+
+/// How a connection ends that came to this: at once where its request was granted, since it was then read to its end.
+fn ending_of(served: Result<Served, ServeFault>) -> Ending
+    ensures { result ≡ Ending.AtOnce ↔ IsOkAnd served (λ served. served.status ≡ 200) }
+{
+    match served {
+        Ok(Served { status: OK, .. }) => Ending::AtOnce,
+        Ok(_) | Err(_) => Ending::InStages,
+    }
 }

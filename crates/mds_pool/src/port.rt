@@ -15,6 +15,16 @@ impl fmt::Display for PortFault {
 
 impl Error for PortFault {}
 
+/// How a connection ends whose answer was given.
+#[derive(Clone, Copy, Debug, PartialEq, Eq)]
+pub enum Ending {
+    /// At once: its request was read to its end, so the client has nothing more to send.
+    AtOnce,
+    /// In stages: its request may not have been read to its end. What the client still sends is read first, or the client
+    /// could lose the answer (RFC 9112, section 9.6).
+    InStages,
+}
+
 /// Where connections come from, for any number of workers at once.
 pub trait Port {
     /// The end of a connection that gives its request.
@@ -29,4 +39,11 @@ pub trait Port {
     ///
     /// [`PortFault`] where no further connection can be taken, for want of memory too.
     fn accept(&self) -> Result<(Self::In, Self::Out), PortFault>;
+
+    /// Ends a connection, whose two ends these are. A port in which nothing gets lost by a sudden end needs no more than to
+    /// drop them.
+    fn end(&self, input: Self::In, output: Self::Out, _ending: Ending) {
+        drop(input);
+        drop(output);
+    }
 }

@@ -11,6 +11,7 @@ use mds_book::{
 use mds_face::Face;
 use mds_table::Table;
 use std::alloc::Global;
+use std::hash::RandomState;
 use std::sync::Wait;
 use std::sync::ledger::Blank;
 use std::thread::Threads;
@@ -42,11 +43,13 @@ pub struct NewBook {
     pub first: Blank,
     /// The ledger of the second shard, likewise.
     pub second: Blank,
+    /// What each shard hashes by.
+    pub hashers: [RandomState; 2],
 }
 
 impl NewBook {
-    /// A book over this table with so many seats, and ledgers that were cut for them.
-    pub fn of(table: Table, seats: usize) -> NewBook
+    /// A book over this table with so many seats, ledgers that were cut for them, and these hashers.
+    pub fn of(table: Table, seats: usize, hashers: [RandomState; 2]) -> NewBook
         ensures table { result.table ≡ table }
         ensures seats { result.seats ≡ seats }
         ensures parts { (result.first.parts ≡ seats) × (result.second.parts ≡ seats) }
@@ -56,6 +59,7 @@ impl NewBook {
             seats,
             first: Blank::new(seats as u64),
             second: Blank::new(seats as u64),
+            hashers,
         }
     }
 }
@@ -89,6 +93,7 @@ where
         seats,
         first,
         second,
+        hashers,
     } = opening;
     let (book, list) = match Book::<L, M>::open(
         alloc,
@@ -97,6 +102,7 @@ where
         Keep::Accepted,
         first,
         second,
+        hashers,
     ) {
         Ok(opened) => opened,
         Err(OpenFault::Memory) => return Err(Stop::Memory),

@@ -3,13 +3,15 @@ mod gates;
 
 ghost use Rattle.std.specs.Prelude.{◌≡◌};
 
-use crate::{PoolCause, Port, PortFault, serve};
+use crate::{Ending, PoolCause, Port, PortFault, serve};
 use mds_book::{Book, Gate, Keep, OpenGate, ShardLedger, reconcile};
 use mds_face::Face;
 use mds_table::Table;
 use std::alloc::Global;
+use std::hash::RandomState;
 use std::io::{self, Write};
 use std::marker::Brand;
+use std::random::RandomSource;
 use std::sync::Wait;
 use std::sync::atomic::{AtomicBool, AtomicUsize, Ordering};
 use std::sync::ledger::Blank;
@@ -49,12 +51,14 @@ impl Write for Answer<'_> {
     }
 }
 
-/// A port in memory: these requests, each with the number of bytes that its writer takes; then it fails.
+/// A port in memory: these requests, each with the number of bytes that its writer takes; then it fails. It counts the
+/// connections that ended at once.
 #[derive(Drop)]
 struct Requests<'a> {
     list: &'a [(&'static [u8], usize)],
     next: AtomicUsize,
     good: &'a AtomicUsize,
+    at_once: &'a AtomicUsize,
 }
 
 impl<'a> Port for Requests<'a> {
@@ -73,6 +77,12 @@ impl<'a> Port for Requests<'a> {
             good,
         };
         Ok((request.0, answer))
+    }
+
+    fn end(&self, _input: &'static [u8], _output: Answer<'a>, ending: Ending) {
+        if ending == Ending::AtOnce {
+            self.at_once.fetch_add(1, Ordering::SeqCst);
+        }
     }
 }
 
@@ -114,7 +124,7 @@ struct Came {
 
 /// Serves the port with a new book of so many seats, each of which answers so many connections, and settles it.
 fn served_by<
-    R: Threads + Wait + Sync,
+    R: Threads + Wait + RandomSource + Sync,
     P: Port + Sync,
     G: Gate + Sync,
     L: ShardLedger + Send + Sync,
@@ -137,7 +147,16 @@ where
     requires second { (second.name ≡ M.name) × (second.parts ≡ M.parts) × (second.parts ≡ seats) }
     requires table { (table ≡ L.tables) × (table ≡ M.tables) }
 {
-    let (book, list) = Book::<L, M>::open(alloc, table, seats, Keep::Accepted, first, second)?;
+    let hashers = [RandomState::new(rt)?, RandomState::new(rt)?];
+    let (book, list) = Book::<L, M>::open(
+        alloc,
+        table,
+        seats,
+        Keep::Accepted,
+        first,
+        second,
+        hashers,
+    )?;
     let face = Face::open(alloc)?;
     let (failed, back) = match serve(rt, alloc, &face, port, &book, list, each, gate) {
         Ok(back) => (false, back),
@@ -156,7 +175,8 @@ where
 }
 
 /// A case: the requests with the room of their writers, how many seats there are and how many connections each answers;
-/// whether the port failed, how many requests were accepted, and how many answers of status 200 were begun.
+/// whether the port failed, how many requests were accepted, how many answers of status 200 were begun, and how many
+/// connections ended at once.
 type Case = (
     &'static [(&'static [u8], usize)],
     usize,
@@ -164,21 +184,24 @@ type Case = (
     bool,
     u128,
     usize,
+    usize,
 );
 
 /// Whether serving comes to this.
-fn comes_to<R: Threads + Wait + Sync, G: Gate + Sync>(
+fn comes_to<R: Threads + Wait + RandomSource + Sync, G: Gate + Sync>(
     rt: &R,
     alloc: Global,
     gate: &G,
     case: &Case,
 ) -> Result<bool, Fail> {
-    let (list, seats, each, failed, accepted, good) = *case;
-    let count = AtomicUsize::new(0);
+    let (list, seats, each, failed, accepted, good, at_once) = *case;
+    let begun = AtomicUsize::new(0);
+    let ended = AtomicUsize::new(0);
     let port = Requests {
         list,
         next: AtomicUsize::new(0),
-        good: &count,
+        good: &begun,
+        at_once: &ended,
     };
     let table = Table::profile(alloc)?;
     let first = Blank::new(seats as u64);
@@ -191,7 +214,8 @@ fn comes_to<R: Threads + Wait + Sync, G: Gate + Sync>(
         seats,
         accepted: Some(accepted),
     };
-    Ok(found == wanted && count.load(Ordering::SeqCst) == good)
+    let counts = (begun.load(Ordering::SeqCst), ended.load(Ordering::SeqCst));
+    Ok(found == wanted && counts == (good, at_once))
 }
 
 #[test]
@@ -202,7 +226,7 @@ fn two_workers_meet(rt: HostRuntime) -> Result<(), Fail> {
         has_left: AtomicBool::new(false),
         gave_up: AtomicBool::new(false),
     };
-    let case: Case = (&[(A, 999), (B, 999)], 2, 1, false, 2, 2);
+    let case: Case = (&[(A, 999), (B, 999)], 2, 1, false, 2, 2, 2);
     assert!(rt; comes_to(&rt, rt.alloc(), &gate, &case)?);
     assert!(rt; !gate.gave_up.load(Ordering::SeqCst));
     Ok(())
@@ -210,10 +234,10 @@ fn two_workers_meet(rt: HostRuntime) -> Result<(), Fail> {
 
 /// No connections; a peer that stops reading; a port that fails at once, and one that fails once its requests are taken.
 const CASES: [Case; 4] = [
-    (&[], 1, 0, false, 0, 0),
-    (&[(A, 10), (B, 999)], 1, 2, false, 2, 2),
-    (&[], 1, 1, true, 0, 0),
-    (&[(A, 999), (B, 999)], 2, 2, true, 2, 2),
+    (&[], 1, 0, false, 0, 0, 0),
+    (&[(A, 10), (B, 999)], 1, 2, false, 2, 2, 1),
+    (&[], 1, 1, true, 0, 0, 0),
+    (&[(A, 999), (B, 999)], 2, 2, true, 2, 2, 2),
 ];
 
 #[test]

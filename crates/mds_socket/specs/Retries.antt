@@ -1,7 +1,7 @@
 -- Which errors of taking a connection are tried again.
 use Rattle.std.specs.Prelude.{ℕ, ◌==◌, ◌||◌, ℤ, pos, negsuc, Option, Some, None, if◌then◌else◌}
 use Rattle.std.specs.declared.io.ErrorKind.{ErrorKind}
-use Rattle.std.specs.declared.io.ErrorKind.TheVariants.{Interrupted, ConnectionAborted, ConnectionReset, TimedOut, NetworkDown, NetworkUnreachable, HostUnreachable, PermissionDenied, Unsupported, OutOfMemory}
+use Rattle.std.specs.declared.io.ErrorKind.TheVariants.{Interrupted, WouldBlock, ConnectionAborted, ConnectionReset, TimedOut, NetworkDown, NetworkUnreachable, HostUnreachable, PermissionDenied, Unsupported, OutOfMemory}
 use Rattle.mds_socket.specs.declared.socket.Retry.{Retry}
 use Rattle.mds_socket.specs.declared.socket.Retry.TheVariants.{AtOnce, Later, Never}
 
@@ -18,10 +18,11 @@ retry_by_code None = Never
 retry_by_code (Some (pos number)) = retry_by_number number
 retry_by_code (Some (negsuc number)) = Never
 
--- at once after an interruption, or where the one connection was lost or its own network was at fault; later where there was no
+-- at once after an interruption, where no connection came for a while, or where the one connection was lost or its own network was at fault; later where there was no
 -- memory; and else by the number
 abbrev pub retry_by_kind : ErrorKind → Option ℤ → Retry
 retry_by_kind Interrupted code = AtOnce
+retry_by_kind WouldBlock code = AtOnce
 retry_by_kind ConnectionAborted code = AtOnce
 retry_by_kind ConnectionReset code = AtOnce
 retry_by_kind TimedOut code = AtOnce

@@ -5,6 +5,7 @@ use std::alloc::{AllocError, Global};
 use std::io::{self, Read, Write};
 use std::net::{Shutdown, TcpStream};
 use std::sync::Arc;
+use std::sync::atomic::{AtomicBool, Ordering};
 use std::time::{Clock, Duration};
 
 /// How long one read or one write may wait for the peer, in seconds.
@@ -21,20 +22,48 @@ const MAX_LAST_BYTES: usize = 16_777_216;
 /// How many of them one read asks for.
 const ROOM_BYTES: usize = 16_384;
 
-/// A connection that was taken. It ends in stages where it is dropped.
+/// A connection that was taken. It ends in stages where it is dropped, unless nothing more is expected of the peer.
 struct Connection<C: Clock + Copy> {
     stream: TcpStream,
     clock: C,
+    /// Whether the request was read to its end.
+    is_read: AtomicBool,
 }
 
 impl<C: Clock + Copy> Drop for Connection<C> {
     fn drop(self) {
         // A connection that can't be ended in stages is closed at once.
-        let _ = end(&self.stream, &self.clock);
+        let _ = self.finish();
         let Connection {
             stream: _,
             clock: _,
+            is_read: _,
         } = self;
+    }
+}
+
+impl<C: Clock + Copy> Connection<C> {
+    /// Does what has to be done before the connection is closed: nothing where no more is expected of the peer, and nothing
+    /// came. Then the system sends the rest of the answer, and its end.
+    fn finish(&self) -> io::Result<()> {
+        if self.is_read.load(Ordering::SeqCst) && is_quiet(&self.stream)? {
+            return Ok(());
+        }
+        end(&self.stream, &self.clock)
+    }
+}
+
+/// Whether no byte of the peer waits to be read; it doesn't wait for one.
+fn is_quiet(stream: &TcpStream) -> io::Result<bool> {
+    stream.set_nonblocking(true)?;
+    match read_once(stream, &mut [0u8; 1]) {
+        Ok(0) => Ok(true),
+        Ok(_) => {
+            stream.set_nonblocking(false)?;
+            Ok(false)
+        }
+        Err(error) if error.kind() == io::ErrorKind::WouldBlock => Ok(true),
+        Err(error) => Err(error),
     }
 }
 
@@ -99,7 +128,14 @@ impl<C: Clock + Copy> Write for SocketOut<C> {
     }
 }
 
-/// Sets the limits of a stream: how long each read and each write may wait, and that what is written is sent at once.
+impl<C: Clock + Copy> SocketIn<C> {
+    /// Notes that the request was read to its end.
+    pub(crate) fn note_whole(&self) {
+        self.connection.is_read.store(true, Ordering::SeqCst);
+    }
+}
+
+/// Sets the limits of a socket: how long each read and each write may wait, and that what is written is sent at once.
 pub(crate) fn set_limits(stream: &TcpStream) -> io::Result<()> {
     stream.set_read_timeout(Some(Duration::from_secs(CALL_SECONDS)))?;
     stream.set_write_timeout(Some(Duration::from_secs(CALL_SECONDS)))?;
@@ -116,7 +152,14 @@ pub(crate) fn ends_of<C: Clock + Copy>(
     stream: TcpStream,
     clock: C,
 ) -> Result<(SocketIn<C>, SocketOut<C>), AllocError> {
-    let connection = Arc::new(alloc, Connection { stream, clock })?;
+    let connection = Arc::new(
+        alloc,
+        Connection {
+            stream,
+            clock,
+            is_read: AtomicBool::new(false),
+        },
+    )?;
     let other = Arc::try_clone(&connection)?;
     Ok((SocketIn { connection }, SocketOut { connection: other }))
 }

@@ -4,10 +4,11 @@ ghost use Rattle.std.specs.IoError.{error_kind, raw_os_error};
 ghost use Rattle.mds_socket.specs.Retries.{retry_by_code, retry_by_kind};
 
 use crate::connection::{SocketIn, SocketOut, ends_of, set_limits};
-use mds_pool::{Port, PortFault};
+use mds_pool::{Ending, Port, PortFault};
 use std::alloc::Global;
 use std::io::{self, ErrorKind};
 use std::net::{Ipv4Addr, Net, TcpListener, TcpStream};
+use std::os::fd::OwnedFd;
 use std::thread;
 use std::time::{Clock, Duration};
 
@@ -24,7 +25,7 @@ impl<C: Clock + Copy> SocketPort<C> {
     ///
     /// # Errors
     ///
-    /// What the system answers where the port can't be had.
+    /// What the system answers where the port can't be had, or where the limits of its connections can't be set.
     pub fn bind<R: Net<Listener = TcpListener, Stream = TcpStream>>(
         rt: &R,
         alloc: Global,
@@ -32,6 +33,8 @@ impl<C: Clock + Copy> SocketPort<C> {
         number: u16,
     ) -> io::Result<SocketPort<C>> {
         let listener = TcpListener::bind(rt, (Ipv4Addr::LOCALHOST, number))?;
+        // On Linux each connection has the limits of the socket that it is taken from, without a call of its own.
+        set_limits(&TcpStream::from(OwnedFd::from(listener.try_clone()?)))?;
         Ok(SocketPort {
             listener,
             alloc,
@@ -73,7 +76,8 @@ const MAX_WAITS: u32 = 300;
 /// What becomes of taking a connection that failed.
 #[derive(Clone, Copy, Debug, PartialEq, Eq)]
 enum Retry {
-    /// It is tried again at once: it was interrupted, or the one connection was lost before it was taken.
+    /// It is tried again at once: it was interrupted, no connection came in the time of one read, or the one connection was lost
+    /// before it was taken.
     AtOnce,
     /// It is tried again a little later: there are too many open files, or there is no memory for one more, at this moment.
     Later,
@@ -94,6 +98,7 @@ fn retry_of_kind(kind: ErrorKind, number: Option<i32>) -> Retry
 {
     match kind {
         ErrorKind::Interrupted
+        | ErrorKind::WouldBlock
         | ErrorKind::ConnectionAborted
         | ErrorKind::ConnectionReset
         | ErrorKind::TimedOut
@@ -128,9 +133,7 @@ impl<C: Clock + Copy> Port for SocketPort<C> {
         for came in self.listener.incoming() {
             match came {
                 Ok(stream) => {
-                    if set_limits(&stream).is_ok() {
-                        return ends_of(self.alloc, stream, self.clock).map_err(|_| PortFault);
-                    }
+                    return ends_of(self.alloc, stream, self.clock).map_err(|_| PortFault);
                 }
                 Err(error) => match retry_of(&error) {
                     Retry::AtOnce => {}
@@ -143,6 +146,14 @@ impl<C: Clock + Copy> Port for SocketPort<C> {
             }
         }
         Err(PortFault)
+    }
+
+    fn end(&self, input: SocketIn<C>, output: SocketOut<C>, ending: Ending) {
+        if ending == Ending::AtOnce {
+            input.note_whole();
+        }
+        drop(input);
+        drop(output);
     }
 }
 

@@ -7,7 +7,9 @@ use crate::SeatDesk;
 use mds_book::{Book, Keep, Seat, ShardLedger};
 use mds_table::Table;
 use std::alloc::Global;
+use std::hash::RandomState;
 use std::marker::Brand;
+use std::random::RandomSource;
 use std::sync::Wait;
 use std::sync::ledger::Blank;
 use std::test::Fail;
@@ -36,7 +38,7 @@ fn same_answers<L: ShardLedger, M: ShardLedger, R: Wait>(
 }
 
 /// The same of a book that was opened over the table.
-fn in_a_book<L: ShardLedger, M: ShardLedger, R: Wait>(
+fn in_a_book<L: ShardLedger, M: ShardLedger, R: Wait + RandomSource>(
     rt: &R,
     alloc: Global,
     table: Table,
@@ -47,13 +49,14 @@ fn in_a_book<L: ShardLedger, M: ShardLedger, R: Wait>(
     requires second { (second.name ≡ M.name) × (second.parts ≡ M.parts) × (second.parts ≡ 1) }
     requires table { (table ≡ L.tables) × (table ≡ M.tables) }
 {
-    let (book, mut seats) = Book::<L, M>::open(alloc, table, 1, Keep::Accepted, first, second)?;
+    let hashers = [RandomState::new(rt)?, RandomState::new(rt)?];
+    let (book, mut seats) = Book::<L, M>::open(alloc, table, 1, Keep::Accepted, first, second, hashers)?;
     let seat = seats.pop().ok_or("a seat")?;
     same_answers(rt, alloc, &book, seat)
 }
 
 /// The same with ledgers of its own.
-fn same_in_a_book<R: Wait>(rt: &R, alloc: Global, table: Table) -> Result<bool, Fail> {
+fn same_in_a_book<R: Wait + RandomSource>(rt: &R, alloc: Global, table: Table) -> Result<bool, Fail> {
     in_a_book::<Brand, Brand, R>(rt, alloc, table, Blank::new(1), Blank::new(1))
 }
 

@@ -6,6 +6,7 @@ use mds_table::Table;
 use std::alloc::Global;
 use std::io::{self, Write};
 use std::marker::Brand;
+use std::random::RandomSource;
 use std::sync::atomic::{AtomicBool, Ordering};
 use std::sync::ledger::Blank;
 use std::sync::{Mutex, Wait};
@@ -146,7 +147,10 @@ fn are_all_told(steps: &[Step]) -> bool {
 }
 
 /// All that happened while both workers served, once it is seen that serving came to what it should.
-fn steps_of_serving<R: Threads + Wait + Sync>(rt: &R, alloc: Global) -> Result<Vec<Step>, Fail> {
+fn steps_of_serving<R: Threads + Wait + RandomSource + Sync>(
+    rt: &R,
+    alloc: Global,
+) -> Result<Vec<Step>, Fail> {
     let record = Record {
         rt,
         steps: Mutex::new(Vec::new(alloc)),

@@ -2,14 +2,15 @@
 use super::{Retry, retry_of};
 use std::io::{self, ErrorKind};
 
-/// Errors by their numbers: ENONET, EPROTO, ENOPROTOOPT, EHOSTDOWN, EINTR, ECONNABORTED, EPERM, EOPNOTSUPP, ENETDOWN,
+/// Errors by their numbers: ENONET, EPROTO, ENOPROTOOPT, EHOSTDOWN, EINTR, EAGAIN, ECONNABORTED, EPERM, EOPNOTSUPP, ENETDOWN,
 /// ENETUNREACH, EHOSTUNREACH and ETIMEDOUT; EMFILE, ENFILE, ENOBUFS and ENOMEM; EBADF, EINVAL, ENOTSOCK and ENOTTY.
-const NUMBERS: [(i32, Retry); 20] = [
+const NUMBERS: [(i32, Retry); 21] = [
     (64, Retry::AtOnce),
     (71, Retry::AtOnce),
     (92, Retry::AtOnce),
     (112, Retry::AtOnce),
     (4, Retry::AtOnce),
+    (11, Retry::AtOnce),
     (103, Retry::AtOnce),
     (1, Retry::AtOnce),
     (95, Retry::AtOnce),
@@ -28,8 +29,9 @@ const NUMBERS: [(i32, Retry); 20] = [
 ];
 
 /// Errors that have a kind alone.
-const KINDS: [(ErrorKind, Retry); 6] = [
+const KINDS: [(ErrorKind, Retry); 7] = [
     (ErrorKind::Interrupted, Retry::AtOnce),
+    (ErrorKind::WouldBlock, Retry::AtOnce),
     (ErrorKind::ConnectionAborted, Retry::AtOnce),
     (ErrorKind::ConnectionReset, Retry::AtOnce),
     (ErrorKind::OutOfMemory, Retry::Later),

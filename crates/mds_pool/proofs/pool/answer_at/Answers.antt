@@ -10,5 +10,5 @@ returns g c =
     (λ desk. (refl, seat_stays desk.seat.now))
     (λ old middle new one two. (two.0 ∙ one.0, seat_twice old.seat.now middle.seat.now new.seat.now one.1 two.1))
     (λ old request reply new calls. (calls.1, seat_called old.book.now.tables old.seat.now request reply new.seat.now calls.2))
-    _ _ _ _ _ c.serve_one.result c.serve_one.ensures.served c.serve_one.ensures.stopped in
+    _ _ _ _ _ c.serve_one-served.result c.serve_one-served.ensures.served c.serve_one-served.ensures.stopped in
     record { same_seat = both.0; grown = both.1 }
