@@ -6,7 +6,7 @@ use Rattle.mds_batch.specs.declared.item.EventItem.{EventItem}
 use Rattle.mds_trace.specs.declared.report.Report.{Report}
 use Rattle.mds_city.specs.declared.source.Source.{Source}
 use Rattle.mds_city.specs.declared.problem.Problem.{Problem}
-use Rattle.mds_city.specs.declared.problem.Problem.TheVariants.{CannotRead, NotATable, NotABatch, Socket, Output, Memory}
+use Rattle.mds_city.specs.declared.problem.Problem.TheVariants.{CannotRead, NotATable, NotABatch, Socket, Random, Output, Memory}
 use Rattle.mds_city.specs.declared.status.Status.{Status}
 use Rattle.mds_city.specs.declared.status.Status.TheVariants.{Done, Refused}
 use Rattle.mds_io.specs.Page.{AppendsFront}
@@ -47,6 +47,7 @@ module _ {T R : Type 0} (begins : Opening) (table_bytes : T → Option (List ℕ
   ExplainsReplay (NotATable fault) = ExplainsTable table_bytes table (NotATable fault)
   ExplainsReplay (NotABatch fault) = ExplainsEvents (NotABatch fault)
   ExplainsReplay Socket = ⊥
+  ExplainsReplay Random = ⊥
   ExplainsReplay Output = Unit {0}
   ExplainsReplay Memory = Unit {0}
 
@@ -60,6 +61,7 @@ module _ {T R : Type 0} (begins : Opening) (table_bytes : T → Option (List ℕ
   WentOut (NotATable fault) old new = Keeps old new
   WentOut (NotABatch fault) old new = Keeps old new
   WentOut Socket old new = ⊥
+  WentOut Random old new = ⊥
   WentOut Output old new = PrintsFront old new
   WentOut Memory old new = Keeps old new ⊎ PrintsFront old new
 
@@ -80,6 +82,7 @@ module _ {T : Type 0} (table_bytes : T → Option (List ℕ)) (table : Option (S
   ExplainsPrint (NotATable fault) = ExplainsTable table_bytes table (NotATable fault)
   ExplainsPrint (NotABatch fault) = ⊥
   ExplainsPrint Socket = ⊥
+  ExplainsPrint Random = ⊥
   ExplainsPrint Output = Unit {0}
   ExplainsPrint Memory = Unit {0}
 
@@ -89,6 +92,7 @@ module _ {T : Type 0} (table_bytes : T → Option (List ℕ)) (table : Option (S
   TableWentOut (NotATable fault) old new = Keeps old new
   TableWentOut (NotABatch fault) old new = Keeps old new
   TableWentOut Socket old new = ⊥
+  TableWentOut Random old new = ⊥
   TableWentOut Output old new = (tables : Tables) × HasTableIn table_bytes table tables × AppendsFront old new (table_text tables)
   TableWentOut Memory old new = Keeps old new ⊎ ((tables : Tables) × HasTableIn table_bytes table tables × AppendsFront old new (table_text tables))
 

@@ -11,7 +11,7 @@ use Rattle.mds_io.specs.declared.page.PrintError.{PrintError}
 use Rattle.mds_io.specs.declared.page.PrintError.TheVariants as write
 use Rattle.mds_city.specs.declared.problem.Telling.{Telling}
 use Rattle.mds_city.specs.declared.problem.Problem.{Problem}
-use Rattle.mds_city.specs.declared.problem.Problem.TheVariants.{CannotRead, NotATable, NotABatch, Socket, Output, Memory}
+use Rattle.mds_city.specs.declared.problem.Problem.TheVariants.{CannotRead, NotATable, NotABatch, Socket, Random, Output, Memory}
 use Rattle.mds_city.specs.declared.status.Status.{Status}
 use Rattle.mds_city.specs.declared.status.Status.TheVariants.{Fault, NoMemory}
 use Rattle.mds_io.specs.Page.{AppendsFront, with_newline}
@@ -22,6 +22,7 @@ problem_text (CannotRead path) = codes "mds_city: cannot read " ++ path.now
 problem_text (NotATable fault) = codes "mds_city: not a table: " ++ table.fault_text fault
 problem_text (NotABatch fault) = codes "mds_city: not a batch: " ++ batch.fault_text fault
 problem_text Socket = codes "mds_city: socket"
+problem_text Random = codes "mds_city: random"
 problem_text Output = codes "mds_city: output"
 problem_text Memory = codes "mds_city: out of memory"
 
@@ -46,6 +47,7 @@ status_of (CannotRead path) = Fault
 status_of (NotATable fault) = Fault
 status_of (NotABatch fault) = Fault
 status_of Socket = Fault
+status_of Random = Fault
 status_of Output = Fault
 status_of Memory = NoMemory
 

@@ -10,7 +10,7 @@ use Rattle.mds_pool.specs.declared.serving.Stop.{Stop}
 use Rattle.mds_pool.specs.declared.serving.Stop.TheVariants as stop
 use Rattle.mds_city.specs.declared.source.Source.{Source}
 use Rattle.mds_city.specs.declared.problem.Problem.{Problem}
-use Rattle.mds_city.specs.declared.problem.Problem.TheVariants.{CannotRead, NotATable, NotABatch, Socket, Output, Memory}
+use Rattle.mds_city.specs.declared.problem.Problem.TheVariants.{CannotRead, NotATable, NotABatch, Socket, Random, Output, Memory}
 use Rattle.mds_city.specs.declared.status.Status.TheVariants as status
 use Rattle.mds_city.specs.Problem.{status_of, Tells}
 use Rattle.mds_city.specs.Status.{code_of}
@@ -60,12 +60,13 @@ module _ {H L T : Type 0} (listens : H → ℕ → L → ℕ → Type 0) (host :
   abbrev pub PrintsListening : Option (List ℕ) → Option (List ℕ) → Type 0
   PrintsListening out out_new = (tables : Tables) × HasTableIn table_bytes table tables × ((port : ℕ) × IsPort port × AppendsFront out out_new (with_newline (listening_line port)))
 
-  -- why nothing was served: a fault of the table file, a port that can't be had, or a line that could not be printed; and what went out
+  -- why nothing was served: a fault of the table file, no random numbers, no port, or a line that could not be printed; and what went out
   abbrev pub StopsBefore : Problem → Option (List ℕ) → Option (List ℕ) → Type 0
   StopsBefore (CannotRead path) out out_new = ExplainsTable table_bytes table (CannotRead path) × Keeps out out_new
   StopsBefore (NotATable fault) out out_new = ExplainsTable table_bytes table (NotATable fault) × Keeps out out_new
   StopsBefore (NotABatch fault) out out_new = ⊥
   StopsBefore Socket out out_new = (tables : Tables) × HasTableIn table_bytes table tables × Keeps out out_new
+  StopsBefore Random out out_new = (tables : Tables) × HasTableIn table_bytes table tables × Keeps out out_new
   StopsBefore Output out out_new = PrintsListening out out_new
   StopsBefore Memory out out_new = Keeps out out_new ⊎ PrintsListening out out_new
 

@@ -13,7 +13,7 @@ use Rattle.mds_batch.specs.Items.{IsEventItem}
 use Rattle.mds_batch.specs.Batch.{HasItems, HasFault as HasBatchFault}
 use Rattle.mds_city.specs.declared.source.Source.{Source}
 use Rattle.mds_city.specs.declared.problem.Problem.{Problem}
-use Rattle.mds_city.specs.declared.problem.Problem.TheVariants.{CannotRead, NotATable, NotABatch, Socket, Output, Memory}
+use Rattle.mds_city.specs.declared.problem.Problem.TheVariants.{CannotRead, NotATable, NotABatch, Socket, Random, Output, Memory}
 use Rattle.mds_io.specs.Read.{HasFront}
 use Rattle.mds_city.specs.Problem.{table_problem, batch_problem}
 
@@ -37,6 +37,7 @@ IsReadProblem source Memory = IsOpen source
 IsReadProblem source (NotATable fault) = ⊥
 IsReadProblem source (NotABatch fault) = ⊥
 IsReadProblem source Socket = ⊥
+IsReadProblem source Random = ⊥
 IsReadProblem source Output = ⊥
 
 -- the problem is what is wrong with the bytes of a table file
@@ -59,6 +60,7 @@ ExplainsTableFile remaining source (CannotRead path) = path.now ≡ source.path.
 ExplainsTableFile remaining source Memory = IsOpen source
 ExplainsTableFile remaining source (NotABatch fault) = ⊥
 ExplainsTableFile remaining source Socket = ⊥
+ExplainsTableFile remaining source Random = ⊥
 ExplainsTableFile remaining source Output = ⊥
 
 -- the rows are those of the table file, or of the profile where none is given
@@ -83,4 +85,5 @@ ExplainsFile remaining source (CannotRead path) = path.now ≡ source.path.now
 ExplainsFile remaining source Memory = IsOpen source
 ExplainsFile remaining source (NotATable fault) = ⊥
 ExplainsFile remaining source Socket = ⊥
+ExplainsFile remaining source Random = ⊥
 ExplainsFile remaining source Output = ⊥

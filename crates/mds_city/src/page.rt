@@ -4,7 +4,7 @@ ghost use Rattle.std.specs.Io.KnownBytes.{Appends};
 ghost use Rattle.mds_io.specs.Page.{AppendsFront, with_newline};
 ghost use Rattle.mds_city.specs.Text.{accepted_line, listening_line};
 
-use mds_io::{PrintError, add_line, flush_page};
+use mds_io::{PrintError, end_page};
 use std::alloc::Global;
 use std::fmt;
 use std::io::Write;
@@ -58,6 +58,5 @@ pub fn print_line<W: Write, D: fmt::Display>(
         AppendsFront (W.contents writer.old) (W.contents writer.new) (with_newline text))) }
 {
     let mut page = String::new(alloc);
-    add_line(writer, &mut page, line)?;
-    flush_page(writer, &mut page)
+    end_page(writer, &mut page, line)
 }

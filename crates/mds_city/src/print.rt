@@ -6,7 +6,7 @@ ghost use Rattle.mds_city.specs.Text.{item_lines, vehicle_lines, report_text, ro
 
 use crate::lines::{ItemLine, TotalLine, VehicleLine};
 use crate::rows::{CountLine, RowLine};
-use mds_io::{PrintError, add_line, flush_page};
+use mds_io::{PrintError, add_line, end_page};
 use mds_table::Row;
 use mds_trace::{Opening, Report, VehicleEnd, Verdict};
 use std::alloc::Global;
@@ -34,8 +34,7 @@ pub fn print_report<W: Write>(
         accepted: report.accepted,
         refused: report.refused,
     };
-    add_line(writer, &mut page, &total)?;
-    flush_page(writer, &mut page)
+    end_page(writer, &mut page, &total)
 }
 
 /// Adds a line for each verdict to what the page has, and puts the page out as it fills.
@@ -89,8 +88,7 @@ pub fn print_table<W: Write>(alloc: Global, writer: &mut W, rows: &[Row]) -> Res
     let mut page = String::new(alloc);
     add_rows(writer, &mut page, rows)?;
     let count = CountLine { count: rows.len() };
-    add_line(writer, &mut page, &count)?;
-    flush_page(writer, &mut page)
+    end_page(writer, &mut page, &count)
 }
 
 /// Adds a line for each row to what the page has, and puts the page out as it fills.

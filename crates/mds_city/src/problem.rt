@@ -22,6 +22,8 @@ pub enum Problem<'a> {
     NotABatch(BatchFault),
     /// A port can't be had, or no further connection of it.
     Socket,
+    /// The system gives no random numbers to hash by.
+    Random,
     /// Standard output failed.
     Output,
     /// Memory was refused.
@@ -39,6 +41,7 @@ impl Problem<'_> {
             | Problem::NotATable(_)
             | Problem::NotABatch(_)
             | Problem::Socket
+            | Problem::Random
             | Problem::Output => Status::Fault,
         }
     }
@@ -104,6 +107,7 @@ impl fmt::Display for Problem<'_> {
             Problem::NotATable(fault) => write!(f, "mds_city: not a table: {fault}"),
             Problem::NotABatch(fault) => write!(f, "mds_city: not a batch: {fault}"),
             Problem::Socket => write!(f, "mds_city: socket"),
+            Problem::Random => write!(f, "mds_city: random"),
             Problem::Output => write!(f, "mds_city: output"),
             Problem::Memory => write!(f, "mds_city: out of memory"),
         }

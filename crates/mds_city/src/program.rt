@@ -19,6 +19,7 @@ use std::alloc::Global;
 use std::convert::AsStr;
 use std::env::Args;
 use std::io::{self, ErrorKind as ReadKind, Read, Write};
+use std::random::RandomSource;
 use std::sync::Wait;
 use std::thread::Threads;
 
@@ -82,7 +83,7 @@ pub fn tell_words<E: Write>(alloc: Global, faults: &mut E, fault: WordsFault) ->
 /// Carries out what the words of the command line ask for, of which the first is the program's name, over these files and
 /// streams, or says why they ask for nothing. It answers the code of the status that the program ends with.
 pub fn run<
-    R: Threads + Wait + Sync,
+    R: Threads + Wait + RandomSource + Sync,
     S: AsStr,
     O: Opens + Listens,
     I: Read + Drop,
@@ -127,7 +128,13 @@ fn explain<W: Write, E: Write>(
 
 /// Carries out a command over these files and streams, and answers the code of the status that the program ends with. The
 /// file `-` of a replay is `input`; the table file is one of its name, whatever that is.
-fn carry_out<R: Threads + Wait + Sync, O: Opens + Listens, I: Read + Drop, W: Write, E: Write>(
+fn carry_out<
+    R: Threads + Wait + RandomSource + Sync,
+    O: Opens + Listens,
+    I: Read + Drop,
+    W: Write,
+    E: Write,
+>(
     rt: &R,
     alloc: Global,
     files: &O,

@@ -13,8 +13,10 @@ use mds_io::write_all_of;
 use mds_pool::{NewBook, Port, Stop, serve_and_settle};
 use mds_table::Table;
 use std::alloc::Global;
+use std::hash::RandomState;
 use std::io::{Read, Write};
 use std::marker::Brand;
+use std::random::RandomSource;
 use std::sync::Wait;
 use std::thread::Threads;
 
@@ -52,7 +54,13 @@ pub struct ServeOptions {
 /// Serves vehicles over a table, the profile's where none is given, at a port of the host: prints where it listens, and
 /// goes on as [`serve_on`]. It answers the code of the status that the program ends with; a problem is told to `faults` in
 /// one line.
-pub fn serve_at<R: Threads + Wait + Sync, H: Listens, T: Read + Drop, W: Write, E: Write>(
+pub fn serve_at<
+    R: Threads + Wait + RandomSource + Sync,
+    H: Listens,
+    T: Read + Drop,
+    W: Write,
+    E: Write,
+>(
     rt: &R,
     alloc: Global,
     host: &H,
@@ -65,7 +73,7 @@ pub fn serve_at<R: Threads + Wait + Sync, H: Listens, T: Read + Drop, W: Write, 
     ensures { CameToServe H.listens host.now asked.port T.remaining table.entry asked.workers result
         (W.contents out.old) (W.contents out.new) (E.contents faults.old) (E.contents faults.new) }
 {
-    let (table, listening) = match begun(alloc, host, table, asked.port, out) {
+    let (table, hashers, listening) = match begun(rt, alloc, host, table, asked.port, out) {
         Ok(begun) => begun,
         Err(problem) => return tell(alloc, faults, problem).code(),
     };
@@ -73,6 +81,7 @@ pub fn serve_at<R: Threads + Wait + Sync, H: Listens, T: Read + Drop, W: Write, 
         rt,
         alloc,
         table,
+        hashers,
         &listening,
         asked.workers,
         asked.each,
@@ -81,14 +90,15 @@ pub fn serve_at<R: Threads + Wait + Sync, H: Listens, T: Read + Drop, W: Write, 
     )
 }
 
-/// The table, and what listens at the port, once it is printed where.
-fn begun<'a, H: Listens, T: Read + Drop, W: Write>(
+/// The table, a hasher for each shard, and what listens at the port, once it is printed where.
+fn begun<'a, R: RandomSource, H: Listens, T: Read + Drop, W: Write>(
+    rt: &R,
     alloc: Global,
     host: &H,
     table: Option<Source<'a, T>>,
     number: u16,
     out: &mut W,
-) -> Result<(Table, H::Listening), Problem<'a>>
+) -> Result<(Table, [RandomState; 2], H::Listening), Problem<'a>>
     ensures ok { IfOk result (λ begun. Listened H.listens host.now number T.remaining table.entry
         begun.0 (W.contents out.old) (W.contents out.new)) }
     ensures err { IfErr result (λ problem.
@@ -96,15 +106,18 @@ fn begun<'a, H: Listens, T: Read + Drop, W: Write>(
         (W.contents out.old) (W.contents out.new)) }
 {
     let table = table_in(alloc, table)?;
+    let (Ok(first), Ok(second)) = (RandomState::new(rt), RandomState::new(rt)) else {
+        return Err(Problem::Random);
+    };
     let Some((listening, port)) = host.listen(alloc, number) else {
         return Err(Problem::Socket);
     };
     print_line(alloc, out, &ListeningLine { port })?;
-    Ok((table, listening))
+    Ok((table, [first, second], listening))
 }
 
 /// Serves connections of a port over a table, with a new book of so many seats, 1 to [`mds_book::MAX_SEATS`], each of which
-/// answers so many of them. At the end it settles the book, and prints how many requests were accepted. It answers the code
+/// answers so many of them; the book's shards hash by these hashers. At the end it settles the book, and prints how many requests were accepted. It answers the code
 /// of the status that the program ends with: `Done`; `Torn` where the notes of the accepted requests don't fit the
 /// histories; `Fault` where no further connection could be taken, or an output failed; `NoMemory` for want of memory. What
 /// isn't `Done` is told to `faults` in one line.
@@ -112,6 +125,7 @@ pub fn serve_on<R: Threads + Wait + Sync, P: Port + Sync, W: Write, E: Write>(
     rt: &R,
     alloc: Global,
     table: Table,
+    hashers: [RandomState; 2],
     port: &P,
     seats: usize,
     each: usize,
@@ -125,7 +139,7 @@ where
     ensures { Serves table seats result
         (W.contents out.old) (W.contents out.new) (E.contents faults.old) (E.contents faults.new) }
 {
-    let opening = NewBook::of(table, seats);
+    let opening = NewBook::of(table, seats, hashers);
     serve_book::<R, P, Brand, Brand, W, E>(rt, alloc, opening, port, each, out, faults)
 }
 

@@ -46,6 +46,7 @@ fn is_told(alloc: Global, problem: Problem<'_>, status: Status, line: &[u8]) -> 
 fn line_goes_out_byte_by_byte(rt: HostRuntime) {
     let alloc = rt.alloc();
     assert!(rt; is_told(alloc, Problem::Output, Status::Fault, b"mds_city: output\n"));
+    assert!(rt; is_told(alloc, Problem::Random, Status::Fault, b"mds_city: random\n"));
     assert!(rt;
         is_told(
             alloc,

@@ -6,6 +6,7 @@ use crate::status::Status;
 use mds_pool::{Port, PortFault};
 use std::alloc::Global;
 use std::io::{self, ErrorKind, Write};
+use std::random::RandomSource;
 use std::sync::Wait;
 use std::test::Fail;
 use std::thread::Threads;
@@ -68,7 +69,7 @@ struct Came {
 }
 
 /// Runs the program in the folder, with `[]` at standard input.
-fn ran<R: Threads + Wait + Sync>(rt: &R, alloc: Global, words: &[&str]) -> Came {
+fn ran<R: Threads + Wait + RandomSource + Sync>(rt: &R, alloc: Global, words: &[&str]) -> Came {
     let mut out = Vec::new(alloc);
     let mut faults = Vec::new(alloc);
     let code = run(
@@ -87,7 +88,11 @@ fn ran<R: Threads + Wait + Sync>(rt: &R, alloc: Global, words: &[&str]) -> Came 
 type Case<'a> = (&'a [&'a str], u8, &'a str, &'a str);
 
 /// Whether the program comes to this.
-fn comes_to<R: Threads + Wait + Sync>(rt: &R, alloc: Global, case: &Case<'_>) -> bool {
+fn comes_to<R: Threads + Wait + RandomSource + Sync>(
+    rt: &R,
+    alloc: Global,
+    case: &Case<'_>,
+) -> bool {
     let (words, code, out, faults) = *case;
     let came = ran(rt, alloc, words);
     came.code == code
@@ -181,7 +186,12 @@ fn files_are_those_that_are_named(rt: HostRuntime) {
 }
 
 /// Whether the program ends with this status, and prints to the one stream alone that it should.
-fn answers<R: Threads + Wait + Sync>(rt: &R, alloc: Global, words: &[&str], code: u8) -> bool {
+fn answers<R: Threads + Wait + RandomSource + Sync>(
+    rt: &R,
+    alloc: Global,
+    words: &[&str],
+    code: u8,
+) -> bool {
     let came = ran(rt, alloc, words);
     let (told, kept) = if code == 0 {
         (came.out, came.faults)
@@ -220,7 +230,11 @@ impl Write for Full {
 }
 
 /// The status of a program whose output is full, and what it told.
-fn ran_full<R: Threads + Wait + Sync>(rt: &R, alloc: Global, words: &[&str]) -> (u8, Vec<u8>) {
+fn ran_full<R: Threads + Wait + RandomSource + Sync>(
+    rt: &R,
+    alloc: Global,
+    words: &[&str],
+) -> (u8, Vec<u8>) {
     let mut faults = Vec::new(alloc);
     let code = run(
         rt,

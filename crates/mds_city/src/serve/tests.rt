@@ -1,9 +1,13 @@
 //! How serving ends, and what is said of it.
-use super::{serve_on, torn_to};
+use super::{Listens, begun, serve_on, torn_to};
+use crate::problem::Problem;
+use crate::source::Source;
 use mds_pool::{Port, PortFault};
 use mds_table::Table;
 use std::alloc::Global;
+use std::hash::RandomState;
 use std::io::{self, ErrorKind, Write};
+use std::random::RandomSource;
 use std::sync::Wait;
 use std::test::Fail;
 use std::thread::Threads;
@@ -42,11 +46,27 @@ type Case = (usize, u8, &'static str, &'static str);
 const ENDS: [Case; 2] = [(0, 0, "accepted 0\n", ""), (1, 3, "", "mds_city: socket\n")];
 
 /// Whether serving a port that gives no connection ends so.
-fn ends_so<R: Threads + Wait + Sync>(rt: &R, alloc: Global, table: Table, case: &Case) -> bool {
+fn ends_so<R: Threads + Wait + Sync>(
+    rt: &R,
+    alloc: Global,
+    table: Table,
+    hashers: [RandomState; 2],
+    case: &Case,
+) -> bool {
     let (each, code, printed, told) = *case;
     let mut out = Vec::new(alloc);
     let mut faults = Vec::new(alloc);
-    let came = serve_on(rt, alloc, table, &Closed, 1, each, &mut out, &mut faults);
+    let came = serve_on(
+        rt,
+        alloc,
+        table,
+        hashers,
+        &Closed,
+        1,
+        each,
+        &mut out,
+        &mut faults,
+    );
     came == code && out.as_slice() == printed.as_bytes() && faults.as_slice() == told.as_bytes()
 }
 
@@ -54,7 +74,8 @@ fn ends_so<R: Threads + Wait + Sync>(rt: &R, alloc: Global, table: Table, case: 
 fn no_connections_and_first_accept_fails(rt: HostRuntime) -> Result<(), Fail> {
     for case in &ENDS {
         let table = Table::profile(rt.alloc())?;
-        assert!(rt; ends_so(&rt, rt.alloc(), table, case), "{case:?}");
+        let hashers = [RandomState::new(&rt)?, RandomState::new(&rt)?];
+        assert!(rt; ends_so(&rt, rt.alloc(), table, hashers, case), "{case:?}");
     }
     Ok(())
 }
@@ -68,6 +89,7 @@ fn last_line_fails(rt: HostRuntime) -> Result<(), Fail> {
         &rt,
         rt.alloc(),
         table,
+        [RandomState::new(&rt)?, RandomState::new(&rt)?],
         &Closed,
         1,
         0,
@@ -77,6 +99,41 @@ fn last_line_fails(rt: HostRuntime) -> Result<(), Fail> {
     assert_eq!(rt; code, 3);
     assert_eq!(rt; faults.as_slice(), b"mds_city: output\n".as_slice());
     Ok(())
+}
+
+/// What gives no random numbers.
+#[derive(Drop)]
+struct Drained;
+
+impl RandomSource for Drained {
+    fn fill_bytes(&self, _buf: &mut [u8]) -> io::Result<()> {
+        Err(io::Error::from(ErrorKind::Unsupported))
+    }
+}
+
+/// A host at whose every port something listens.
+#[derive(Drop)]
+struct Host;
+
+impl Listens for Host {
+    type In = &'static [u8];
+
+    type Out = Broken;
+
+    type Listening = Closed;
+
+    fn listen(&self, _alloc: Global, number: u16) -> Option<(Closed, u16)> {
+        Some((Closed, number))
+    }
+}
+
+#[test]
+fn no_random_numbers(rt: HostRuntime) {
+    let mut out = Vec::new(rt.alloc());
+    let table: Option<Source<'_, &'static [u8]>> = None;
+    let came = begun(&Drained, rt.alloc(), &Host, table, 8080, &mut out);
+    assert!(rt; matches!(came, Err(Problem::Random)));
+    assert_eq!(rt; out.len(), 0);
 }
 
 #[test]

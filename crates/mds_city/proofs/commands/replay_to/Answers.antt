@@ -3,7 +3,7 @@ use Rattle.std.proofs.KnownBytes.{Keeps-refl}
 use Rattle.mds_trace.specs.declared.report.Opening.{Opening}
 use Rattle.mds_city.specs.declared.source.Source.{Source}
 use Rattle.mds_city.specs.declared.problem.Problem.{Problem}
-use Rattle.mds_city.specs.declared.problem.Problem.TheVariants.{CannotRead, NotATable, NotABatch, Socket, Output, Memory}
+use Rattle.mds_city.specs.declared.problem.Problem.TheVariants.{CannotRead, NotATable, NotABatch, Socket, Random, Output, Memory}
 use Rattle.mds_city.specs.Command.{WentOut, status_on}
 use Rattle.mds_city.specs.Status.{code_of}
 use Rattle.mds_city.proofs.commands.replay_to.Goals as goal
@@ -15,6 +15,7 @@ out_before begins table_bytes table file_bytes file (CannotRead path) old new ou
 out_before begins table_bytes table file_bytes file (NotATable fault) old new out = inl out
 out_before begins table_bytes table file_bytes file (NotABatch fault) old new out = inl out
 out_before begins table_bytes table file_bytes file Socket old new out = absurd out
+out_before begins table_bytes table file_bytes file Random old new out = absurd out
 out_before begins table_bytes table file_bytes file Output old new out = inr out
 out_before begins table_bytes table file_bytes file Memory old new out = out
 

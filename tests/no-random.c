@@ -1,0 +1,11 @@
+/* A system that gives no random numbers. Loaded before the C library by tests/clients; no part of the program. */
+#include <errno.h>
+#include <stddef.h>
+
+int getentropy(void *buffer, size_t length)
+{
+    (void)buffer;
+    (void)length;
+    errno = EIO;
+    return -1;
+}
