@@ -1,6 +1,5 @@
 """Measures the built server: requests a second, how long answers take, what its memory grows by, and how long it settles."""
 
-import statistics
 import struct
 import subprocess
 import sys
@@ -12,6 +11,7 @@ from harness.building import loading_client
 from serving.server import Server, success_of
 from serving.settling import settled
 from serving.wire import ask, get, post
+from timing import in_turns, medians
 
 VEHICLES = 1000
 LOOKS = 20000
@@ -65,16 +65,19 @@ def batches(client, clients):
 
 
 KINDS = {
-    "looks at a vehicle": (looks, 0),
-    "reports of one event": (reports, 1),
-    f"batches of {EVENTS} events": (batches, EVENTS),
+    "looks at a vehicle": (looks, 0, 14),
+    "reports of one event": (reports, 1, 14),
+    f"batches of {EVENTS} events": (batches, EVENTS, 200),
 }
+"""Of each kind its requests, how many items of each are accepted, and how many microseconds of the server's processor one is
+meant to take."""
+SIDES = ((1, 1), (1, 4), (4, 4), (4, 16))
+"""Numbers of workers and of clients at which two servers are compared."""
 
 
 def processor_time(child):
-    """The seconds of the processors that a process took so far."""
-    fields = Path(f"/proc/{child.pid}/stat").read_text().rpartition(")")[2].split()
-    return (int(fields[11]) + int(fields[12])) / 100
+    """The seconds of the processors that a process took so far, by the clock that Linux has for it (clock_getcpuclockid(3))."""
+    return time.clock_gettime(~child.pid << 3 | 2)
 
 
 def files_of(folder, requests_of, clients):
@@ -127,15 +130,16 @@ class ServeBench:
 
     def measure(self):
         """Prints a table of the kinds of requests, with few and more workers and clients."""
-        heads = "requests a second | median, µs | 99th percentile, µs | server's processor, µs | client's, µs"
+        heads = "requests a second | median, µs | 99th percentile, µs | server's processor, µs | aim, µs | client's, µs"
         print(f"| what is asked | workers | clients | {heads} |")
-        print("|---|---:|---:|---:|---:|---:|---:|---:|")
-        for name, (requests_of, success) in KINDS.items():
+        print("|---|---:|---:|---:|---:|---:|---:|---:|---:|")
+        for name, (requests_of, success, aim) in KINDS.items():
             for clients in CLIENTS:
                 paths, count = files_of(self.folder, requests_of, clients)
                 for workers in WORKERS:
                     runs = [self.once(paths, count, success, workers) for _ in range(self.runs)]
-                    cells = " | ".join(f"{statistics.median(column):,.0f}" for column in zip(*runs))
+                    *times, own = medians(runs)
+                    cells = " | ".join(f"{number:,.0f}" for number in (*times, aim, own))
                     print(f"| {name} | {workers} | {clients} | {cells} |", flush=True)
 
     def keep(self):
@@ -161,3 +165,18 @@ class ServeBench:
             print(f"Settling {count:,} accepted requests of {SEATS} seats, and ending: {seconds:.3f} s.", flush=True)
             if seconds > MOST_SETTLING * count / min(SETTLED):
                 sys.exit("settling takes too long")
+
+
+def measure_beside(own, other):
+    """Prints a table of the requests a second of two servers, and of what the processor of each takes for a request."""
+    heads = "requests a second | of the plain program | ratio | processor, µs | of the plain program, µs | ratio"
+    print(f"| what is asked | workers | clients | {heads} |")
+    print("|---|---:|---:|---:|---:|---:|---:|---:|---:|")
+    for name, (requests_of, success, _) in KINDS.items():
+        for workers, clients in SIDES:
+            paths, count = files_of(own.folder, requests_of, clients)
+            measures = [lambda bench=bench: bench.once(paths, count, success, workers) for bench in (own, other)]
+            (rate, _, _, used, _), (plain_rate, _, _, plain_used, _) = in_turns(own.runs, *measures)
+            rates = f"{rate:,.0f} | {plain_rate:,.0f} | {rate / plain_rate:.2f}"
+            processor = f"{used:,.0f} | {plain_used:,.0f} | {plain_used / used:.2f}"
+            print(f"| {name} | {workers} | {clients} | {rates} | {processor} |", flush=True)
