@@ -16,6 +16,7 @@ MAX_ITEMS = 10000
 
 OUTPUT = "mds_city: output\n"
 SOCKET = "mds_city: socket\n"
+RANDOM = "mds_city: random\n"
 NO_MEMORY = "mds_city: out of memory\n"
 NOT_TEXT = "error: the words of the command line aren't text\n"
 

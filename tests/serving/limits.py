@@ -23,10 +23,14 @@ WRITING = (25, 160)
 """The same for a long answer: 30 for each of some calls of `write`, since each but the last takes a part of it."""
 LAST_READ = (1, 8)
 """The same for a client that sends nothing behind its answer: 2."""
+AT_ITS_END = (-1, 1)
+"""The same for one whose request was granted, so that nothing more is expected of it: it isn't waited for."""
 LAST_READS = (8, 20)
 """The same for one that goes on sending: 10, and the read before it."""
 MOST_LAST_SECONDS = 8
 """How long a client may be read from that sends all that it can: the limit of bytes comes first."""
+IDLE = 33
+"""How long no client comes, in seconds: longer than the system waits for a connection in one call."""
 OPEN_FILES = 5
 """Standard input, output and error, the listening socket, and one connection."""
 LACK, MOST_LACK = 3, 36
@@ -133,6 +137,38 @@ def let_go_behind_its_answer(program, least, most, piece=None, pause=0.0):
         yield from server.end()
 
 
+def silent_behind_a_granted_request(program):
+    """A client that neither sends nor ends behind the answer to a granted request: it holds nobody up."""
+    with Server(program, 3) as server:
+        yield from talk_over(server, registered(A))
+        server.count()
+        with connect(server.port) as kept:
+            kept.sendall(look(A, "removed", 0, None).request)
+            yield from differing(read_all(kept), look(A, "removed", 0, None).answer)
+            yield from next_answer(server, *AT_ITS_END)
+        yield from server.end()
+
+
+def sending_behind_a_granted_request(program):
+    """A client that sent more behind a granted request has its answer whole, and no reset."""
+    with Server(program, 2) as server:
+        yield from talk_over(server, registered(A))
+        asked = look(A, "removed", 0, None)
+        server.count()
+        with connect(server.port) as connection:
+            connection.sendall(asked.request + b"x" * AT_ONCE)
+            yield from differing(read_all(connection), asked.answer)
+        yield from server.end()
+
+
+def idle_for_long(program):
+    """A server to which no client comes for a while goes on."""
+    with Server(program, 1) as server:
+        time.sleep(IDLE)
+        yield from talk_over(server, Exchange(NOWHERE, error(404, "not_found")))
+        yield from server.end()
+
+
 def silent_behind_its_answer(program):
     """A client that neither sends nor ends behind its answer."""
     return let_go_behind_its_answer(program, *LAST_READ)
@@ -189,6 +225,9 @@ LIMITS = [
     let_go_in_its_head,
     let_go_in_its_body,
     let_go_without_reading,
+    silent_behind_a_granted_request,
+    sending_behind_a_granted_request,
+    idle_for_long,
     silent_behind_its_answer,
     trickling_behind_its_answer,
     flooding_behind_its_answer,

@@ -9,10 +9,11 @@ import time
 from pathlib import Path
 
 from cases.replays import A, batch, item
-from harness.case import OUTPUT
+from harness.building import built
+from harness.case import OUTPUT, RANDOM
 from harness.counting import Skipped, Unwell
 from serving.http import Exchange, done, registered
-from serving.server import Server
+from serving.server import NotListening, Server
 from serving.talking import talk_over
 from serving.wire import connect, error, get, post
 
@@ -95,9 +96,6 @@ def options_of_a_connection(program):
     with Server(program, 1) as server:
         server.count()
         with connect(server.port) as connection:
-            # the options are set behind the call that takes the connection
-            taken_by(server, connection).close()
-            time.sleep(0.2)
             with taken_by(server, connection) as other:
                 if not other.getsockopt(socket.IPPROTO_TCP, socket.TCP_NODELAY):
                     yield "TCP_NODELAY isn't set"
@@ -123,4 +121,18 @@ def last_line_that_nobody_reads(program):
             yield f"ended with {found}, in place of {wanted}"
 
 
-SOCKETS = [at_one_address, options_of_a_connection, last_line_that_nobody_reads]
+def without_random_numbers(program):
+    """Where the system gives no random numbers it doesn't listen, and tells why; a table file that can't be read is told first."""
+    shim = built("no-random.so", "tests/no-random.c", "-shared", "-fPIC")
+    env = {**os.environ, "LD_PRELOAD": str(shim)}
+    for table, told in ((None, RANDOM), ("[]", "not_rows\n")):
+        try:
+            with Server(program, 1, table=table, env=env):
+                yield "it listened"
+        except NotListening as stopped:
+            status, out, faults = stopped.ended
+            if (status, out) != (3, "") or not faults.endswith(told):
+                yield f"ended with {stopped.ended}, in place of {(3, '', told)}"
+
+
+SOCKETS = [at_one_address, options_of_a_connection, last_line_that_nobody_reads, without_random_numbers]
