@@ -50,13 +50,25 @@ fn in_a_book<L: ShardLedger, M: ShardLedger, R: Wait + RandomSource>(
     requires table { (table ≡ L.tables) × (table ≡ M.tables) }
 {
     let hashers = [RandomState::new(rt)?, RandomState::new(rt)?];
-    let (book, mut seats) = Book::<L, M>::open(alloc, table, 1, Keep::Accepted, first, second, hashers)?;
+    let (book, mut seats) = Book::<L, M>::open(
+        alloc,
+        table,
+        1,
+        Keep::Accepted,
+        first,
+        second,
+        hashers,
+    )?;
     let seat = seats.pop().ok_or("a seat")?;
     same_answers(rt, alloc, &book, seat)
 }
 
 /// The same with ledgers of its own.
-fn same_in_a_book<R: Wait + RandomSource>(rt: &R, alloc: Global, table: Table) -> Result<bool, Fail> {
+fn same_in_a_book<R: Wait + RandomSource>(
+    rt: &R,
+    alloc: Global,
+    table: Table,
+) -> Result<bool, Fail> {
     in_a_book::<Brand, Brand, R>(rt, alloc, table, Blank::new(1), Blank::new(1))
 }
 
