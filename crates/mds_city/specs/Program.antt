@@ -1,5 +1,5 @@
 -- What the program does with the words of its command line.
-use Rattle.std.specs.Prelude.{◌≡◌, ◌≢◌, ◌⊎◌, ℕ, ◌<◌, ◌≤◌, List, [], Option, Some, None, Bool, true, false, codes, option_map}
+use Rattle.std.specs.Prelude.{◌≡◌, ◌≢◌, ◌⊎◌, ℕ, ◌<◌, ◌≤◌, List, Option, Some, None, Bool, true, false, codes, option_map}
 use Rattle.std.specs.Io.KnownBytes.{Keeps}
 use Rattle.mds_trace.specs.declared.report.Opening.{Opening}
 use Rattle.mds_trace.specs.declared.report.Opening.TheVariants.{Removed, Any}

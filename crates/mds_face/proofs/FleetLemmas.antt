@@ -1,5 +1,5 @@
 -- Calls of a fleet.
-use Rattle.std.proofs.Common.{◌≡◌, List, [], ◌∷◌, length, take, ap}
+use Rattle.std.proofs.Common.{List, [], ◌∷◌, length, take, ap}
 use Rattle.mds_core.specs.declared.request.Request.{Request}
 use Rattle.mds_core.specs.declared.reply.Reply.{Reply}
 use Rattle.mds_core.specs.Machine.{Machine}

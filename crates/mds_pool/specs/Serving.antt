@@ -7,7 +7,7 @@ use Rattle.mds_book.specs.Seats.{Seated}
 use Rattle.mds_book.specs.Gathering.{Collected, IsGathered, IsWhole}
 use Rattle.mds_book.specs.Settling.{IsSettledBook, IsTorn}
 use Rattle.mds_pool.specs.declared.serving.Stop.{Stop}
-use Rattle.mds_pool.specs.declared.serving.Stop.TheVariants.{Memory, Accept, Torn}
+use Rattle.mds_pool.specs.declared.serving.Stop.TheVariants.{Torn}
 
 -- what settling a book all of whose seats are handed in came to: the settled book, or the place at which what they held is torn
 abbrev pub IsSettledEnd : Opened → List Seated → Result Collected Stop → Type 0

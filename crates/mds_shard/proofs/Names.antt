@@ -2,8 +2,6 @@
 use Rattle.std.proofs.Common.{◌≡◌, ◌≢◌, Option, Some, None, ℕ, ◌&&◌, ◌||◌, List, ◌∷◌, [], Bool, true, false, cond, refl, sym, ◌∙◌, ap}
 use Rattle.indexmap.specs.IndexSet.{contains, Updates}
 use Rattle.std.specs.Str.{bytes_eq}
-use Rattle.mds_core.specs.declared.key.Key.{Key}
-use Rattle.mds_core.specs.declared.event_name.EventName.{EventName}
 use Rattle.mds_core.specs.declared.request.Request.{Request}
 use Rattle.mds_core.specs.declared.request.Request.TheVariants.{Register, Report, Look}
 use Rattle.mds_core.specs.Reported.{Reported}

@@ -1,4 +1,4 @@
-use Rattle.std.proofs.Common.{◌≡◌, ◌∙◌, [], true, inl, inr, ap, refl, subst, map, rules}
+use Rattle.std.proofs.Common.{◌≡◌, ◌∙◌, [], true, inl, inr, ap, refl, subst, map}
 use Rattle.clap.specs.Words.{App, HasKind, fault_of, is_simple, is_simple_and_free, subcommand_of, takes}
 use Rattle.mds_args.specs.Words.{Asks, AsksNothing, program_app}
 use Rattle.clap.proofs.TakesLemmas.{passed_up}

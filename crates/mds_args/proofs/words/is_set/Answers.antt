@@ -1,4 +1,4 @@
-use Rattle.std.proofs.Common.{◌≡◌, None, Some, codes, rules}
+use Rattle.std.proofs.Common.{◌≡◌, None, Some, rules}
 use Rattle.clap.specs.Words.{first_of, found_of, rows_of}
 use Rattle.mds_args.proofs.WordsLemmas.{text_of_rows}
 use Rattle.mds_args.proofs.words.is_set.Goals as goal

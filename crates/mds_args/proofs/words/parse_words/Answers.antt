@@ -1,4 +1,4 @@
-use Rattle.std.proofs.Common.{◌≡◌, ap, ◌∙◌}
+use Rattle.std.proofs.Common.{ap, ◌∙◌}
 use Rattle.clap.specs.Words.{kind_of}
 use Rattle.mds_args.specs.Error.{kind_in}
 use Rattle.mds_args.proofs.words.parse_words.Goals as goal

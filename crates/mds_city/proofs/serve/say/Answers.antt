@@ -1,4 +1,4 @@
-use Rattle.std.proofs.Common.{◌≡◌, ℕ, rules, subst, sym}
+use Rattle.std.proofs.Common.{◌≡◌, rules, subst, sym}
 use Rattle.std.specs.Prelude.{Result, Err}
 use Rattle.std.proofs.KnownBytes.{Keeps-refl}
 use Rattle.mds_book.specs.Gathering.{Collected}

@@ -1,4 +1,4 @@
-use Rattle.std.proofs.Common.{arith, rules}
+use Rattle.std.proofs.Common.{rules}
 use Rattle.mds_io.proofs.ReadLemmas.{loses_given}
 use Rattle.mds_io.proofs.read.read_more.Goals as goal
 

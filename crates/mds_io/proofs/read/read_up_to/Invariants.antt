@@ -1,4 +1,4 @@
-use Rattle.std.proofs.Common.{◌≡◌, ◌≤◌, ◌-◌, length}
+use Rattle.std.proofs.Common.{◌≤◌, ◌-◌, length}
 use Rattle.mds_io.specs.Read.{Gains}
 use Rattle.mds_io.proofs.read.read_up_to.Given as goal
 

@@ -1,7 +1,7 @@
 use Rattle.std.proofs.Common.{◌∙◌, Some, sym, ap, subst}
 use Rattle.indexmap.specs.IndexMap.{get, Updates}
 use Rattle.mds_core.specs.declared.key.Key.{Key}
-use Rattle.mds_core.specs.History.{key_of, same_key, report_of}
+use Rattle.mds_core.specs.History.{same_key, report_of}
 use Rattle.mds_shard.proofs.Names.{is_none}
 use Rattle.mds_shard.proofs.vehicle.keep.Goals as goal
 
