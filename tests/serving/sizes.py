@@ -1,19 +1,23 @@
-"""Numbers past those at which something could end: connections of a worker, accepted calls of a seat, bytes of an answer."""
+"""Numbers past those at which something could end: connections of a worker, accepted calls of a seat, bytes of an answer, and
+bytes of memory."""
 
 import json
 import struct
 import subprocess
 import tempfile
+from concurrent.futures import ThreadPoolExecutor
 from pathlib import Path
 
 from cases.replays import A, P, batch, history
 from harness.building import loading_client
+from harness.case import MAX_BYTES
+from harness.texts import differing
 from serving.http import Exchange, done, registered
 from serving.model import compact
 from serving.server import Server
 from serving.settling import settled
 from serving.talking import talk_over
-from serving.wire import answer, get, post
+from serving.wire import answer, ask, get, post
 
 CONNECTIONS = 65600
 CLIENTS = 4
@@ -21,6 +25,8 @@ BATCHES, EVENTS = 7, 10000
 SEATS, TURNS, ITEMS = 16, 2, 9375
 MOST_SETTLING = 10
 """How many seconds a server may take to settle 300000 accepted requests, and to end."""
+WORKERS, MOST_GROWN = 4, 100 * 2**20
+"""Workers that read large bodies, and how many bytes the server may have grown by behind them."""
 
 
 def files_of_looks(folder):
@@ -67,4 +73,28 @@ def many_requests_of_many_seats(program):
         yield f"{seconds:.1f} s, in place of {MOST_SETTLING} at most"
 
 
-SIZES = [many_connections_of_one_worker, many_calls_of_one_seat, many_requests_of_many_seats]
+
+def long_items():
+    """Batches of one item each that is no object, about as long as a body may be: lists of other values."""
+    for value in ["0", '{"":0}', 100 * '{"":' + "0" + 100 * "}"]:
+        count = (MAX_BYTES - 4) // (len(value) + 1)
+        yield f"[[{','.join([value] * count)}]]"
+
+
+def memory_behind_long_items(program):
+    """Workers that read bodies of 4 MB, of values that nothing is kept of, hold no more memory then."""
+    wanted = done(1, [{"error": "not_object", "index": 0}])
+    bodies = [post("/events", text) for text in long_items()] * 2
+    with Server(program, len(bodies), workers=WORKERS) as server:
+        before = server.memory()
+        with ThreadPoolExecutor(WORKERS) as pool:
+            for found in pool.map(lambda body: ask(server.port, body), bodies):
+                server.count()
+                yield from differing(found, wanted)
+        grown = server.memory() - before
+        if grown > MOST_GROWN:
+            yield f"{grown} bytes more behind {len(bodies)} bodies, in place of {MOST_GROWN}"
+        yield from server.end()
+
+
+SIZES = [many_connections_of_one_worker, many_calls_of_one_seat, many_requests_of_many_seats, memory_behind_long_items]

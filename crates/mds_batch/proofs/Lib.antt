@@ -1,5 +1,10 @@
+pub mod Starts
 pub mod Listed
 pub mod FormLemmas
+pub mod Turns
 pub mod ItemLemmas
+pub mod TypeLemmas
+pub mod MemberLemmas
+pub mod PutLemmas
 pub mod ItemLaws
 pub mod BatchLaws

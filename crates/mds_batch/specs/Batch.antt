@@ -3,7 +3,6 @@ use Rattle.std.specs.Prelude.{◌≡◌, codes, ℕ, ◌<◌, ◌≤◌, List, [
 use Rattle.std.specs.Option.{option_or}
 use Rattle.serde_json.specs.Data.{Data}
 use Rattle.serde_json.specs.Find.{as_array, as_object}
-use Rattle.mds_table.specs.declared.json.TextFault.{TextFault}
 use Rattle.mds_table.specs.declared.json.TextFault.TheVariants as text
 use Rattle.mds_table.specs.Json.{items_in, IsShortTextOf, HasTextFault}
 use Rattle.mds_batch.specs.declared.batch.BatchFault.{BatchFault}
@@ -42,12 +41,6 @@ HasFault bytes NotJson = HasTextFault bytes text.NotJson
 HasFault bytes NotList = (value : Data) × IsShortTextOf value bytes × IsListFault value NotList
 HasFault bytes TooMany = (value : Data) × IsShortTextOf value bytes × IsListFault value TooMany
 HasFault bytes Memory = Unit {0}
-
--- the fault of a batch whose bytes are no text
-abbrev pub of_text : TextFault → BatchFault
-of_text text.Memory = Memory
-of_text text.TooLong = TooLong
-of_text text.NotJson = NotJson
 
 -- the word for a fault
 abbrev pub fault_text : BatchFault → List ℕ

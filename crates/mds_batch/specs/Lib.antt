@@ -5,4 +5,8 @@ pub mod Forms
 pub mod Items
 pub mod Asking
 pub mod Batch
+pub mod Reading
+pub mod Slot
+pub mod Filled
+pub mod Listed
 pub mod Laws

@@ -4,14 +4,16 @@ ghost use Rattle.serde_json.specs.View.{view};
 ghost use Rattle.mds_batch.specs.Items.{IsVehicleItem, IsEventItem};
 ghost use Rattle.mds_batch.specs.Batch.{max_items, listed, AreItemsOf, HasItems, IsListFault, HasFault, fault_text};
 
-use crate::read::{event_item_of, vehicle_item_of};
+use crate::event::EventFields;
+use crate::list::{ItemFields, ItemList};
+use crate::tokens::{ReadFault, read_text};
+use crate::vehicle::VehicleFields;
 use crate::{EventItem, VehicleItem};
 use mds_table::MAX_BYTES;
-use mds_table::json::{TextFault, value_of};
-use serde_json::Value;
-use std::alloc::{AllocError, Global};
+use simdutf8::compat::from_utf8;
+use std::alloc::Global;
 use std::error::Error;
-use std::{fmt, slice};
+use std::fmt;
 
 /// The most items that a batch has.
 pub const MAX_ITEMS: usize = 10_000;
@@ -45,31 +47,20 @@ impl fmt::Display for BatchFault {
     }
 }
 
-impl From<TextFault> for BatchFault {
-    ghost use Rattle.mds_batch.specs.Batch.{of_text};
+impl From<ReadFault> for BatchFault {
+    ghost use Rattle.mds_batch.specs.Reading.{fault_of_text};
 
-    ghost from_gives = { λ text fault. fault ≡ of_text text };
+    ghost from_gives = { λ text fault. fault ≡ fault_of_text text };
 
-    fn from(fault: TextFault) -> BatchFault {
+    fn from(fault: ReadFault) -> BatchFault {
         match fault {
-            TextFault::Memory => BatchFault::Memory,
-            TextFault::TooLong => BatchFault::TooLong,
-            TextFault::NotJson => BatchFault::NotJson,
+            ReadFault::Memory => BatchFault::Memory,
+            ReadFault::NotJson => BatchFault::NotJson,
         }
     }
 }
 
 impl Error for BatchFault {}
-
-impl From<AllocError> for BatchFault {
-    ghost use Rattle.mds_batch.specs.declared.batch.BatchFault.TheVariants.{Memory};
-
-    ghost from_gives = { λ _ fault. fault ≡ Memory };
-
-    fn from(_refused: AllocError) -> BatchFault {
-        BatchFault::Memory
-    }
-}
 
 /// The registrations that a text of JSON lists, item by item, in their order: the vehicle that an item names, or what is
 /// wrong with it. An object alone counts as a list of one.
@@ -82,9 +73,7 @@ pub fn read_vehicles(alloc: Global, bytes: &[u8]) -> Result<Vec<VehicleItem>, Ba
     ensures items { IfOk result (λ items. HasItems IsVehicleItem bytes.now items.items) }
     ensures fault { IfErr result (HasFault bytes.now) }
 {
-    let value = value_of(alloc, bytes)?;
-    let values = listed_values(&value)?;
-    Ok(vehicle_items_of(alloc, values)?)
+    read_batch::<VehicleFields>(alloc, bytes)
 }
 
 /// The events that a text of JSON lists, item by item, in their order: the event that an item reports, or what is wrong
@@ -97,48 +86,21 @@ pub fn read_events(alloc: Global, bytes: &[u8]) -> Result<Vec<EventItem>, BatchF
     ensures items { IfOk result (λ items. HasItems IsEventItem bytes.now items.items) }
     ensures fault { IfErr result (HasFault bytes.now) }
 {
-    let value = value_of(alloc, bytes)?;
-    let values = listed_values(&value)?;
-    Ok(event_items_of(alloc, values)?)
+    read_batch::<EventFields>(alloc, bytes)
 }
 
-/// The values that a batch lists, of which there are few enough.
-fn listed_values(value: &Value) -> Result<&[Value], BatchFault>
-    ensures values { IfOk result (λ values.
-        (listed (view value.now) ≡ Some (map view values.now)) × (length values.now ≤ max_items)) }
-    ensures fault { IfErr result (IsListFault (view value.now)) }
+/// The items that a text of JSON lists, each read by these fields.
+fn read_batch<F: ItemFields + Drop>(alloc: Global, bytes: &[u8]) -> Result<Vec<F::Item>, BatchFault>
+    ensures items { IfOk result (λ items. HasItems F.is_item bytes.now items.items) }
+    ensures fault { IfErr result (HasFault bytes.now) }
 {
-    let values = listed_of(value).ok_or(BatchFault::NotList)?;
-    if values.len() > MAX_ITEMS {
-        return Err(BatchFault::TooMany);
+    if bytes.len() > MAX_BYTES {
+        return Err(BatchFault::TooLong);
     }
-    Ok(values)
-}
-
-/// The values of a list, or an object alone.
-#[tactic(auto, using(crate::proofs::Listed::values_items_of))]
-fn listed_of(value: &Value) -> Option<&[Value]>
-    ensures { option_map (λ values. map view values.now) result ≡ listed (view value.now) }
-{
-    if let Some(values) = value.as_array() {
-        return Some(values.as_slice());
+    let text = from_utf8(bytes).ok().ok_or(BatchFault::NotJson)?;
+    let mut list = ItemList::<F>::new(alloc);
+    if !read_text(alloc, text, &mut list)? {
+        return Err(BatchFault::NotList);
     }
-    if value.is_object() {
-        return Some(slice::from_ref(value));
-    }
-    None
-}
-
-/// The vehicles and faults that the values are, one by one.
-fn vehicle_items_of(alloc: Global, values: &[Value]) -> Result<Vec<VehicleItem>, AllocError>
-    ensures { IfOk result (λ items. AreItemsOf IsVehicleItem (map view values.now) items.items) }
-{
-    values.iter().map(vehicle_item_of).collect(alloc)
-}
-
-/// The events and faults that the values are, one by one.
-fn event_items_of(alloc: Global, values: &[Value]) -> Result<Vec<EventItem>, AllocError>
-    ensures { IfOk result (λ items. AreItemsOf IsEventItem (map view values.now) items.items) }
-{
-    values.iter().map(event_item_of).collect(alloc)
+    list.into_items().ok_or(BatchFault::TooMany)
 }

@@ -1,93 +1,71 @@
 //! The forms that the values of members have.
-ghost use Rattle.std.specs.Prelude.{◌≡◌, ◌≤◌, [], length, map, Some, None, IfSome, IfNone, OnSome};
-ghost use Rattle.serde_json.specs.View.{view};
-ghost use Rattle.mds_core.specs.Reported.{max_event_types, max_time};
-ghost use Rattle.mds_batch.specs.Forms.{uuid_in, all_types, few_types, types_in, time_in, whole_in, position_of};
+ghost use Rattle.std.specs.Prelude.{◌≡◌, Some, None, IfOk, IfErr, option_and_then};
+ghost use Rattle.serde_json.specs.Find.{as_number, as_i64};
+ghost use Rattle.mds_table.specs.Json.{state_in, type_name_in};
+ghost use Rattle.mds_batch.specs.Reading.{value_at, Reads};
+ghost use Rattle.mds_batch.specs.Forms.{uuid_in, time_in};
+ghost use Rattle.mds_batch.specs.declared.tokens.ReadFault.TheVariants.{NotJson as not_json};
 
-use arrayvec::ArrayVec;
-use mds_core::{MAX_EVENT_TYPES, MAX_TIME, Position};
-use mds_table::TypeName;
-use mds_table::json::type_name_of;
-use serde_json::Value;
+use crate::tokens::{Head, ReadFault, Tokens, pass};
+use mds_core::MAX_TIME;
+use mds_table::{State, TypeName};
 use uuid::Uuid;
 
-/// The identifier that the value is: a text in one of the forms of a UUID.
-pub(crate) fn uuid_of(value: &Value) -> Option<Uuid>
-    ensures { result ≡ uuid_in (view value.now) }
+/// The identifier that the next value is: a text in one of the forms of a UUID.
+pub(crate) fn read_uuid(tokens: &mut Tokens<'_>, depth: usize) -> Result<Option<Uuid>, ReadFault>
+    ensures read { IfOk result (Reads uuid_in depth tokens.old tokens.new) }
+    ensures fault { IfErr result (λ fault. (fault ≡ not_json) × (value_at depth tokens.old ≡ None)) }
 {
-    Uuid::try_parse(value.as_str()?).ok()
+    Ok(match pass(tokens, depth)? {
+        Head::Text(text) => Uuid::try_parse(text).ok(),
+        _ => None,
+    })
 }
 
-/// Adds the type names that the values are, if each is one; where one isn't, those before it may have been added.
-fn push_all_types(values: &[Value], types: &mut ArrayVec<TypeName, MAX_EVENT_TYPES>) -> Option<()>
-    requires empty { types.old.items ≡ [] }
-    requires room { length values.now ≤ max_event_types }
-    ensures types { OnSome result (all_types (map view values.now) ≡ Some types.new.items) }
-    ensures count { OnSome result (length types.new.items ≡ length values.now) }
-    ensures none { IfNone result (all_types (map view values.now) ≡ None) }
+/// The state that the next value names.
+pub(crate) fn read_state(tokens: &mut Tokens<'_>, depth: usize) -> Result<Option<State>, ReadFault>
+    ensures read { IfOk result (Reads state_in depth tokens.old tokens.new) }
+    ensures fault { IfErr result (λ fault. (fault ≡ not_json) × (value_at depth tokens.old ≡ None)) }
 {
-    for value in values {
-        types.push(type_name_of(value)?);
-    }
-    Some(())
+    Ok(match pass(tokens, depth)? {
+        Head::Text(text) => State::of_name(text),
+        _ => None,
+    })
 }
 
-/// Fills an empty list with the types that the values are: 1 to [`MAX_EVENT_TYPES`] type names.
-fn fill_few_types(values: &[Value], types: &mut ArrayVec<TypeName, MAX_EVENT_TYPES>) -> Option<()>
-    requires { types.old.items ≡ [] }
-    ensures types { OnSome result (few_types (map view values.now) ≡ Some types.new.items) }
-    ensures some { OnSome result (1 ≤ length types.new.items) }
-    ensures few { OnSome result (length types.new.items ≤ max_event_types) }
-    ensures none { IfNone result (few_types (map view values.now) ≡ None) }
+/// The type name that the next value is.
+pub(crate) fn read_type_name(
+    tokens: &mut Tokens<'_>,
+    depth: usize,
+) -> Result<Option<TypeName>, ReadFault>
+    ensures read { IfOk result (Reads type_name_in depth tokens.old tokens.new) }
+    ensures fault { IfErr result (λ fault. (fault ≡ not_json) × (value_at depth tokens.old ≡ None)) }
 {
-    if values.is_empty() {
-        return None;
-    }
-    if values.len() > MAX_EVENT_TYPES {
-        return None;
-    }
-    push_all_types(values, types)
+    Ok(match pass(tokens, depth)? {
+        Head::Text(text) => TypeName::new(text).ok(),
+        _ => None,
+    })
 }
 
-/// Fills an empty list with the types that the value lists, if it lists 1 to [`MAX_EVENT_TYPES`].
-#[tactic(auto, using(crate::proofs::Listed::values_items_of))]
-pub(crate) fn fill_types(
-    value: &Value,
-    types: &mut ArrayVec<TypeName, MAX_EVENT_TYPES>,
-) -> Option<()>
-    requires { types.old.items ≡ [] }
-    ensures types { OnSome result (types_in (view value.now) ≡ Some types.new.items) }
-    ensures some { OnSome result (1 ≤ length types.new.items) }
-    ensures few { OnSome result (length types.new.items ≤ max_event_types) }
-    ensures none { IfNone result (types_in (view value.now) ≡ None) }
+/// The time that the next value is: a whole number of milliseconds, at most [`MAX_TIME`].
+pub(crate) fn read_time(tokens: &mut Tokens<'_>, depth: usize) -> Result<Option<u64>, ReadFault>
+    ensures read { IfOk result (Reads time_in depth tokens.old tokens.new) }
+    ensures fault { IfErr result (λ fault. (fault ≡ not_json) × (value_at depth tokens.old ≡ None)) }
 {
-    fill_few_types(value.as_array()?, types)
+    Ok(match pass(tokens, depth)? {
+        Head::Number(number) => number.as_u64().filter(|time| *time <= MAX_TIME),
+        _ => None,
+    })
 }
 
-/// The time that the value is: a whole number of milliseconds, at most [`MAX_TIME`].
-pub(crate) fn time_of(value: &Value) -> Option<u64>
-    ensures time { result ≡ time_in (view value.now) }
-    ensures in_range { IfSome result (λ time. time ≤ max_time) }
+/// The whole number that the next value is.
+pub(crate) fn read_whole(tokens: &mut Tokens<'_>, depth: usize) -> Result<Option<i64>, ReadFault>
+    ensures read { IfOk result (Reads (λ value. option_and_then as_i64 (as_number value)) depth
+        tokens.old tokens.new) }
+    ensures fault { IfErr result (λ fault. (fault ≡ not_json) × (value_at depth tokens.old ≡ None)) }
 {
-    let time = value.as_u64()?;
-    if time > MAX_TIME {
-        return None;
-    }
-    Some(time)
-}
-
-/// The whole number that the member of this name is.
-fn whole_of(value: &Value, name: &str) -> Option<i64>
-    ensures { result ≡ whole_in name.now (view value.now) }
-{
-    value.get(name)?.as_i64()
-}
-
-/// The position that the value gives: its members `lat` and `lng`, in ten-millionths of a degree.
-pub(crate) fn position_of(value: &Value) -> Option<Position>
-    ensures { result ≡ position_of (view value.now) }
-{
-    let lat = whole_of(value, "lat")?;
-    let lng = whole_of(value, "lng")?;
-    Position::new(lat, lng)
+    Ok(match pass(tokens, depth)? {
+        Head::Number(number) => number.as_i64(),
+        _ => None,
+    })
 }

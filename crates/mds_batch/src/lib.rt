@@ -7,13 +7,20 @@
 #![tactic(auto)]
 
 mod batch;
+mod event;
 mod form;
 mod item;
 pub mod laws;
+mod list;
+mod location;
 mod member;
-mod read;
+mod number;
+mod slot;
 #[cfg(test)]
 mod tests;
+mod tokens;
+mod types;
+mod vehicle;
 
 pub use batch::{BatchFault, MAX_ITEMS, read_events, read_vehicles};
 pub use item::{BatchItem, EventItem, ItemFault, VehicleItem};

@@ -1,11 +1,19 @@
 //! What no clause says: values from outside, and that each call can succeed.
+mod by_value;
 mod events;
+mod members;
+mod seeded;
 mod texts;
+mod values;
 
 use crate::{BatchFault, ItemFault, Member, VehicleItem, read_events, read_vehicles};
 use mds_core::Key;
 use std::test::Fail;
 use uuid::Uuid;
+
+/// The registration of a vehicle.
+pub const VEHICLE: &str =
+    r#"{"provider_id":"00000000-0000-4000-8000-000000000001","device_id":"00000000-0000-4000-8000-00000000000a"}"#;
 
 /// Registrations of one vehicle, alone and with members that are ignored, and items at fault.
 const REGISTRATIONS: &[u8] = br#"[

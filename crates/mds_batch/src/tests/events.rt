@@ -9,7 +9,7 @@ use std::test::Fail;
 use uuid::Uuid;
 
 /// An event of three types, with a position.
-const EVENT: &str = r#"{"provider_id":"00000000-0000-4000-8000-000000000001",
+pub const EVENT: &str = r#"{"provider_id":"00000000-0000-4000-8000-000000000001",
 "device_id":"00000000-0000-4000-8000-00000000000a","event_id":"00000000-0000-4000-8000-0000000000e1",
 "vehicle_state":"on_trip","event_types":["trip_end","battery_low","trip_end"],
 "timestamp":1000,"location_e7":{"lat":525200000,"lng":134050000}}"#;
@@ -92,10 +92,10 @@ const EVENTS: [(&str, &str, u64, Option<(i64, i64)>); 10] = [
 ];
 
 /// The position of the event.
-const BERLIN: Option<(i64, i64)> = Some((525200000, 134050000));
+pub const BERLIN: Option<(i64, i64)> = Some((525200000, 134050000));
 
 /// The event, at this time and place.
-fn event(time: u64, place: Option<(i64, i64)>) -> Result<Event, Fail> {
+pub fn event(time: u64, place: Option<(i64, i64)>) -> Result<Event, Fail> {
     let key = Key {
         provider: Uuid::from_u128(0x00000000_0000_4000_8000_000000000001),
         device: Uuid::from_u128(0x00000000_0000_4000_8000_00000000000a),
@@ -111,7 +111,7 @@ fn event(time: u64, place: Option<(i64, i64)>) -> Result<Event, Fail> {
 }
 
 /// What is read of the event, with the other text in the piece's place.
-fn item_with(alloc: Global, piece: &str, other: &str) -> Result<Option<EventItem>, Fail> {
+pub fn item_with(alloc: Global, piece: &str, other: &str) -> Result<Option<EventItem>, Fail> {
     let text = EVENT.replace(alloc, piece, other)?;
     Ok(read_events(alloc, text.as_bytes())?.pop())
 }

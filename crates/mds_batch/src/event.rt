@@ -1,0 +1,125 @@
+//! Events, read from an object's members.
+ghost use Rattle.std.specs.Prelude.{◌≡◌, Some, None, IfOk, IfErr};
+ghost use Rattle.serde_json.specs.Data.{Members, object};
+ghost use Rattle.mds_batch.specs.Items.{position_in, fault_at, fault_of, event_members, IsEventOf};
+ghost use Rattle.mds_batch.specs.Filled.{HoldsEvent};
+
+use crate::form::{read_state, read_time, read_uuid};
+use crate::list::ItemFields;
+use crate::location::read_position;
+use crate::slot::Slot;
+use crate::tokens::{Fields, ReadFault, Tokens};
+use crate::types::{TypeList, read_types};
+use crate::vehicle::VehicleFields;
+use crate::{EventItem, ItemFault, Member};
+use mds_core::{Event, Position};
+use mds_table::State;
+use uuid::Uuid;
+
+/// The members of an event.
+#[derive(Drop)]
+pub(crate) struct EventFields {
+    vehicle: VehicleFields,
+    id: Slot<Uuid>,
+    state: Slot<State>,
+    has_types: Slot<()>,
+    types: TypeList,
+    time: Slot<u64>,
+    position: Slot<Option<Position>>,
+}
+
+impl EventFields {
+    /// The event that the members report.
+    fn event(&self) -> Result<Event, ItemFault>
+        requires { (found : Members) × HoldsEvent found self.now }
+        ensures event { (found : Members) → HoldsEvent found self.now
+            → IfOk result (IsEventOf (object found)) }
+        ensures fault { (found : Members) → HoldsEvent found self.now
+            → IfErr result (λ fault. fault_of event_members (object found) ≡ Some fault) }
+    {
+        let key = self.vehicle.key()?;
+        let id = self.id.required(Member::EventId)?;
+        let state = self.state.required(Member::VehicleState)?;
+        self.has_types.required(Member::EventTypes)?;
+        let time = self.time.required(Member::Timestamp)?;
+        let position = self.position()?;
+        Ok(Event::new(key, id, state, self.types.names(), time, position).unwrap())
+    }
+
+    /// The position of the event: none where the member isn't there or is null.
+    fn position(&self) -> Result<Option<Position>, ItemFault>
+        ensures position { (found : Members) → HoldsEvent found self.now
+            → IfOk result (λ position. position_in (object found) ≡ Some position) }
+        ensures fault { (found : Members) → HoldsEvent found self.now
+            → IfErr result (λ fault. (position_in (object found) ≡ None)
+                × (fault_at (object found) Member.LocationE7 ≡ fault)) }
+    {
+        match self.position {
+            Slot::Absent => Ok(None),
+            Slot::Bad => Err(ItemFault::Bad(Member::LocationE7)),
+            Slot::Good(position) => Ok(position),
+        }
+    }
+}
+
+impl Fields for EventFields {
+    ghost use Rattle.mds_batch.specs.Filled.{HoldsEvent};
+
+    ghost holds = { HoldsEvent };
+
+    fn take(&mut self, name: &str, tokens: &mut Tokens<'_>, depth: usize) -> Result<(), ReadFault> {
+        match name {
+            "event_id" => self.id = Slot::of(read_uuid(tokens, depth)?),
+            "vehicle_state" => self.state = Slot::of(read_state(tokens, depth)?),
+            "event_types" => {
+                self.has_types = Slot::of(read_types(&mut self.types, tokens, depth)?);
+            }
+            "timestamp" => self.time = Slot::of(read_time(tokens, depth)?),
+            "location_e7" => self.position = Slot::of(read_position(tokens, depth)?),
+            _ => self.vehicle.take(name, tokens, depth)?,
+        }
+        Ok(())
+    }
+}
+
+impl ItemFields for EventFields {
+    ghost use Rattle.mds_batch.specs.Items.{IsEventItem};
+
+    type Item = EventItem;
+
+    ghost is_item = { IsEventItem };
+
+    fn new() -> EventFields {
+        EventFields {
+            vehicle: VehicleFields::new(),
+            id: Slot::Absent,
+            state: Slot::Absent,
+            has_types: Slot::Absent,
+            types: TypeList::new(),
+            time: Slot::Absent,
+            position: Slot::Absent,
+        }
+    }
+
+    fn clear(&mut self) {
+        self.vehicle.clear();
+        self.id = Slot::Absent;
+        self.state = Slot::Absent;
+        self.has_types = Slot::Absent;
+        self.time = Slot::Absent;
+        self.position = Slot::Absent;
+    }
+
+    #[tactic(auto, unfolding(crate::specs::Items::IsEventItem))]
+    fn item(&self) -> EventItem {
+        match self.event() {
+            Ok(event) => EventItem::Event(event),
+            Err(fault) => EventItem::Fault(fault),
+        }
+    }
+
+    #[tactic(auto, unfolding(crate::specs::Items::IsEventItem))]
+    fn no_object() -> EventItem {
+        EventItem::Fault(ItemFault::NotObject)
+    }
+}
