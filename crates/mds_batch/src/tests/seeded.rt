@@ -217,7 +217,7 @@ impl Maker {
 
     /// Adds lists and objects, one within the other, about as deep as they may be.
     fn push_deep(&mut self, alloc: Global) -> Result<(), AllocError> {
-        let pairs = 60 + self.below(5);
+        let pairs = self.below(5).wrapping_add(60);
         self.text
             .push_str(r#"[{"a":"#.repeat(alloc, pairs)?.as_str())?;
         self.push_one(&["0", "[]", "{}"])?;
@@ -285,7 +285,7 @@ impl Maker {
         match self.below(2048) {
             0..=7 => return self.push_one(BLANKS),
             8 => {
-                let zeros = 9_998 + self.below(4);
+                let zeros = self.below(4).wrapping_add(9_998);
                 self.text.push_str("[0")?;
                 self.text.push_str(",0".repeat(alloc, zeros)?.as_str())?;
                 return self.text.push_str("]");
