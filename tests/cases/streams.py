@@ -29,10 +29,11 @@ def streams():
 
 
 def memory():
-    """A batch that 128 MiB don't hold: its bytes, its value and its items."""
+    """A batch of 3.6 MB: 8 MiB don't hold the program, the batch's bytes and as many for reading them, but 16 MiB do, whatever
+    its values are."""
     many = "[[%s]]" % ", ".join(['{"a":0}'] * 400000)
-    little = {"memory": 128 * 2**20, "given": many, "files": {"events.json": many}}
+    given = {"given": many, "files": {"events.json": many}}
     for words in ("replay -", "replay events.json"):
-        yield Case(words, status=4, faults=NO_MEMORY, **little)
-        yield Case(words, status=4, stderr=FULL, **little)
-    yield replayed(many, ["fault not_object"], [], name="where memory is there")
+        yield Case(words, memory=8 * 2**20, status=4, faults=NO_MEMORY, **given)
+        yield Case(words, memory=8 * 2**20, status=4, stderr=FULL, **given)
+    yield replayed(many, ["fault not_object"], [], memory=16 * 2**20, name="where memory is there")
