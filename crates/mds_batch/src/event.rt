@@ -52,7 +52,7 @@ impl EventFields {
             → IfOk result (λ position. position_in (object found) ≡ Some position) }
         ensures fault { (found : Members) → HoldsEvent found self.now
             → IfErr result (λ fault. (position_in (object found) ≡ None)
-                × (fault_at (object found) Member.LocationE7 ≡ fault)) }
+            × (fault_at (object found) Member.LocationE7 ≡ fault)) }
     {
         match self.position {
             Slot::Absent => Ok(None),

@@ -17,6 +17,9 @@ returns-in_ok-read_uuid-in-device_id-clause-taken c =
 pub returns-in_ok-pass-in_default-clause-taken : goal.returns-in_ok-pass-in_default-clause-taken
 returns-in_ok-pass-in_default-clause-taken c =
     let read = c.in_ok-pass-in_default.ensures.head in
-    let other = c.in_default in
-    (read.0, read.1, λ found holds. vehicle_put _ read.0 found _ _ holds
-    (rw (differs _ (member_name ProviderId) other.not-provider_id)) (rw (differs _ (member_name DeviceId) other.not-device_id)))
+    let other = c.in_default in (
+      read.0,
+      read.1,
+      λ found holds. vehicle_put _ read.0 found _ _ holds
+          (rw (differs _ (member_name ProviderId) other.not-provider_id)) (rw (differs _ (member_name DeviceId) other.not-device_id)),
+    )
