@@ -1,6 +1,7 @@
 -- What the members of an object are, as their slots say it.
 use Rattle.std.proofs.Common.{◌≡◌, ◌⊎◌, inl, inr, ℕ, ◌≤◌, nat_le, Bool, true, false, List, length, Option, Some, None, is_some, option_map, option_and_then, if◌then◌else◌, refl, sym, ap, ◌∙◌, arith}
 use Rattle.std.proofs.lemmas.Bool.{leb-true}
+use Rattle.std.proofs.lemmas.Option.{option_and_then_some}
 use Rattle.serde_json.specs.Data.{Data, Members, object}
 use Rattle.serde_json.specs.Find.{get, get_member, as_array, as_number, as_u64}
 use Rattle.mds_core.specs.Reported.{max_event_types, max_time, MayBeReported}
@@ -49,18 +50,13 @@ pub bad_types : (there : Slot Unit) (list : TypeList) (fault : ItemFault)
 bad_types there list fault (inl is) = inl (ap (option_map (option_map (λ at. list.names.items))) is.0, is.1)
 bad_types there list fault (inr is) = inr (ap (option_map (option_map (λ at. list.names.items))) is.0, is.1)
 
--- what a member is in a form, its value is
-formed : {A B : Type 0} (form : A → Option B) (here : Option A) (good : B) → option_and_then form here ≡ Some good → (value : A) × (form value ≡ Some good)
-formed form None good is = cc
-formed form (Some value) good is = (value, is)
-
 -- a list of types in its form is of few
 types_in-few : (value : Data) (types : List (List ℕ)) → types_in value ≡ Some types → (1 ≤ length types) × (length types ≤ max_event_types)
-types_in-few value types is = let items = formed _ (as_array value) types is in few_types-length (items_in items.0) types items.1
+types_in-few value types is = option_and_then_some _ (as_array value) types is (λ items at few. few_types-length (items_in items) types few)
 
 -- a time in its form is in the range
 time_in-range : (value : Data) (time : ℕ) → time_in value ≡ Some time → time ≤ max_time
-time_in-range value time is = let whole = formed _ (option_and_then as_u64 (as_number value)) time is in read (nat_le whole.0 max_time) whole.0 refl whole.1 where
+time_in-range value time is = option_and_then_some _ (option_and_then as_u64 (as_number value)) time is (λ whole at within. read (nat_le whole max_time) whole refl within) where
   read : (b : Bool) (at : ℕ) → nat_le at max_time ≡ b → (if b then Some at else None) ≡ Some time → time ≤ max_time
   read true at within is = let same : at ≡ time = cc in omega (arith, leb-true at max_time within)
   read false at within is = cc
@@ -69,7 +65,6 @@ time_in-range value time is = let whole = formed _ (option_and_then as_u64 (as_n
 pub may_be_reported : (value : Data) (types : List (List ℕ)) (time : ℕ) → member_in EventTypes types_in value ≡ Some types → member_in Timestamp time_in value ≡ Some time
     → MayBeReported types time
 may_be_reported value types time are is =
-    let list = formed types_in (get (member_name EventTypes) value) types are in
-    let at = formed time_in (get (member_name Timestamp) value) time is in
-    let few = types_in-few list.0 types list.1 in
-    record { some = few.0; few = few.1; in_range = time_in-range at.0 time at.1 }
+    let few = option_and_then_some types_in (get (member_name EventTypes) value) types are (λ list at of_few. types_in-few list types of_few) in
+    let within = option_and_then_some time_in (get (member_name Timestamp) value) time is (λ whole at in_range. time_in-range whole time in_range) in
+    record { some = few.0; few = few.1; in_range = within }

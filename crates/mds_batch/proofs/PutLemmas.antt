@@ -1,6 +1,6 @@
 -- What is held of members once one more of them was taken.
 use Rattle.std.proofs.Common.{◌≡◌, codes, ℕ, List, Bool, true, false, Option, Some, option_map, cond, bytes_eq, refl, sym, ◌∙◌}
-use Rattle.std.proofs.lemmas.Bool.{true≢false, false_from_ne_true}
+use Rattle.std.proofs.lemmas.Bool.{true≢false}
 use Rattle.std.proofs.lemmas.Slice.Eq.{bytes_eq-Decides}
 use Rattle.serde_json.specs.Data.{Data, Members, put}
 use Rattle.serde_json.specs.Find.{get_member}
@@ -37,19 +37,21 @@ slot_put form k name value found old new holds is = rw get_member-put_is (is ∙
 
 -- a name that isn't this one differs from it
 pub differs : (name k : List ℕ) → (name ≡ k → ⊥) → bytes_eq name k ≡ false
-differs name k other = false_from_ne_true (bytes_eq name k) (λ same. other ((bytes_eq-Decides name k).0 same))
+differs name k other = read (bytes_eq name k) refl where
+  read : (b : Bool) → bytes_eq name k ≡ b → b ≡ false
+  read true is = absurd (other ((bytes_eq-Decides name k).0 is))
+  read false is = refl
 
 -- a position's members once one was put, slot by slot
 pub location_put : (name : List ℕ) (value : Data) (found : Members) (old new : LocationFields) → HoldsLocation found old
-    → IsPut whole_number_in (codes "lat") name value (found_in old.lat) (found_in new.lat)
-    → IsPut whole_number_in (codes "lng") name value (found_in old.lng) (found_in new.lng)
+    → IsPut whole_number_in (codes "lat") name value (found_in old.lat) (found_in new.lat) → IsPut whole_number_in (codes "lng") name value (found_in old.lng) (found_in new.lng)
     → HoldsLocation (put name value found) new
 location_put name value found old new holds lat lng = record {
   lat = slot_put whole_number_in (codes "lat") name value found _ _ holds.lat lat;
   lng = slot_put whole_number_in (codes "lng") name value found _ _ holds.lng lng;
 }
 
--- likewise those of a registration
+-- so with those of a registration
 pub vehicle_put : (name : List ℕ) (value : Data) (found : Members) (old new : VehicleFields) → HoldsVehicle found old
     → IsPut uuid_in (member_name ProviderId) name value (found_in old.provider) (found_in new.provider)
     → IsPut uuid_in (member_name DeviceId) name value (found_in old.device) (found_in new.device)
@@ -59,7 +61,7 @@ vehicle_put name value found old new holds provider device = record {
   device = slot_put uuid_in (member_name DeviceId) name value found _ _ holds.device device;
 }
 
--- and those of an event
+-- and with those of an event
 pub event_put : (name : List ℕ) (value : Data) (found : Members) (old new : EventFields) → HoldsEvent found old
     → HoldsVehicle (put name value found) new.vehicle
     → IsPut uuid_in (member_name EventId) name value (found_in old.id) (found_in new.id)

@@ -98,9 +98,10 @@ none_before None = refl
 none_before (Some p) = refl
 
 -- of the items that some tokens begin with, these values have been read, and the other tokens come next
-abbrev pub ItemsSoFar : ℕ → List Token → List Token → List Data → Type 0
-ItemsSoFar depth old new values =
-    (turns : ℕ) × (length new ≤ turns) × (items_at depth old ≡ parse_map (items_before values) (converted of_items (items (value depth) turns new)))
+pub record ItemsSoFar (depth : ℕ) (old now : List Token) (values : List Data) : Type 0 where
+  pub turns : ℕ
+  pub enough : length now ≤ turns
+  pub same : items_at depth old ≡ parse_map (items_before values) (converted of_items (items (value depth) turns now))
 
 -- a list that can't go on is none
 stuck : (p : Parse json.Json) (turns : ℕ) (ts : List Token) → after_end_array ts ≡ None → converted of_json (p ts) ≡ None → converted of_items (items p turns ts) ≡ None
@@ -110,35 +111,44 @@ stuck p (suc n) ts going e = ap (λ o. converted of_items (items_step p (items p
 
 -- at first no value has been read
 pub items_begun : (depth : ℕ) (old : List Token) → ItemsSoFar depth old old []
-items_begun depth old = (length old, omega arith, none_before (items_at depth old))
+items_begun depth old = record { turns = length old; enough = omega arith; same = none_before (items_at depth old) }
 
-module _ (depth : ℕ) (old now : List Token) (values : List Data) (sofar : ItemsSoFar depth old now values) where
+-- the list goes on: no bracket was taken
+abbrev pub GoesOn : List Token → List Token → Type 0
+GoesOn old new = (after_end_array old ≡ None) × (new ≡ old)
+
+module _ {depth : ℕ} {old now : List Token} {values : List Data} (so : ItemsSoFar depth old now values) where
   -- a turn reads one value more
-  pub items_turn : (r : List Token) (d : Data) → after_end_array now ≡ None → value_at depth now ≡ Some (d, r) → ItemsSoFar depth old r (values ++ d ∷ [])
-  items_turn r d going e =
-      let n = sofar.0 in
+  pub items_turn : (s r : List Token) (d : Data) → value_at depth s ≡ Some (d, r) → GoesOn now s → ItemsSoFar depth old r (values ++ d ∷ [])
+  items_turn s r d read going =
+      let e : value_at depth now ≡ Some (d, r) = rw (← going.1) read in
       let less = value_at-shorter depth now r d e in
-      let some : 0 < n = omega (arith, less, sofar.1) in
+      let some : 0 < so.turns = omega (arith, less, so.enough) in
       let j = converted_some of_json (value depth now) d r e in
-      let more = ap (converted of_items) (items_more (value depth) n now r j.0 some going j.1) ∙ with_item j.0 d j.2 (items (value depth) (n - 1) r) in
-      (n - 1, omega (arith, less, sofar.1), sofar.2 ∙ ap (parse_map (items_before values)) more ∙ read_push values d (converted of_items (items (value depth) (n - 1) r)))
+      let more = ap (converted of_items) (items_more (value depth) so.turns now r j.0 some going.0 j.1) ∙ with_item j.0 d j.2 (items (value depth) (so.turns - 1) r) in
+      record {
+        turns = so.turns - 1;
+        enough = omega (arith, less, so.enough);
+        same = so.same ∙ ap (parse_map (items_before values)) more ∙ read_push values d (converted of_items (items (value depth) (so.turns - 1) r));
+      }
 
   -- a value that can't be read leaves no list
-  pub items_refused : after_end_array now ≡ None → value_at depth now ≡ None → items_at depth old ≡ None
-  items_refused going e = sofar.2 ∙ ap (parse_map (items_before values)) (stuck (value depth) sofar.0 now going e)
+  pub items_refused : (s : List Token) → value_at depth s ≡ None → GoesOn now s → items_at depth old ≡ None
+  items_refused s none going = so.same ∙ ap (parse_map (items_before values)) (stuck (value depth) so.turns now going.0 (rw (← going.1) none))
 
   -- at the bracket the values are the items
-  pub items_over : (r : List Token) → after_end_array now ≡ Some r → (all : Items) × (items_at depth old ≡ Some (all, r)) × (items_in all ≡ values)
-  items_over r e =
-      let last = ap (converted of_items) (items_end (value depth) sofar.0 now r sofar.1 e) in
-      (items_before values no_items, sofar.2 ∙ ap (parse_map (items_before values)) last, items_in-before values)
+  pub items_over : (s : List Token) → after_end_array now ≡ Some s → (all : Items) × (items_at depth old ≡ Some (all, s)) × (items_in all ≡ values)
+  items_over s e =
+      let last = ap (converted of_items) (items_end (value depth) so.turns now s so.enough e) in
+      (items_before values no_items, so.same ∙ ap (parse_map (items_before values)) last, items_in-before values)
 
 -- ---- an object
 
 -- of the members that some tokens begin with, these have been found, and the other tokens come next
-abbrev pub MembersSoFar : ℕ → List Token → List Token → Members → Type 0
-MembersSoFar depth old new found =
-    (turns : ℕ) × (length new ≤ turns) × (members_at depth old ≡ converted (λ ms. of_members ms found) (members (value depth) turns new))
+pub record MembersSoFar (depth : ℕ) (old now : List Token) (found : Members) : Type 0 where
+  pub turns : ℕ
+  pub enough : length now ≤ turns
+  pub same : members_at depth old ≡ converted (λ ms. of_members ms found) (members (value depth) turns now)
 
 -- an object whose member has no value is none
 valueless : (p : Parse json.Json) (found : Members) (turns : ℕ) (k : List ℕ) (ts s : List Token) → read_key ts ≡ Some (Some k, s) → converted of_json (p s) ≡ None
@@ -149,28 +159,27 @@ valueless p found (suc n) k ts s key e = rw key (no_member k found (members p n)
 
 -- at first no member has been found
 pub members_begun : (depth : ℕ) (old : List Token) → MembersSoFar depth old old no_members
-members_begun depth old = (length old, omega arith, refl)
+members_begun depth old = record { turns = length old; enough = omega arith; same = refl }
 
-module _ (depth : ℕ) (old now : List Token) (found : Members) (sofar : MembersSoFar depth old now found) where
+module _ {depth : ℕ} {old now : List Token} {found : Members} (so : MembersSoFar depth old now found) where
   -- a turn finds one member more
-  pub members_turn : (k : List ℕ) (s r : List Token) (d : Data) → read_key now ≡ Some (Some k, s) → value_at depth s ≡ Some (d, r) → MembersSoFar depth old r (put k d found)
-  members_turn k s r d key e =
-      let n = sofar.0 in
+  pub members_turn : (k : List ℕ) (s r : List Token) (d : Data) → value_at depth s ≡ Some (d, r) → read_key now ≡ Some (Some k, s) → MembersSoFar depth old r (put k d found)
+  members_turn k s r d e key =
       let less = value_at-shorter depth s r d e in
       let lesser = read_key-shorter now (Some k) s key in
-      let some : 0 < n = omega (arith, lesser, sofar.1) in
+      let some : 0 < so.turns = omega (arith, lesser, so.enough) in
       let j = converted_some of_json (value depth s) d r e in
-      let more = ap (converted (λ ms. of_members ms found)) (members_more (value depth) n k now s r j.0 some key j.1) ∙ with_member k j.0 d found j.2 (members (value depth) (n - 1) r) in
-      (n - 1, omega (arith, less, lesser, sofar.1), sofar.2 ∙ more)
+      let more = ap (converted (λ ms. of_members ms found)) (members_more (value depth) so.turns k now s r j.0 some key j.1) ∙ with_member k j.0 d found j.2 (members (value depth) (so.turns - 1) r) in
+      record { turns = so.turns - 1; enough = omega (arith, less, lesser, so.enough); same = so.same ∙ more }
 
   -- a value that can't be read leaves no object
-  pub members_refused : (k : List ℕ) (s : List Token) → read_key now ≡ Some (Some k, s) → value_at depth s ≡ None → members_at depth old ≡ None
-  members_refused k s key e = sofar.2 ∙ valueless (value depth) found sofar.0 k now s key e
+  pub members_refused : (k : List ℕ) (s : List Token) → value_at depth s ≡ None → read_key now ≡ Some (Some k, s) → members_at depth old ≡ None
+  members_refused k s none key = so.same ∙ valueless (value depth) found so.turns k now s key none
+
+  -- at the brace the members are all
+  pub members_over : (s : List Token) → read_key now ≡ Some (None, s) → members_at depth old ≡ Some (found, s)
+  members_over s e = so.same ∙ ap (converted (λ ms. of_members ms found)) (members_end (value depth) so.turns now s so.enough e)
 
   -- where no key comes there is no object
   pub key_refused : read_key now ≡ None → members_at depth old ≡ None
-  key_refused e = sofar.2 ∙ ap (converted (λ ms. of_members ms found)) (members_no_key (value depth) sofar.0 now e)
-
-  -- at the brace the members are all
-  pub members_over : (r : List Token) → read_key now ≡ Some (None, r) → members_at depth old ≡ Some (found, r)
-  members_over r e = sofar.2 ∙ ap (converted (λ ms. of_members ms found)) (members_end (value depth) sofar.0 now r sofar.1 e)
+  key_refused e = so.same ∙ ap (converted (λ ms. of_members ms found)) (members_no_key (value depth) so.turns now e)

@@ -37,14 +37,11 @@ IsHeadOf value (head.Text text) = value ≡ string text.now
 IsHeadOf value head.Array = (items : Items) × (value ≡ array items)
 IsHeadOf value head.Object = (members : Members) × (value ≡ object members)
 
--- behind the head of a value: the whole of it was read, or its items or members come next
+-- behind the head of a value: its items or its members come next, or the whole of it was read
 abbrev pub HasBegun : ℕ → List Token → Head → List Token → Type 0
-HasBegun depth old head.Null new = (value : Data) × (value_at depth old ≡ Some (value, new)) × IsHeadOf value head.Null
-HasBegun depth old head.Bool new = (value : Data) × (value_at depth old ≡ Some (value, new)) × IsHeadOf value head.Bool
-HasBegun depth old (head.Number n) new = (value : Data) × (value_at depth old ≡ Some (value, new)) × IsHeadOf value (head.Number n)
-HasBegun depth old (head.Text text) new = (value : Data) × (value_at depth old ≡ Some (value, new)) × IsHeadOf value (head.Text text)
 HasBegun depth old head.Array new = (0 < depth) × (value_at depth old ≡ json.parse_map array (items_at (depth - 1) new))
 HasBegun depth old head.Object new = (0 < depth) × (value_at depth old ≡ json.parse_map object (members_at (depth - 1) new))
+HasBegun depth old alone new = (value : Data) × (value_at depth old ≡ Some (value, new)) × IsHeadOf value alone
 
 -- the fault of a batch whose text could not be read
 abbrev pub fault_of_text : ReadFault → BatchFault

@@ -19,7 +19,7 @@ const MAX_DEPTH: usize = 127;
 /// The tokens of a text that are still to come.
 pub(crate) type Tokens<'a> = Reader<'a>;
 
-/// Why reading ended before the text did.
+/// Why reading ended before the text did. Nothing is told then of the tokens that are left, nor of what was filled.
 #[derive(Clone, Copy, Debug, PartialEq, Eq)]
 pub(crate) enum ReadFault {
     /// There was no memory. This says nothing of the text.

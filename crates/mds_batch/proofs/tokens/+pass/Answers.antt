@@ -1,5 +1,4 @@
-use Rattle.std.proofs.Common.{◌≡◌, [], ◌∷◌, ◌++◌, Some, None, subst, arith, rules}
-use Rattle.json.specs.Json.{after_end_array, read_key}
+use Rattle.std.proofs.Common.{[], ◌∷◌, ◌++◌, Some, subst, arith, rules}
 use Rattle.json.proofs.Grammar.{read_key-shorter}
 use Rattle.serde_json.specs.Data.{no_members, put}
 use Rattle.mds_batch.specs.Reading.{HasBegun}
@@ -23,71 +22,45 @@ pub pass_items-pass-requires : goal.pass_items-pass-requires
 pass_items-pass-requires t c = search rules
 
 pub pass_items-loop-tokens-smaller : goal.pass_items-loop-tokens-smaller
-pass_items-loop-tokens-smaller t c =
-    let going : (after_end_array c.loop-tokens.tokens ≡ None) × (c.take_end_array.new.self ≡ c.loop-tokens.tokens) = grind arith in
-    let head = c.in_ok-pass.ensures.head in
-    value_at-shorter c.args.depth c.loop-tokens.tokens c.pass.new.tokens head.0 (rw (← going.1) head.1)
+pass_items-loop-tokens-smaller t c = grind (arith, value_at-shorter _ _ _ _ c.in_ok-pass.ensures.head.1)
 
 pub pass_items-loop-tokens-preserved : goal.pass_items-loop-tokens-preserved
 pass_items-loop-tokens-preserved t c =
-    let l = c.loop-tokens in
-    let so = l.invariant in
-    let going : (after_end_array l.tokens ≡ None) × (c.take_end_array.new.self ≡ l.tokens) = grind arith in
+    let so = c.loop-tokens.invariant in
     let head = c.in_ok-pass.ensures.head in
-    (so.0 ++ head.0 ∷ [], items_turn c.args.depth c.args.tokens.now l.tokens so.0 so.1 c.pass.new.tokens head.0 going.0 (rw (← going.1) head.1))
+    (so.0 ++ head.0 ∷ [], items_turn so.1 _ _ _ head.1 (grind arith))
 
 pub pass_items-returns-in_err-pass-clause-fault : goal.pass_items-returns-in_err-pass-clause-fault
 pass_items-returns-in_err-pass-clause-fault t c =
-    let l = c.loop-tokens in
-    let going : (after_end_array l.tokens ≡ None) × (c.take_end_array.new.self ≡ l.tokens) = grind arith in
-    let fault = c.in_err-pass.ensures.fault in
-    let none = items_refused c.args.depth c.args.tokens.now l.tokens l.invariant.0 l.invariant.1 going.0 (rw (← going.1) fault.1) in
-    search (rules, none)
+    let none = items_refused c.loop-tokens.invariant.1 _ c.in_err-pass.ensures.fault.1 (grind arith) in search (rules, none)
 
 pub pass_items-returns-clause-items : goal.pass_items-returns-clause-items
 pass_items-returns-clause-items t c =
-    let l = c.loop-tokens in
-    let over = items_over c.args.depth c.args.tokens.now l.tokens l.invariant.0 l.invariant.1 c.take_end_array.new.self (grind arith) in
-    (over.0, over.1)
+    let over = items_over c.loop-tokens.invariant.1 c.take_end_array.new.self (grind arith) in (over.0, over.1)
 
 pub pass_members-loop-tokens-init : goal.pass_members-loop-tokens-init
 pass_members-loop-tokens-init t c = (no_members, members_begun c.args.depth c.args.tokens.now)
 
 pub pass_members-returns-in_err-next_key-clause-fault : goal.pass_members-returns-in_err-next_key-clause-fault
 pass_members-returns-in_err-next_key-clause-fault t c =
-    let l = c.loop-tokens in
-    let none = key_refused c.args.depth c.args.tokens.now l.tokens l.invariant.0 l.invariant.1 c.in_err-next_key.ensures.value in
-    search (rules, none)
+    let none = key_refused c.loop-tokens.invariant.1 c.in_err-next_key.ensures.value in search (rules, none)
 
 pub pass_members-pass-requires : goal.pass_members-pass-requires
 pass_members-pass-requires t c = search rules
 
 pub pass_members-loop-tokens-smaller : goal.pass_members-loop-tokens-smaller
 pass_members-loop-tokens-smaller t c =
-    let l = c.loop-tokens in
-    let k = c.in-Some.field-0.now in
-    let named : read_key l.tokens ≡ Some (Some k, c.next_key.new.self) = grind arith in
-    let head = c.in_ok-pass.ensures.head in
-    omega (arith, read_key-shorter l.tokens (Some k) c.next_key.new.self named, value_at-shorter c.args.depth c.next_key.new.self c.pass.new.tokens head.0 head.1)
+    omega (arith, read_key-shorter c.loop-tokens.tokens (Some c.in-Some.field-0.now) c.next_key.new.self (grind arith), value_at-shorter _ _ _ _ c.in_ok-pass.ensures.head.1)
 
 pub pass_members-loop-tokens-preserved : goal.pass_members-loop-tokens-preserved
 pass_members-loop-tokens-preserved t c =
-    let l = c.loop-tokens in
-    let so = l.invariant in
-    let k = c.in-Some.field-0.now in
-    let named : read_key l.tokens ≡ Some (Some k, c.next_key.new.self) = grind arith in
+    let so = c.loop-tokens.invariant in
     let head = c.in_ok-pass.ensures.head in
-    (put k head.0 so.0, members_turn c.args.depth c.args.tokens.now l.tokens so.0 so.1 k c.next_key.new.self c.pass.new.tokens head.0 named head.1)
+    (put c.in-Some.field-0.now head.0 so.0, members_turn so.1 c.in-Some.field-0.now _ _ _ head.1 (grind arith))
 
 pub pass_members-returns-in_err-pass-clause-fault : goal.pass_members-returns-in_err-pass-clause-fault
 pass_members-returns-in_err-pass-clause-fault t c =
-    let l = c.loop-tokens in
-    let k = c.in-Some.field-0.now in
-    let named : read_key l.tokens ≡ Some (Some k, c.next_key.new.self) = grind arith in
-    let none = members_refused c.args.depth c.args.tokens.now l.tokens l.invariant.0 l.invariant.1 k c.next_key.new.self named c.in_err-pass.ensures.fault.1 in
-    search (rules, none)
+    let none = members_refused c.loop-tokens.invariant.1 c.in-Some.field-0.now _ c.in_err-pass.ensures.fault.1 (grind arith) in search (rules, none)
 
 pub pass_members-returns-clause-members : goal.pass_members-returns-clause-members
-pass_members-returns-clause-members t c =
-    let l = c.loop-tokens in
-    (l.invariant.0, members_over c.args.depth c.args.tokens.now l.tokens l.invariant.0 l.invariant.1 c.next_key.new.self (grind arith))
+pass_members-returns-clause-members t c = (c.loop-tokens.invariant.0, members_over c.loop-tokens.invariant.1 c.next_key.new.self (grind arith))

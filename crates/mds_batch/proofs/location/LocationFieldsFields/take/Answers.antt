@@ -1,4 +1,4 @@
-use Rattle.std.proofs.Common.{codes, Some, refl, ap, ◌∙◌}
+use Rattle.std.proofs.Common.{Some, refl, ap, ◌∙◌}
 use Rattle.mds_batch.proofs.PutLemmas.{differs, location_put}
 use Rattle.mds_batch.proofs.location.LocationFieldsFields.take.Goals as goal
 
@@ -15,5 +15,4 @@ returns-in_ok-read_whole-in-lng-clause-taken c =
 pub returns-in_ok-pass-in_default-clause-taken : goal.returns-in_ok-pass-in_default-clause-taken
 returns-in_ok-pass-in_default-clause-taken c =
     let read = c.in_ok-pass-in_default.ensures.head in
-    let other = c.in_default in
-    (read.0, read.1, λ found holds. location_put _ read.0 found _ _ holds (rw (differs _ (codes "lat") other.not-lat)) (rw (differs _ (codes "lng") other.not-lng)))
+    (read.0, read.1, λ found holds. location_put _ read.0 found _ _ holds (rw (differs _ _ c.in_default.not-lat)) (rw (differs _ _ c.in_default.not-lng)))

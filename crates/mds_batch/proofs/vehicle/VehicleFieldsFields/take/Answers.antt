@@ -1,6 +1,4 @@
 use Rattle.std.proofs.Common.{Some, refl, ap, ◌∙◌}
-use Rattle.mds_batch.specs.declared.member.Member.TheVariants.{ProviderId, DeviceId}
-use Rattle.mds_batch.specs.Member.{member_name}
 use Rattle.mds_batch.proofs.PutLemmas.{differs, vehicle_put}
 use Rattle.mds_batch.proofs.vehicle.VehicleFieldsFields.take.Goals as goal
 
@@ -17,9 +15,4 @@ returns-in_ok-read_uuid-in-device_id-clause-taken c =
 pub returns-in_ok-pass-in_default-clause-taken : goal.returns-in_ok-pass-in_default-clause-taken
 returns-in_ok-pass-in_default-clause-taken c =
     let read = c.in_ok-pass-in_default.ensures.head in
-    let other = c.in_default in (
-      read.0,
-      read.1,
-      λ found holds. vehicle_put _ read.0 found _ _ holds
-          (rw (differs _ (member_name ProviderId) other.not-provider_id)) (rw (differs _ (member_name DeviceId) other.not-device_id)),
-    )
+    (read.0, read.1, λ found holds. vehicle_put _ read.0 found _ _ holds (rw (differs _ _ c.in_default.not-provider_id)) (rw (differs _ _ c.in_default.not-device_id)))
