@@ -6,9 +6,12 @@ import time
 
 from harness.texts import as_bytes
 from serving.model import compact
+from serving.openapi import NOTED
 
 SECONDS = 60
 """How long a client waits for bytes before it gives up."""
+MOST_KEPT = 32768
+"""How many bytes of what was sent a connection keeps: more than a head has."""
 PHRASES = {
     200: "OK",
     400: "Bad Request",
@@ -50,9 +53,20 @@ def post(target, body):
     return head % (as_bytes(target), len(body)) + body
 
 
+class Connection(socket.socket):
+    """A connection that keeps the start of what is sent on it, so that an answer is noted with its request."""
+
+    sent = b""
+
+    def sendall(self, piece):
+        if len(self.sent) < MOST_KEPT:
+            self.sent += piece[: MOST_KEPT - len(self.sent)]
+        super().sendall(piece)
+
+
 def connect(port, room=None):
     """A connection; `room`: how many bytes of an answer the system takes in before they are read."""
-    connection = socket.socket(socket.AF_INET, socket.SOCK_STREAM)
+    connection = Connection(socket.AF_INET, socket.SOCK_STREAM)
     connection.settimeout(SECONDS)
     if room is not None:
         connection.setsockopt(socket.SOL_SOCKET, socket.SO_RCVBUF, room)
@@ -61,11 +75,13 @@ def connect(port, room=None):
 
 
 def read_all(connection):
-    """All bytes until the server ends its side."""
+    """All bytes until the server ends its side. They are noted, to be held against openapi.json."""
     pieces = []
     while piece := connection.recv(1 << 16):
         pieces.append(piece)
-    return b"".join(pieces)
+    answered = b"".join(pieces)
+    NOTED.note(connection.sent, answered)
+    return answered
 
 
 def ask(port, request):
