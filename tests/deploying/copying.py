@@ -1,0 +1,321 @@
+"""`deploy/backup` and `deploy/restore`, between servers, with good and with wrong inputs."""
+
+import importlib.machinery
+import importlib.util
+import json
+import socket
+import subprocess
+import sys
+import tempfile
+from pathlib import Path
+
+from deploying.vehicles import PROVIDERS, event, fill, fleet, vehicle
+from harness.case import MAX_BYTES, MAX_ITEMS
+from harness.counting import ROOT
+from serving.model import compact
+from serving.server import Server
+from serving.wire import ask, error, get
+
+SECONDS = 60
+VEHICLES, EVENTS = 100, 120
+"""Together their events take more than one batch, by their number."""
+EACH = 100000
+UNKNOWN = vehicle(PROVIDERS[0], 999)
+
+
+def run(name, *words, given=""):
+    """The status of a run of a program of deploy/, and what it printed on standard error."""
+    words = [ROOT / "deploy" / name, *map(str, words)]
+    ran = subprocess.run(words, input=given, capture_output=True, text=True, timeout=SECONDS)
+    return ran.returncode, ran.stderr + ran.stdout
+
+
+def ended(ran, status, *texts):
+    """What is wrong with how a run ended: its status, and texts that it has to print."""
+    for missing in [text for text in texts if text not in ran[1]]:
+        yield f"it printed {ran[1]!r}, without {missing!r}"
+    if ran[0] != status:
+        yield f"status {ran[0]}, in place of {status}: {ran[1]!r}"
+
+
+def url(server):
+    return f"http://127.0.0.1:{server.port}"
+
+
+def path_of(owner):
+    return f"/vehicles/{owner['provider_id']}/{owner['device_id']}"
+
+
+class Files:
+    """A folder for files, among them the registrations of these vehicles."""
+
+    def __init__(self, vehicles=()):
+        self.folder = tempfile.TemporaryDirectory()
+        self.vehicles = vehicles
+
+    def __enter__(self):
+        self.registrations = self.path("registrations.json", compact([owner for owner, _ in self.vehicles]))
+        return self
+
+    def __exit__(self, *_):
+        self.folder.cleanup()
+
+    def path(self, name, text=None):
+        """The path of a file, which has this text, if one is given."""
+        path = Path(self.folder.name, name)
+        if text is not None:
+            path.write_bytes(text if isinstance(text, bytes) else text.encode())
+        return path
+
+
+def a_hundred_vehicles(program):
+    """All that one server has goes into another, which then gives the same file; a second time changes nothing."""
+    vehicles = list(fleet(VEHICLES, EVENTS))
+    events = sum(len(listed) for _, listed in vehicles)
+    counts = f"{VEHICLES} vehicles, {events} events"
+    with Files(vehicles) as files, Server(program, EACH, 2) as old, Server(program, EACH, 2) as new:
+        fill(old, vehicles)
+        first, second = files.path("first"), files.path("second")
+        yield from ended(run("backup", url(old), first, files.registrations), 0, f"read {counts}; 0 not registered")
+        put = run("restore", url(new), first)
+        yield from ended(put, 0, f"sent {counts}; 0 there already, 0 refused, 0 stand otherwise")
+        yield from ended(run("backup", url(new), second, files.registrations), 0)
+        if first.read_bytes() != second.read_bytes():
+            yield "the new server gives another file than the old one"
+        again = run("restore", url(new), second)
+        yield from ended(again, 0, f"{VEHICLES + events} there already, 0 refused, 0 stand otherwise")
+        yield from same_answers(old, new, [owner for owner, _ in vehicles[::7]])
+
+
+def same_answers(old, new, owners):
+    """Whether two servers answer the same of these vehicles, byte for byte."""
+    for target in [path_of(owner) + end for owner in owners for end in ("", "/events")]:
+        if ask(old.port, get(target)) != ask(new.port, get(target)):
+            yield f"{target} is answered otherwise"
+
+
+def module(name):
+    """The names of a program of deploy/, which isn't run."""
+    path = ROOT / "deploy" / name
+    loader = importlib.machinery.SourceFileLoader(name, str(path))
+    loaded = importlib.util.module_from_spec(importlib.util.spec_from_loader(name, loader))
+    sys.path.insert(0, str(path.parent))
+    try:
+        loader.exec_module(loaded)
+    finally:
+        sys.path.remove(str(path.parent))
+    return loaded
+
+
+def batches_within_the_limits(program):
+    """Batches have as many items and as many bytes as a server takes, and no more."""
+    half = "x" * (MAX_BYTES // 2 - 4)
+    cases = [
+        ([7] * MAX_ITEMS, [MAX_ITEMS]),
+        ([7] * (2 * MAX_ITEMS + 1), [MAX_ITEMS, MAX_ITEMS, 1]),
+        ([half, half + "x"], [2]),
+        ([half, half + "xx", half], [1, 1, 1]),
+        ([], []),
+    ]
+    for items, wanted in cases:
+        found = list(module("restore").batches(iter(items)))
+        if [len(batch) for batch, _ in found] != wanted or any(json.loads(body) != batch for batch, body in found):
+            yield f"{[len(batch) for batch, _ in found]}, in place of {wanted}"
+        if any(len(body) > MAX_BYTES for _, body in found):
+            yield f"{[len(body) for _, body in found]} bytes"
+
+
+def ways_to_name_devices(program):
+    """Registrations, one of them alone, lines, standard input, and several files: the same vehicles, each once."""
+    vehicles = list(fleet(3, 4))
+    owners = [owner for owner, _ in vehicles]
+    lines = [f"{owner['provider_id']} {owner['device_id']}\n" for owner in owners]
+    with Files(vehicles) as files, Server(program, EACH) as server:
+        fill(server, vehicles)
+        alone = files.path("alone.json", compact(owners[0]))
+        listed = files.path("lines", f"\n{lines[1].upper()}  {lines[2].replace('-', '')}{lines[1]}")
+        ways = [([files.registrations], ""), (["-"], "".join(lines)), ([alone, listed, files.registrations], "")]
+        found = []
+        for number, (words, given) in enumerate(ways):
+            path = files.path(f"way-{number}")
+            yield from ended(run("backup", url(server), path, *words, given=given), 0, "read 3 vehicles")
+            found.append(path.read_bytes())
+        if len(set(found)) != 1:
+            yield f"the files differ: {found}"
+
+
+def unknown_devices(program):
+    """A device that isn't registered is told, and the file has the others."""
+    vehicles = list(fleet(3, 4))
+    with Files([*vehicles, (UNKNOWN, [])]) as files, Server(program, EACH) as old, Server(program, EACH) as new:
+        fill(old, vehicles)
+        told = f"not registered: {UNKNOWN['provider_id']} {UNKNOWN['device_id']}"
+        read = run("backup", url(old), files.path("file"), files.registrations)
+        yield from ended(read, 1, told, "read 3 vehicles, 12 events; 1 not registered")
+        yield from ended(run("restore", url(new), files.path("file")), 0, "sent 3 vehicles, 12 events")
+        if ask(new.port, get(path_of(UNKNOWN))) != error(404, "unregistered"):
+            yield "the unknown device is registered now"
+
+
+def wrong_devices(program):
+    """Files of devices that can't be read, or haven't their form: no file is written."""
+    texts = {"7": "line 1", "[7]": "item 0", '[{"provider_id":1}]': "item 0", "{": "not JSON", b"\xff": "UTF-8"}
+    with Files() as files:
+        for text, told in texts.items():
+            devices = files.path("devices", text)
+            yield from ended(run("backup", "http://127.0.0.1:1", files.path("file"), devices), 3, str(devices), told)
+        missing = files.path("nothing")
+        yield from ended(run("backup", "http://127.0.0.1:1", files.path("file"), missing), 3, "No such file")
+        if files.path("file").exists():
+            yield "a file was written"
+
+
+def no_server(program):
+    """Nobody listens: the file that was there stays, and no other is left."""
+    with Files(list(fleet(1, 1))) as files, Server(program, EACH) as server, socket.socket() as unheard:
+        unheard.bind(("127.0.0.1", 0))
+        where = f"http://127.0.0.1:{unheard.getsockname()[1]}"
+        kept = files.path("file", "what was there")
+        yield from ended(run("backup", where, kept, files.registrations), 4, where, "Connection refused")
+        fill(server, files.vehicles)
+        whole = files.path("whole")
+        yield from ended(run("backup", url(server), whole, files.registrations), 0)
+        yield from ended(run("restore", where, whole), 4, where, "Connection refused")
+        left = sorted(path.name for path in Path(files.folder.name).iterdir())
+        if left != ["file", "registrations.json", "whole"] or kept.read_text() != "what was there":
+            yield f"left behind: {left}"
+
+
+def server_that_ends(program):
+    """A server that ends on the way, since it has answered its connections."""
+    vehicles = list(fleet(9, 4))
+    with Files(vehicles) as files, Server(program, 6) as server:
+        fill(server, vehicles)
+        yield from ended(run("backup", url(server), files.path("file"), files.registrations), 4, url(server))
+        if files.path("file").exists() or files.path("file.part").exists():
+            yield "a part of a file was left"
+
+
+def cut_files(whole):
+    """Files that were cut short, and what is told of them."""
+    lines = whole.splitlines(keepends=True)
+    yield whole[: len(whole) // 2], "cut short"
+    yield whole[: len(whole) - len(lines[-1])], "cut short"
+    yield b"", "not a file of vehicles"
+
+
+def changed_files(whole):
+    """Files that are otherwise not as they were written, and what is told of them."""
+    lines = whole.splitlines(keepends=True)
+    yield whole[:-1], "cut short"
+    yield lines[0], "cut short"
+    yield b"[]\n", "not a file of vehicles"
+    yield lines[1], "not a file of vehicles"
+    yield lines[0] + b"\xff\n", "UTF-8"
+    yield lines[0] + b"{\n", "not a file of vehicles"
+    yield b"".join([*lines[:2], *lines[3:]]), "doesn't count"
+    yield whole + lines[1], "doesn't count"
+    yield b"".join([lines[0], b'{"events":[]}\n', *lines[1:]]), "line 2 isn't a vehicle"
+    yield whole.replace(b'"events":[{', b'"events":[7,{', 1), "an event that isn't its vehicle's"
+
+
+def files_cut_short(program):
+    """Of a file that isn't whole nothing is sent."""
+    vehicles = list(fleet(4, 3))
+    with Files(vehicles) as files, Server(program, EACH) as old, Server(program, EACH) as new:
+        fill(old, vehicles)
+        yield from ended(run("backup", url(old), files.path("whole"), files.registrations), 0)
+        whole = files.path("whole").read_bytes()
+        for text, told in cut_files(whole):
+            cut = files.path("cut", text)
+            yield from ended(run("restore", url(new), cut), 3, str(cut), told)
+        yield from ended(run("restore", url(new), files.path("nothing")), 3, "No such file")
+        for owner, _ in vehicles:
+            if ask(new.port, get(path_of(owner))) != error(404, "unregistered"):
+                yield f"something was sent: {owner}"
+        yield from read_as(files, whole)
+
+
+def read_as(files, whole):
+    """What is wrong with how files are read: the whole one, and those that were changed."""
+    made = module("vehicles.py")
+    if [compact(vehicle) for vehicle in made.vehicles_in(files.path("whole"))] != lines_of_vehicles(whole):
+        yield "the whole file is read otherwise"
+    for text, told in changed_files(whole):
+        try:
+            found = f"{len(list(made.vehicles_in(files.path('cut', text))))} vehicles"
+        except made.Fault as fault:
+            found = f"{fault.status} {fault}"
+        if not found.startswith("3 ") or told not in found:
+            yield f"{text[:80]!r}: {found}, in place of {told!r}"
+
+
+def lines_of_vehicles(whole):
+    return [compact(json.loads(line)) for line in whole.splitlines()[1:-1]]
+
+
+def another_history(program):
+    """A server that knows something else of a vehicle: what it refuses is told, and how the vehicle stands."""
+    (owner, listed), other = next(fleet(1, 4)), vehicle(PROVIDERS[0], 500)
+    later = {**event(owner, 77, ["provider_drop_off"], "available"), "timestamp": 9000}
+    with Files([(owner, listed), (other, [])]) as files, Server(program, EACH) as old, Server(program, EACH) as new:
+        fill(old, files.vehicles)
+        fill(new, [(owner, [later])])
+        yield from ended(run("backup", url(old), files.path("file"), files.registrations), 0)
+        put = run("restore", url(new), files.path("file"))
+        yield from ended(put, 1, '"error":"late"', "stands otherwise", "1 there already, 4 refused, 1 stand otherwise")
+
+
+def words(program):
+    """Help, and words that don't parse."""
+    for name in ("backup", "restore"):
+        yield from ended(run(name, "--help"), 0, "exit statuses:", "usage:")
+        yield from ended(run(name), 2, "usage:")
+    for where in ("127.0.0.1:8080", "http://", "http://127.0.0.1:8080/vehicles", "http://127.0.0.1:x"):
+        yield from ended(run("restore", where, "a"), 2, where)
+
+
+def answered_once(listener, sent, *words):
+    """How a program of deploy/ ends whose first request is answered by these bytes."""
+    words = [ROOT / "deploy" / words[0], *words[1:]]
+    child = subprocess.Popen(words, stdout=subprocess.PIPE, stderr=subprocess.STDOUT, text=True)
+    connection, _ = listener.accept()
+    with connection:
+        connection.settimeout(SECONDS)
+        connection.recv(1 << 16)
+        connection.sendall(sent)
+        connection.shutdown(socket.SHUT_WR)
+        while connection.recv(1 << 16):
+            pass
+    out, _ = child.communicate(timeout=SECONDS)
+    return child.returncode, out
+
+
+def not_this_server(program):
+    """Something else answers: with a page, with other JSON, or with nothing."""
+    page, other = (b"HTTP/1.1 200 OK\r\nContent-Length: %d\r\n\r\n%s" % (len(text), text) for text in (b"<html>", b"{}"))
+    vehicles = list(fleet(1, 1))
+    with Files(vehicles) as files, socket.create_server(("127.0.0.1", 0)) as listener, Server(program, EACH) as server:
+        listener.settimeout(SECONDS)
+        fill(server, vehicles)
+        whole, where = files.path("whole"), f"http://127.0.0.1:{listener.getsockname()[1]}"
+        yield from ended(run("backup", url(server), whole, files.registrations), 0)
+        for sent in (page, other, b""):
+            read = answered_once(listener, sent, "backup", where, files.path("file"), files.registrations)
+            yield from ended(read, 4, where)
+        yield from ended(answered_once(listener, other, "restore", where, whole), 4, where)
+
+
+COPYING = [
+    a_hundred_vehicles,
+    batches_within_the_limits,
+    ways_to_name_devices,
+    unknown_devices,
+    wrong_devices,
+    no_server,
+    server_that_ends,
+    files_cut_short,
+    another_history,
+    words,
+    not_this_server,
+]
