@@ -55,13 +55,17 @@ module _ (bytes : List ℕ) (ended count : ℕ) where
   -- another byte than a line feed belongs to the last line
   pub read_other : (items : List EventItem) (byte : ℕ) → byte ≢ 10 → AreRead bytes ended count items → AreRead (bytes ++ byte ∷ []) ended count items
   read_other items byte other read =
-      let split = read.2 in
-      (read.0, read.1 ++ byte ∷ [], record {
-        begins = record { joined = ap (λ all. all ++ byte ∷ []) split.begins.joined ∙ append_assoc (with_feeds read.0) read.1 (byte ∷ []); whole = split.begins.whole };
-        unended = All-push (λ b. b ≢ 10) read.1 byte split.unended other;
-        ended_at = split.ended_at;
-        counted = split.counted;
-      }, read.3)
+      let split = read.2 in (
+        read.0,
+        read.1 ++ byte ∷ [],
+        record {
+          begins = record { joined = ap (λ all. all ++ byte ∷ []) split.begins.joined ∙ append_assoc (with_feeds read.0) read.1 (byte ∷ []); whole = split.begins.whole };
+          unended = All-push (λ b. b ≢ 10) read.1 byte split.unended other;
+          ended_at = split.ended_at;
+          counted = split.counted;
+        },
+        read.3,
+      )
 
   -- the lines with one more, joined
   feeds_push : (lines : List (List ℕ)) (rest : List ℕ) → IsSplit bytes ended count lines rest → with_feeds (lines ++ rest ∷ []) ≡ bytes ++ 10 ∷ []
@@ -72,13 +76,17 @@ module _ (bytes : List ℕ) (ended count : ℕ) where
   pub read_feed : (items : List EventItem) (place number : ℕ) → place ≡ length bytes + 1 → number ≡ count + 1 → AreTaken bytes ended count items → AreRead (bytes ++ 10 ∷ []) place number items
   read_feed items place number at is taken =
       let split = taken.2 in
-      let feeds = feeds_push taken.0 taken.1 split in
-      (taken.0 ++ taken.1 ∷ [], [], record {
-        begins = record { joined = sym feeds ∙ sym (append-nil (with_feeds (taken.0 ++ taken.1 ∷ []))); whole = All-push HasNoFeed taken.0 taken.1 split.begins.whole split.unended };
-        unended = All-nil (λ b. b ≢ 10);
-        ended_at = omega (arith, at, ap length feeds, length-append bytes (10 ∷ []));
-        counted = omega (arith, is, split.counted, length-append taken.0 (taken.1 ∷ []));
-      }, taken.3)
+      let feeds = feeds_push taken.0 taken.1 split in (
+        taken.0 ++ taken.1 ∷ [],
+        [],
+        record {
+          begins = record { joined = sym feeds ∙ sym (append-nil (with_feeds (taken.0 ++ taken.1 ∷ []))); whole = All-push HasNoFeed taken.0 taken.1 split.begins.whole split.unended };
+          unended = All-nil (λ b. b ≢ 10);
+          ended_at = omega (arith, at, ap length feeds, length-append bytes (10 ∷ []));
+          counted = omega (arith, is, split.counted, length-append taken.0 (taken.1 ∷ []));
+        },
+        taken.3,
+      )
 
   -- the number of lines is no greater than that of bytes
   pub count_within : (lines : List (List ℕ)) (rest : List ℕ) → IsSplit bytes ended count lines rest → count ≤ length bytes

@@ -111,5 +111,6 @@ impl Lines {
 fn is_blank(line: &[u8]) -> bool
     ensures { result ≡ is_blank line.now }
 {
-    line.iter().all(|byte| *byte == b' ' || *byte == b'\t' || *byte == b'\r')
+    line.iter()
+        .all(|byte| *byte == b' ' || *byte == b'\t' || *byte == b'\r')
 }

@@ -6,7 +6,8 @@ use std::process::Abort;
 use std::test::Fail;
 
 /// An event.
-const EVENT: &str = r#"{"provider_id":"00000000-0000-4000-8000-000000000001","device_id":"00000000-0000-4000-8000-00000000000a","event_id":"00000000-0000-4000-8000-0000000000e1","vehicle_state":"on_trip","event_types":["trip_start"],"timestamp":1000}"#;
+const EVENT: &str =
+    r#"{"provider_id":"00000000-0000-4000-8000-000000000001","device_id":"00000000-0000-4000-8000-00000000000a","event_id":"00000000-0000-4000-8000-0000000000e1","vehicle_state":"on_trip","event_types":["trip_start"],"timestamp":1000}"#;
 
 /// Streams, and the faults of their items, or the first fault of the stream.
 const STREAMS: &[(&str, Result<&[ItemFault], LineFault>)] = &[
@@ -20,13 +21,19 @@ const STREAMS: &[(&str, Result<&[ItemFault], LineFault>)] = &[
     ("7\r\n{}\r\n", Ok(&[NO_OBJECT, NO_PROVIDER])),
     ("{}\n7", Ok(&[NO_PROVIDER, NO_OBJECT])),
     ("\n\n{}\n \r\n\n7\r\n\n", Ok(&[NO_PROVIDER, NO_OBJECT])),
-    ("\"\u{e4}\u{20ac}\u{1f6f4}\"\n{\"\u{20ac}\":0}", Ok(&[NO_OBJECT, NO_PROVIDER])),
+    (
+        "\"\u{e4}\u{20ac}\u{1f6f4}\"\n{\"\u{20ac}\":0}",
+        Ok(&[NO_OBJECT, NO_PROVIDER]),
+    ),
     // a line that is no JSON; blank lines are counted too
     ("{", Err(LineFault::NotJson { line: 0 })),
     ("{\n7", Err(LineFault::NotJson { line: 0 })),
     ("7\n{\n7\n", Err(LineFault::NotJson { line: 1 })),
     ("7\n\n{}{}\n7\n", Err(LineFault::NotJson { line: 2 })),
-    ("{}\r\n7\r\n\"\u{20ac}\n\"\n", Err(LineFault::NotJson { line: 2 })),
+    (
+        "{}\r\n7\r\n\"\u{20ac}\n\"\n",
+        Err(LineFault::NotJson { line: 2 }),
+    ),
     ("{\n}\n", Err(LineFault::NotJson { line: 0 })),
     ("7\n\u{b}\n", Err(LineFault::NotJson { line: 1 })),
     ("7\n\u{a0}", Err(LineFault::NotJson { line: 1 })),
@@ -101,7 +108,12 @@ fn same(
 fn streams_whole_and_byte_by_byte(rt: HostRuntime) -> Result<(), Fail> {
     for (stream, expected) in STREAMS {
         for len in [usize::MAX, 1, 2, 3] {
-            same(&rt, rt.alloc(), in_pieces(rt.alloc(), stream.as_bytes(), len), expected)?;
+            same(
+                &rt,
+                rt.alloc(),
+                in_pieces(rt.alloc(), stream.as_bytes(), len),
+                expected,
+            )?;
         }
     }
     Ok(())
@@ -111,7 +123,12 @@ fn streams_whole_and_byte_by_byte(rt: HostRuntime) -> Result<(), Fail> {
 fn streams_cut_at_each_byte(rt: HostRuntime) -> Result<(), Fail> {
     for (stream, expected) in STREAMS {
         for at in 0..stream.len() + 1 {
-            same(&rt, rt.alloc(), cut_at(rt.alloc(), stream.as_bytes(), at), expected)?;
+            same(
+                &rt,
+                rt.alloc(),
+                cut_at(rt.alloc(), stream.as_bytes(), at),
+                expected,
+            )?;
         }
     }
     Ok(())
@@ -164,15 +181,30 @@ fn most_bytes(rt: HostRuntime) -> Result<(), Fail> {
     let alloc = rt.alloc();
     for last in *b" \n" {
         let stream = of_length(alloc, 4_194_304, last)?;
-        same(&rt, rt.alloc(), in_pieces(alloc, stream.as_slice(), 1_000_000), &Ok(&[NO_OBJECT]))?;
+        same(
+            &rt,
+            rt.alloc(),
+            in_pieces(alloc, stream.as_slice(), 1_000_000),
+            &Ok(&[NO_OBJECT]),
+        )?;
     }
     let stream = of_length(alloc, 4_194_304, b'{')?;
     let expected = Err(LineFault::NotJson { line: 0 });
-    same(&rt, rt.alloc(), in_pieces(alloc, stream.as_slice(), 4_194_304), &expected)?;
+    same(
+        &rt,
+        rt.alloc(),
+        in_pieces(alloc, stream.as_slice(), 4_194_304),
+        &expected,
+    )?;
     for last in *b" \n{" {
         let stream = of_length(alloc, 4_194_305, last)?;
         for len in [1_000_000, 4_194_304, 4_194_305] {
-            same(&rt, rt.alloc(), in_pieces(alloc, stream.as_slice(), len), &Err(LineFault::TooLong))?;
+            same(
+                &rt,
+                rt.alloc(),
+                in_pieces(alloc, stream.as_slice(), len),
+                &Err(LineFault::TooLong),
+            )?;
         }
     }
     Ok(())
@@ -184,10 +216,20 @@ fn the_first_of_two_faults(rt: HostRuntime) -> Result<(), Fail> {
     let alloc = rt.alloc();
     let mut stream = of_length(alloc, 4_194_306, b'\n')?;
     stream[1] = b'{';
-    same(&rt, rt.alloc(), in_pieces(alloc, stream.as_slice(), 5_000_000), &Err(LineFault::TooLong))?;
+    same(
+        &rt,
+        rt.alloc(),
+        in_pieces(alloc, stream.as_slice(), 5_000_000),
+        &Err(LineFault::TooLong),
+    )?;
     stream[4_194_303] = b'\n';
     let expected = Err(LineFault::NotJson { line: 0 });
-    same(&rt, rt.alloc(), in_pieces(alloc, stream.as_slice(), 5_000_000), &expected)
+    same(
+        &rt,
+        rt.alloc(),
+        in_pieces(alloc, stream.as_slice(), 5_000_000),
+        &expected,
+    )
 }
 
 /// How many items a stream of so many lines has, with these bytes behind them.
@@ -206,7 +248,15 @@ fn most_items(rt: HostRuntime) {
     let ends = ["", "\n \n", "7", "7\n", "{", "{\n", "7\n{\n"];
     let not_json = Err(LineFault::NotJson { line: 10_000 });
     let too_many = Err(LineFault::TooMany);
-    let expected = [Ok(10_000), Ok(10_000), too_many, too_many, not_json, not_json, too_many];
+    let expected = [
+        Ok(10_000),
+        Ok(10_000),
+        too_many,
+        too_many,
+        not_json,
+        not_json,
+        too_many,
+    ];
     for (end, expected) in ends.iter().zip(expected) {
         assert_eq!(rt; (end, count(alloc, 10_000, end)), (end, expected));
     }
@@ -217,7 +267,10 @@ fn texts_of_faults(rt: HostRuntime) -> Result<(), Fail> {
     let (long, many) = (LineFault::TooLong, LineFault::TooMany);
     let line = LineFault::NotJson { line: 7 };
     let text = format!(in rt.alloc(); "{long}, {many}, {line}, {}", LineFault::Memory)?;
-    assert_eq!(rt; text.as_str(), "too_long, too_many, not_json 7, out of memory");
+    assert_eq!(rt;
+        text.as_str(),
+        "too_long, too_many, not_json 7, out of memory"
+    );
     Ok(())
 }
 
@@ -245,7 +298,11 @@ fn a_stream_is_read_after_a_refused_growth(rt: HostRuntime) {
 #[test]
 fn memory_is_kept_after_a_refused_growth(rt: HostRuntime) {
     let mut reader = LineReader::open(rt.alloc());
-    let fed = [reader.feed(b"7\n7\n"), reader.feed(b"7"), reader.feed(b"\n")];
+    let fed = [
+        reader.feed(b"7\n7\n"),
+        reader.feed(b"7"),
+        reader.feed(b"\n"),
+    ];
     let ended = reader.finish().map(|items| items.len());
     let kept = match fed {
         [Ok(()), Ok(()), Ok(())] => ended == Ok(3) || ended == Err(LineFault::Memory),
