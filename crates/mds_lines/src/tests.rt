@@ -48,7 +48,7 @@ const NO_PROVIDER: ItemFault = ItemFault::Missing(Member::ProviderId);
 fn in_pieces(alloc: Global, stream: &[u8], len: usize) -> Result<Vec<EventItem>, LineFault> {
     let mut reader = LineReader::open(alloc);
     let mut first = Ok(());
-    for piece in stream.chunks(len) {
+    for piece in stream.chunks(len.max(1)) {
         let fed = reader.feed(piece);
         if first.is_ok() {
             first = fed;
@@ -69,7 +69,8 @@ fn in_pieces(alloc: Global, stream: &[u8], len: usize) -> Result<Vec<EventItem>,
 /// The same of a stream that is cut in two.
 fn cut_at(alloc: Global, stream: &[u8], at: usize) -> Result<Vec<EventItem>, LineFault> {
     let mut reader = LineReader::open(alloc);
-    let fed = reader.feed(&stream[..at]).is_ok() && reader.feed(&stream[at..]).is_ok();
+    let (front, rest) = stream.split_at(at.min(stream.len()));
+    let fed = reader.feed(front).is_ok() && reader.feed(rest).is_ok();
     let again = reader.feed(b"");
     let items = reader.finish();
     if fed != again.is_ok() {
@@ -170,9 +171,10 @@ fn no_characters(rt: HostRuntime) -> Result<(), Fail> {
 
 /// A stream of so many bytes: an item, so many blanks, and a last byte.
 fn of_length(alloc: Global, len: usize, last: u8) -> Result<Vec<u8>, AllocError> {
-    let mut stream = vec![in alloc; b' '; len]?;
-    stream[0] = b'7';
-    stream[len - 1] = last;
+    let mut stream = Vec::new(alloc);
+    stream.push(b'7')?;
+    stream.resize(len.saturating_sub(1), b' ')?;
+    stream.push(last)?;
     Ok(stream)
 }
 

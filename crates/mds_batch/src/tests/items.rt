@@ -77,15 +77,12 @@ fn most_bytes(rt: HostRuntime) {
 #[test]
 fn length_is_looked_at_before_the_text(rt: HostRuntime) -> Result<(), Fail> {
     let alloc = rt.alloc();
-    let bytes = vec![in alloc; 0xff; 4194305]?;
-    assert_eq!(rt;
-        read_item(alloc, bytes.as_slice()),
-        Err(BatchFault::TooLong)
-    );
-    assert_eq!(rt;
-        read_item(alloc, &bytes[..4194304]),
-        Err(BatchFault::NotJson)
-    );
+    let mut bytes = vec![in alloc; 0xff; 4194305]?;
+    let found = read_item(alloc, bytes.as_slice());
+    assert_eq!(rt; found, Err(BatchFault::TooLong));
+    bytes.pop();
+    let found = read_item(alloc, bytes.as_slice());
+    assert_eq!(rt; found, Err(BatchFault::NotJson));
     Ok(())
 }
 
