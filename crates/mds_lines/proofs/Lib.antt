@@ -1,4 +1,0 @@
--- Lemmas of this crate.
-pub mod ErrorLemmas
-pub mod LineLemmas
-pub mod FeedLemmas
