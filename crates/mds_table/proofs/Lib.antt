@@ -11,7 +11,3 @@ pub mod OneTable
 pub mod OneAnswer
 pub mod Bits
 pub mod Sought
-pub mod InTime
-pub mod InForce
-pub mod TimedReading
-pub mod ItemsRead
