@@ -11,3 +11,7 @@ pub mod OneTable
 pub mod OneAnswer
 pub mod Bits
 pub mod Sought
+pub mod InTime
+pub mod InForce
+pub mod TimedReading
+pub mod ItemsRead

@@ -1,5 +1,5 @@
 -- An entry of a table file as the code keeps it, and lists that grow.
-use Rattle.std.specs.Prelude.{◌≡◌, ◌⊎◌, ℕ, List, Bool, true, false, Some, map, slice_index_or, Contains}
+use Rattle.std.specs.Prelude.{◌≡◌, ◌⊎◌, List, Bool, true, false, Some, map, slice_index_or, Contains}
 use Rattle.serde_json.specs.Data.{Data}
 use Rattle.mds_table.specs.declared.state.State.{State}
 use Rattle.mds_table.specs.declared.row.Row.{Row}
@@ -9,7 +9,7 @@ use Rattle.mds_table.specs.declared.table_file.TableFault.{TableFault}
 use Rattle.mds_table.specs.declared.table_file.TableFault.TheVariants.{Memory, TooLong, NotJson, NotRows, BadRow, TooManyRows, TooManyTypes, Empty}
 use Rattle.mds_table.specs.State.{code_of}
 use Rattle.mds_table.specs.Json.{state_in}
-use Rattle.mds_table.specs.TableFile.{StandsFor, bad_form, many_rows, many_types, IsFirstFault}
+use Rattle.mds_table.specs.TableFile.{StandsFor, HasRowsFault}
 
 -- the state is marked
 abbrev pub is_marked : States → State → Bool
@@ -44,13 +44,13 @@ pub record IsRowTo (from : State) (entry : Entry) (states : List State) (row : R
   pub named : Contains states row.to
   pub to : is_marked entry.to row.to ≡ true
 
--- the first fault of the entries of a file
+-- the first fault of the entries of a table, or want of memory
 abbrev pub HasFaultIn : List Data → TableFault → Type 0
 HasFaultIn entries Memory = Unit {0}
-HasFaultIn entries (BadRow at) = IsFirstFault entries at bad_form
-HasFaultIn entries TooManyRows = (at : ℕ) × IsFirstFault entries at many_rows
-HasFaultIn entries TooManyTypes = (at : ℕ) × IsFirstFault entries at many_types
+HasFaultIn entries Empty = HasRowsFault entries Empty
+HasFaultIn entries (BadRow at) = HasRowsFault entries (BadRow at)
+HasFaultIn entries TooManyRows = HasRowsFault entries TooManyRows
+HasFaultIn entries TooManyTypes = HasRowsFault entries TooManyTypes
 HasFaultIn entries TooLong = ⊥
 HasFaultIn entries NotJson = ⊥
 HasFaultIn entries NotRows = ⊥
-HasFaultIn entries Empty = ⊥

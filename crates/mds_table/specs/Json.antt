@@ -1,8 +1,8 @@
 -- Texts of JSON, as table files and batches are, and what their values name.
-use Rattle.std.specs.Prelude.{◌≡◌, ℕ, ◌<◌, ◌≤◌, List, [], ◌∷◌, length, Option, Some, None, option_and_then, find, if◌then◌else◌, IsUtf8}
+use Rattle.std.specs.Prelude.{◌≡◌, ℕ, ◌<◌, ◌≤◌, List, [], ◌∷◌, length, nat_le, Option, Some, None, option_and_then, find, if◌then◌else◌, IsUtf8}
 use Rattle.std.specs.Str.{bytes_eq}
 use Rattle.serde_json.specs.Data.{Data, Items, no_items, item}
-use Rattle.serde_json.specs.Find.{as_str}
+use Rattle.serde_json.specs.Find.{as_str, as_number, as_u64}
 use Rattle.serde_json.specs.Read.{read}
 use Rattle.mds_table.specs.declared.state.State.{State}
 use Rattle.mds_table.specs.declared.state.TheConstants.State.{ALL}
@@ -45,3 +45,11 @@ state_in value = option_and_then state_of_name (as_str value)
 -- the type name that a value is
 abbrev pub type_name_in : Data → Option (List ℕ)
 type_name_in value = option_and_then (λ text. if is_type_name text then Some text else None) (as_str value)
+
+-- the latest time, in milliseconds since the Unix epoch: up to it no two whole numbers are the same double
+abbrev pub max_time : ℕ
+max_time = 9007199254740991
+
+-- the time that a value is: a whole number, not past the latest
+abbrev pub time_in : Data → Option ℕ
+time_in value = option_and_then (λ time. if nat_le time max_time then Some time else None) (option_and_then as_u64 (as_number value))

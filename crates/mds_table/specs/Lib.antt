@@ -6,9 +6,12 @@ pub mod RowLaws
 pub mod Profile
 pub mod Chain
 pub mod Tables
+pub mod Timed
 pub mod Printed
 pub mod Json
 pub mod TableFile
+pub mod TimedFile
+pub mod TimedRead
 pub mod Entry
 pub mod Mask
 pub mod Moves

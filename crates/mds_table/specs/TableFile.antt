@@ -116,9 +116,24 @@ entries_in d = option_map items_in (option_and_then as_array (get (codes "rows")
 abbrev pub HasEntries : List ℕ → (List Data → Type 0) → Type 0
 HasEntries bytes P = (value : Data) × IsShortTextOf value bytes × IsSomeAnd (entries_in value) P
 
--- the bytes are a table file of these rows: it has an entry, and each entry is without a fault
+-- the entries are those of a table of these rows: there is one, and each is without a fault
+abbrev pub AreTableOf : List Data → List Row → Type 0
+AreTableOf entries rows = (1 ≤ length entries) × (kinds : List (List ℕ)) × AreGood entries rows kinds
+
+-- the bytes are a table file of these rows
 abbrev pub HasTable : List ℕ → List Row → Type 0
-HasTable bytes rows = HasEntries bytes (λ entries. (1 ≤ length entries) × (kinds : List (List ℕ)) × AreGood entries rows kinds)
+HasTable bytes rows = HasEntries bytes (λ entries. AreTableOf entries rows)
+
+-- the first fault of the entries of a table: there is none, or one of them has a fault; the other faults are a file's
+abbrev pub HasRowsFault : List Data → TableFault → Type 0
+HasRowsFault entries Empty = entries ≡ []
+HasRowsFault entries (BadRow at) = IsFirstFault entries at bad_form
+HasRowsFault entries TooManyRows = (at : ℕ) × IsFirstFault entries at many_rows
+HasRowsFault entries TooManyTypes = (at : ℕ) × IsFirstFault entries at many_types
+HasRowsFault entries Memory = ⊥
+HasRowsFault entries TooLong = ⊥
+HasRowsFault entries NotJson = ⊥
+HasRowsFault entries NotRows = ⊥
 
 -- The first fault of a file: those of the file as a whole, then those of its entries, entry by entry. Memory may be
 -- wanting whatever the file has.
@@ -127,10 +142,10 @@ HasFault bytes Memory = Unit {0}
 HasFault bytes TooLong = HasTextFault bytes text.TooLong
 HasFault bytes NotJson = HasTextFault bytes text.NotJson
 HasFault bytes NotRows = (value : Data) × IsShortTextOf value bytes × (entries_in value ≡ None)
-HasFault bytes Empty = HasEntries bytes (λ entries. entries ≡ [])
-HasFault bytes (BadRow at) = HasEntries bytes (λ entries. IsFirstFault entries at bad_form)
-HasFault bytes TooManyRows = HasEntries bytes (λ entries. (at : ℕ) × IsFirstFault entries at many_rows)
-HasFault bytes TooManyTypes = HasEntries bytes (λ entries. (at : ℕ) × IsFirstFault entries at many_types)
+HasFault bytes Empty = HasEntries bytes (λ entries. HasRowsFault entries Empty)
+HasFault bytes (BadRow at) = HasEntries bytes (λ entries. HasRowsFault entries (BadRow at))
+HasFault bytes TooManyRows = HasEntries bytes (λ entries. HasRowsFault entries TooManyRows)
+HasFault bytes TooManyTypes = HasEntries bytes (λ entries. HasRowsFault entries TooManyTypes)
 
 -- the fault of a file whose text has this one
 abbrev pub of_text : TextFault → TableFault

@@ -1,7 +1,7 @@
 //! Texts of JSON, and what their values name: what table files and batches both read.
 ghost use Rattle.std.specs.Prelude.{◌≡◌, IfOk, IfErr};
 ghost use Rattle.serde_json.specs.View.{view};
-ghost use Rattle.mds_table.specs.Json.{IsShortTextOf, HasTextFault, state_in, type_name_in};
+ghost use Rattle.mds_table.specs.Json.{IsShortTextOf, HasTextFault, state_in, type_name_in, time_in};
 
 use crate::{State, TypeName};
 use serde_json::Value;
@@ -9,6 +9,10 @@ use std::alloc::Global;
 
 /// The most bytes of a text of JSON that is read: of a table file, and of a batch.
 pub const MAX_BYTES: usize = 4_194_304;
+
+/// The latest time, in milliseconds since the Unix epoch: up to it no two whole numbers are the same double, so no reader
+/// of JSON rounds it.
+pub const MAX_TIME: u64 = 9_007_199_254_740_991;
 
 /// Why no value was read from bytes.
 #[derive(Clone, Copy, Debug, PartialEq, Eq, Hash)]
@@ -53,4 +57,12 @@ pub fn type_name_of(value: &Value) -> Option<TypeName>
     ensures { result ≡ type_name_in (view value.now) }
 {
     TypeName::new(value.as_str()?).ok()
+}
+
+/// The time that the value is: a whole number of milliseconds since the Unix epoch, up to [`MAX_TIME`].
+pub fn time_of(value: &Value) -> Option<u64>
+    ensures { result ≡ time_in (view value.now) }
+{
+    let time = value.as_u64()?;
+    (time <= MAX_TIME).then_some(time)
 }

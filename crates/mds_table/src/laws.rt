@@ -1,5 +1,6 @@
 //! What holds of the definitions alone.
 ghost use Rattle.mds_table.specs.Chain.{ChainsGoByPlaces};
+ghost use Rattle.mds_table.specs.Timed.{LatestIsInForce};
 ghost use Rattle.mds_table.specs.TableFile.{FilesHaveOneTable, TableFilesHaveNoFault, FilesHaveOneFault};
 
 /// A chain, which contracts define step by step, is a list of one more state than the event has types, which begins
@@ -22,4 +23,10 @@ pub fn table_files_have_no_fault()
 /// A file has one first fault, want of memory aside.
 pub fn files_have_one_fault()
     ensures { FilesHaveOneFault }
+{}
+
+/// Of tables that change at stated times, the rows in force at a time are those of the table with the greatest start that
+/// isn't past it.
+pub fn latest_is_in_force()
+    ensures { LatestIsInForce }
 {}

@@ -16,13 +16,18 @@ mod row;
 mod state;
 mod table;
 mod table_file;
+mod tables;
+mod tables_fault;
+mod tables_file;
 #[cfg(test)]
 mod tests;
 mod type_name;
 
-pub use json::MAX_BYTES;
+pub use json::{MAX_BYTES, MAX_TIME};
 pub use row::Row;
 pub use state::State;
 pub use table::Table;
 pub use table_file::{MAX_ROWS, MAX_TABLE_TYPES, TableFault};
+pub use tables::{MAX_TABLES, Tables};
+pub use tables_fault::TablesFault;
 pub use type_name::{NameFault, TypeName};

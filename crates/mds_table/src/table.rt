@@ -1,13 +1,16 @@
 //! Tables of allowed transitions.
-ghost use Rattle.std.specs.Prelude.{◌≡◌, ◌↔◌, true, IsTrue, IfOk, IfErr, Contains, length};
+ghost use Rattle.std.specs.Prelude.{◌≡◌, ◌↔◌, true, IsTrue, IfOk, IfErr, Contains, length, map};
 ghost use Rattle.mds_table.specs.Row.{row_of, in_order};
 ghost use Rattle.mds_table.specs.Mask.{AreMasks};
 ghost use Rattle.mds_table.specs.Profile.{profile_rows};
-ghost use Rattle.mds_table.specs.TableFile.{HasTable, HasFault};
+ghost use Rattle.mds_table.specs.TableFile.{AreTableOf, HasTable, HasFault};
+ghost use Rattle.mds_table.specs.Entry.{HasFaultIn};
+ghost use Rattle.serde_json.specs.View.{view};
 
 use crate::mask::Mask;
 use crate::moves::{Moves, masks_among, moves_of};
 use crate::{Row, State, TableFault, TypeName, mask, profile, table_file};
+use serde_json::Value;
 use std::alloc::{AllocError, Global};
 use std::marker::Model;
 
@@ -59,6 +62,15 @@ impl Table {
         ensures fault { IfErr result (λ fault. HasFault text.now fault) }
     {
         let rows = table_file::rows_in_file(alloc, text)?;
+        Ok(Table::of_rows(alloc, rows)?)
+    }
+
+    /// The table of these entries of a table file.
+    pub(crate) fn of_entries(alloc: Global, entries: &[Value]) -> Result<Table, TableFault>
+        ensures table { IfOk result (λ table. AreTableOf (map view entries.now) table) }
+        ensures fault { IfErr result (λ fault. HasFaultIn (map view entries.now) fault) }
+    {
+        let rows = table_file::rows_of_entries(alloc, entries)?;
         Ok(Table::of_rows(alloc, rows)?)
     }
 

@@ -6,7 +6,7 @@
 ghost use Rattle.std.specs.Prelude.{◌≡◌, ℕ, List, map, option_map, true, Some, IfOk, IfErr, OnOk, Contains};
 ghost use Rattle.serde_json.specs.View.{view};
 ghost use Rattle.mds_table.specs.Row.{ascends, in_order};
-ghost use Rattle.mds_table.specs.TableFile.{entries_in, AreGood, HasTable, HasFault, fault_text};
+ghost use Rattle.mds_table.specs.TableFile.{entries_in, AreTableOf, HasTable, HasFault, fault_text};
 ghost use Rattle.mds_table.specs.Entry.{HasRow, IsRowTo, Adds, HasFaultIn};
 ghost use Rattle.std.specs.Ordering.{nat_cmp};
 ghost use Rattle.std.specs.Cmp.Lexicographic.{slice_cmp};
@@ -101,25 +101,25 @@ pub(crate) fn rows_in_file(alloc: Global, text: &[u8]) -> Result<Vec<Row>, Table
     let Some(entries) = entries_of(&value) else {
         return Err(TableFault::NotRows);
     };
-    if entries.is_empty() {
-        return Err(TableFault::Empty);
-    }
     rows_of_entries(alloc, entries)
 }
 
-/// The entries of a file, or `None` where it isn't an object with a list `rows`.
-fn entries_of(file: &Value) -> Option<&[Value]>
+/// The entries of a file, or of a table in one, or `None` where the value isn't an object with a list `rows`.
+pub(crate) fn entries_of(file: &Value) -> Option<&[Value]>
     ensures { option_map (λ entries. map view entries.now) result ≡ entries_in (view file.now) }
 {
     Some(file.get("rows")?.as_array()?.as_slice())
 }
 
 /// The rows that the entries stand for, in row order.
-fn rows_of_entries(alloc: Global, entries: &[Value]) -> Result<Vec<Row>, TableFault>
-    ensures rows { IfOk result (λ rows.
-        (kinds : List (List ℕ)) × AreGood (map view entries.now) rows.items kinds) }
+pub(crate) fn rows_of_entries(alloc: Global, entries: &[Value]) -> Result<Vec<Row>, TableFault>
+    ensures rows { IfOk result (λ rows. AreTableOf (map view entries.now) rows.items) }
+    ensures order { IfOk result (λ rows. in_order rows.items ≡ true) }
     ensures fault { IfErr result (λ fault. HasFaultIn (map view entries.now) fault) }
 {
+    if entries.is_empty() {
+        return Err(TableFault::Empty);
+    }
     let mut rows = Vec::new(alloc);
     let mut kinds = Vec::new(alloc);
     for (at, value) in entries.iter().enumerate() {

@@ -1,5 +1,6 @@
 //! What no clause says: values from outside, and that each call can succeed.
 mod table_files;
+mod tables;
 
 use crate::mask::{Mask, bit_of, has};
 use crate::{NameFault, Row, State, Table, TableFault, TypeName};

@@ -118,7 +118,12 @@ const FILES: [File; 15] = [
 ];
 
 /// The front and so many entries, each of a type of its own, from and to these states, and a comma behind it.
-fn entries(alloc: Global, front: &str, types: usize, states: &str) -> Result<String, AllocError> {
+pub(super) fn entries(
+    alloc: Global,
+    front: &str,
+    types: usize,
+    states: &str,
+) -> Result<String, AllocError> {
     let mut text = String::new(alloc);
     text.push_str(front)?;
     for number in 0..types {
