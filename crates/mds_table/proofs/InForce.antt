@@ -10,7 +10,8 @@ use Rattle.std.proofs.lemmas.List.{get_or-map, length-map}
 use Rattle.std.proofs.lemmas.List.Elements.{Contains-get_or}
 use Rattle.std.proofs.lemmas.List.Sorted.{IsPartitionedBy-leb}
 use Rattle.mds_table.specs.Row.{ascends}
-use Rattle.mds_table.specs.Timed.{Entry, start_of, rows_of, has_started, rows_in_force, AreTimed, IsLatest}
+use Rattle.mds_table.specs.Tables.{Entry, start_of, rows_of, has_started, rows_at}
+use Rattle.mds_table.specs.Timed.{AreTimed, IsLatest}
 use Rattle.mds_table.proofs.Ascending.{Contains-tail, head_or_tail}
 use Rattle.mds_table.proofs.OneTable.{before_all, rest_ascends}
 use Rattle.mds_table.proofs.InTime.{le_true, le_false}
@@ -35,7 +36,7 @@ last_started p o (x ∷ xs) (suc n) e within below above =
 
 -- the rows in force are those of the entry before the first that hasn't started
 pub rows_at_place : (entries : List Entry) (time n : ℕ) (e : Entry) → n < length entries → AllWithin (λ entry. has_started time entry ≡ true) entries 0 (n + 1)
-    → AllWithin (λ entry. has_started time entry ≡ false) entries (n + 1) (length entries) → rows_in_force entries time ≡ rows_of (get_or entries n e)
+    → AllWithin (λ entry. has_started time entry ≡ false) entries (n + 1) (length entries) → rows_at entries time ≡ rows_of (get_or entries n e)
 rows_at_place entries time n e within below above =
     rw (last_started (has_started time) None entries n e within (λ k d low. below k d (omega arith) (omega arith)) (λ k d low high. above k d (omega arith) high)) refl
 
@@ -132,13 +133,13 @@ latest e (y ∷ ys) time up started = ⊎_elim not_yet (λ early. yes early (lat
 
 -- at each time there is a latest table, whose rows are in force
 pub latest_in_force : (entries : List Entry) (time : ℕ) → AreTimed entries
-    → ((entry : Entry) × IsLatest entries time entry) × ((entry : Entry) → IsLatest entries time entry → rows_in_force entries time ≡ rows_of entry)
+    → ((entry : Entry) × IsLatest entries time entry) × ((entry : Entry) → IsLatest entries time entry → rows_at entries time ≡ rows_of entry)
 latest_in_force [] time timed = absurd (omega (arith, timed.some))
 latest_in_force (e ∷ xs) time timed =
     let first : start_of e ≡ 0 = timed.times.first in
     let started : start_of e ≤ time = omega (arith, first) in
     let found = latest e xs time timed.times.rising started in
-    let rows : rows_in_force (e ∷ xs) time ≡ rows_of found.0 = rw (le_true (start_of e) time started) (ap (λ o. unwrap_or (option_map rows_of o) []) found.2) in (
+    let rows : rows_at (e ∷ xs) time ≡ rows_of found.0 = rw (le_true (start_of e) time started) (ap (λ o. unwrap_or (option_map rows_of o) []) found.2) in (
       (found.0, found.1),
       λ entry is.
           let low : start_of entry ≤ start_of found.0 = found.1.greatest entry is.there is.started in
@@ -171,7 +172,7 @@ one_started (e ∷ xs) time (suc n) timed split = omega arith
 
 -- the table before that place is in force
 pub split_in_force : (entries : List Entry) (time n : ℕ) (entry : Entry) → AreTimed entries → n ≤ length entries → IsSplit entries time n → entry ≡ get_or entries (n - 1) entry
-    → rows_of entry ≡ rows_in_force entries time
+    → rows_of entry ≡ rows_at entries time
 split_in_force entries time n entry timed within split is =
     let some : 1 ≤ n = one_started entries time n timed split in
     let back : (n - 1) + 1 ≡ n = omega (arith, some) in

@@ -13,7 +13,8 @@ use Rattle.mds_table.specs.declared.tables_fault.TablesFault.{TablesFault}
 use Rattle.mds_table.specs.declared.tables_fault.TablesFault.TheVariants.{BadEntry}
 use Rattle.mds_table.specs.Row.{ascends}
 use Rattle.mds_table.specs.Json.{max_time}
-use Rattle.mds_table.specs.Timed.{Entry, start_of, max_tables, AreInTime}
+use Rattle.mds_table.specs.Tables.{Entry, start_of}
+use Rattle.mds_table.specs.Timed.{max_tables, AreInTime}
 use Rattle.mds_table.specs.TimedFile.{AreEntriesOf, start_told, Follows, IsFirstAt, HasListFault, HasTimesFault}
 use Rattle.mds_table.specs.TimedRead.{IsStartFault}
 

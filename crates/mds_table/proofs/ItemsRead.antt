@@ -9,7 +9,8 @@ use Rattle.mds_table.specs.declared.tables_fault.TablesFault.{TablesFault}
 use Rattle.mds_table.specs.declared.tables_fault.TablesFault.TheVariants.{BadEntry}
 use Rattle.mds_table.specs.Json.{max_time, time_in}
 use Rattle.mds_table.specs.TableFile.{entries_in, AreTableOf, HasRowsFault}
-use Rattle.mds_table.specs.Timed.{Entry, start_of, max_tables, AreInTime, AreTimed}
+use Rattle.mds_table.specs.Tables.{Entry, start_of}
+use Rattle.mds_table.specs.Timed.{max_tables, AreInTime, AreTimed}
 use Rattle.mds_table.specs.TimedFile.{AreEntriesOf, Follows, start_in, IsTableItem, HasItemFault, HasItemsFault}
 use Rattle.mds_table.specs.TimedRead.{IsStartFault, IsTableFault, IsItemsFault}
 use Rattle.mds_table.proofs.InTime.{some_and, start_fault, in_time_push, entries_push, same_count, last_push}

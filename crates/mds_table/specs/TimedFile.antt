@@ -13,7 +13,8 @@ use Rattle.mds_table.specs.declared.tables_fault.TablesFault.{TablesFault}
 use Rattle.mds_table.specs.declared.tables_fault.TablesFault.TheVariants.{Memory, TooLong, NotJson, NotRows, InTable, NoTables, TooManyTables, BadEntry, FirstNotZero, NotRising}
 use Rattle.mds_table.specs.Json.{max_time, items_in, time_in, IsShortTextOf, HasTextFault}
 use Rattle.mds_table.specs.TableFile.{entries_in, AreTableOf, HasRowsFault, HasEntries, HasTable, fault_text}
-use Rattle.mds_table.specs.Timed.{Entry, start_of, max_tables, AreInTime, AreTimed}
+use Rattle.mds_table.specs.Tables.{Entry, start_of}
+use Rattle.mds_table.specs.Timed.{max_tables, AreInTime, AreTimed}
 
 -- there are as many tables as items, and each is what the item at its place stands for
 abbrev pub AreEntriesOf : {X : Type 0} → (X → Entry → Type 0) → List X → List Entry → Type 0

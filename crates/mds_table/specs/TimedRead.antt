@@ -6,7 +6,8 @@ use Rattle.mds_table.specs.declared.table_file.TableFault.{TableFault}
 use Rattle.mds_table.specs.declared.tables_fault.TablesFault.{TablesFault}
 use Rattle.mds_table.specs.declared.tables_fault.TablesFault.TheVariants.{Memory, NotRows, InTable, NoTables, TooManyTables, FirstNotZero, NotRising}
 use Rattle.mds_table.specs.TableFile.{AreTableOf, HasRowsFault}
-use Rattle.mds_table.specs.Timed.{Entry, max_tables}
+use Rattle.mds_table.specs.Tables.{Entry}
+use Rattle.mds_table.specs.Timed.{max_tables}
 use Rattle.mds_table.specs.TimedFile.{HasItemsFault}
 
 -- so many tables may follow one another

@@ -1,6 +1,7 @@
 //! Tables that change at stated times.
 ghost use Rattle.std.specs.Prelude.{◌≡◌, ◌++◌, [], ◌∷◌, option_map, slice_get, length, IfOk, IfErr, OnOk, MatchResult};
-ghost use Rattle.mds_table.specs.Timed.{rows_in_force, AreTimed};
+ghost use Rattle.mds_table.specs.Tables.{rows_at};
+ghost use Rattle.mds_table.specs.Timed.{AreTimed};
 ghost use Rattle.mds_table.specs.TimedFile.{Follows, HasTimesFault, HasTables, HasTablesFault};
 ghost use Rattle.mds_table.specs.TimedRead.{IsCount, IsCountFault, IsStartFault};
 
@@ -21,7 +22,8 @@ pub struct Tables {
 }
 
 impl Model for Tables {
-    ghost use Rattle.mds_table.specs.Timed.{Entry, AreTimed};
+    ghost use Rattle.mds_table.specs.Tables.{Entry};
+    ghost use Rattle.mds_table.specs.Timed.{AreTimed};
     ghost use Rattle.std.specs.Prelude.{List};
 
     ghost Value = { List Entry };
@@ -84,7 +86,7 @@ impl Tables {
 
     /// The table in force at this time: the last one that has started by then. It halves the list at each step.
     pub fn at(&self, time: u64) -> &Table
-        ensures { result.now ≡ rows_in_force self.now time }
+        ensures { result.now ≡ rows_at self.now time }
     {
         let started = self.entries.partition_point(|entry| entry.0 <= time);
         // The first table starts at 0, so at least one has started.

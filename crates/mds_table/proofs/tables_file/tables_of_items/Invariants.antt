@@ -1,7 +1,8 @@
 use Rattle.std.proofs.Common.{◌≡◌, None, option_map, map, take}
 use Rattle.std.specs.List.{last_or}
 use Rattle.serde_json.specs.View.{view}
-use Rattle.mds_table.specs.Timed.{start_of, AreInTime}
+use Rattle.mds_table.specs.Tables.{start_of}
+use Rattle.mds_table.specs.Timed.{AreInTime}
 use Rattle.mds_table.specs.TimedFile.{AreEntriesOf, IsTableItem}
 use Rattle.mds_table.proofs.tables_file.tables_of_items.Given as goal
 

@@ -1,6 +1,6 @@
 use Rattle.std.proofs.Common.{rules}
 use Rattle.std.proofs.lemmas.List.Sorted.{IsPartitionPoint-from_clause}
-use Rattle.mds_table.specs.Timed.{has_started}
+use Rattle.mds_table.specs.Tables.{has_started}
 use Rattle.mds_table.proofs.InForce.{started_in_front, one_started, split_in_force}
 use Rattle.mds_table.proofs.tables.Tables.at.Goals as goal
 

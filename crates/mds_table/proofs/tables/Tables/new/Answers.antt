@@ -1,5 +1,6 @@
 use Rattle.std.proofs.Common.{◌≡◌, ◌<◌, ◌≤◌, length, get_or, arith, rules}
-use Rattle.mds_table.specs.Timed.{Entry, max_tables}
+use Rattle.mds_table.specs.Tables.{Entry}
+use Rattle.mds_table.specs.Timed.{max_tables}
 use Rattle.mds_table.proofs.InTime.{late_fault, early_fault, next_in_time, next_last}
 use Rattle.mds_table.proofs.tables.Tables.new.Goals as goal
 

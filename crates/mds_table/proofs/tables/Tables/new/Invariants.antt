@@ -1,6 +1,7 @@
 use Rattle.std.proofs.Common.{◌≡◌, None, option_map, take}
 use Rattle.std.specs.List.{last_or}
-use Rattle.mds_table.specs.Timed.{start_of, AreInTime}
+use Rattle.mds_table.specs.Tables.{start_of}
+use Rattle.mds_table.specs.Timed.{AreInTime}
 use Rattle.mds_table.proofs.tables.Tables.new.Given as goal
 
 -- the tables so far are in order of time, and the last of them starts at this time
