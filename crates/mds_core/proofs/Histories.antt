@@ -6,7 +6,7 @@ use Rattle.std.proofs.lemmas.Slice.Eq.{bytes_eq-Decides}
 use Rattle.std.proofs.lemmas.List.{append-nil}
 use Rattle.std.proofs.lemmas.List.Elements.{filter-append}
 use Rattle.std.proofs.Common.{append_assoc}
-use Rattle.mds_table.specs.Tables.{Tables}
+use Rattle.mds_table.specs.Tables.{Tables, rows_at}
 use Rattle.mds_table.specs.Chain.{Leads}
 use Rattle.mds_core.specs.declared.key.Key.{Key}
 use Rattle.mds_core.specs.declared.request.Request.{Request}
@@ -58,14 +58,14 @@ requests_of-next_same history request (Refused refusal) key same = refl
 
 -- a career goes on with a report that could be accepted
 career_more : (tables : Tables) (before rest : List Request) (event : Reported) → IsCareer tables before rest
-    → IsOpen (before ++ rest) event → Leads tables (state_of (before ++ rest)) event.types event.state → IsCareer tables before (rest ++ Report event ∷ [])
+    → IsOpen (before ++ rest) event → Leads (rows_at tables event.time) (state_of (before ++ rest)) event.types event.state → IsCareer tables before (rest ++ Report event ∷ [])
 career_more tables before [] event career o leads =
     let IsOpenTo : List Request → Type 0 = λ requests. IsOpen requests event in
-    let LeadsFrom : List Request → Type 0 = λ requests. Leads tables (state_of requests) event.types event.state in
+    let LeadsFrom : List Request → Type 0 = λ requests. Leads (rows_at tables event.time) (state_of requests) event.types event.state in
     (subst IsOpenTo (append-nil before) o, subst LeadsFrom (append-nil before) leads, tt)
 career_more tables before (Report first ∷ rest) event career o leads =
     let IsOpenTo : List Request → Type 0 = λ requests. IsOpen requests event in
-    let LeadsFrom : List Request → Type 0 = λ requests. Leads tables (state_of requests) event.types event.state in
+    let LeadsFrom : List Request → Type 0 = λ requests. Leads (rows_at tables event.time) (state_of requests) event.types event.state in
     let same : before ++ (Report first ∷ rest) ≡ (before ++ Report first ∷ []) ++ rest = sym (append_assoc before (Report first ∷ []) rest) in
     (career.0, career.1, career_more tables (before ++ Report first ∷ []) rest event career.2 (subst IsOpenTo same o) (subst LeadsFrom same leads))
 career_more tables before (Register key ∷ rest) event career o leads = absurd career

@@ -1,7 +1,7 @@
 -- A request has one outcome.
 use Rattle.std.proofs.Common.{◌≡◌, ◌≢◌, ℕ, ◌<◌, ◌⊎◌, inl, inr, List, [], ◌∷◌, length, Option, Some, None, Bool, true, false, cond, nat_lt, refl, sym, ◌∙◌, ap, subst, arith}
 use Rattle.std.proofs.lemmas.Bool.Decides.{nat_tests}
-use Rattle.mds_table.specs.Tables.{Tables}
+use Rattle.mds_table.specs.Tables.{Tables, rows_at}
 use Rattle.mds_table.specs.Chain.{Leads}
 use Rattle.mds_core.specs.declared.key.Key.{Key}
 use Rattle.mds_core.specs.declared.request.Request.{Request}
@@ -63,8 +63,8 @@ judged true false None said = said
 -- what the table says of an event
 Says : Tables → List Request → Reported → Outcome → Type 0
 Says tables requests event said =
-    ((said ≡ Done) × Leads tables (state_of requests) event.types event.state)
-    ⊎ ((at : ℕ) × (said ≡ Refused (NoChain (state_of requests) at)) × HasNoChain tables (state_of requests) event at)
+    ((said ≡ Done) × Leads (rows_at tables event.time) (state_of requests) event.types event.state)
+    ⊎ ((at : ℕ) × (said ≡ Refused (NoChain (state_of requests) at)) × HasNoChain (rows_at tables event.time) (state_of requests) event at)
 
 judged_of : List Request → Reported → Outcome → Outcome
 judged_of requests event said = judged (some requests) (has_event requests event.id) (late_for (last_time requests) event.time) said
@@ -99,7 +99,7 @@ says_one tables requests event a b (inl x) (inl y) = x.0 ∙ sym y.0
 says_one tables requests event a b (inl x) (inr y) = absurd (y.2.none x.1)
 says_one tables requests event a b (inr x) (inl y) = absurd (x.2.none y.1)
 says_one tables requests event a b (inr x) (inr y) =
-    x.1 ∙ ap (λ at. Refused (NoChain (state_of requests) at)) (one_place tables (state_of requests) event.types x.0 y.0 x.2.place y.2.place) ∙ sym y.1
+    x.1 ∙ ap (λ at. Refused (NoChain (state_of requests) at)) (one_place (rows_at tables event.time) (state_of requests) event.types x.0 y.0 x.2.place y.2.place) ∙ sym y.1
 
 -- one outcome, where what the table says is one once the tests are passed
 judged_one : (registered repeated : Bool) (late : Option ℕ) (a b : Outcome)

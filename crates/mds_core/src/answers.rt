@@ -4,15 +4,15 @@ ghost use Rattle.mds_core.specs.Answer.{Answers};
 use crate::decision::decide;
 use crate::lookup::known_in;
 use crate::{Reply, Request};
-use mds_table::Table;
+use mds_table::Tables;
 
 /// The reply to a request after a list of accepted requests. It takes no memory.
-pub fn answer(table: &Table, history: &[Request], request: &Request) -> Reply
-    ensures { Answers table.now history.now request.now result }
+pub fn answer(tables: &Tables, history: &[Request], request: &Request) -> Reply
+    ensures { Answers tables.now history.now request.now result }
 {
     let known = known_in(history, request);
     Reply {
         place: history.len(),
-        outcome: decide(table, &known, request),
+        outcome: decide(tables, &known, request),
     }
 }

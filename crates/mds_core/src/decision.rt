@@ -6,9 +6,9 @@ ghost use Rattle.mds_core.specs.Known.{AreKnown};
 
 use crate::{Event, Outcome, Refusal, Request, Standing};
 use mds_steps::admit;
-use mds_table::Table;
+use mds_table::Tables;
 
-/// What is known of the vehicle of a request: all that the outcome depends on, besides the request and the table.
+/// What is known of the vehicle of a request: all that the outcome depends on, besides the request and the tables.
 #[derive(Clone, Copy, Debug, PartialEq, Eq, Hash)]
 pub struct Known {
     /// Where the vehicle stands, or `None` where it isn't registered.
@@ -19,16 +19,16 @@ pub struct Known {
 
 /// What becomes of a request, by what is known of its vehicle: the outcome after every list of accepted requests of
 /// which this is what is known. It takes no memory.
-pub fn decide(table: &Table, known: &Known, request: &Request) -> Outcome
+pub fn decide(tables: &Tables, known: &Known, request: &Request) -> Outcome
     ensures { (requests : List Requested)
-        → AreKnown requests request.now known.now → Gives table.now requests request.now result }
+        → AreKnown requests request.now known.now → Gives tables.now requests request.now result }
 {
     match request {
         Request::Register(_) => match known.standing {
             Some(_) => Outcome::Refused(Refusal::AlreadyRegistered),
             None => Outcome::Done,
         },
-        Request::Report(event) => match decide_event(table, known, event) {
+        Request::Report(event) => match decide_event(tables, known, event) {
             Ok(()) => Outcome::Done,
             Err(refusal) => Outcome::Refused(refusal),
         },
@@ -44,11 +44,11 @@ pub fn decide(table: &Table, known: &Known, request: &Request) -> Outcome
 /// # Errors
 ///
 /// The first refusal that holds, in the order of [`Refusal`].
-pub fn decide_event(table: &Table, known: &Known, event: &Event) -> Result<(), Refusal>
+pub fn decide_event(tables: &Tables, known: &Known, event: &Event) -> Result<(), Refusal>
     ensures decided { (requests : List Requested)
         → AreKnown requests (Request.Report event.now) known.now → MatchResult result
-        (λ _. Gives table.now requests (Request.Report event.now) Outcome.Done)
-        (λ refusal. Gives table.now requests (Request.Report event.now) (Outcome.Refused refusal)) }
+        (λ _. Gives tables.now requests (Request.Report event.now) Outcome.Done)
+        (λ refusal. Gives tables.now requests (Request.Report event.now) (Outcome.Refused refusal)) }
     // What no list has, as an identifier held by a vehicle that isn't registered, is decided in the same order.
     ensures unregistered { known.now.standing ≡ None → result ≡ Err Refusal.Unregistered }
     ensures repeated { IsSome known.now.standing → known.now.has_event ≡ true
@@ -63,6 +63,7 @@ pub fn decide_event(table: &Table, known: &Known, event: &Event) -> Result<(), R
             return Err(Refusal::Late { last });
         }
     }
+    let table = tables.at(event.time());
     admit(table, standing.state, event.types(), event.state()).map_err(|stuck| Refusal::NoChain {
         held: standing.state,
         at: stuck.at,

@@ -5,15 +5,15 @@ ghost use Rattle.mds_core.specs.Machine.{Steps, LacksMemory, standing_in, events
 use crate::answers::answer;
 use crate::lookup::{events_in, known_in};
 use crate::{Event, Key, Outcome, Reply, Request, Standing};
-use mds_table::Table;
+use mds_table::Tables;
 use std::alloc::{AllocError, Global};
 use std::marker::Model;
 
-/// The plain machine over one table. It keeps its history of accepted requests alone, and looks everything up in it:
+/// The plain machine over the tables that decide. It keeps its history of accepted requests alone, and looks everything up in it:
 /// this is the program of the definitions, and the measure of faster ones.
 #[derive(Debug, Drop)]
 pub struct Fleet {
-    table: Table,
+    tables: Tables,
     history: Vec<Request>,
 }
 
@@ -22,16 +22,16 @@ impl Model for Fleet {
 
     ghost Value = { Machine };
 
-    ghost view = { λ fleet. record { tables = fleet.table; history = fleet.history.items } };
+    ghost view = { λ fleet. record { tables = fleet.tables; history = fleet.history.items } };
 }
 
 impl Fleet {
-    /// A machine over the table, with nothing accepted yet. It takes no memory.
-    pub fn open(alloc: Global, table: Table) -> Fleet
-        ensures { result ≡ record { tables = table; history = [] } }
+    /// A machine over the tables, with nothing accepted yet. It takes no memory.
+    pub fn open(alloc: Global, tables: Tables) -> Fleet
+        ensures { result ≡ record { tables = tables; history = [] } }
     {
         Fleet {
-            table,
+            tables,
             history: Vec::new(alloc),
         }
     }
@@ -45,18 +45,18 @@ impl Fleet {
         ensures step { IfOk result (λ reply. Steps self.old request.now reply self.new) }
         ensures memory { OnErr result (LacksMemory self.old request.now self.new) }
     {
-        let reply = answer(&self.table, &self.history, request);
+        let reply = answer(&self.tables, &self.history, request);
         if let Outcome::Done = reply.outcome {
             self.history.push(request.copy())?;
         }
         Ok(reply)
     }
 
-    /// The table of the machine.
-    pub fn table(&self) -> &Table
+    /// The tables of the machine.
+    pub fn tables(&self) -> &Tables
         ensures { result.now ≡ self.now.tables }
     {
-        &self.table
+        &self.tables
     }
 
     /// The allocator from which the machine has the memory for its history.

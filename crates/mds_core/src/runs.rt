@@ -4,14 +4,14 @@ ghost use Rattle.mds_core.specs.Run.{IsRun};
 ghost use Rattle.mds_core.specs.Headline.{AcceptsExactly};
 
 use crate::{Fleet, Reply, Request};
-use mds_table::Table;
+use mds_table::Tables;
 use std::alloc::{AllocError, Global};
 
 /// The machine over a whole list: the fleet after it, and a reply to each request.
 ///
 /// At each place of the list, with what was answered Done at earlier places: a registration is Done exactly where nothing
 /// of its vehicle was; an event exactly where its vehicle is registered, its identifier is new there, its time is not
-/// before the last, and rows of the table lead, one for each of its types in order, from the state held to the state
+/// before the last, and rows of the table in force lead, one for each of its types in order, from the state held to the state
 /// reported; a look never. The fleet's history is the requests answered Done.
 ///
 /// # Errors
@@ -19,15 +19,15 @@ use std::alloc::{AllocError, Global};
 /// `AllocError` where there is no memory for the history or the replies.
 pub fn run(
     alloc: Global,
-    table: Table,
+    tables: Tables,
     requests: &[Request],
 ) -> Result<(Fleet, Vec<Reply>), AllocError>
-    ensures tables { IfOk result (λ ran. ran.0.tables ≡ table) }
-    ensures run { IfOk result (λ ran. IsRun table [] requests.now ran.1.items ran.0.history) }
+    ensures tables { IfOk result (λ ran. ran.0.tables ≡ tables) }
+    ensures run { IfOk result (λ ran. IsRun tables [] requests.now ran.1.items ran.0.history) }
     ensures accepted { IfOk result (λ ran.
-        AcceptsExactly table requests.now ran.1.items ran.0.history) }
+        AcceptsExactly tables requests.now ran.1.items ran.0.history) }
 {
-    let mut fleet = Fleet::open(alloc, table);
+    let mut fleet = Fleet::open(alloc, tables);
     let mut replies = Vec::with_capacity(alloc, requests.len())?;
     for request in requests {
         let reply = fleet.step(request)?;

@@ -6,7 +6,7 @@ use crate::{
     Event, Fleet, MAX_EVENT_TYPES, Position, Refusal, Reply, Request, Standing, answer, run,
 };
 use mds_table::State::{Available, NonContactable, NonOperational, OnTrip};
-use mds_table::{Table, TypeName};
+use mds_table::{Table, Tables, TypeName};
 use std::alloc::{AllocError, Global};
 use std::test::Fail;
 
@@ -193,13 +193,18 @@ fn requests_of(alloc: Global, steps: &[Step]) -> Result<(Vec<Request>, Vec<Reply
     Ok((requests, replies))
 }
 
+/// The profile's table, in force from 0 on.
+fn profile(alloc: Global) -> Result<Tables, AllocError> {
+    Tables::one(alloc, Table::profile(alloc)?)
+}
+
 /// The replies to the steps' requests, each after those of the accepted requests that came before it.
 fn answers(alloc: Global, accepted: &[Request], steps: &[Step]) -> Result<Vec<Reply>, Fail> {
-    let table = Table::profile(alloc)?;
+    let tables = profile(alloc)?;
     let mut replies = Vec::new(alloc);
     for (asked, place, _) in steps {
         let history = accepted.get(..*place).unwrap_or(accepted);
-        replies.push(answer(&table, history, &request_of(alloc, asked)?))?;
+        replies.push(answer(&tables, history, &request_of(alloc, asked)?))?;
     }
     Ok(replies)
 }
@@ -207,7 +212,7 @@ fn answers(alloc: Global, accepted: &[Request], steps: &[Step]) -> Result<Vec<Re
 /// The replies of a run, the same one by one, and those that are expected.
 fn replies(alloc: Global, steps: &[Step]) -> Result<(Vec<Reply>, Vec<Reply>, Vec<Reply>), Fail> {
     let (requests, expected) = requests_of(alloc, steps)?;
-    let (fleet, found) = run(alloc, Table::profile(alloc)?, &requests)?;
+    let (fleet, found) = run(alloc, profile(alloc)?, &requests)?;
     let answered = answers(alloc, fleet.history(), steps)?;
     Ok((found, answered, expected))
 }
@@ -235,9 +240,9 @@ fn most_types(alloc: Global) -> Result<Request, Fail> {
 #[test]
 fn most_types_lead_round(rt: HostRuntime) -> Result<(), Fail> {
     let (requests, _) = requests_of(rt.alloc(), FIRST_EVENT)?;
-    let table = Table::profile(rt.alloc())?;
+    let tables = profile(rt.alloc())?;
     let history = requests.as_slice().get(..2).unwrap_or(&[]);
-    let reply = answer(&table, history, &most_types(rt.alloc())?);
+    let reply = answer(&tables, history, &most_types(rt.alloc())?);
     assert_eq!(rt; reply.outcome, Done);
     Ok(())
 }
@@ -270,7 +275,7 @@ fn seen(
 /// What is seen of A and of nobody.
 fn both_seen(alloc: Global) -> Result<[(Option<Standing>, usize); 2], Fail> {
     let (requests, _) = requests_of(alloc, WITH_A_POSITION)?;
-    let (fleet, _) = run(alloc, Table::profile(alloc)?, &requests)?;
+    let (fleet, _) = run(alloc, profile(alloc)?, &requests)?;
     Ok([seen(alloc, &fleet, A)?, seen(alloc, &fleet, B)?])
 }
 
@@ -287,8 +292,11 @@ fn standing_with_a_position(rt: HostRuntime) -> Result<(), Fail> {
 }
 
 #[test]
-fn fleet_has_the_table_handed_in(rt: HostRuntime) -> Result<(), Fail> {
-    let fleet = Fleet::open(rt.alloc(), Table::profile(rt.alloc())?);
-    assert_eq!(rt; fleet.table().row_count(), 74);
+fn fleet_has_the_tables_handed_in(rt: HostRuntime) -> Result<(), Fail> {
+    let fleet = Fleet::open(rt.alloc(), profile(rt.alloc())?);
+    assert_eq!(rt;
+        (fleet.tables().len(), fleet.tables().at(0).row_count()),
+        (1, 74)
+    );
     Ok(())
 }

@@ -1,15 +1,20 @@
 //! Each call that takes memory, made again where its growth is refused (by `tests/refused-growths`).
 use super::{A, E1, key, uuid};
 use crate::{Event, Fleet, Reply, Request, run};
-use mds_table::{State, Table, TypeName};
+use mds_table::{State, Table, Tables, TypeName};
 use std::alloc::{AllocError, Global};
 use std::test::Fail;
 
-/// The profile's table.
-fn profile(alloc: Global) -> Result<Table, AllocError> {
-    match Table::profile(alloc) {
-        Ok(table) => Ok(table),
-        Err(_) => Table::profile(alloc),
+/// The profile's table, in force from 0 on.
+fn one_profile(alloc: Global) -> Result<Tables, AllocError> {
+    Tables::one(alloc, Table::profile(alloc)?)
+}
+
+/// The same, asked for again.
+fn profile(alloc: Global) -> Result<Tables, AllocError> {
+    match one_profile(alloc) {
+        Ok(tables) => Ok(tables),
+        Err(_) => one_profile(alloc),
     }
 }
 
