@@ -159,7 +159,7 @@ fn what_a_shard_tells_of_a_first_event(rt: HostRuntime) -> Result<(), Fail> {
     );
     assert_eq!(rt; told, (2, Some(AVAILABLE), None));
     assert_eq!(rt; shard.history().last(), Some(&report));
-    assert_eq!(rt; shard.table().row_count(), 74);
+    assert_eq!(rt; shard.tables().at(0).row_count(), 74);
     Ok(())
 }
 

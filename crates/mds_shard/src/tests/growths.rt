@@ -1,18 +1,18 @@
 //! Each call that takes memory, made again where its growth is refused (by `tests/refused-growths`).
-use super::{A, E1, key};
+use super::{A, E1, key, profile};
 use crate::Shard;
 use mds_core::{Event, Outcome, Reply, Request};
-use mds_table::{State, Table, TypeName};
+use mds_table::{State, Tables, TypeName};
 use std::alloc::{AllocError, Global};
 use std::hash::RandomState;
 use std::test::Fail;
 use uuid::Uuid;
 
-/// The profile's table.
-fn profile(alloc: Global) -> Result<Table, AllocError> {
-    match Table::profile(alloc) {
-        Ok(table) => Ok(table),
-        Err(_) => Table::profile(alloc),
+/// The profile's table, asked for again where its growth is refused.
+fn profile_again(alloc: Global) -> Result<Tables, AllocError> {
+    match profile(alloc) {
+        Ok(tables) => Ok(tables),
+        Err(_) => profile(alloc),
     }
 }
 
@@ -47,7 +47,7 @@ fn done(place: usize) -> Reply {
 #[test]
 fn step_succeeds_after_a_refused_growth(rt: HostRuntime) -> Result<(), Fail> {
     let alloc = rt.alloc();
-    let mut shard = Shard::open(alloc, profile(alloc)?, RandomState::new(&rt)?);
+    let mut shard = Shard::open(alloc, profile_again(alloc)?, RandomState::new(&rt)?);
     let requests = two_requests()?;
     assert_eq!(rt; step(&mut shard, &requests[0])?, (done(0), true));
     assert_eq!(rt; step(&mut shard, &requests[1])?, (done(1), true));

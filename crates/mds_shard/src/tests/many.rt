@@ -1,10 +1,10 @@
 //! A shard of many vehicles against a fleet.
 ghost use Rattle.std.specs.Prelude.{◌<◌};
 
-use super::PROVIDER;
+use super::{PROVIDER, profile};
 use crate::Shard;
 use mds_core::{Event, Fleet, Key, Outcome, Refusal, Reply, Request};
-use mds_table::{State, Table, TypeName};
+use mds_table::{State, TypeName};
 use std::alloc::Global;
 use std::hash::RandomState;
 use std::test::Fail;
@@ -102,8 +102,8 @@ fn kind_of(outcome: &Outcome) -> usize
 /// The replies of a shard and of a fleet to the same requests.
 fn both(alloc: Global, hasher: RandomState) -> Result<(Vec<Reply>, Vec<Reply>), Fail> {
     let mut numbers = Numbers { state: 1 };
-    let mut shard = Shard::open(alloc, Table::profile(alloc)?, hasher);
-    let mut fleet = Fleet::open(alloc, Table::profile(alloc)?);
+    let mut shard = Shard::open(alloc, profile(alloc)?, hasher);
+    let mut fleet = Fleet::open(alloc, profile(alloc)?);
     let mut found = Vec::new(alloc);
     let mut expected = Vec::new(alloc);
     for number in 0..BYSTANDERS + REQUESTS {
