@@ -7,7 +7,7 @@ mod many;
 use crate::Shard;
 use mds_core::{Event, Key, Reply, Request};
 use mds_table::{State, Table, TypeName};
-use std::alloc::Global;
+use std::alloc::{AllocError, Global};
 use std::hash::RandomState;
 use std::test::Fail;
 use uuid::Uuid;
@@ -67,16 +67,27 @@ pub fn request_of(alloc: Global, asked: Ask<'_>) -> Result<Request, Fail> {
     })
 }
 
+/// A shard over the profile.
+pub fn opened(alloc: Global, hasher: RandomState) -> Result<Shard, AllocError> {
+    Ok(Shard::open(alloc, Table::profile(alloc)?, hasher))
+}
+
+/// What the shard replies to what is asked.
+fn reply_to(alloc: Global, shard: &mut Shard, asked: Ask<'_>) -> Result<Reply, Fail> {
+    let request = request_of(alloc, asked)?;
+    Ok(shard.step(&request)?)
+}
+
 /// A shard over the profile that was asked all this, and the reply to each request.
 pub fn asked_all(
     alloc: Global,
     hasher: RandomState,
     asked: &[Ask<'_>],
 ) -> Result<(Shard, Vec<Reply>), Fail> {
-    let mut shard = Shard::open(alloc, Table::profile(alloc)?, hasher);
+    let mut shard = opened(alloc, hasher)?;
     let mut replies = Vec::new(alloc);
     for one in asked {
-        replies.push(shard.step(&request_of(alloc, *one)?)?)?;
+        replies.push(reply_to(alloc, &mut shard, *one)?)?;
     }
     Ok((shard, replies))
 }
