@@ -77,16 +77,27 @@ pub fn profile(alloc: Global) -> Result<Tables, AllocError> {
     Tables::one(alloc, Table::profile(alloc)?)
 }
 
+/// A shard over the profile.
+pub fn opened(alloc: Global, hasher: RandomState) -> Result<Shard, AllocError> {
+    Ok(Shard::open(alloc, profile(alloc)?, hasher))
+}
+
+/// What the shard replies to what is asked.
+fn reply_to(alloc: Global, shard: &mut Shard, asked: Ask<'_>) -> Result<Reply, Fail> {
+    let request = request_of(alloc, asked)?;
+    Ok(shard.step(&request)?)
+}
+
 /// A shard over the profile that was asked all this, and the reply to each request.
 pub fn asked_all(
     alloc: Global,
     hasher: RandomState,
     asked: &[Ask<'_>],
 ) -> Result<(Shard, Vec<Reply>), Fail> {
-    let mut shard = Shard::open(alloc, profile(alloc)?, hasher);
+    let mut shard = opened(alloc, hasher)?;
     let mut replies = Vec::new(alloc);
     for one in asked {
-        replies.push(shard.step(&request_of(alloc, *one)?)?)?;
+        replies.push(reply_to(alloc, &mut shard, *one)?)?;
     }
     Ok((shard, replies))
 }
