@@ -5,7 +5,7 @@ use Rattle.mds_io.specs.declared.page.PrintError.TheVariants as write
 use Rattle.mds_city.specs.declared.source.Source.{Source}
 use Rattle.mds_io.specs.Page.{AppendsFront}
 use Rattle.mds_city.specs.Problem.{written_problem}
-use Rattle.mds_city.specs.Source.{HasTableIn}
+use Rattle.mds_city.specs.Source.{HasTablesIn}
 use Rattle.mds_city.specs.Text.{table_text}
 use Rattle.mds_city.specs.Command.{ExplainsPrint, TableWentOut}
 use Rattle.mds_city.proofs.ErrorLemmas.{passed_on}
@@ -13,7 +13,7 @@ use Rattle.mds_city.proofs.commands.table_into.Goals as goal
 
 -- a table that could not be written is explained, and a front of it went out
 unwritten : {T : Type 0} (table_bytes : T → Option (List ℕ)) (table : Option (Source T)) (fault : PrintError) (old new : Option (List ℕ)) (rows : List Row)
-    → HasTableIn table_bytes table rows → AppendsFront old new (table_text rows)
+    → HasTablesIn table_bytes table rows → AppendsFront old new (table_text rows)
     → ExplainsPrint table_bytes table (written_problem fault) × TableWentOut table_bytes table (written_problem fault) old new
 unwritten table_bytes table write.Memory old new rows has front = (tt, inr (rows, has, front))
 unwritten table_bytes table write.Device old new rows has front = (tt, (rows, has, front))

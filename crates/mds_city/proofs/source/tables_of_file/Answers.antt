@@ -7,7 +7,7 @@ use Rattle.mds_city.specs.declared.source.Source.{Source}
 use Rattle.mds_city.specs.declared.problem.Problem.{Problem}
 use Rattle.mds_city.specs.Problem.{table_problem}
 use Rattle.mds_city.specs.Source.{ExplainsTableFile, IsTableProblem, HasBytes}
-use Rattle.mds_city.proofs.source.table_of_file.Goals as goal
+use Rattle.mds_city.proofs.source.tables_of_file.Goals as goal
 
 -- a fault of the file's bytes explains the problem that is made of it
 explained : {R : Type 0} (remaining : R → Option (List ℕ)) (source : Source R) (bytes : List ℕ) (fault : TableFault) → HasBytes remaining source bytes
@@ -24,6 +24,6 @@ of_bytes remaining source bytes problem has is =
 pub returns-clause-err : goal.returns-clause-err
 returns-clause-err g c =
     let bytes = c.in_ok-bytes.bytes.items in
-    IfErr-weaker c.table_of_bytes.result (IsTableProblem bytes) (ExplainsTableFile g.T.Read.remaining c.args.source)
+    IfErr-weaker c.tables_of_bytes.result (IsTableProblem bytes) (ExplainsTableFile g.T.Read.remaining c.args.source)
     (λ problem is. of_bytes g.T.Read.remaining c.args.source bytes problem c.in_ok-bytes.ensures.ok is)
-    (rw c.deref.ensures.value at c.table_of_bytes.ensures.fault)
+    (rw c.deref.ensures.value at c.tables_of_bytes.ensures.fault)
