@@ -2,7 +2,7 @@
 ghost use Rattle.std.specs.Prelude.{◌++◌, string_bytes, OnOk, OnErr};
 ghost use Rattle.std.specs.Io.KnownBytes.{Appends};
 ghost use Rattle.mds_io.specs.Page.{AppendsFront, Passes};
-ghost use Rattle.mds_city.specs.Text.{item_lines, vehicle_lines, report_text, heading, row_lines, entry_text, table_text};
+ghost use Rattle.mds_city.specs.Text.{item_lines, vehicle_lines, report_text, heading, row_lines, rows_text, entry_text, table_text};
 
 use crate::lines::{ItemLine, TotalLine, VehicleLine};
 use crate::rows::{CountLine, FromLine, RowLine};
@@ -119,8 +119,7 @@ fn add_table<W: Write>(
     let Ok(rows) = table.rows(alloc) else {
         return Err(PrintError::Memory);
     };
-    add_rows(writer, page, &rows)?;
-    add_line(writer, page, &CountLine { count: rows.len() })
+    add_counted(writer, page, &rows)
 }
 
 /// Adds the line that says from when a table is in force to what the page has, unless the table is alone, and puts the
@@ -140,6 +139,22 @@ fn add_heading<W: Write>(
         return Ok(());
     }
     add_line(writer, page, &FromLine { start })
+}
+
+/// Adds a line for each row, and their number, to what the page has, and puts the page out as it fills.
+fn add_counted<W: Write>(
+    writer: &mut W,
+    page: &mut String,
+    rows: &[Row],
+) -> Result<(), PrintError>
+    ensures ok { OnOk result (Passes (W.contents writer.old) (W.contents writer.new)
+        (string_bytes page.old ++ rows_text rows.now) (string_bytes page.new)) }
+    ensures err { OnErr result (AppendsFront (W.contents writer.old) (W.contents writer.new)
+        (string_bytes page.old ++ rows_text rows.now)) }
+{
+    add_rows(writer, page, rows)?;
+    let count = CountLine { count: rows.len() };
+    add_line(writer, page, &count)
 }
 
 /// Adds a line for each row to what the page has, and puts the page out as it fills.
