@@ -142,11 +142,7 @@ fn add_heading<W: Write>(
 }
 
 /// Adds a line for each row, and their number, to what the page has, and puts the page out as it fills.
-fn add_counted<W: Write>(
-    writer: &mut W,
-    page: &mut String,
-    rows: &[Row],
-) -> Result<(), PrintError>
+fn add_counted<W: Write>(writer: &mut W, page: &mut String, rows: &[Row]) -> Result<(), PrintError>
     ensures ok { OnOk result (Passes (W.contents writer.old) (W.contents writer.new)
         (string_bytes page.old ++ rows_text rows.now) (string_bytes page.new)) }
     ensures err { OnErr result (AppendsFront (W.contents writer.old) (W.contents writer.new)
