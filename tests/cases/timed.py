@@ -121,7 +121,7 @@ FAULTS = [
     (listing([timed("0"), timed("9", "[7]"), timed("9")]), "table 1 bad_row 0"),
 ]
 
-MANY = [(1000 * number, [(f"k{number:02}", "removed", "available")]) for number in range(MOST_TABLES)]
+MANY_TABLES = [(1000 * number, [(f"k{number:02}", "removed", "available")]) for number in range(MOST_TABLES)]
 """As many tables as there can be, each of one type of its own, a second after another."""
 PLACES = "\n".join(["from 0", "wake removed available", "rows 1", "from 2000", "rest available removed", "rows 1", ""])
 
@@ -131,7 +131,7 @@ PRINTED = [
     ("one table", tables_file([(0, [WAKE])]), ONE_ROW_PRINTED),
     ("the same table twice", starts(0, 1), tables_printed([(0, [WAKE]), (1, [WAKE])])),
     ("the latest start", starts(0, MOST_TIME), tables_printed([(0, [WAKE]), (MOST_TIME, [WAKE])])),
-    ("most tables", tables_file(MANY), tables_printed(MANY)),
+    ("most tables", tables_file(MANY_TABLES), tables_printed(MANY_TABLES)),
     ("the profile, then one row", tables_file([(0, PROFILE[::-1]), (9, [WAKE])]), tables_printed([(0, PROFILE), (9, [WAKE])])),
     ("most rows twice", tables_file([(0, MOST_ROWS[::-1]), (1, MOST_ROWS)]), tables_printed([(0, MOST_ROWS), (1, MOST_ROWS)])),
     ("most bytes", padded(tables_file(CHANGES), MAX_BYTES), PLACES),
@@ -218,5 +218,5 @@ def changing_tables():
     many = list(edges())
     ends = [(of_event[0], "available", 1) if verdict == "ok available" else (of_event[0], "removed", 0) for of_event, verdict in many]
     text = batch(event(*of_event) for of_event, _ in many)
-    files = {"table.json": tables_file(MANY)}
+    files = {"table.json": tables_file(MANY_TABLES)}
     yield replayed(text, [verdict for _, verdict in many], ends, "replay - --table table.json", files=files, name="most tables")
