@@ -8,6 +8,7 @@ from cases.replays import replays
 from cases.serve import outputs_of_serve, ports, tables_of_serve, words_of_serve
 from cases.streams import memory, streams
 from cases.tables import table_files
+from cases.timed import changing_tables, tables_files
 
 SUBJECTS = [
     examples,
@@ -18,6 +19,8 @@ SUBJECTS = [
     spaced_paths,
     orders,
     table_files,
+    tables_files,
+    changing_tables,
     batches,
     items,
     replays,

@@ -1,6 +1,6 @@
 use Rattle.std.proofs.Common.{refl}
 use Rattle.mds_city.proofs.ErrorLemmas.{passed_on}
-use Rattle.mds_city.proofs.source.table_of_bytes.Goals as goal
+use Rattle.mds_city.proofs.source.tables_of_bytes.Goals as goal
 
 pub returns-in_err-from_json-clause-fault : goal.returns-in_err-from_json-clause-fault
 returns-in_err-from_json-clause-fault c =
