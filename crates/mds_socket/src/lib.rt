@@ -2,6 +2,8 @@
 #![tactic(auto)]
 
 mod connection;
+mod head;
+mod limits;
 mod socket;
 
 pub use connection::{SocketIn, SocketOut};
