@@ -3,6 +3,7 @@
 
 mod connection;
 mod head;
+pub mod laws;
 mod limits;
 mod socket;
 
