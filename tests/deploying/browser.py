@@ -1,10 +1,10 @@
-"""Chromium without a window, told what to do by its DevTools protocol over two pipes: so no port has to be free, and what it
-answers needs no polling."""
+"""Chromium without a window, told what to do by its DevTools protocol over two pipes, so that no port has to be free."""
 
 import fcntl
 import json
 import os
 import select
+import shutil
 import signal
 import subprocess
 import tempfile
@@ -46,17 +46,17 @@ class Browser:
     """A browser with one page. As a context it is taken down at its end."""
 
     def __init__(self, path):
-        self.folder = tempfile.TemporaryDirectory(ignore_cleanup_errors=True)
-        self.faults = open(Path(self.folder.name, "faults"), "w+b")
+        self.folder = tempfile.mkdtemp()
+        self.faults = open(Path(self.folder, "faults"), "w+b")
         commands, self.writing = pipe()
         self.reading, events = pipe()
-        words = [path, *FLAGS, f"--user-data-dir={self.folder.name}/profile", "about:blank"]
+        words = [path, *FLAGS, f"--user-data-dir={self.folder}/profile", "about:blank"]
         self.child = subprocess.Popen(
             ["bash", "-c", f'exec "$0" "$@" 3<&{commands} 4>&{events}', *words],
             stdin=subprocess.DEVNULL,
             stdout=self.faults,
             stderr=self.faults,
-            env={**os.environ, "HOME": self.folder.name},
+            env={**os.environ, "HOME": self.folder},
             pass_fds=[commands, events],
             start_new_session=True,
         )
@@ -91,7 +91,7 @@ class Browser:
             pass
         self.child.wait()
         self.faults.close()
-        self.folder.cleanup()
+        shutil.rmtree(self.folder, ignore_errors=True)
 
     def told(self):
         """The end of what it printed."""

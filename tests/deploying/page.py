@@ -22,6 +22,8 @@ LOOKED_AT, UNKNOWN, TRIED = (vehicle(PROVIDERS[0], number) for number in (900, 9
 EVENTS, AT_ONCE = 250, 200
 """How many events a vehicle has, and how many of them the page shows at first."""
 HOSTILE = "<img src=x onerror=\"document.title='marked'\"><script>document.title='marked'</script>"
+UNWANTED = re.compile(r"innerHTML|outerHTML|insertAdjacent|document\.write|\beval\(|src=|<link|@import|Storage|cookie")
+"""What reads text as markup, loads another file, or keeps something."""
 FOCUSED = ["token", "provider", "device", "vehicle-form", "time", "table-form", "route", "body", "batch-form"]
 """Where the focus goes, in this order: fields by their own names, the buttons of forms by those of the forms."""
 TABLES = {
@@ -53,7 +55,7 @@ def one_file(_):
             yield f"the policy has to say {part}-src {' '.join(map(hash_of, own))}"
     if not policy.startswith("default-src 'none'; "):
         yield f"the policy is {policy}"
-    for found in re.findall(r"innerHTML|outerHTML|insertAdjacent|document\.write|\beval\(|src=|<link|url\(\"|@import|Storage", text):
+    for found in UNWANTED.findall(text):
         yield f"the page has {found}"
     for address in re.findall(r"https?://[^\"]*", text):
         if address != "http://www.w3.org/2000/svg":
@@ -130,11 +132,12 @@ def a_vehicle(city):
     post(city, "/events", events)
     fill_in(page, token=TOKENS[1], provider=f" {PROVIDERS[0]} ", device=LOOKED_AT["device_id"])
     last = events[-1]
-    told = f"The vehicle is {last['vehicle_state']}, after {EVENTS} accepted events."
+    told = f"State held: {last['vehicle_state']}. Accepted events: {EVENTS}."
     yield from unlike("the status", submit(page, "vehicle"), told)
     standing = dict(rows_of(page, "standing"))
     yield from unlike("the state", standing["State held"], last["vehicle_state"])
-    yield from unlike("the last time", standing["Time of the last"], f"{last['timestamp']} (1970-01-01T00:00:01.{last['timestamp'] % 1000}Z)")
+    told = f"{last['timestamp']} (1970-01-01T00:00:01.{last['timestamp'] % 1000}Z)"
+    yield from unlike("the last time", standing["Time of the last"], told)
     where = next(one["location_e7"] for one in reversed(events) if one["location_e7"])
     found = [float(number) for number in re.findall(r"-?[0-9.e-]+(?= (?:north|east))", standing["Position"])]
     yield from unlike("the position", [round(number * 1e7) for number in found], [where["lat"], where["lng"]])
@@ -153,19 +156,19 @@ def a_vehicle_without_events(city):
     page = city.page()
     post(city, "/vehicles", [TRIED])
     fill_in(page, token=TOKENS[1], provider=PROVIDERS[0], device=TRIED["device_id"])
-    yield from unlike("the status", submit(page, "vehicle"), "The vehicle is removed, after 0 accepted events.")
+    yield from unlike("the status", submit(page, "vehicle"), "State held: removed. Accepted events: 0.")
     yield from unlike("the position", dict(rows_of(page, "standing"))["Position"], "none")
     yield from unlike("time lines", count_of(page, "#line svg"), 0)
-    for device, told in ((UNKNOWN["device_id"], "Status 404, unregistered: "), ("x", "Status 404, not_found: "), ("/../..", "Status 404, not_found: ")):
+    for device, name in ((UNKNOWN["device_id"], "unregistered"), ("x", "not_found"), ("/../..", "not_found")):
         fill_in(page, device=device)
         found = submit(page, "vehicle")
-        if not found.startswith(told) or rows_of(page, "standing") is not None:
+        if not found.startswith(f"Status 404, {name}: ") or rows_of(page, "standing") is not None:
             yield f"{device}: {found}"
     yield from faults_of(page)
 
 
 def tokens_on_the_page(city):
-    """Without a token, with one that nobody has, and with another provider's: what that means. The city may look, and no more."""
+    """Without a token, with one that nobody has, and with another provider's: what that means. The city may only look."""
     page = city.page()
     fill_in(page, provider=PROVIDERS[0], device=UNKNOWN["device_id"], body="[]")
     for token, part, name in (
@@ -187,7 +190,7 @@ def the_table(city):
     page = city.page()
     fill_in(page, token=TOKENS[1], provider=PROVIDERS[0], device=TRIED["device_id"])
     rows = json.loads(city.ask(sent("GET", "/table", TOKENS[1]))[2])["rows"]
-    told = "One table, in force at all times: 74 rows, 27 types, 8 states."
+    told = "One table, in force at all times; rows: 74, types: 27, states: 8."
     yield from unlike("the status", submit(page, "table"), told)
     yield from unlike("rows", rows_of(page, "rows"), [[row["type"], row["from"], row["to"]] for row in rows])
     yield from pictured(page, rows)
@@ -224,7 +227,7 @@ def tables_that_change(city):
     for time, rows, told in (
         ("0", first, "Table 1 of 2, in force from 0 (1970-01-01T00:00:00.000Z) until before 2000 "),
         ("1999", first, "Table 1 of 2, "),
-        ("2000", second, "Table 2 of 2, in force from 2000 (1970-01-01T00:00:02.000Z) on: 3 rows, 3 types, 2 states."),
+        ("2000", second, "Table 2 of 2, in force from 2000 (1970-01-01T00:00:02.000Z) on; rows: 3, types: 3, states: 2."),
         ("", second, "Table 2 of 2, "),
     ):
         fill_in(page, time=time)
@@ -240,7 +243,7 @@ def a_batch(city):
     """Registrations and events that are tried by hand, and what each item is answered: each refusal with its meaning."""
     page, device = city.page(), vehicle(PROVIDERS[0], 903)
     fill_in(page, token=TOKENS[1], body=compact([device, device, 7, {"provider_id": PROVIDERS[0]}]))
-    yield from unlike("the status", submit(page, "batch"), "4 items: 1 accepted, 3 refused.")
+    yield from unlike("the status", submit(page, "batch"), "Items: 4, accepted: 1, refused: 3.")
     names = [row[2] for row in rows_of(page, "items")]
     yield from unlike("answers", names, ["accepted", "already_registered", "not_object", "missing_param: param device_id"])
     page.run("document.getElementById('route').value = 'events'")
@@ -255,8 +258,9 @@ def a_batch(city):
         changed(4, device_id=UNKNOWN["device_id"]),
     ]
     fill_in(page, body=json.dumps(items, indent=1))
-    yield from unlike("the status", submit(page, "batch"), "6 items: 1 accepted, 5 refused.")
-    answers = ["accepted", "repeated", "late: last 1002", "no_chain: at 0, held available", "bad_param: param timestamp", "unregistered"]
+    yield from unlike("the status", submit(page, "batch"), "Items: 6, accepted: 1, refused: 5.")
+    answers = ["accepted", "repeated", "late: last 1002", "no_chain: at 0, held available"]
+    answers += ["bad_param: param timestamp", "unregistered"]
     found = rows_of(page, "items")
     yield from unlike("items", [json.loads(row[1]) for row in found], items)
     yield from unlike("answers", [row[2] for row in found], answers)
@@ -274,15 +278,15 @@ def a_batch(city):
 def hostile_texts(city):
     """Texts that are markup stay texts: those that are typed, those of a batch, and those that a server answers."""
     page = city.page()
-    fill_in(page, token=TOKENS[1], provider=HOSTILE, device=HOSTILE, body=json.dumps([HOSTILE, {"device_id": HOSTILE}, {HOSTILE: 1}]))
+    items = [HOSTILE, {"device_id": HOSTILE}, {HOSTILE: 1}]
+    fill_in(page, token=TOKENS[1], provider=HOSTILE, device=HOSTILE, body=json.dumps(items))
     yield from unlike("the status", submit(page, "vehicle").partition(":")[0], "Status 403, forbidden")
     fill_in(page, provider=PROVIDERS[0])
     yield from unlike("the status", submit(page, "vehicle").partition(":")[0], "Status 404, not_found")
-    yield from unlike("the status", submit(page, "batch"), "3 items: 0 accepted, 3 refused.")
-    sent_ones = [json.loads(row[1]) for row in rows_of(page, "items")]
-    yield from unlike("items", sent_ones, [HOSTILE, {"device_id": HOSTILE}, {HOSTILE: 1}])
+    yield from unlike("the status", submit(page, "batch"), "Items: 3, accepted: 0, refused: 3.")
+    yield from unlike("items", [json.loads(row[1]) for row in rows_of(page, "items")], items)
     answering(page, 200, {"failures": [{"error": HOSTILE, "index": 0, HOSTILE: HOSTILE}], "success": 0, "total": 1})
-    yield from unlike("the status", submit(page, "batch"), "1 items: 0 accepted, 1 refused.")
+    yield from unlike("the status", submit(page, "batch"), "Items: 1, accepted: 0, refused: 1.")
     yield from unlike("the answer", rows_of(page, "items")[0][2], f"{HOSTILE}: {HOSTILE} {HOSTILE}")
     answering(page, 200, {"rows": [{"from": HOSTILE, "to": HOSTILE, "type": HOSTILE}]})
     submit(page, "table")
@@ -333,9 +337,9 @@ def heard(nodes):
         names = named.get(role, named.get("img", []) if role == "image" else [])
         if len(names) < least or not all(name.strip() for name in names) or len(set(names)) != len(names):
             yield f"{role}: {names}"
-    live = [node for node in nodes if any(it["name"] == "live" and it["value"]["value"] == "polite" for it in node.get("properties", ()))]
-    if len(live) < 3:
-        yield f"{len(live)} live regions"
+    told = [(it["name"], it["value"].get("value")) for node in nodes for it in node.get("properties", ())]
+    if told.count(("live", "polite")) < 3:
+        yield "the results aren't told"
 
 
 def the_page_itself(city):

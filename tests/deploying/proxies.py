@@ -232,12 +232,14 @@ class City:
             return read_answer(connection)
 
     def restart(self, number, pause):
-        """Ends a server by SIGTERM, and starts it anew some time later."""
+        """Ends a server by SIGTERM, and starts it anew some time later. It answers for how many seconds the server was gone."""
+        start = time.monotonic()
         self.servers[number].child.terminate()
         self.servers[number].child.wait(SECONDS)
         time.sleep(pause)
         self.servers[number].__exit__()
         self.servers[number] = self.server(number)
+        return time.monotonic() - start
 
     def reload(self, text):
         """Has nginx take in another text of its file, and waits until the processes that had the old one are gone."""
