@@ -4,6 +4,7 @@ from cases.batches import batches, items
 from cases.commands import commands, examples, orders, paths, spaced_paths, wrong_words
 from cases.debugging import faults, long_sessions, scripts, starts_before_its_script
 from cases.helps import help_asked_for
+from cases.pictures import PICTURED
 from cases.replays import replays
 from cases.serve import outputs_of_serve, ports, tables_of_serve, words_of_serve
 from cases.streams import memory, streams
@@ -35,5 +36,5 @@ SUBJECTS = [
     outputs_of_serve,
 ]
 """What yields cases."""
-INTERPLAYS = [starts_before_its_script]
-"""What runs the program by itself, and says what is wrong."""
+INTERPLAYS = [starts_before_its_script, *PICTURED]
+"""What runs the program by itself, or a tool, and says what is wrong."""

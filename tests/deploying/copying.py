@@ -16,7 +16,7 @@ from serving.model import compact
 from serving.server import Server
 from serving.wire import ask, error, get
 
-SECONDS = 60
+SECONDS = 300
 VEHICLES, EVENTS = 100, 120
 """Together their events take more than one batch, by their number."""
 EACH = 100000
