@@ -10,11 +10,12 @@ from cases.replays import A, B, P, batch, history
 from harness.case import SOCKET
 from harness.counting import Unwell
 from harness.texts import differing
+from model.http import error
 from serving.connections import EVENT, silent
 from serving.http import Exchange, done, look, registered
 from serving.server import Server, success_of
 from serving.talking import talk_over
-from serving.wire import connect, error, get, post, read_all
+from serving.wire import connect, get, post, read_all
 
 NOWHERE = get("/")
 CALL = (25, 45)
