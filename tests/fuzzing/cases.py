@@ -6,6 +6,7 @@ import shutil
 import subprocess
 import tempfile
 from dataclasses import dataclass
+from functools import cached_property
 from pathlib import Path
 
 from harness.case import FOLDER, SOME, not_a_table
@@ -65,6 +66,7 @@ class CommandCase:
     timed: bool = False
     """Whether table files may hold tables that change at stated times."""
 
+    @cached_property
     def wanted(self):
         """The status, the output and the faults that the model has."""
         files = {name.decode(): text for name, text in self.files.items()}
@@ -86,7 +88,7 @@ class CommandCase:
 
     def differences(self, program, folder):
         """How what comes isn't what must come, a line each."""
-        status, out, faults = self.wanted()
+        status, out, faults = self.wanted
         found = self.found(program, folder)
         if found[0] != status:
             yield f"status {found[0]}, in place of {status}; {found[2][:200]!r}"
@@ -109,7 +111,7 @@ class CommandCase:
 
     def texts(self):
         """What the case must print, for those who count what was reached."""
-        status, out, faults = self.wanted()
+        status, out, faults = self.wanted
         return [f"{self.words[0].decode(errors='replace')} status {status}", out.decode(), "" if faults is SOME else faults.decode()]
 
 
@@ -127,6 +129,7 @@ class TalkCase:
     def tables(self):
         return Tables.one() if self.table is None else tables_of(self.table, self.timed)
 
+    @cached_property
     def wanted(self):
         """The answers that the model has, or the fault of the table file."""
         server = http.Server(self.tables())
@@ -136,7 +139,7 @@ class TalkCase:
         """How what is answered isn't what must be, a line each."""
         each = -(-len(self.requests) // self.workers)
         try:
-            wanted = self.wanted()
+            wanted = self.wanted
         except TableFault as fault:
             yield from self.unlike_fault(program, each, str(fault))
             return
@@ -170,7 +173,7 @@ class TalkCase:
     def texts(self):
         """What the case must print and answer, for those who count what was reached."""
         try:
-            return ["serve status 0", *[it.decode() for it in self.wanted()]]
+            return ["serve status 0", *[it.decode() for it in self.wanted]]
         except TableFault as fault:
             return ["serve status 3", not_a_table(fault)]
 

@@ -226,7 +226,7 @@ class Events:
         kind = chance.random()
         if kind < 0.08:
             text = item()
-        elif kind < 0.1:
+        elif kind < 0.095:
             text = self.writer.junk()
         elif kind < 0.105:
             text = "[%s]" % ",".join([item(), *["0"] * (MAX_ITEMS - chance.choice((0, 1, 2)))])
@@ -235,4 +235,4 @@ class Events:
         if chance.often(0.004):
             return padded(text, MAX_BYTES + chance.choice((0, 1))).encode()
         text = self.writer.spaced(text).encode()
-        return chance.spoilt(text) if chance.often(0.1) else text
+        return chance.spoilt(text) if chance.often(0.06) else text

@@ -17,7 +17,7 @@ class TableFiles:
 
     def __init__(self, chance, writer, timed=False):
         self.chance, self.writer, self.timed = chance, writer, timed
-        self.faults = chance.choice((0, 0, 0, 0.05, 0.3))
+        self.faults = chance.choice((0, 0, 0, 0, 0, 0, 0.05, 0.3))
         """The share of entries with a fault."""
 
     def states(self, most=4):
