@@ -12,9 +12,7 @@ from pathlib import Path
 from harness.case import FOLDER, SOME, not_a_table
 from harness.running import NAME, mismatch
 from harness.texts import difference
-from model import http
-from model.commands import outcome_of
-from model.tables import TableFault, Tables, tables_of
+from model import commands, http, tables
 from serving.server import NotListening, Server, success_of
 from serving.wire import ask_in_pieces
 
@@ -22,6 +20,18 @@ SECONDS = 60
 """How long a run of a command may take."""
 WAITING = (b'{"error":"bad_head"}', b'{"error":"cut_short"}')
 """Ends of answers that may come only once the client has ended its side."""
+
+
+@dataclass(frozen=True)
+class Model:
+    """The modules of a model: the one of tests/model/, or a copy of it."""
+
+    commands: object
+    http: object
+    tables: object
+
+
+MODEL = Model(commands, http, tables)
 
 
 def as_text(value):
@@ -66,11 +76,14 @@ class CommandCase:
     timed: bool = False
     """Whether table files may hold tables that change at stated times."""
 
+    def wanted_by(self, model):
+        """The status, the output and the faults that a model has."""
+        files = {name.decode(): text for name, text in self.files.items()}
+        return model.commands.outcome_of(self.words, files, self.given, self.timed)
+
     @cached_property
     def wanted(self):
-        """The status, the output and the faults that the model has."""
-        files = {name.decode(): text for name, text in self.files.items()}
-        return outcome_of(self.words, files, self.given, self.timed)
+        return self.wanted_by(MODEL)
 
     def found(self, program, folder):
         """Those that come."""
@@ -112,7 +125,8 @@ class CommandCase:
     def texts(self):
         """What the case must print, for those who count what was reached."""
         status, out, faults = self.wanted
-        return [f"{self.words[0].decode(errors='replace')} status {status}", out.decode(), "" if faults is SOME else faults.decode()]
+        start = f"{self.words[0].decode(errors='replace')} status {status}"
+        return [start, out.decode(), "" if faults is SOME else faults.decode()]
 
 
 @dataclass
@@ -126,38 +140,40 @@ class TalkCase:
     workers: int
     timed: bool = False
 
-    def tables(self):
-        return Tables.one() if self.table is None else tables_of(self.table, self.timed)
+    def wanted_by(self, model):
+        """The answers that a model has, or the fault of the table file."""
+        one = model.tables.Tables.one
+        try:
+            server = model.http.Server(one() if self.table is None else model.tables.tables_of(self.table, self.timed))
+        except model.tables.TableFault as fault:
+            return str(fault)
+        return [server.answered(request) for request, _ in self.requests]
 
     @cached_property
     def wanted(self):
-        """The answers that the model has, or the fault of the table file."""
-        server = http.Server(self.tables())
-        return [server.answered(request) for request, _ in self.requests]
+        return self.wanted_by(MODEL)
 
     def differences(self, program, folder):
         """How what is answered isn't what must be, a line each."""
         each = -(-len(self.requests) // self.workers)
-        try:
-            wanted = self.wanted
-        except TableFault as fault:
-            yield from self.unlike_fault(program, each, str(fault))
+        if isinstance(self.wanted, str):
+            yield from self.unlike_fault(program, each)
             return
         with Server(program, each, self.workers, self.table) as server:
-            for (request, ends), right in zip(self.requests, wanted):
+            for (request, ends), right in zip(self.requests, self.wanted):
                 found = answered(server, request, ends or right.endswith(WAITING))
                 differs = difference(found, right)
                 if differs:
                     yield f"{request[:300]!r} was answered, {differs}"
             yield from server.end()
 
-    def unlike_fault(self, program, each, fault):
+    def unlike_fault(self, program, each):
         """How a server with a faulty table file does otherwise than to tell the fault."""
         try:
             with Server(program, each, self.workers, self.table) as server:
-                yield f"it listens at {server.port}, in place of {fault}"
+                yield f"it listens at {server.port}, in place of {self.wanted}"
         except NotListening as ended:
-            right = (3, "", not_a_table(fault))
+            right = (3, "", not_a_table(self.wanted))
             if ended.ended != right:
                 yield f"it ended with {ended.ended}, in place of {right}"
 
@@ -172,10 +188,9 @@ class TalkCase:
 
     def texts(self):
         """What the case must print and answer, for those who count what was reached."""
-        try:
-            return ["serve status 0", *[it.decode() for it in self.wanted]]
-        except TableFault as fault:
-            return ["serve status 3", not_a_table(fault)]
+        if isinstance(self.wanted, str):
+            return ["serve status 3", not_a_table(self.wanted)]
+        return ["serve status 0", *[it.decode() for it in self.wanted]]
 
 
 def answered(server, request, ends):

@@ -3,9 +3,11 @@
 import random
 
 PIECES = [
-    b"\xff", b"\xc0\x80", b"\xed\xa0\x80", b"\xf4\x90\x80\x80", b"\xc2\x85", b"\xe2\x80\xa8", b"\xef\xbb\xbf", b"\x00", b"\x01",
+    b"\xff", b"\xc0\x80", b"\xed\xa0\x80", b"\xf4\x90\x80\x80", b"\xc2\x85", b"\xe2\x80\xa8",
+    b"\xef\xbb\xbf", b"\x00", b"\x01",
     b"\x1f", b"\x7f", b"\\ud800", b"\\udc00", b"\\u00", b"\\x", b"\\", b'"', b"'", b",", b":", b"[", b"]", b"{", b"}", b"-",
-    b"+", b".", b"0", b"e", b"NaN", b"1e400", b"-1e400", b"1e-400", b"//", b"/**/", b" ", b"\t", b"\r", b"\n", b"\r\n", b"\x0b",
+    b"+", b".", b"0", b"e", b"NaN", b"1e400", b"-1e400", b"1e-400", b"//", b"/**/", b" ", b"\t", b"\r",
+    b"\n", b"\r\n", b"\x0b",
     b"\xc2\xa0", b"?", b"#", b"%2D", b"/", b"nul", b"7", b"z", b"Z", b"_",
 ]  # fmt: skip
 """What is put into bytes: marks of JSON and of HTTP, spaces, controls, and what isn't UTF-8."""

@@ -13,8 +13,10 @@ from model.tables import TableFault, Tables, tables_of
 PATHS = [b"events.json", b"events.json", b"events.json", "\u00e9v\u00e9nements".encode(), b"two words", b"-", b"{}", b"a\nb"]
 MOVES = [b"step", b"step", b"step", b"back", b"next", b"chain"]
 UNKNOWN = [
-    b"", b" ", b"step ", b" step", b"STEP", b"steps", b"ste", b"step\r", b"quit ", b"run", b"run ", b"run  available", b"\xff",
-    b"run flying", b"run Available", b"run available ", b"run\tavailable", b"next\x00", b"st\xc3\xa9p", b"chain chain", b"help",
+    b"", b" ", b"step ", b" step", b"STEP", b"steps", b"ste", b"step\r", b"quit ", b"run", b"run ",
+    b"run  available", b"\xff",
+    b"run flying", b"run Available", b"run available ", b"run\tavailable", b"next\x00", b"st\xc3\xa9p",
+    b"chain chain", b"help",
 ]  # fmt: skip
 MISTAKES = [b"--lots", b"-x", b"--any", b"--table", b"extra", b"--port", b"7"]
 NO_TEXTS = [b"\xff", b"ev\xe9nements", b"\xed\xa0\x80"]
@@ -89,9 +91,10 @@ class Commands:
             else:
                 lines.append(chance.choice(UNKNOWN) if chance.often(0.95) else b"quit")
         text = b"\n".join(lines) + chance.choice((b"", b"\n"))
-        if chance.often(0.01):
-            front = b"x" * (MOST_SCRIPT - chance.randint(0, 12)) + b"\n"
-            return front + text
+        if chance.often(0.02):
+            word = chance.choice(MOVES)
+            text = b"\n%s\n%s" % (word, text)
+            return b"x" * (MOST_SCRIPT - 1 - len(word) + chance.choice((-1, 0, 0, 1))) + text
         return chance.spoilt(text) if chance.often(0.05) else text
 
     def case(self, command, operands):

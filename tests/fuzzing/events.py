@@ -3,18 +3,22 @@
 from cases.replays import identifier
 from cases.tables import STATES
 from harness.case import MAX_BYTES, MAX_ITEMS, padded
+from fuzzing.writing import NO_VALUES
 from model.fleet import Vehicle, refusal_by
 from model.items import EVENT, MOST_LAT, MOST_LNG, MOST_TIME, MOST_TYPES, event_of, fault_of, key_of
 from model.json_text import NotJson, value_of
 
 OPENING = 1700000000000
 WHOLE = [
-    "0", "9007199254740990", "9007199254740991", "9007199254740992", "-1", "-0", "0.0", "1000.0", "1000.5", "1e3", "1E3",
+    *["0", "9007199254740991", "9007199254740992", "-1"] * 3, "9007199254740990", "-0", "0.0", "1000.0",
+    "1000.5", "1e3", "1E3",
     '"1000"', "null", "true", "[]", "[1000]", "{}", "9223372036854775807", "9223372036854775808", "18446744073709551615",
     "18446744073709551616", "-9223372036854775808", "-9223372036854775809", "1" + "0" * 30, "1e-400",
 ]  # fmt: skip
 EDGES = [str(sign * edge + more) for edge in (MOST_LAT, MOST_LNG) for sign in (1, -1) for more in (-1, 0, 1)]
-NAMES = ["", "Trip", "trip-end", "trip end", "tr\u00efp", "trip\u0000", "a" * 33, "a" * 100, " trip_end", "trip_end\n", "\u00df"]
+NAMES = [
+    "", "Trip", "trip-end", "trip end", "tr\u00efp", "trip\u0000", "a" * 33, "a" * 100, " trip_end", "trip_end\n", "\u00df",
+]
 """Names that no type has."""
 STRANGE = ["never_heard_of", "a", "_", "0", "z" * 32, "0_9"]
 """Types of few tables or none."""
@@ -168,12 +172,19 @@ class Events:
         if name == "timestamp":
             return chance.choice(WHOLE)
         if name == "event_types":
-            names = [chance.choice((*STRANGE, "trip_end")) for _ in range(chance.choice((0, 1, MOST_TYPES, MOST_TYPES + 1)))]
-            names = names if chance.often(0.5) else [*names[:3], chance.choice(NAMES)]
-            return chance.choice((self.writer.list(list(map(string, names))), '"trip_end"', "[null]", '["trip_end",7]'))
+            return self.odd_types()
         lat, lng = chance.choice((*EDGES, *WHOLE)), chance.choice((*EDGES, *WHOLE, "0"))
         pairs = [("lat", lat), ("lng", lng), ("lat", "0"), ("Lng", "0")]
         return self.writer.object(chance.few(pairs, 3)) if chance.often(0.8) else chance.choice(("[0,0]", "0", '"0,0"'))
+
+    def odd_types(self):
+        """The text of a list of no types, of too many, or with something in it that is no type."""
+        chance = self.chance
+        if chance.often(0.2):
+            return chance.choice(('"trip_end"', "[null]", '["trip_end",7]', '[["trip_end"]]', "{}"))
+        names = [chance.choice((*STRANGE, "trip_end")) for _ in range(chance.choice((0, 1, MOST_TYPES, MOST_TYPES + 1)))]
+        names = names if chance.often(0.5) else [*names[:3], chance.choice(NAMES)]
+        return self.writer.list(list(map(self.writer.string, names)))
 
     def pairs(self, members):
         """The members in some order, maybe with one of them spoilt, left out or written twice, and with more."""
@@ -228,11 +239,13 @@ class Events:
             text = item()
         elif kind < 0.095:
             text = self.writer.junk()
-        elif kind < 0.105:
-            text = "[%s]" % ",".join([item(), *["0"] * (MAX_ITEMS - chance.choice((0, 1, 2)))])
+        elif kind < 0.13:
+            text = self.writer.list([item(), chance.choice(NO_VALUES), item()][chance.randrange(2) :])
+        elif kind < 0.136:
+            text = "[%s]" % ",".join([item(), *["0"] * (MAX_ITEMS - chance.choice((0, 0, 1)))])
         else:
             text = self.writer.list([item() for _ in range(chance.choice((0, 1, 2, 4, chance.randint(5, most))))])
-        if chance.often(0.004):
+        if chance.often(0.005):
             return padded(text, MAX_BYTES + chance.choice((0, 1))).encode()
-        text = self.writer.spaced(text).encode()
-        return chance.spoilt(text) if chance.often(0.06) else text
+        text = ("\ufeff" if chance.often(0.005) else "") + self.writer.spaced(text)
+        return chance.spoilt(text.encode()) if chance.often(0.04) else text.encode()

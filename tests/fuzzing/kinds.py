@@ -68,23 +68,21 @@ def kinds_of(texts):
     return kinds
 
 
-MEMBERS = [f"{fault} {name}" for name in EVENT for fault in ("missing_param", "bad_param")]
-ITEM_FAULTS = ["not_object", *[fault for fault in MEMBERS if fault != "missing_param location_e7"]]
-BATCH = ["too_long", "not_json", "not_list", "too_many"]
-TABLE = ["too_long", "not_json", "not_rows", "bad_row N", "too_many_rows", "too_many_types", "empty"]
-TIMED = ["no_tables", "too_many_tables", "bad_entry N", "first_not_zero", "not_rising N", "table N bad_row N", "table N empty"]
-ERRORS = """400 bad_head, 501 transfer_encoding, 404 not_found, 405 method_not_allowed, 411 length_required, 400 bad_length,
-    413 too_long, 400 cut_short, 400 not_json, 400 not_list, 400 too_many, 404 unregistered"""
-REFUSALS = ["repeated", "late", "no_chain"]
-STATUSES = """replay status 0, replay status 1, replay status 2, replay status 3, debug status 0, debug status 1, debug status 2,
-    debug status 3, table status 0, table status 2, table status 3, serve status 0, serve status 3"""
-
-
 def listed(text):
     """The things of a text with commas between them."""
     return [" ".join(it.split()) for it in text.split(",")]
 
 
+MEMBERS = [f"{fault} {name}" for name in EVENT for fault in ("missing_param", "bad_param")]
+ITEM_FAULTS = ["not_object", *[fault for fault in MEMBERS if fault != "missing_param location_e7"]]
+BATCH = listed("too_long, not_json, not_list, too_many")
+TABLE = listed("too_long, not_json, not_rows, bad_row N, too_many_rows, too_many_types, empty")
+TIMED = listed("no_tables, too_many_tables, bad_entry N, first_not_zero, not_rising N, table N bad_row N, table N empty")
+ERRORS = """400 bad_head, 501 transfer_encoding, 404 not_found, 405 method_not_allowed, 411 length_required, 400 bad_length,
+    413 too_long, 400 cut_short, 400 not_json, 400 not_list, 400 too_many, 404 unregistered"""
+REFUSALS = ["repeated", "late", "no_chain"]
+STATUSES = """replay status 0, replay status 1, replay status 2, replay status 3, debug status 0, debug status 1,
+    debug status 2, debug status 3, table status 0, table status 2, table status 3, serve status 0, serve status 3"""
 ALL = [
     "ok",
     *[f"refused {it}" for it in (*REFUSALS, "no_opening")],

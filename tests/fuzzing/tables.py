@@ -24,8 +24,8 @@ class TableFiles:
         """The text of some states: of a list, or of a single one."""
         chance, string = self.chance, self.writer.string
         if chance.often(self.faults / 2):
-            odd = [string(chance.choice(NO_STATES)), "[]", "null", "7", '["removed",7]', '[["removed"]]', "{}", self.writer.junk(1)]
-            return chance.choice(odd)
+            odd = [string(chance.choice(NO_STATES)), "[]", "[]", "null", '["removed",7]', '[["removed"]]', "{}"]
+            return chance.choice((*odd, self.writer.junk(1)))
         names = [chance.choice(STATES) for _ in range(chance.randint(1, most))]
         if len(names) == 1 and chance.often(0.6):
             return string(names[0])
@@ -55,7 +55,7 @@ class TableFiles:
     def large(self):
         """Texts of entries at the limits of rows and types."""
         chance, states = self.chance, json.dumps(STATES)
-        known = LARGE[: MOST_KINDS + chance.choice((-1, 0, 1))]
+        known = LARGE[: MOST_KINDS + chance.choice((-1, 0, 1, 1))]
         whole = [f'{{"from":{states},"type":"{kind}","to":{states}}}' for kind in known]
         some = [f'{{"from":"removed","type":"{kind}","to":{states}}}' for kind in known]
         eight = json.dumps(STATES[:8])
@@ -67,10 +67,10 @@ class TableFiles:
     def rows(self):
         """The text of a list `rows`."""
         chance = self.chance
-        if chance.often(0.04):
+        if chance.often(0.025 if self.timed else 0.04):
             return "[%s]" % ",".join(self.large())
-        if chance.often(self.faults / 5):
-            return chance.choice(("[]", "7", "{}", "null", '"rows"', self.writer.junk(1)))
+        if chance.often(self.faults / 5 + 0.02):
+            return chance.choice(("[]", "[]", "7", "{}", "null", '"rows"', self.writer.junk(1)))
         entry = self.of_profile if chance.often(0.4) else self.entry
         return self.writer.list([entry() for _ in range(chance.choice((1, 2, 4, 8, 20)))])
 
@@ -88,18 +88,19 @@ class TableFiles:
         count = chance.choice((1, 2, 2, 2, 3, 5))
         if chance.often(0.03):
             count = chance.choice((MOST_TABLES, MOST_TABLES + 1))
-        times = sorted(chance.sample([1, 7, 999, 1000, 2000, 4999, OPENING, OPENING + 1, OPENING + 1000, MOST_TIME], min(count, 10)))
-        times += range(OPENING + 1001, OPENING + 1001 + count - len(times))
+        edges = [1, 7, 999, 1000, 2000, 4999, OPENING, OPENING + 1, OPENING + 1000, MOST_TIME]
+        times = edges if count > len(edges) else chance.sample(edges, count)
+        times = [*times, *range(OPENING + 1001, OPENING + 1001 + count - len(times))]
         starts = ["0", *map(str, sorted(times)[1:])]
-        if chance.often(self.faults):
-            starts[chance.randrange(len(starts))] = chance.choice((*WHOLE, *starts))
+        if chance.often(self.faults / 2 + 0.06):
+            starts[chance.choice((0, 0, len(starts) - 1))] = chance.choice((*WHOLE, *starts, "5"))
         return starts
 
     def of_times(self):
         """The text of a list `tables`."""
         chance = self.chance
-        if chance.often(self.faults / 5):
-            return chance.choice(("[]", "7", "{}", "null"))
+        if chance.often(self.faults / 5 + 0.02):
+            return chance.choice(("[]", "[]", "7", "{}", "null"))
         starts, tables = self.starts(), []
         for start in starts:
             rows = self.rows() if len(starts) < 10 else '[{"from":"removed","type":"wake","to":"available"}]'
@@ -123,6 +124,6 @@ class TableFiles:
         elif chance.often(0.02):
             pairs = [("rows", self.rows()), *pairs]
         text = self.writer.spaced(self.top(pairs))
-        if chance.often(0.004):
+        if chance.often(0.008):
             return padded(text, MAX_BYTES + chance.choice((0, 1))).encode()
         return chance.spoilt(text.encode()) if chance.often(0.08) else text.encode()

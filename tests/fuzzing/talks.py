@@ -9,25 +9,29 @@ from model.http import MOST_FIELDS, MOST_HEAD
 from model.tables import TableFault, Tables, tables_of
 
 METHODS = ["GET", "POST", "PUT", "DELETE", "HEAD", "OPTIONS", "get", "Post", "X!", "!#$%&'*+-.^_`|~", "G(T", "G@T", ""]
-VERSIONS = ["HTTP/1.0", "HTTP/1.0", "HTTP/1.2", "HTTP/2.0", "HTTP/1.1 ", "http/1.1", "HTTP/1", "HTTP/01.1", "", "HTTP/1.1\x00"]
+VERSIONS = ["HTTP/1.0", "HTTP/1.0", "HTTP/1.2", "HTTP/2.0", "HTTP/1.1 ", "http/1.1", "HTTP/1", "HTTP/01.1",
+    "", "HTTP/1.1\x00"]
 FIELDS = [
     b"Host: localhost", b"host:", b"Accept:*/*", b"Expect: 100-continue", b"Connection: keep-alive", b"Range: bytes=0-1",
     b"!#$%&'*+-.^_`|~09azAZ: \t value \t", b"more: \xff\xfe", b"Content-Lengths: 7", b"Content_Length: 7", b"x: a\tb",
     b"Transfer-Encodings: chunked", b"X-Content-Length: 7",
 ]  # fmt: skip
 BAD_FIELDS = [
-    b"Host : x", b": x", b"Host", b"Ho st: x", b" Host: x", b"\tHost: x", b"H\xc3\xb6st: x", b"a: \x00", b"a: \x7f", b"a: b\rc",
+    b"Host : x", b": x", b"Host", b"Ho st: x", b" Host: x", b"\tHost: x", b"H\xc3\xb6st: x", b"a: \x00",
+    b"a: \x7f", b"a: b\rc",
     b"a:\x1b", b"a(b): c", b"[a]: b",
 ]  # fmt: skip
 CODINGS = [b"chunked", b"", b"identity", b"gzip, chunked"]
 LENGTHS = [b"", b" ", b"12x", b"+2", b"-2", b"0x2", b"2 2", b"2,2", b"2.0", b"\xd9\xa2", b"0", b"00", b"1", b"2", b"9" * 30]
 LONG = [str(MAX_BYTES).encode(), str(MAX_BYTES + 1).encode(), b"000%d" % (MAX_BYTES + 1), b"%d" % 2**64, b"%d" % (2**64 + 2)]
 TARGETS = [
-    "/", "//", "*", "/vehicles/", "/events/", "/table/", "/Vehicles", "/TABLE", "//vehicles", "/event", "/events/x", "/tables",
+    "/", "//", "*", "/vehicles/", "/events/", "/table/", "/Vehicles", "/TABLE", "//vehicles", "/event",
+    "/events/x", "/tables",
     "/vehicles/{p}", "/vehicles/{p}/", "/vehicles/{p}/x", "/vehicles//{d}", "/vehicles/{p}//events", "/vehicles/{p}/{d}/",
     "/vehicles/{p}/{d}/event", "/vehicles/{p}/{d}/Events", "/vehicles/{p}/{d}/events/", "/vehicles/{p}/{d}/events/0",
     "/vehicles/{p}%2F{d}", "vehicles/{p}/{d}", "/events/{p}/{d}", "http://127.0.0.1/table", "/table#rows", "/%74able",
-    "/t\u00e4ble", "/table\u2028", "?/table", "/vehicles/{{provider}}/{{device}}", "/vehicles/{p}/{d}0", "/./table", "/table;x",
+    "/t\u00e4ble", "/table\u2028", "?/table", "/vehicles/{{provider}}/{{device}}", "/vehicles/{p}/{d}0",
+    "/./table", "/table;x",
 ]  # fmt: skip
 QUERIES = ["?", "?x=1", "?x=1&y=%zz", "?a?b/c", "?\u00e4", "?#", "?{}"]
 
@@ -67,16 +71,18 @@ class Talks:
     def lengths(self, body):
         """The values of the fields that announce a body."""
         chance = self.chance
-        if not chance.often(self.hostility * 0.3):
+        if not chance.often(self.hostility * 0.5):
             return [b"%d" % len(body)]
         right = b"%d" % len(body)
-        odd = [[], [right, right], [b" \t%s\t" % right], [b"000" + right], [b"%d" % (len(body) + chance.choice((-1, 1, 100)))]]
+        odd = [[], [right, right], [b" \t%s\t" % right], [b"000" + right],
+        [b"%d" % (len(body) + chance.choice((-1, 1, 100)))]]
         return chance.choice([*odd, [chance.choice(LENGTHS)], [chance.choice(LONG)], [right, b""]])
 
     def head(self, method, target, lengths):
         """The bytes of a head, maybe with something odd."""
         chance, version, ends = self.chance, "HTTP/1.1", [b"\r\n"]
-        fields = [chance.choice((b"Content-Length: ", b"content-length:", b"CONTENT-LENGTH:  ")) + value for value in lengths]
+        fields = [chance.choice((b"Content-Length: ", b"content-length:",
+        b"CONTENT-LENGTH:  ")) + value for value in lengths]
         front = b""
         if chance.often(self.hostility * 0.5):
             method = chance.choice(METHODS) if chance.often(0.15) else method

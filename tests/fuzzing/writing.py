@@ -1,14 +1,16 @@
 """Texts of JSON in the many ways in which a value can be written, and texts that are none."""
 
 import json
+import re
 
+PLAIN = re.compile("[0-9a-z_-]*")
 SPACES = [" ", "\n", "\t", "\r\n", "\r", "  \n\t "]
 SCALARS = [
     "null", "true", "false", "0", "-0", "7", "-7", "1.0", "-1.5", "1e3", "1E+2", "1e-2", "0.1", "0e0", "-0.0", "0e400",
     "9007199254740991", "9007199254740992", "9223372036854775807", "9223372036854775808", "-9223372036854775808",
     "-9223372036854775809", "18446744073709551615", "18446744073709551616", "1" + "0" * 40, "9" * 308, "1e308",
     "1.7976931348623157e308", "1.797693134862315807e308", "-1.7976931348623158e308", "4.9e-324", "2e-324", "1e-400",
-    "1e-99999999999999999999", "0e99999999999999999999", "0." + "0" * 400 + "1", "1" + "0" * 400 + "e-400", "0.5e309",
+    "1e-99999999999999999999", "0e99999999999999999999", "0." + "0" * 400 + "1", "1" + "0" * 400 + "e-400", "0.01e310",
     "123456789.123456789e-3", '""', '"text"', '"\\u0000"', '"\\ud83d\\ude00"', '"\\uD834\\uDd1e"', '"\x7f"', '"\u2028"',
     '"\\/\\b\\f\\n\\r\\t\\"\\\\"', '"\U0001f6f4"', '"\ufeff"', '"\ufffe\uffff"', "[]", "{}", "[ ]", "{ }",
 ]  # fmt: skip
@@ -31,7 +33,7 @@ class Writer:
         self.chance, self.oddness = chance, oddness
 
     def space(self):
-        return self.chance.choice(SPACES) if self.chance.often(self.oddness) else ""
+        return self.chance.choice(SPACES) if self.oddness and self.chance.often(self.oddness) else ""
 
     def spaced(self, text):
         return f"{self.space()}{text}{self.space()}"
@@ -39,6 +41,8 @@ class Writer:
     def string(self, text):
         """A text, with some of its characters escaped where it is written oddly."""
         if not self.chance.often(self.oddness):
+            if PLAIN.fullmatch(text):
+                return f'"{text}"'
             return json.dumps(text, ensure_ascii=self.chance.often(0.5))
         return '"%s"' % "".join(map(self.character, text))
 

@@ -40,7 +40,7 @@ def identifier_in(text):
     """The identifier that a text is, hyphenated and in lower case, or None."""
     if not isinstance(text, str) or not IDENTIFIER.fullmatch(text):
         return None
-    digits = "".join(re.findall("[0-9a-f]", text.lower().removeprefix("urn:uuid:")))
+    digits = text.lower().removeprefix("urn:uuid:").strip("{}").replace("-", "")
     return "-".join([digits[:8], digits[8:12], digits[12:16], digits[16:20], digits[20:]])
 
 

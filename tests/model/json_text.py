@@ -8,11 +8,19 @@ import math
 import re
 
 MOST_DEPTH = 127
-SPACES = re.compile(r"[ \t\n\r]*")
-NUMBER = re.compile(r"-?(?:0|[1-9][0-9]*)((?:\.[0-9]+)?(?:[eE][+-]?[0-9]+)?)")
-PLAIN = re.compile(r'[^"\\\x00-\x1f]*')
-UNIT = re.compile(r"\\u([0-9a-fA-F]{4})")
-ESCAPED = {'"': '"', "\\": "\\", "/": "/", "b": "\b", "f": "\f", "n": "\n", "r": "\r", "t": "\t"}
+TOKEN = re.compile(
+    r"""[ \t\n\r]*(?:
+        (?P<mark>[][{},:])
+        | "(?P<string>[^"\\\x00-\x1f]*(?:\\(?:["\\/bfnrt]|u[0-9a-fA-F]{4})[^"\\\x00-\x1f]*)*)"
+        | (?P<double>-0(?![.eE0-9])|-?(?:0|[1-9][0-9]*)(?:\.[0-9]+(?:[eE][+-]?[0-9]+)?|[eE][+-]?[0-9]+))
+        | (?P<whole>-?(?:0|[1-9][0-9]*))
+        | (?P<word>null|true|false)
+        | (?P<end>\Z)
+    )""",
+    re.VERBOSE,
+)
+ESCAPE = re.compile(r"\\(?:u(....)|(.))")
+ESCAPED = {"b": "\b", "f": "\f", "n": "\n", "r": "\r", "t": "\t"}
 WORDS = {"null": None, "true": True, "false": False}
 MOST_DIGITS = 20
 """How many characters a whole number of 64 bits has at most."""
@@ -29,8 +37,7 @@ def value_of(text):
     except UnicodeDecodeError:
         raise NotJson from None
     value = reader.value(0)
-    if reader.at != len(reader.text):
-        raise NotJson
+    reader.pass_over("end")
     return value
 
 
@@ -39,126 +46,100 @@ def compact(value):
     return json.dumps(value, separators=(",", ":"), sort_keys=True)
 
 
-def number_of(text, is_whole):
-    """The number that is written so. One past the doubles is no JSON."""
-    if is_whole and text != "-0" and len(text) <= MOST_DIGITS:
-        whole = int(text)
-        if -(2**63) <= whole < 2**64:
-            return whole
+def whole_of(text):
+    """The whole number that is written so, or the double where 64 bits don't hold it."""
+    whole = int(text) if len(text) <= MOST_DIGITS else None
+    return whole if whole is not None and -(2**63) <= whole < 2**64 else double_of(text)
+
+
+def double_of(text):
+    """The double that is written so. One past the doubles is no JSON."""
     double = float(text)
     if math.isinf(double):
         raise NotJson
     return double
 
 
+def string_of(text):
+    """The text that is written so between quotes. Surrogates have to come in pairs."""
+    if "\\" not in text:
+        return text
+    units = ESCAPE.sub(lambda it: chr(int(it[1], 16)) if it[1] else ESCAPED.get(it[2], it[2]), text)
+    try:
+        return units.encode("utf-16-le", "surrogatepass").decode("utf-16-le")
+    except UnicodeDecodeError:
+        raise NotJson from None
+
+
+SCALARS = {"string": string_of, "double": double_of, "whole": whole_of, "word": WORDS.get}
+BEGINNINGS = {"[", "{", *SCALARS}
+
+
 class Reader:
-    """A text and the place up to which it was read. Behind each thing that it reads it goes over spaces."""
+    """A text, and the token of it that comes next: its kind, which for a mark is the mark, and what is written."""
 
     def __init__(self, text):
-        self.text, self.at = text, SPACES.match(text).end()
-
-    def go_to(self, at):
-        self.at = SPACES.match(self.text, at).end()
+        self.text, self.at = text, 0
+        self.next()
 
     def next(self):
-        """The next character, or nothing at the end."""
-        return self.text[self.at : self.at + 1]
+        """Goes to the next token."""
+        found = TOKEN.match(self.text, self.at)
+        if not found:
+            raise NotJson
+        self.at, kind = found.end(), found.lastgroup
+        self.written = found.group(kind)
+        self.kind = self.written if kind == "mark" else kind
 
-    def takes(self, mark):
-        """Whether this mark comes next; it is then passed."""
-        if self.next() != mark:
+    def takes(self, kind):
+        """Whether a token of this kind comes next; it is then passed."""
+        if self.kind != kind:
             return False
-        self.go_to(self.at + 1)
+        self.next()
         return True
 
-    def expect(self, mark):
-        if not self.takes(mark):
+    def pass_over(self, kind):
+        """Passes a token that has to be of this kind, and answers what is written there."""
+        if self.kind != kind:
             raise NotJson
+        written = self.written
+        if kind != "end":
+            self.next()
+        return written
 
     def value(self, depth):
         """The value that comes next, within so many lists and objects."""
-        mark = self.next()
-        if mark and mark in "[{":
-            if depth == MOST_DEPTH:
-                raise NotJson
-            return self.list(depth + 1) if mark == "[" else self.object(depth + 1)
-        return self.string() if mark == '"' else self.scalar()
-
-    def scalar(self):
-        """A number, or one of the three words."""
-        for word, value in WORDS.items():
-            if self.text.startswith(word, self.at):
-                self.go_to(self.at + len(word))
-                return value
-        found = NUMBER.match(self.text, self.at)
-        if not found:
+        kind, written = self.kind, self.written
+        if kind in ("[", "{") and depth == MOST_DEPTH or kind not in BEGINNINGS:
             raise NotJson
-        self.go_to(found.end())
-        return number_of(found.group(), not found.group(1))
+        self.next()
+        if kind == "[":
+            return self.list(depth + 1)
+        return self.object(depth + 1) if kind == "{" else SCALARS[kind](written)
 
     def list(self, depth):
-        self.expect("[")
+        """The values of a list whose first mark was passed."""
         values = []
         if self.takes("]"):
             return values
         values.append(self.value(depth))
         while self.takes(","):
             values.append(self.value(depth))
-        self.expect("]")
+        self.pass_over("]")
         return values
 
     def object(self, depth):
-        """The members by their names: of a repeated one the last."""
-        self.expect("{")
+        """The members of an object whose first mark was passed, by their names: of a repeated one the last."""
         members = {}
         if self.takes("}"):
             return members
         self.member(members, depth)
         while self.takes(","):
             self.member(members, depth)
-        self.expect("}")
+        self.pass_over("}")
         return members
 
     def member(self, members, depth):
-        name = self.string()
-        self.expect(":")
+        name = string_of(self.pass_over("string"))
+        self.pass_over(":")
         members[name] = self.value(depth)
-
-    def string(self):
-        if self.next() != '"':
-            raise NotJson
-        at, pieces = self.at + 1, []
-        while True:
-            plain = PLAIN.match(self.text, at)
-            pieces.append(plain.group())
-            at = plain.end()
-            if self.text[at : at + 1] != "\\":
-                break
-            piece, at = self.escape(at)
-            pieces.append(piece)
-        if self.text[at : at + 1] != '"':
-            raise NotJson
-        self.go_to(at + 1)
-        return "".join(pieces)
-
-    def escape(self, at):
-        """The character that is escaped here, and the place behind it."""
-        letter = self.text[at + 1 : at + 2]
-        if letter in ESCAPED:
-            return ESCAPED[letter], at + 2
-        unit, at = self.unit(at)
-        if 0xDC00 <= unit < 0xE000:
-            raise NotJson
-        if not 0xD800 <= unit < 0xDC00:
-            return chr(unit), at
-        low, at = self.unit(at)
-        if not 0xDC00 <= low < 0xE000:
-            raise NotJson
-        return chr(0x10000 + (unit - 0xD800) * 0x400 + low - 0xDC00), at
-
-    def unit(self, at):
-        """The number that `\\u` and four digits give here, and the place behind them."""
-        found = UNIT.match(self.text, at)
-        if not found:
-            raise NotJson
-        return int(found.group(1), 16), found.end()

@@ -67,9 +67,9 @@ class Tables:
 
 
 def states_in(value):
-    """The states that a value of an entry's `from` or `to` names, or None."""
+    """The states that a value of an entry's `from` or `to` names, or None. There has to be one at least."""
     names = value if isinstance(value, list) else [value]
-    return names if names and all(isinstance(name, str) and name in STATES for name in names) else None
+    return names if all(isinstance(name, str) and name in STATES for name in names) else None
 
 
 def table_of(rows):
