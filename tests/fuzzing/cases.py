@@ -136,7 +136,7 @@ class TalkCase:
     table: bytes
     """Its table file, or None."""
     requests: list
-    """The bytes of each request, and whether the client ends its side behind them."""
+    """The pieces in which each request is sent, and whether the client ends its side behind them."""
     workers: int
     timed: bool = False
 
@@ -147,7 +147,7 @@ class TalkCase:
             server = model.http.Server(one() if self.table is None else model.tables.tables_of(self.table, self.timed))
         except model.tables.TableFault as fault:
             return str(fault)
-        return [server.answered(request) for request, _ in self.requests]
+        return [server.answered(b"".join(pieces)) for pieces, _ in self.requests]
 
     @cached_property
     def wanted(self):
@@ -160,11 +160,11 @@ class TalkCase:
             yield from self.unlike_fault(program, each)
             return
         with Server(program, each, self.workers, self.table) as server:
-            for (request, ends), right in zip(self.requests, self.wanted):
-                found = answered(server, request, ends or right.endswith(WAITING))
+            for (pieces, ends), right in zip(self.requests, self.wanted):
+                found = answered(server, pieces, ends or right.endswith(WAITING))
                 differs = difference(found, right)
                 if differs:
-                    yield f"{request[:300]!r} was answered, {differs}"
+                    yield f"{b''.join(pieces)[:300]!r} was answered, {differs}"
             yield from server.end()
 
     def unlike_fault(self, program, each):
@@ -182,7 +182,7 @@ class TalkCase:
 
     def kept(self):
         """The case as a value of JSON."""
-        requests = [{"bytes": as_text(request), "ends": ends} for request, ends in self.requests]
+        requests = [{"pieces": list(map(as_text, pieces)), "ends": ends} for pieces, ends in self.requests]
         table = None if self.table is None else as_text(self.table)
         return {"table": table, "requests": requests, "workers": self.workers, "timed": self.timed}
 
@@ -193,11 +193,11 @@ class TalkCase:
         return ["serve status 0", *[it.decode() for it in self.wanted]]
 
 
-def answered(server, request, ends):
+def answered(server, pieces, ends):
     """What the server answers, or why nothing came."""
     server.count()
     try:
-        found = ask_in_pieces(server.port, [request], ends=ends)
+        found = ask_in_pieces(server.port, pieces, ends=ends)
     except OSError as fault:
         return f"{type(fault).__name__}: {fault}".encode()
     server.count(0, success_of(found))
@@ -210,7 +210,7 @@ def case_of(kept):
         files = {as_bytes(name): as_bytes(text) for name, text in kept["files"].items()}
         return CommandCase(list(map(as_bytes, kept["words"])), files, as_bytes(kept["given"]), kept["timed"])
     table = None if kept["table"] is None else as_bytes(kept["table"])
-    requests = [(as_bytes(it["bytes"]), it["ends"]) for it in kept["requests"]]
+    requests = [(list(map(as_bytes, it["pieces"])), it["ends"]) for it in kept["requests"]]
     return TalkCase(table, requests, kept["workers"], kept["timed"])
 
 

@@ -103,17 +103,24 @@ class Talks:
         return chance.spoilt(text) if chance.often(self.hostility * 0.15) else text
 
     def request(self, registers):
-        """The bytes of a request, and whether the client then ends its side."""
+        """The bytes of a request."""
         chance = self.chance
         if not registers and chance.often(0.35):
             text = self.head("GET", self.target(), self.lengths(b"") if chance.often(self.hostility * 0.2) else [])
-            return text + (b"[] more" if chance.often(self.hostility * 0.1) else b""), chance.often(0.5)
+            return text + (b"[] more" if chance.often(self.hostility * 0.1) else b"")
         route, item, most = ("/vehicles", self.events.vehicle, 6) if registers else ("/events", self.events.item, 15)
         body = self.events.batch(item, most)
         target = route + (chance.choice(QUERIES) if chance.often(0.05) else "")
-        return self.head("POST", target, self.lengths(body)) + body, chance.often(0.5)
+        return self.head("POST", target, self.lengths(body)) + body
+
+    def sent(self, request):
+        """The pieces in which a request is sent, and whether the client then ends its side."""
+        cuts = sorted(self.chance.randint(0, len(request)) for _ in range(self.chance.choice((0, 0, 1, 2))))
+        pieces = [request[front:behind] for front, behind in zip([0, *cuts], [*cuts, len(request)])]
+        return pieces, self.chance.often(0.5)
 
     def talk(self):
         """A talk that registers first, and then does all kinds of things."""
-        requests = [self.request(at == 0 or self.chance.often(0.12)) for at in range(self.chance.choice((1, 4, 8, 16)))]
-        return TalkCase(self.table, requests, self.chance.choice((1, 1, 2, 4)), self.timed)
+        count, workers = self.chance.choice((1, 4, 8, 16)), self.chance.choice((1, 1, 2, 4))
+        requests = [self.sent(self.request(at == 0 or self.chance.often(0.12))) for at in range(count)]
+        return TalkCase(self.table, requests, workers, self.timed)
