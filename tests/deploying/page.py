@@ -11,7 +11,7 @@ from deploying.passing import NOBODY, path_of, sent
 from deploying.proxies import CITY, PROVIDERS, TOKENS
 from deploying.vehicles import event, short_events, vehicle
 from harness.counting import ROOT, Unwell
-from serving.model import compact
+from model.json_text import compact
 
 PAGE = ROOT / "deploy/page/index.html"
 OF_PROXIES = {"unauthorized", "forbidden", "unavailable"}

@@ -13,9 +13,10 @@ from deploying.proxies import CITY, NOBODY, PROVIDERS, SECONDS, TOKENS, read_ans
 from deploying.vehicles import fill, fleet, vehicle
 from harness.case import MAX_BYTES, padded
 from harness.counting import Skipped
-from serving.model import compact
+from model.http import answer, error
+from model.json_text import compact
 from serving.tools import body_of
-from serving.wire import answer, ask, connect, error, get, read_all
+from serving.wire import ask, connect, get, read_all
 
 SHARED = vehicle(PROVIDERS[0], 700)["device_id"]
 """A device that each provider has."""

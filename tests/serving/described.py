@@ -9,10 +9,10 @@ from cases.replays import A, P
 from cases.tables import STATES
 from harness.case import MAX_ITEMS
 from harness.counting import ROOT, Skipped
+from model.http import answer, error
+from model.json_text import compact
 from serving.http import E1, LOOK, TALKS, done
-from serving.model import compact
 from serving.openapi import METHODS, Draft202012Validator, Noted, description
-from serving.wire import answer, error
 
 DOCUMENTS = ["docs/http.md", "docs/formats.md"]
 FORM = ("not_object", "missing_param", "bad_param")

@@ -9,8 +9,9 @@ from cases.tables import ONE_ROW, PROFILE_ROWS
 from cases.timed import CHANGES, CHANGING, MANY_TABLES, edges, tables_file
 from harness.case import MAX_BYTES, MAX_ITEMS, lists, padded, started
 from harness.texts import as_bytes
-from serving.model import Table
-from serving.wire import answer, error, get, post
+from model.http import answer, error
+from model.tables import Table
+from serving.wire import get, post
 
 C = "00000000-0000-4000-8000-00000000000c"
 HEAD_BYTES = 16384

@@ -10,12 +10,13 @@ from cases.replays import A, B, P, batch, history
 from harness.case import SOCKET
 from harness.counting import Unwell
 from harness.texts import differing
+from model.http import error
+from model.json_text import compact
 from serving.connections import EVENT, MOST_WORKERS, silent
 from serving.http import Exchange, done, look, registered, vehicle
-from serving.model import compact
 from serving.server import Server, success_of
 from serving.talking import talk_over
-from serving.wire import connect, error, get, post, read_all
+from serving.wire import connect, get, post, read_all
 
 NOWHERE = get("/")
 HEAD = (8, 20)

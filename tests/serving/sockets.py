@@ -12,10 +12,11 @@ from cases.replays import A, batch, item
 from harness.building import built
 from harness.case import OUTPUT, RANDOM
 from harness.counting import Skipped, Unwell
+from model.http import error
 from serving.http import Exchange, done, registered
 from serving.server import NotListening, Server
 from serving.talking import talk_over
-from serving.wire import connect, error, get, post
+from serving.wire import connect, get, post
 
 LOOPBACK = "0100007F"
 """127.0.0.1, as the system's list of sockets has it."""
