@@ -258,17 +258,19 @@ fn tables_are_told_after_a_refused_growth(rt: HostRuntime) -> Result<(), Fail> {
     let mut fleet = Fleet::open(alloc, tables);
     let face = routes(alloc)?;
     let bytes = b"GET /table HTTP/1.1\r\n\r\n";
-    let whole = Ok(Served {
-        status: 200,
-        accepted: 0,
-    });
-    let (served, written, _) = told(alloc, &face, &mut fleet, bytes);
-    if served != whole {
-        assert_eq!(rt;
-            (served, written),
-            (Err(ServeFault::Memory { sent: 74 }), 74)
-        );
+    let whole = (
+        Ok(Served {
+            status: 200,
+            accepted: 0,
+        }),
+        256,
+        0,
+    );
+    let first = told(alloc, &face, &mut fleet, bytes);
+    if first == whole {
+        return Ok(());
     }
-    assert_eq!(rt; told(alloc, &face, &mut fleet, bytes), (whole, 256, 0));
+    assert_eq!(rt; first, (Err(ServeFault::Memory { sent: 74 }), 74, 0));
+    assert_eq!(rt; told(alloc, &face, &mut fleet, bytes), whole);
     Ok(())
 }
