@@ -33,6 +33,10 @@ LEAST_NUMBER = 20
 PAUSE = 0.05
 
 
+class Moved(Unwell):
+    """What was asked of a page while another one took its place."""
+
+
 def pipe():
     """A pipe whose ends have high numbers."""
     ends = os.pipe()
@@ -124,7 +128,8 @@ class Browser:
             if message.get("method") in ("Runtime.exceptionThrown", "Log.entryAdded"):
                 self.logged.append(json.dumps(message["params"])[:300])
         if "error" in message:
-            raise Unwell(f"{method}: {message['error']}")
+            moved = any(word in message["error"]["message"] for word in ("context", "navigated"))
+            raise (Moved if moved else Unwell)(f"{method}: {message['error']}")
         return message["result"]
 
     def run(self, script):
@@ -138,7 +143,10 @@ class Browser:
         """Waits until an expression of the page holds, and answers its value."""
         end = time.monotonic() + SECONDS
         while True:
-            found = self.run(script)
+            try:
+                found = self.run(script)
+            except Moved:
+                found = None
             if found:
                 return found
             if time.monotonic() > end:
@@ -148,10 +156,11 @@ class Browser:
     def open(self, url):
         """Loads a page, and waits until it is there. What was logged of the one before is left out."""
         self.logged.clear()
+        self.run("window.isLeft = true")
         found = self.ask("Page.navigate", url=url)
         if "errorText" in found:
             raise Unwell(f"{url}: {found['errorText']}")
-        self.wait(f"location.href === {json.dumps(url)} && document.readyState === 'complete'")
+        self.wait(f"!window.isLeft && location.href === {json.dumps(url)} && document.readyState === 'complete'")
 
     def press(self, key, code=0, text=""):
         """Presses a key of the keyboard and lets it go."""

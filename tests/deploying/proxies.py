@@ -232,7 +232,7 @@ class City:
             return read_answer(connection)
 
     def restart(self, number, pause):
-        """Ends a server by SIGTERM, and starts it anew some time later. It answers for how many seconds the server was gone."""
+        """Ends a server by SIGTERM, and starts it anew some time later. Answers for how many seconds it was gone."""
         start = time.monotonic()
         self.servers[number].child.terminate()
         self.servers[number].child.wait(SECONDS)
