@@ -93,7 +93,7 @@ class TableFiles:
         times = [*times, *range(OPENING + 1001, OPENING + 1001 + count - len(times))]
         starts = ["0", *map(str, sorted(times)[1:])]
         if chance.often(self.faults / 2 + 0.06):
-            starts[chance.choice((0, 0, len(starts) - 1))] = chance.choice((*WHOLE, *starts, "5"))
+            starts[chance.choice((0, 0, len(starts) - 1))] = chance.choice((chance.choice(WHOLE), *starts[-3:], "5"))
         return starts
 
     def of_times(self):
