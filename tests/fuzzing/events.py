@@ -241,11 +241,11 @@ class Events:
             text = self.writer.junk()
         elif kind < 0.13:
             text = self.writer.list([item(), chance.choice(NO_VALUES), item()][chance.randrange(2) :])
-        elif kind < 0.136:
-            text = "[%s]" % ",".join([item(), *["0"] * (MAX_ITEMS - chance.choice((0, 0, 1)))])
+        elif kind < 0.138:
+            text = "[%s]" % ",".join([item(), *["0"] * (MAX_ITEMS - chance.choice((0, 0, 0, 1)))])
         else:
             text = self.writer.list([item() for _ in range(chance.choice((0, 1, 2, 4, chance.randint(5, most))))])
-        if chance.often(0.005):
+        if chance.often(0.01):
             return padded(text, MAX_BYTES + chance.choice((0, 1))).encode()
         text = ("\ufeff" if chance.often(0.005) else "") + self.writer.spaced(text)
         return chance.spoilt(text.encode()) if chance.often(0.04) else text.encode()

@@ -21,6 +21,8 @@ class Error:
     new: str
 
 
+FIRST_OPENINGS = "            table = self.tables.at(0 * event"
+FIRST_REACHED = "reached(self.tables.at(0)"
 LATE = '(vehicle.events and event["timestamp"] < vehicle.events[-1]["timestamp"])'
 IDENTIFIER_KEPT = '    vehicle.identifiers.add(event["event_id"])\n    table = tables.at('
 FORGET = "self.vehicles.get(key, Vehicle()).events.clear()"
@@ -112,6 +114,17 @@ PLANTED = [
     Error("the method is looked at before the length", "http", "        if head.method != allowed:", LENGTH_FIRST),
     Error("a short body is read", "http", "if len(body) < length:", "if False:"),
 ]
+PLANTED_TIMED = [
+    Error("a table comes into force one moment late", "tables", "if start <= time][-1]", "if start < time or not start][-1]"),
+    Error("the first table stays in force", "tables", "if start <= time][-1]", "if start <= time][0]"),
+    Error("two tables start at one time", "tables", "start <= entries[-1][0]", "start < entries[-1][0]"),
+    Error("the first table starts at any time", "tables", "if not entries and start:", "if False:"),
+    Error("there are 65 tables", "tables", "4096, 64, 64", "4096, 64, 65"),
+    Error("a fault doesn't name its table", "tables", 'f"table {place} {fault}"', "str(fault)"),
+    Error("openings are those of the first table", "replays", "            table = self.tables.at(event", FIRST_OPENINGS),
+    Error("a session walks over the first table", "replays", "reached(self.tables.at(event[\"timestamp\"])", FIRST_REACHED),
+]
+"""Errors that only tables with stated times show."""
 
 
 def planted(error):
@@ -152,9 +165,9 @@ def is_seen(case, copy):
         return True
 
 
-def look_for(cases, count):
+def look_for(errors, cases, count):
     """Counts for each error whether one of the cases sees it, and prints the number of the first one that does."""
-    left = {error.name: planted(error) for error in PLANTED}
+    left = {error.name: planted(error) for error in errors}
     for number, case in enumerate(cases):
         for name in [name for name, copy in left.items() if is_seen(case, copy)]:
             del left[name]

@@ -67,10 +67,10 @@ class TableFiles:
     def rows(self):
         """The text of a list `rows`."""
         chance = self.chance
-        if chance.often(0.025 if self.timed else 0.04):
+        if chance.often(0.03 if self.timed else 0.05):
             return "[%s]" % ",".join(self.large())
         if chance.often(self.faults / 5 + 0.02):
-            return chance.choice(("[]", "[]", "7", "{}", "null", '"rows"', self.writer.junk(1)))
+            return chance.choice(("[]", "[]", "[]", "7", "{}", "null", '"rows"', self.writer.junk(1)))
         entry = self.of_profile if chance.often(0.4) else self.entry
         return self.writer.list([entry() for _ in range(chance.choice((1, 2, 4, 8, 20)))])
 
@@ -93,7 +93,7 @@ class TableFiles:
         times = [*times, *range(OPENING + 1001, OPENING + 1001 + count - len(times))]
         starts = ["0", *map(str, sorted(times)[1:])]
         if chance.often(self.faults / 2 + 0.06):
-            starts[chance.choice((0, 0, len(starts) - 1))] = chance.choice((*WHOLE, *starts, "5"))
+            starts[chance.choice((0, 0, len(starts) - 1))] = chance.choice((chance.choice(WHOLE), *starts[-3:], "5"))
         return starts
 
     def of_times(self):
@@ -124,6 +124,6 @@ class TableFiles:
         elif chance.often(0.02):
             pairs = [("rows", self.rows()), *pairs]
         text = self.writer.spaced(self.top(pairs))
-        if chance.often(0.008):
+        if chance.often(0.015):
             return padded(text, MAX_BYTES + chance.choice((0, 1))).encode()
         return chance.spoilt(text.encode()) if chance.often(0.08) else text.encode()
