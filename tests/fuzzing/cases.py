@@ -73,13 +73,12 @@ class CommandCase:
     """Bytes, or a folder, by the bytes of their names."""
     given: bytes
     """Standard input."""
-    timed: bool = False
     """Whether table files may hold tables that change at stated times."""
 
     def wanted_by(self, model):
         """The status, the output and the faults that a model has."""
         files = {name.decode(): text for name, text in self.files.items()}
-        return model.commands.outcome_of(self.words, files, self.given, self.timed)
+        return model.commands.outcome_of(self.words, files, self.given)
 
     @cached_property
     def wanted(self):
@@ -119,7 +118,6 @@ class CommandCase:
             "words": list(map(as_text, self.words)),
             "files": {as_text(name): as_text(text) for name, text in self.files.items()},
             "given": as_text(self.given),
-            "timed": self.timed,
         }
 
     def texts(self):
@@ -138,13 +136,12 @@ class TalkCase:
     requests: list
     """The pieces in which each request is sent, and whether the client ends its side behind them."""
     workers: int
-    timed: bool = False
 
     def wanted_by(self, model):
         """The answers that a model has, or the fault of the table file."""
         one = model.tables.Tables.one
         try:
-            server = model.http.Server(one() if self.table is None else model.tables.tables_of(self.table, self.timed))
+            server = model.http.Server(one() if self.table is None else model.tables.tables_of(self.table))
         except model.tables.TableFault as fault:
             return str(fault)
         return [server.answered(b"".join(pieces)) for pieces, _ in self.requests]
@@ -184,7 +181,7 @@ class TalkCase:
         """The case as a value of JSON."""
         requests = [{"pieces": list(map(as_text, pieces)), "ends": ends} for pieces, ends in self.requests]
         table = None if self.table is None else as_text(self.table)
-        return {"table": table, "requests": requests, "workers": self.workers, "timed": self.timed}
+        return {"table": table, "requests": requests, "workers": self.workers}
 
     def texts(self):
         """What the case must print and answer, for those who count what was reached."""
@@ -208,10 +205,10 @@ def case_of(kept):
     """The case that was kept as this value of JSON."""
     if "words" in kept:
         files = {as_bytes(name): as_bytes(text) for name, text in kept["files"].items()}
-        return CommandCase(list(map(as_bytes, kept["words"])), files, as_bytes(kept["given"]), kept["timed"])
+        return CommandCase(list(map(as_bytes, kept["words"])), files, as_bytes(kept["given"]))
     table = None if kept["table"] is None else as_bytes(kept["table"])
     requests = [(list(map(as_bytes, it["pieces"])), it["ends"]) for it in kept["requests"]]
-    return TalkCase(table, requests, kept["workers"], kept["timed"])
+    return TalkCase(table, requests, kept["workers"])
 
 
 def keep(path, case, wrong):

@@ -25,8 +25,8 @@ NO_TEXTS = [b"\xff", b"ev\xe9nements", b"\xed\xa0\x80"]
 class Commands:
     """A run of a command by chance."""
 
-    def __init__(self, chance, timed=False):
-        self.chance, self.timed = chance, timed
+    def __init__(self, chance):
+        self.chance = chance
         self.writer = Writer(chance, chance.choice((0, 0, 0.02, 0.3)))
         self.files, self.words, self.given = {}, [], b""
 
@@ -34,12 +34,12 @@ class Commands:
         """Maybe a table file, with the words that name it; answers the tables that are then in force."""
         if self.chance.often(0.45):
             return Tables.one()
-        text = TableFiles(self.chance, self.writer, self.timed).file()
+        text = TableFiles(self.chance, self.writer).file()
         path = self.chance.choice((b"table.json", b"table.json", b"rows", "t\u00e4ble".encode(), b"-"))
         self.files[path] = text
         self.words += [b"--table", path if not self.chance.often(0.02) else b"absent.json"]
         try:
-            return tables_of(text, self.timed)
+            return tables_of(text)
         except TableFault:
             return Tables.one()
 
@@ -107,4 +107,4 @@ class Commands:
         elif self.chance.often(0.01) and words:
             words[self.chance.randrange(len(words))] = self.chance.choice(NO_TEXTS)
         command = b"replays" if self.chance.often(0.003) else command
-        return CommandCase([command, *words], self.files, self.given, self.timed)
+        return CommandCase([command, *words], self.files, self.given)

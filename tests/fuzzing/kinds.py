@@ -112,9 +112,9 @@ class Reached:
     def add(self, texts):
         self.counts.update(kinds_of(texts))
 
-    def missing(self, timed):
+    def missing(self):
         """The kinds that no case came to, a line each."""
-        for kind in [*ALL, *(ALL_TIMED if timed else [])]:
+        for kind in [*ALL, *ALL_TIMED]:
             if not self.counts[kind]:
                 yield f"no case came to: {kind}"
 

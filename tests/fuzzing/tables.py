@@ -15,8 +15,8 @@ LARGE = [f"k{number:02}" for number in range(MOST_KINDS + 1)]
 class TableFiles:
     """Table files, written in many ways."""
 
-    def __init__(self, chance, writer, timed=False):
-        self.chance, self.writer, self.timed = chance, writer, timed
+    def __init__(self, chance, writer):
+        self.chance, self.writer = chance, writer
         self.faults = chance.choice((0, 0, 0, 0, 0, 0, 0.05, 0.3))
         """The share of entries with a fault."""
 
@@ -67,7 +67,7 @@ class TableFiles:
     def rows(self):
         """The text of a list `rows`."""
         chance = self.chance
-        if chance.often(0.03 if self.timed else 0.05):
+        if chance.often(0.03):
             return "[%s]" % ",".join(self.large())
         if chance.often(self.faults / 5 + 0.02):
             return chance.choice(("[]", "[]", "[]", "7", "{}", "null", '"rows"', self.writer.junk(1)))
@@ -119,7 +119,7 @@ class TableFiles:
         if chance.often(0.02):
             return self.writer.junk().encode()
         pairs = [("rows", self.rows())]
-        if self.timed and chance.often(0.7):
+        if chance.often(0.7):
             pairs = [("tables", self.of_times())] + (pairs if chance.often(0.03) else [])
         elif chance.often(0.02):
             pairs = [("rows", self.rows()), *pairs]

@@ -39,8 +39,8 @@ QUERIES = ["?", "?x=1", "?x=1&y=%zz", "?a?b/c", "?\u00e4", "?#", "?{}"]
 class Talks:
     """A talk by chance."""
 
-    def __init__(self, chance, timed=False):
-        self.chance, self.timed = chance, timed
+    def __init__(self, chance):
+        self.chance = chance
         self.writer = Writer(chance, chance.choice((0, 0, 0.02, 0.3)))
         self.table, tables = self.table_file()
         self.events = Events(chance, self.writer, Guide(tables, registers=False))
@@ -51,9 +51,9 @@ class Talks:
         """Maybe the bytes of a table file, and the tables that are then in force."""
         if self.chance.often(0.6):
             return None, Tables.one()
-        text = TableFiles(self.chance, self.writer, self.timed).file()
+        text = TableFiles(self.chance, self.writer).file()
         try:
-            return text, tables_of(text, self.timed)
+            return text, tables_of(text)
         except TableFault:
             return text, Tables.one()
 
@@ -123,4 +123,4 @@ class Talks:
         """A talk that registers first, and then does all kinds of things."""
         count, workers = self.chance.choice((1, 4, 8, 16)), self.chance.choice((1, 1, 2, 4))
         requests = [self.sent(self.request(at == 0 or self.chance.often(0.12))) for at in range(count)]
-        return TalkCase(self.table, requests, workers, self.timed)
+        return TalkCase(self.table, requests, workers)

@@ -53,8 +53,8 @@ def is_option(word):
 class Run:
     """A run of the program over files, which are bytes by their names; what isn't among them can't be read."""
 
-    def __init__(self, files, given, timed=False):
-        self.files, self.given, self.timed = files, given, timed
+    def __init__(self, files, given):
+        self.files, self.given = files, given
 
     def read(self, path):
         text = self.files.get(path)
@@ -66,7 +66,7 @@ class Run:
         if words.table is None:
             return Tables.one()
         try:
-            return tables_of(self.read(words.table), self.timed)
+            return tables_of(self.read(words.table))
         except TableFault as fault:
             raise Problem(3, not_a_table(fault)) from None
 
@@ -100,7 +100,7 @@ class Run:
         return int(refused > 0), f"events {accepted} refused {refused}\n{places}"
 
 
-def outcome_of(words, files, given, timed=False):
+def outcome_of(words, files, given):
     """The status and both outputs. Words are bytes, and so is standard input; files are bytes by their names."""
     try:
         found = parsed([word.decode() for word in words])
@@ -108,7 +108,7 @@ def outcome_of(words, files, given, timed=False):
         return 2, b"", NOT_TEXT.encode()
     if found is None:
         return MISTAKE
-    run = Run(files, given, timed)
+    run = Run(files, given)
     try:
         status, out = {"replay": run.replay, "debug": run.debug, "table": run.table}[found.command](found)
     except Problem as problem:

@@ -113,8 +113,8 @@ def timed_tables_of(values):
     return Tables(entries)
 
 
-def tables_of(text, timed=False):
-    """The tables of a file's bytes, or its fault. `timed`: whether a file may hold a list `tables`."""
+def tables_of(text):
+    """The tables of a file's bytes, or its fault."""
     if len(text) > MAX_BYTES:
         raise TableFault("too_long")
     try:
@@ -122,7 +122,7 @@ def tables_of(text, timed=False):
     except NotJson:
         raise TableFault("not_json") from None
     members = value if isinstance(value, dict) else {}
-    if timed and "rows" not in members and isinstance(members.get("tables"), list):
+    if "rows" not in members and isinstance(members.get("tables"), list):
         return timed_tables_of(members["tables"])
     if not isinstance(members.get("rows"), list):
         raise TableFault("not_rows")
