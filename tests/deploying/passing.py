@@ -384,8 +384,15 @@ def backup_by_way_of_nginx(city):
 
 
 def closed_to_reports(city):
-    """With one line more nginx refuses reports, and looks go on."""
-    city.reload(city.nginx(**{"# POST 1;": "POST 1;"}))
+    """With one line more nginx refuses reports, and looks go on. A client whose body doesn't end is let go by the old process,
+    soon: by itself nginx would wait for it as long as for each answer here."""
+    with city.connect() as slow:
+        slow.sendall(sent("POST", "/vehicles", TOKENS[1], b"[]")[:-1])
+        start = time.monotonic()
+        city.reload(city.nginx(**{"# POST 1;": "POST 1;"}))
+        gone = time.monotonic() - start
+        if gone > SECONDS / 3 or are_open([slow]):
+            yield f"the old process went on for {gone:.0f} s, and the slow client is there"
     yield from answered(city, sent("POST", "/vehicles", TOKENS[1], b"[]"), 503, GONE, "retry-after: 5")
     yield from answered(city, sent("GET", "/table", TOKENS[1]), 200)
 
