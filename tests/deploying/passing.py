@@ -10,8 +10,8 @@ import time
 from cases.replays import batch, history
 from deploying.copying import Files, ended, run, url
 from deploying.proxies import CITY, NOBODY, PROVIDERS, SECONDS, TOKENS, read_answer
-from deploying.vehicles import fill, fleet, vehicle
-from harness.case import MAX_BYTES, padded
+from deploying.vehicles import event, fill, fleet, vehicle
+from harness.case import MAX_BYTES, MAX_ITEMS, padded
 from harness.counting import Skipped
 from model.http import answer, error
 from model.json_text import compact
@@ -93,6 +93,26 @@ def three_instances(city):
                 yield f"server {at} answers {found!r} of provider {number}"
     yield from answered(city, sent("POST", "/vehicles", CITY, b"[]"), 403, {"error": "forbidden"})
     yield from answered(city, sent("GET", path_of("00000000-0000-4000-8000-0000000000ff"), CITY), 403)
+
+
+def answers_of_each_kind(city):
+    """Each operation is answered 200, and each refusal of a whole request that the server alone makes is its own."""
+    owner = {"provider_id": PROVIDERS[1], "device_id": vehicle(PROVIDERS[1], 702)["device_id"]}
+    place = path_of(*owner.values())
+    events = [event(owner, number, ["provider_drop_off"], "available") for number in (2, 2, 1)]
+    for target, items in (("/vehicles", [owner, owner, 7]), ("/events", [*events, {}])):
+        yield from answered(city, sent("POST", target, TOKENS[2], compact(items).encode()), 200)
+    for target in (place, f"{place}/events", "/table"):
+        yield from answered(city, sent("GET", target, TOKENS[2]), 200)
+    for body, name in (("[1,", "not_json"), ("7", "not_list"), (compact([7] * (MAX_ITEMS + 1)), "too_many")):
+        for target in ("/vehicles", "/events"):
+            yield from answered(city, sent("POST", target, TOKENS[2], body.encode()), 400, {"error": name})
+    for target, allowed in ((place, "GET"), (f"{place}/events", "GET"), ("/table", "GET"), ("/events", "POST")):
+        request = sent("DELETE", target, TOKENS[2])
+        yield from answered(city, request, 405, {"error": "method_not_allowed"}, f"allow: {allowed}")
+    unknown = path_of(PROVIDERS[1], vehicle(PROVIDERS[1], 703)["device_id"])
+    for target, name in ((unknown, "unregistered"), (f"{unknown}/events", "unregistered"), ("/nowhere", "not_found")):
+        yield from answered(city, sent("GET", target, TOKENS[2]), 404, {"error": name})
 
 
 def in_chunks(text):
@@ -415,6 +435,7 @@ PASSING = [
     tokens,
     paths_of_others,
     three_instances,
+    answers_of_each_kind,
     chunked_bodies,
     over_http_2,
     longest_bodies,

@@ -15,6 +15,7 @@ import time
 from pathlib import Path
 
 from deploying.browser import Browser
+from deploying.described import note
 from deploying.vehicles import PROVIDERS
 from harness.counting import ROOT, Skipped, Unwell
 from serving.server import Server
@@ -230,10 +231,13 @@ class City:
             raise
 
     def ask(self, request):
-        """The answer to a request that is sent whole: its status, its head and its body."""
+        """The answer to a request that is sent whole: its status, its head and its body. It is noted, to be held against
+        openapi.json."""
         with self.connect() as connection:
             connection.sendall(request)
-            return read_answer(connection)
+            answered = read_answer(connection)
+        note(request, *answered)
+        return answered
 
     def restart(self, number, pause):
         """Ends a server by SIGTERM, and starts it anew some time later. Answers for how many seconds it was gone."""
