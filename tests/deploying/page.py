@@ -74,8 +74,8 @@ def meanings(_):
         yield f"{sorted(found)}, in place of {sorted(wanted)}"
     if any(name != shown for name, shown in found):
         yield f"a row of another name: {found}"
-    uncertain = page.partition("<caption>Of a whole request; items may have been accepted</caption>")[2].partition("</table>")[0]
-    found = set(re.findall(r'<tr id="means-([a-z_]+)">', uncertain))
+    uncertain = page.partition("<caption>Of a whole request; items may have been accepted</caption>")[2]
+    found = set(re.findall(r'<tr id="means-([a-z_]+)">', uncertain.partition("</table>")[0]))
     if found != UNCERTAIN:
         yield f"items may have been accepted behind {sorted(found)}, in place of {sorted(UNCERTAIN)}"
     for state in {state for _, *both in PROFILE for states in both for state in states.split()} - {"available", "missing"}:
@@ -166,11 +166,18 @@ def a_vehicle_without_events(city):
     yield from unlike("the status", submit(page, "vehicle"), "State held: removed. Accepted events: 0.")
     yield from unlike("the position", dict(rows_of(page, "standing"))["Position"], "none")
     yield from unlike("time lines", count_of(page, "#line svg"), 0)
-    for device, name in ((UNKNOWN["device_id"], "unregistered"), ("x", "not_found"), ("/../..", "not_found")):
+    for device, told in (
+        (UNKNOWN["device_id"], "Status 404, unregistered: "),
+        ("x", "Status 404, not_found: "),
+        ("/../..", "Status 404, not_found: "),
+        ("...", "Status 404, not_found: "),
+        (".", "Neither . nor .. can be a part of a path: "),
+        (" .. ", "Neither . nor .. can be a part of a path: "),
+    ):
         fill_in(page, device=device)
         found = submit(page, "vehicle")
-        if not found.startswith(f"Status 404, {name}: ") or rows_of(page, "standing") is not None:
-            yield f"{device}: {found}"
+        if not found.startswith(told) or rows_of(page, "standing") is not None:
+            yield f"{device}: {found}, in place of {told}"
     yield from faults_of(page)
 
 
@@ -193,7 +200,8 @@ def tokens_on_the_page(city):
 
 
 def the_table(city):
-    """The table as rows and as a picture: a box for each state, an arrow for each pair, a mark at the state of the vehicle."""
+    """The table as rows and as a picture: a box for each state, an arrow for each pair. The state of the vehicle is marked, and
+    told in the title, until a look fails."""
     page = city.page()
     there_is(city, TRIED)
     fill_in(page, token=TOKENS[1], provider=PROVIDERS[0], device=TRIED["device_id"])
@@ -202,11 +210,30 @@ def the_table(city):
     yield from unlike("the status", submit(page, "table"), told)
     yield from unlike("rows", rows_of(page, "rows"), [[row["type"], row["from"], row["to"]] for row in rows])
     yield from pictured(page, rows)
-    yield from unlike("marks", count_of(page, "#picture .held"), 0)
+    told = page.run(TITLE)
+    yield from marked(page, [], told)
     submit(page, "vehicle")
-    marked = page.run("[...document.querySelectorAll('#picture .held')].map((it) => it.textContent)")
-    yield from unlike("marks", marked, ["removed"])
+    yield from marked(page, ["removed"], f"{told}; the vehicle holds the state removed")
+    submit(page, "table")
+    yield from marked(page, ["removed"], f"{told}; the vehicle holds the state removed")
+    for device in (UNKNOWN["device_id"], ".."):
+        fill_in(page, device=device)
+        submit(page, "vehicle")
+        yield from marked(page, [], told)
+        fill_in(page, device=TRIED["device_id"])
+        submit(page, "vehicle")
+        yield from marked(page, ["removed"], f"{told}; the vehicle holds the state removed")
     yield from faults_of(page)
+
+
+TITLE = "document.querySelector('#picture svg > title').textContent"
+
+
+def marked(page, states, told):
+    """What is wrong with the marks of the picture, and with its title."""
+    found = page.run("[...document.querySelectorAll('#picture .held')].map((it) => it.textContent)")
+    yield from unlike("marks", found, states)
+    yield from unlike("the title", page.run(TITLE), told)
 
 
 def pictured(page, rows):
