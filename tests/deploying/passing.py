@@ -155,6 +155,25 @@ def longest_bodies(city):
     yield from answered(city, head, 413, {"error": "too_long"})
 
 
+def heads_past_the_limits(city):
+    """Who refuses a head with too many fields, or of too many bytes, and how."""
+    lines = lambda count, length: [f"x-{number}: {'a' * length}" for number in range(count)]
+    for target, fields, status, told in (
+        ("/table", lines(60, 1), 200, '{"rows":['),
+        ("/table", lines(80, 1), 400, '{"error":"bad_head"}'),
+        ("/table", lines(120, 1), 400, "<html><body><h1>400 Bad request</h1>"),
+        ("/table", lines(2, 7000), 200, '{"rows":['),
+        ("/table", lines(3, 7000), 400, "<html><body><h1>400 Bad request</h1>"),
+        ("/table", lines(1, 9000), 400, "<center>nginx</center>"),
+        (f"/table?{'a' * 9000}", [], 414, "<center>nginx</center>"),
+    ):
+        with city.connect() as connection:
+            connection.sendall(sent("GET", target, TOKENS[1], fields=fields))
+            found, _, body = read_answer(connection)
+        if found != status or told not in body:
+            yield f"{len(target)} and {len(fields)} fields: {found} {body[:200]!r}, in place of {status} {told}"
+
+
 def expected_continues(city):
     """A client that waits for 100 before it sends its body gets that at once, which the server alone doesn't send."""
     request = sent("POST", "/vehicles", TOKENS[3], b"[]", ["Expect: 100-continue"])
@@ -439,6 +458,7 @@ PASSING = [
     chunked_bodies,
     over_http_2,
     longest_bodies,
+    heads_past_the_limits,
     expected_continues,
     slow_senders,
     slow_readers,
