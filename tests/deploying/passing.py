@@ -437,12 +437,16 @@ def closed_to_reports(city):
 
 
 def lines_of_the_log(city):
-    """Each line of nginx's log is JSON, and none has a token."""
-    text = (city.folder / "mds_city.log").read_text()
+    """Each line of nginx's log is JSON, that of a client that was let go without an answer, too; and none has a token."""
+    text, statuses = (city.folder / "mds_city.log").read_text(), set()
     kept = {"time", "from", "who", "instance", "request", "status", "bytes", "seconds", "tries"}
     for line in text.splitlines():
-        if set(json.loads(line)) != kept:
+        told = json.loads(line)
+        statuses.add(told["status"])
+        if set(told) != kept:
             yield line
+    if not {0, 200, 401, 503} <= statuses:
+        yield f"the log has only the statuses {sorted(statuses)}"
     for token in (*TOKENS.values(), CITY, NOBODY):
         if token in text:
             yield f"the log has the token {token}"
