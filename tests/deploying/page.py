@@ -16,6 +16,8 @@ from model.json_text import compact
 PAGE = ROOT / "deploy/page/index.html"
 OF_PROXIES = {"unauthorized", "forbidden", "unavailable"}
 """The refusals that nginx.conf has of its own, beside `too_long`."""
+UNCERTAIN = {"out_of_memory", "unavailable"}
+"""The refusals of a whole request of which items may have been accepted."""
 ENTER = ("Enter", 13, "\r")
 TAB = ("Tab", 9)
 LOOKED_AT, UNKNOWN, TRIED = (vehicle(PROVIDERS[0], number) for number in (900, 901, 902))
@@ -72,6 +74,10 @@ def meanings(_):
         yield f"{sorted(found)}, in place of {sorted(wanted)}"
     if any(name != shown for name, shown in found):
         yield f"a row of another name: {found}"
+    uncertain = page.partition("<caption>Of a whole request; items may have been accepted</caption>")[2]
+    found = set(re.findall(r'<tr id="means-([a-z_]+)">', uncertain.partition("</table>")[0]))
+    if found != UNCERTAIN:
+        yield f"items may have been accepted behind {sorted(found)}, in place of {sorted(UNCERTAIN)}"
     for state in {state for _, *both in PROFILE for states in both for state in states.split()} - {"available", "missing"}:
         if re.search(rf"\b{state}\b", page):
             yield f"the page names the state {state}"
@@ -160,11 +166,18 @@ def a_vehicle_without_events(city):
     yield from unlike("the status", submit(page, "vehicle"), "State held: removed. Accepted events: 0.")
     yield from unlike("the position", dict(rows_of(page, "standing"))["Position"], "none")
     yield from unlike("time lines", count_of(page, "#line svg"), 0)
-    for device, name in ((UNKNOWN["device_id"], "unregistered"), ("x", "not_found"), ("/../..", "not_found")):
+    for device, told in (
+        (UNKNOWN["device_id"], "Status 404, unregistered: "),
+        ("x", "Status 404, not_found: "),
+        ("/../..", "Status 404, not_found: "),
+        ("...", "Status 404, not_found: "),
+        (".", "Neither . nor .. can be a part of a path: "),
+        (" .. ", "Neither . nor .. can be a part of a path: "),
+    ):
         fill_in(page, device=device)
         found = submit(page, "vehicle")
-        if not found.startswith(f"Status 404, {name}: ") or rows_of(page, "standing") is not None:
-            yield f"{device}: {found}"
+        if not found.startswith(told) or rows_of(page, "standing") is not None:
+            yield f"{device}: {found}, in place of {told}"
     yield from faults_of(page)
 
 
@@ -187,7 +200,8 @@ def tokens_on_the_page(city):
 
 
 def the_table(city):
-    """The table as rows and as a picture: a box for each state, an arrow for each pair, a mark at the state of the vehicle."""
+    """The table as rows and as a picture: a box for each state, an arrow for each pair. The state of the vehicle is marked, and
+    told in the title, until a look fails."""
     page = city.page()
     there_is(city, TRIED)
     fill_in(page, token=TOKENS[1], provider=PROVIDERS[0], device=TRIED["device_id"])
@@ -196,11 +210,30 @@ def the_table(city):
     yield from unlike("the status", submit(page, "table"), told)
     yield from unlike("rows", rows_of(page, "rows"), [[row["type"], row["from"], row["to"]] for row in rows])
     yield from pictured(page, rows)
-    yield from unlike("marks", count_of(page, "#picture .held"), 0)
+    told = page.run(TITLE)
+    yield from marked(page, [], told)
     submit(page, "vehicle")
-    marked = page.run("[...document.querySelectorAll('#picture .held')].map((it) => it.textContent)")
-    yield from unlike("marks", marked, ["removed"])
+    yield from marked(page, ["removed"], f"{told}; the vehicle holds the state removed")
+    submit(page, "table")
+    yield from marked(page, ["removed"], f"{told}; the vehicle holds the state removed")
+    for device in (UNKNOWN["device_id"], ".."):
+        fill_in(page, device=device)
+        submit(page, "vehicle")
+        yield from marked(page, [], told)
+        fill_in(page, device=TRIED["device_id"])
+        submit(page, "vehicle")
+        yield from marked(page, ["removed"], f"{told}; the vehicle holds the state removed")
     yield from faults_of(page)
+
+
+TITLE = "document.querySelector('#picture svg > title').textContent"
+
+
+def marked(page, states, told):
+    """What is wrong with the marks of the picture, and with its title."""
+    found = page.run("[...document.querySelectorAll('#picture .held')].map((it) => it.textContent)")
+    yield from unlike("marks", found, states)
+    yield from unlike("the title", page.run(TITLE), told)
 
 
 def pictured(page, rows):
@@ -218,7 +251,12 @@ def pictured(page, rows):
 
 def answering(page, status, value):
     """Has each further request of the page be answered so, whatever it asks."""
-    body = json.dumps(json.dumps(value))
+    answering_text(page, status, json.dumps(value))
+
+
+def answering_text(page, status, text):
+    """Has each further request of the page be answered by this text as the body."""
+    body = json.dumps(text)
     page.run(f"window.fetch = async () => new Response({body}, {{ status: {status} }}); true")
 
 
@@ -275,6 +313,23 @@ def a_batch(city):
         found = submit(page, "batch")
         if not found.startswith(f"Status 400, {told}: ") or rows_of(page, "items") is not None:
             yield f"{body}: {found}"
+    yield from faults_of(page)
+
+
+def answers_without_words(city):
+    """Answers that name no refusal: of a 503 without a body the page says that items may have been accepted, of others only the
+    status."""
+    page = city.page()
+    fill_in(page, provider=PROVIDERS[0], device=UNKNOWN["device_id"], body="[]")
+    for status, text, told in (
+        (503, "", "Status 503: There was no memory. Items may have been accepted. Send it again."),
+        (503, "<html>", "Status 503, without a reason."),
+        (500, "", "Status 500, without a reason."),
+        (200, "", "Status 200, without a reason."),
+    ):
+        answering_text(page, status, text)
+        for part in ("vehicle", "table", "batch"):
+            yield from unlike(f"{status} {text!r} to the {part}", submit(page, part), told)
     yield from faults_of(page)
 
 
@@ -336,7 +391,7 @@ def heard(nodes):
     for node in nodes:
         if not node["ignored"]:
             named.setdefault(node["role"]["value"], []).append(node.get("name", {}).get("value", ""))
-    wanted = {"textbox": 5, "combobox": 1, "button": 4, "link": 4, "image": 2, "table": 6, "heading": 5, "region": 7}
+    wanted = {"textbox": 5, "combobox": 1, "button": 4, "link": 4, "image": 2, "table": 7, "heading": 5, "region": 7}
     for role, least in wanted.items():
         names = named.get(role, named.get("img", []) if role == "image" else [])
         if len(names) < least or not all(name.strip() for name in names) or len(set(names)) != len(names):
@@ -367,6 +422,7 @@ SCREENS = [
     the_table,
     tables_that_change,
     a_batch,
+    answers_without_words,
     hostile_texts,
     by_keyboard,
 ]

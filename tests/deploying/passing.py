@@ -10,8 +10,8 @@ import time
 from cases.replays import batch, history
 from deploying.copying import Files, ended, run, url
 from deploying.proxies import CITY, NOBODY, PROVIDERS, SECONDS, TOKENS, read_answer
-from deploying.vehicles import fill, fleet, vehicle
-from harness.case import MAX_BYTES, padded
+from deploying.vehicles import event, fill, fleet, vehicle
+from harness.case import MAX_BYTES, MAX_ITEMS, padded
 from harness.counting import Skipped
 from model.http import answer, error
 from model.json_text import compact
@@ -95,6 +95,26 @@ def three_instances(city):
     yield from answered(city, sent("GET", path_of("00000000-0000-4000-8000-0000000000ff"), CITY), 403)
 
 
+def answers_of_each_kind(city):
+    """Each operation is answered 200, and each refusal of a whole request that the server alone makes is its own."""
+    owner = {"provider_id": PROVIDERS[1], "device_id": vehicle(PROVIDERS[1], 702)["device_id"]}
+    place = path_of(*owner.values())
+    events = [event(owner, number, ["provider_drop_off"], "available") for number in (2, 2, 1)]
+    for target, items in (("/vehicles", [owner, owner, 7]), ("/events", [*events, {}])):
+        yield from answered(city, sent("POST", target, TOKENS[2], compact(items).encode()), 200)
+    for target in (place, f"{place}/events", "/table"):
+        yield from answered(city, sent("GET", target, TOKENS[2]), 200)
+    for body, name in (("[1,", "not_json"), ("7", "not_list"), (compact([7] * (MAX_ITEMS + 1)), "too_many")):
+        for target in ("/vehicles", "/events"):
+            yield from answered(city, sent("POST", target, TOKENS[2], body.encode()), 400, {"error": name})
+    for target, allowed in ((place, "GET"), (f"{place}/events", "GET"), ("/table", "GET"), ("/events", "POST")):
+        request = sent("DELETE", target, TOKENS[2])
+        yield from answered(city, request, 405, {"error": "method_not_allowed"}, f"allow: {allowed}")
+    unknown = path_of(PROVIDERS[1], vehicle(PROVIDERS[1], 703)["device_id"])
+    for target, name in ((unknown, "unregistered"), (f"{unknown}/events", "unregistered"), ("/nowhere", "not_found")):
+        yield from answered(city, sent("GET", target, TOKENS[2]), 404, {"error": name})
+
+
 def in_chunks(text):
     """A body in two chunks."""
     half = len(text) // 2
@@ -133,6 +153,25 @@ def longest_bodies(city):
     yield from answered(city, sent("POST", "/events", TOKENS[2], longest), 200, wanted)
     head = sent("POST", "/events", TOKENS[2], more)[: -len(more)]
     yield from answered(city, head, 413, {"error": "too_long"})
+
+
+def heads_past_the_limits(city):
+    """Who refuses a head with too many fields, or of too many bytes, and how."""
+    lines = lambda count, length: [f"x-{number}: {'a' * length}" for number in range(count)]
+    for target, fields, status, told in (
+        ("/table", lines(60, 1), 200, '{"rows":['),
+        ("/table", lines(80, 1), 400, '{"error":"bad_head"}'),
+        ("/table", lines(120, 1), 400, "<html><body><h1>400 Bad request</h1>"),
+        ("/table", lines(2, 7000), 200, '{"rows":['),
+        ("/table", lines(3, 7000), 400, "<html><body><h1>400 Bad request</h1>"),
+        ("/table", lines(1, 9000), 400, "<center>nginx</center>"),
+        (f"/table?{'a' * 9000}", [], 414, "<center>nginx</center>"),
+    ):
+        with city.connect() as connection:
+            connection.sendall(sent("GET", target, TOKENS[1], fields=fields))
+            found, _, body = read_answer(connection)
+        if found != status or told not in body:
+            yield f"{len(target)} and {len(fields)} fields: {found} {body[:200]!r}, in place of {status} {told}"
 
 
 def expected_continues(city):
@@ -384,19 +423,30 @@ def backup_by_way_of_nginx(city):
 
 
 def closed_to_reports(city):
-    """With one line more nginx refuses reports, and looks go on."""
-    city.reload(city.nginx(**{"# POST 1;": "POST 1;"}))
+    """With one line more nginx refuses reports, and looks go on. A client whose body doesn't end is let go by the old process,
+    soon: by itself nginx would wait for it as long as for each answer here."""
+    with city.connect() as slow:
+        slow.sendall(sent("POST", "/vehicles", TOKENS[1], b"[]")[:-1])
+        start = time.monotonic()
+        city.reload(city.nginx(**{"# POST 1;": "POST 1;"}))
+        gone = time.monotonic() - start
+        if gone > SECONDS / 3 or are_open([slow]):
+            yield f"the old process went on for {gone:.0f} s, and the slow client is there"
     yield from answered(city, sent("POST", "/vehicles", TOKENS[1], b"[]"), 503, GONE, "retry-after: 5")
     yield from answered(city, sent("GET", "/table", TOKENS[1]), 200)
 
 
 def lines_of_the_log(city):
-    """Each line of nginx's log is JSON, and none has a token."""
-    text = (city.folder / "mds_city.log").read_text()
+    """Each line of nginx's log is JSON, that of a client that was let go without an answer, too; and none has a token."""
+    text, statuses = (city.folder / "mds_city.log").read_text(), set()
     kept = {"time", "from", "who", "instance", "request", "status", "bytes", "seconds", "tries"}
     for line in text.splitlines():
-        if set(json.loads(line)) != kept:
+        told = json.loads(line)
+        statuses.add(told["status"])
+        if set(told) != kept:
             yield line
+    if not {0, 200, 401, 503} <= statuses:
+        yield f"the log has only the statuses {sorted(statuses)}"
     for token in (*TOKENS.values(), CITY, NOBODY):
         if token in text:
             yield f"the log has the token {token}"
@@ -408,9 +458,11 @@ PASSING = [
     tokens,
     paths_of_others,
     three_instances,
+    answers_of_each_kind,
     chunked_bodies,
     over_http_2,
     longest_bodies,
+    heads_past_the_limits,
     expected_continues,
     slow_senders,
     slow_readers,

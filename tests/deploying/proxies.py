@@ -1,5 +1,6 @@
 """nginx and haproxy with the files of deploy/, before three servers. Only ports, paths and users are changed in the files, a
-provider, so that there is one with letters, and how long a client may pause, since a busy machine may make it do so."""
+provider, so that there is one with letters, how long a client may pause, since a busy machine may make it do so, and how long
+an old process of nginx goes on."""
 
 import os
 import random
@@ -14,6 +15,7 @@ import time
 from pathlib import Path
 
 from deploying.browser import Browser
+from deploying.described import note
 from deploying.vehicles import PROVIDERS
 from harness.counting import ROOT, Skipped, Unwell
 from serving.server import Server
@@ -22,6 +24,8 @@ INSTANCES = ("one", "two", "three")
 EACH, WORKERS = 1000000, 4
 SECONDS = 300
 """How long a proxy may take to listen, an answer to come, and a proxy to end."""
+SHUT = 3
+"""How long an old process of nginx goes on behind a reload, in place of 60 seconds."""
 STARTS = 3
 """How often the servers and the proxies are started, on other ports each time: somebody else may have taken one meanwhile."""
 TOKENS = {number: f"{number:064x}" for number in range(1, len(PROVIDERS) + 1)}
@@ -204,6 +208,7 @@ class City:
             "/var/log/nginx": str(self.folder),
             "client_body_timeout 10s;": f"client_body_timeout {SECONDS}s;",
             "send_timeout 10s;": f"send_timeout {SECONDS}s;",
+            "worker_shutdown_timeout 60s;": f"worker_shutdown_timeout {SHUT}s;",
             "00000000-0000-4000-8000-000000000003": PROVIDERS[2],
             "http {\n": f"http {{\n{temporary}",
             "listen 443 ": f"listen 127.0.0.1:{self.port} ",
@@ -226,10 +231,13 @@ class City:
             raise
 
     def ask(self, request):
-        """The answer to a request that is sent whole: its status, its head and its body."""
+        """The answer to a request that is sent whole: its status, its head and its body. It is noted, to be held against
+        openapi.json."""
         with self.connect() as connection:
             connection.sendall(request)
-            return read_answer(connection)
+            answered = read_answer(connection)
+        note(request, *answered)
+        return answered
 
     def restart(self, number, pause):
         """Ends a server by SIGTERM, and starts it anew some time later. Answers for how many seconds it was gone."""
