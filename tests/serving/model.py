@@ -9,7 +9,7 @@ from cases.tables import PROFILE, STATES
 
 MOST_TIME = 9007199254740991
 MOST_LAT, MOST_LNG = 900000000, 1800000000
-MOST_TYPES = 16
+MOST_TYPES = 64
 TYPE_NAME = re.compile(r"[a-z0-9_]{1,32}")
 HYPHENATED = re.compile(r"[0-9a-f]{8}-[0-9a-f]{4}-[0-9a-f]{4}-[0-9a-f]{4}-[0-9a-f]{12}", re.IGNORECASE | re.ASCII)
 SIMPLE = re.compile(r"[0-9a-f]{32}", re.IGNORECASE | re.ASCII)

@@ -12,7 +12,7 @@ use std::marker::Model;
 use uuid::Uuid;
 
 /// The most types that an event carries.
-pub const MAX_EVENT_TYPES: usize = 16;
+pub const MAX_EVENT_TYPES: usize = 64;
 
 /// The latest time of an event, 2 to the power 53 less 1: up to it no two whole numbers are the same double.
 pub const MAX_TIME: u64 = 9_007_199_254_740_991;
