@@ -4,10 +4,12 @@ from cases.batches import batches, items
 from cases.commands import commands, examples, orders, paths, spaced_paths, wrong_words
 from cases.debugging import faults, long_sessions, scripts, starts_before_its_script
 from cases.helps import help_asked_for
+from cases.pictures import PICTURED
 from cases.replays import replays
 from cases.serve import outputs_of_serve, ports, tables_of_serve, words_of_serve
 from cases.streams import memory, streams
 from cases.tables import table_files
+from cases.timed import changing_tables, tables_files
 
 SUBJECTS = [
     examples,
@@ -18,6 +20,8 @@ SUBJECTS = [
     spaced_paths,
     orders,
     table_files,
+    tables_files,
+    changing_tables,
     batches,
     items,
     replays,
@@ -32,5 +36,5 @@ SUBJECTS = [
     outputs_of_serve,
 ]
 """What yields cases."""
-INTERPLAYS = [starts_before_its_script]
-"""What runs the program by itself, and says what is wrong."""
+INTERPLAYS = [starts_before_its_script, *PICTURED]
+"""What runs the program by itself, or a tool, and says what is wrong."""

@@ -1,7 +1,5 @@
 """The words of the command line, and the files that they name."""
 
-import json
-
 from cases.replays import A, P, batch, event, replayed
 from cases.tables import ONE_ROW, ONE_ROW_PRINTED
 from harness.case import CLOSED, FOLDER, FULL, NO_STREAMS, NOT_TEXT, SOME, Case
@@ -14,6 +12,13 @@ EVENTS = batch([event(A, "e1", "wake", "available", 1000)])
 NOTHING = "accepted 0 refused 0\n"
 
 
+OPTIONS = {
+    "begins-midway": ["--any"],
+    "rules-change": ["--table", str(EXAMPLES / "changing-table.json")],
+}
+"""What examples are replayed with."""
+
+
 def examples():
     """The files of examples/ that have beside them what is printed of them, but for those with a debugger's script; those of
     events as standard input, too."""
@@ -21,15 +26,12 @@ def examples():
         path, out = printed.with_suffix(".json"), printed.read_text()
         if printed.with_suffix(".script").exists():
             continue
-        if printed.name == "begins-midway.out":
-            yield Case(["replay", "--any", str(path)], status=1, out=out)
-            continue
-        if "rows" in json.loads(path.read_text()):
+        if path.stem.endswith("-table"):
             yield Case(["table", "--table", str(path)], out=out)
             continue
-        status = 0 if out.endswith(" refused 0\n") else 1
-        yield Case(["replay", str(path)], status=status, out=out)
-        yield Case("replay -", status=status, out=out, given=path.read_bytes(), name=path.name)
+        status, options = 0 if out.endswith(" refused 0\n") else 1, OPTIONS.get(path.stem, [])
+        yield Case(["replay", *options, str(path)], status=status, out=out)
+        yield Case(["replay", *options, "-"], status=status, out=out, given=path.read_bytes(), name=path.name)
 
 
 def commands():

@@ -4,6 +4,7 @@ import re
 import socket
 
 from cases.tables import FAULTS, ONE_ROW
+from cases.timed import FAULTS as TIMED_FAULTS
 from harness.case import NO_STREAMS, OUTPUT, SOCKET, SOME, Case, cannot_read, not_a_table, told
 
 WRONG = [
@@ -63,7 +64,7 @@ def tables_of_serve():
         port = taken.getsockname()[1]
         for name in (0, port):
             yield told(f"serve --port {name} --each 0 --table missing.json", cannot_read("missing.json"))
-        for text, fault in FAULTS:
+        for text, fault in (*FAULTS, *TIMED_FAULTS):
             words = f"serve --port {port} --each 0 --table table.json"
             yield told(words, not_a_table(fault), files={"table.json": text})
 

@@ -12,11 +12,12 @@ from pathlib import Path
 from deploying.vehicles import PROVIDERS, event, fill, fleet, vehicle
 from harness.case import MAX_BYTES, MAX_ITEMS
 from harness.counting import ROOT
-from serving.model import compact
+from model.http import error
+from model.json_text import compact
 from serving.server import Server
-from serving.wire import ask, error, get
+from serving.wire import ask, get
 
-SECONDS = 60
+SECONDS = 300
 VEHICLES, EVENTS = 100, 120
 """Together their events take more than one batch, by their number."""
 EACH = 100000

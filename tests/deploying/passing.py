@@ -13,9 +13,10 @@ from deploying.proxies import CITY, NOBODY, PROVIDERS, SECONDS, TOKENS, read_ans
 from deploying.vehicles import fill, fleet, vehicle
 from harness.case import MAX_BYTES, padded
 from harness.counting import Skipped
-from serving.model import compact
+from model.http import answer, error
+from model.json_text import compact
 from serving.tools import body_of
-from serving.wire import answer, ask, connect, error, get, read_all
+from serving.wire import ask, connect, get, read_all
 
 SHARED = vehicle(PROVIDERS[0], 700)["device_id"]
 """A device that each provider has."""
@@ -26,6 +27,9 @@ READERS, PARTS, LISTED = 8, 3, 10000
 the system could take in between the proxies."""
 CLIENTS, PAUSE, BEHIND = 8, 0.5, 20
 """Clients that go on while a server starts anew, how long it is gone, and how many requests each makes behind that."""
+RESTARTS, MOST_GONE = 5, 3.0
+"""How often a restart is tried, and how long a server may be gone so that no client sees it: haproxy tries for three seconds,
+and nginx has it try twice."""
 GONE = {"error": "unavailable"}
 
 
@@ -272,21 +276,30 @@ class Client(threading.Thread):
 
 
 def restart_during_load(city):
-    """A server that is ended by SIGTERM and started anew soon, while clients go on: none sees anything but 200."""
+    """A server that is ended by SIGTERM and started anew soon, while clients go on: none sees anything but 200. On a machine
+    so busy that the server was gone for longer than the proxies wait, it is tried again."""
+    for _ in range(RESTARTS):
+        gone, wrong = restarted(city)
+        if not wrong or gone < MOST_GONE:
+            break
+    yield from wrong
+
+
+def restarted(city):
+    """How long a server was gone while clients went on, and what they saw that wasn't right."""
     again = threading.Event()
     clients = [Client(city, number, again) for number in range(CLIENTS)]
     for client in clients:
         client.start()
     try:
         time.sleep(PAUSE)
-        city.restart(0, PAUSE)
+        gone = city.restart(0, PAUSE)
     finally:
         again.set()
         for client in clients:
             client.join()
-    for client in clients:
-        yield from client.wrong
     city.longest = max(client.longest for client in clients)
+    return gone, [text for client in clients for text in client.wrong]
 
 
 def a_server_that_is_gone(city):

@@ -13,14 +13,17 @@ import tempfile
 import time
 from pathlib import Path
 
+from deploying.browser import Browser
 from deploying.vehicles import PROVIDERS
 from harness.counting import ROOT, Skipped, Unwell
 from serving.server import Server
 
 INSTANCES = ("one", "two", "three")
 EACH, WORKERS = 1000000, 4
-SECONDS = 60
+SECONDS = 300
 """How long a proxy may take to listen, an answer to come, and a proxy to end."""
+STARTS = 3
+"""How often the servers and the proxies are started, on other ports each time: somebody else may have taken one meanwhile."""
 TOKENS = {number: f"{number:064x}" for number in range(1, len(PROVIDERS) + 1)}
 CITY, NOBODY = f"{99:064x}", f"{100:064x}"
 """The token of the city, and one that nobody has."""
@@ -39,7 +42,8 @@ def installed(name):
 def free_ports(count):
     """Ports on which nobody listens, below those that the system gives to outgoing connections."""
     least = int(Path("/proc/sys/net/ipv4/ip_local_port_range").read_text().split()[0])
-    tried = random.sample(range(min(10240, least // 2), least), 1000)
+    below = range(min(10240, least // 2), least)
+    tried = random.sample(below, min(len(below), 1000))
     held = []
     try:
         for port in tried:
@@ -115,31 +119,42 @@ class City:
     def __init__(self, program):
         self.program = program
         self.paths = {name: installed(name) for name in WANTED}
-        self.servers, self.proxies = [], []
+        self.servers, self.proxies, self.browser = [], [], None
 
     def __enter__(self):
         self.holder = tempfile.TemporaryDirectory()
         self.folder = Path(self.holder.name)
         self.folder.chmod(0o755)
-        try:
-            self.start()
-        except BaseException:
-            self.__exit__()
-            raise
-        return self
+        for left in reversed(range(STARTS)):
+            try:
+                self.start()
+                return self
+            except BaseException as fault:
+                self.stop()
+                if not left or not isinstance(fault, Unwell):
+                    self.holder.cleanup()
+                    raise
 
     def __exit__(self, *_):
+        if self.browser:
+            self.browser.__exit__()
+        self.stop()
+        self.holder.cleanup()
+
+    def stop(self):
         for proxy in reversed(self.proxies):
             proxy.stop()
         for server in self.servers:
             server.__exit__()
-        self.holder.cleanup()
+        self.servers, self.proxies = [], []
 
     def start(self):
         self.port, *inner = free_ports(1 + 2 * len(INSTANCES))
         self.queues, self.ports = inner[: len(INSTANCES)], inner[len(INSTANCES) :]
-        self.servers = [self.server(number) for number in range(len(INSTANCES))]
+        for number in range(len(INSTANCES)):
+            self.servers.append(self.server(number))
         self.certify()
+        shutil.copytree(ROOT / "deploy/page", self.folder / "page", dirs_exist_ok=True)
         self.write("503.http", (ROOT / "deploy/503.http").read_bytes().decode())
         lines = [f'"Bearer {TOKENS[number]}" {PROVIDERS[number - 1]};' for number in TOKENS]
         self.write("tokens.map", "\n".join([changed("tokens.map", {}), *lines, f'"Bearer {CITY}" city;\n']))
@@ -150,6 +165,13 @@ class City:
         words = [self.paths["nginx"], "-p", str(self.folder), "-c", str(self.folder / "nginx.conf"), "-g", "daemon off;"]
         self.proxies.append(Proxy(words, self.folder, [self.port]))
         self.trust = ssl.create_default_context(cafile=self.folder / "cert.pem")
+
+    def page(self):
+        """A browser that has just loaded the page of deploy/page."""
+        if self.browser is None:
+            self.browser = Browser(installed("chromium")).__enter__()
+        self.browser.open(f"https://127.0.0.1:{self.port}/page")
+        return self.browser
 
     def server(self, number):
         """The server of this number, which listens."""
@@ -210,12 +232,14 @@ class City:
             return read_answer(connection)
 
     def restart(self, number, pause):
-        """Ends a server by SIGTERM, and starts it anew some time later."""
+        """Ends a server by SIGTERM, and starts it anew some time later. Answers for how many seconds it was gone."""
+        start = time.monotonic()
         self.servers[number].child.terminate()
         self.servers[number].child.wait(SECONDS)
         time.sleep(pause)
         self.servers[number].__exit__()
         self.servers[number] = self.server(number)
+        return time.monotonic() - start
 
     def reload(self, text):
         """Has nginx take in another text of its file, and waits until the processes that had the old one are gone."""

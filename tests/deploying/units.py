@@ -20,7 +20,7 @@ def the_unit(program):
     with tempfile.TemporaryDirectory() as folder:
         unit = Path(folder, "mds_city@one.service")
         unit.write_text(changed(NAME, {"/usr/local/bin/mds_city": program}))
-        ran = subprocess.run(["systemd-analyze", "verify", unit], capture_output=True, text=True, timeout=60)
+        ran = subprocess.run(["systemd-analyze", "verify", unit], capture_output=True, text=True, timeout=300)
     if ran.returncode or str(unit.name) in ran.stderr:
         yield f"status {ran.returncode}: {ran.stdout}{ran.stderr}"
 

@@ -2,7 +2,7 @@
 
 from cases.replays import identifier, turn
 from harness.counting import Unwell
-from serving.model import compact
+from model.json_text import compact
 from serving.server import success_of
 from serving.wire import post
 

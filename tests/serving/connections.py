@@ -4,10 +4,11 @@ import select
 
 from cases.replays import A, B, P, batch, identifier, item
 from harness.texts import differing
+from model.http import error
 from serving.http import BAD_HEADS, EMPTY, HEAD_BYTES, Exchange, changed, done, head, look, registered, vehicle
 from serving.server import Server
 from serving.talking import sent, talk_over
-from serving.wire import connect, error, get, hang_up, post, read_all
+from serving.wire import connect, get, hang_up, post, read_all
 
 REGISTER = post("/vehicles", [vehicle()])
 EVENT = post("/events", batch([item()]))

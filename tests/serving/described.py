@@ -9,10 +9,10 @@ from cases.replays import A, P
 from cases.tables import STATES
 from harness.case import MAX_ITEMS
 from harness.counting import ROOT, Skipped
+from model.http import answer, error
+from model.json_text import compact
 from serving.http import E1, LOOK, TALKS, done
-from serving.model import compact
 from serving.openapi import METHODS, Draft202012Validator, Noted, description
-from serving.wire import answer, error
 
 DOCUMENTS = ["docs/http.md", "docs/formats.md"]
 FORM = ("not_object", "missing_param", "bad_param")
@@ -157,7 +157,7 @@ def errors_of(document):
     for group in [document["x-other-targets"], *operations_of(document)]:
         for status, response in group["responses"].items():
             for media in description().resolved(response).get("content", {}).values():
-                members = description().inlined(media["schema"])["properties"]
+                members = description().inlined(media["schema"]).get("properties", {})
                 for name in members["error"].get("enum", ()) if list(members) == ["error"] else ():
                     yield name, status
 
@@ -224,6 +224,7 @@ LOOKED, LISTED = f"GET /vehicles/{P}/{A} HTTP/1.1", f"GET /vehicles/{P}/{A}/even
 REGISTERED, REPORTED, TABLE = "POST /vehicles HTTP/1.1", "POST /events HTTP/1.1", "GET /table HTTP/1.1"
 NO_ROUTE = "GET /vehicles/x HTTP/1.1"
 ROW = {"from": "removed", "to": "available", "type": "wake"}
+FROM_0, FROM_2000 = ({"from_time": start, "rows": [ROW]} for start in (0, 2000))
 CHAIN = {"at": 0, "error": "no_chain", "held": "available", "index": 0}
 FIXED = b"HTTP/1.1 503 Service Unavailable\r\ncontent-length: 0\r\nconnection: close\r\n\r\n"
 RIGHT = [
@@ -239,6 +240,7 @@ RIGHT = [
     (LOOKED.replace(A, f"urn:uuid:{A.upper()}"), answer(200, LOOK)),
     (LISTED, answer(200, f'{{"events":[{E1}]}}')),
     (TABLE, answer(200, {"rows": [ROW]})),
+    (TABLE, answer(200, {"tables": [FROM_0, FROM_2000]})),
     (TABLE.replace("table", "table?x=1"), FIXED),
     (TABLE.replace("GET", "get"), error(405, "method_not_allowed", "GET")),
     (NO_ROUTE, error(404, "not_found")),
@@ -300,6 +302,13 @@ WRONG = [
     (TABLE, answer(200, {"rows": []})),
     (TABLE, answer(200, {"rows": [ROW, ROW]})),
     (TABLE, answer(200, {"rows": [{**ROW, "from": ["removed"]}]})),
+    (TABLE, answer(200, {"tables": []})),
+    (TABLE, answer(200, {"tables": [FROM_0]})),
+    (TABLE, answer(200, {"tables": [FROM_0] * 65})),
+    (TABLE, answer(200, {"tables": [FROM_0, {"rows": [ROW]}]})),
+    (TABLE, answer(200, {"tables": [FROM_0, {**FROM_2000, "from_time": "2000"}]})),
+    (TABLE, answer(200, {"tables": [FROM_0, {**FROM_2000, "rows": []}]})),
+    (TABLE, answer(200, {"rows": [ROW], "tables": [FROM_0, FROM_2000]})),
 ]
 """Answers that it doesn't describe."""
 

@@ -6,9 +6,10 @@ from concurrent.futures import ThreadPoolExecutor
 from cases.replays import A, B, P, batch, item
 from harness.building import Refusal
 from harness.case import NO_MEMORY, SOCKET
+from model.http import answer, error
 from serving.http import E1, LOOK, Exchange, done, look, registered
 from serving.server import NotListening, Server
-from serving.wire import answer, ask, error, get, post
+from serving.wire import ask, get, post
 
 AT_ONCE = 32
 MOST = 20000

@@ -6,10 +6,12 @@ from dataclasses import dataclass, field
 from cases.batches import ACCEPTED, BACKWARDS, ESCAPED, FAULTS, FAULTY, GOOD, NAMES, NO_OBJECTS, REFUSED
 from cases.replays import RUNS, A, B, P, batch, event, item, second_events
 from cases.tables import ONE_ROW, PROFILE_ROWS
+from cases.timed import CHANGES, CHANGING, MANY_TABLES, edges, tables_file
 from harness.case import MAX_BYTES, MAX_ITEMS, lists, padded, started
 from harness.texts import as_bytes
-from serving.model import Table
-from serving.wire import answer, error, get, post
+from model.http import answer, error
+from model.tables import Table
+from serving.wire import get, post
 
 C = "00000000-0000-4000-8000-00000000000c"
 HEAD_BYTES = 16384
@@ -469,4 +471,36 @@ def runs():
     yield Talk([Exchange(post("/vehicles", same), done(6, told)), look(A, "removed", 0, None), look(C, "removed", 0, None)])
 
 
-TALKS = [worked, heads, targets, methods, lengths, order, bodies, items, positions, runs]
+TWO_TABLES = (
+    '{"tables":[{"from_time":0,"rows":[{"from":"removed","to":"available","type":"wake"}]},'
+    '{"from_time":2000,"rows":[{"from":"available","to":"removed","type":"rest"}]}]}'
+)
+
+
+def judged(events):
+    """The exchange that posts a batch of these events, with the failures of which `replay` would print the verdicts."""
+    events = list(events)
+    text, verdicts = batch(event(*it) for it, _ in events), [verdict for _, verdict in events]
+    return Exchange(post("/events", text), done(len(events), failures(verdicts)))
+
+
+def changes():
+    """Tables that change at stated times: what GET /table answers, which is a table file, and events that are judged by the
+    table in force at their own times, in one batch, one by one, and the later ones first."""
+    listed, ends = Exchange(get("/table"), answer(200, TWO_TABLES)), [look(A, "removed", 2, 2000), look(B, "available", 1, 1000)]
+    for text in (tables_file(CHANGES), TWO_TABLES):
+        yield Talk([listed, registered(A, B), judged(CHANGING), *ends, listed], table=text)
+    yield Talk([registered(A, B), *[judged([it]) for it in CHANGING], *ends], table=TWO_TABLES)
+    earlier = judged([((B, "e1", "wake", "available", 1999), "ok available")])
+    later = judged([((A, "e1", "wake", "available", 2000), "refused no_chain removed 0")])
+    rested = judged([((B, "e2", "rest", "removed", 2000), "ok removed")])
+    yield Talk([registered(A, B), later, earlier, rested, look(B, "removed", 2, 2000)], table=TWO_TABLES)
+    many = list(edges())
+    rows = [{"from_time": start, "rows": Table(entries).listed()} for start, entries in MANY_TABLES]
+    whole = [Exchange(get("/table"), answer(200, {"tables": rows})), registered(*[it[0] for it, _ in many]), judged(many)]
+    yield Talk(whole, table=tables_file(MANY_TABLES))
+    one = '{"rows":[{"from":"removed","to":"available","type":"wake"}]}'
+    yield Talk([Exchange(get("/table"), answer(200, one))], table=tables_file(CHANGES[:1]))
+
+
+TALKS = [worked, heads, targets, methods, lengths, order, bodies, items, positions, runs, changes]

@@ -10,17 +10,23 @@ from cases.replays import A, B, P, batch, history
 from harness.case import SOCKET
 from harness.counting import Unwell
 from harness.texts import differing
-from serving.connections import EVENT, silent
-from serving.http import Exchange, done, look, registered
+from model.http import error
+from model.json_text import compact
+from serving.connections import EVENT, MOST_WORKERS, silent
+from serving.http import Exchange, done, look, registered, vehicle
 from serving.server import Server, success_of
 from serving.talking import talk_over
-from serving.wire import connect, error, get, post, read_all
+from serving.wire import connect, get, post, read_all
 
 NOWHERE = get("/")
+HEAD = (8, 20)
+"""Between how many seconds a client is let go whose head doesn't come: 10."""
 CALL = (25, 45)
-"""Between how many seconds a client is let go that keeps one call of `read` or `write` waiting: 30, and 2 behind."""
-WRITING = (25, 160)
-"""The same for a long answer: 30 for each of some calls of `write`, since each but the last takes a part of it."""
+"""The same for one that keeps a read of its body waiting: 30."""
+WHOLE = (55, 80)
+"""The same for one that goes on sending its request, and for one that goes on taking its answer: 60."""
+WRITING = (25, 80)
+"""The same for one that doesn't read a long answer: 30 for each call of `write`, and 60 in all."""
 LAST_READ = (1, 8)
 """The same for a client that sends nothing behind its answer: 2."""
 AT_ITS_END = (-1, 1)
@@ -36,6 +42,10 @@ OPEN_FILES = 5
 LACK, MOST_LACK = 3, 36
 """A lack of open files, in seconds, that passes, and one that is longer than the server waits for."""
 AT_ONCE = 1 << 16
+SLOW = MOST_WORKERS + 16
+"""Clients that send a byte a second: more than there are workers."""
+SMALL_ROOM = 4096
+"""How many bytes of an answer the system takes in for a client that is slow to read it."""
 
 
 def next_answer(server, least, most):
@@ -55,13 +65,13 @@ def next_answer(server, least, most):
         yield f"the next client was answered after {seconds:.1f} s, in place of {least} to {most}"
 
 
-def let_go_before_its_answer(program, part):
+def let_go_before_its_answer(program, part, least, most):
     """A client that keeps the server waiting for the rest of its request is let go, without an answer."""
     with Server(program, 2) as server:
         server.count()
         keeping = connect(server.port)
         keeping.sendall(part)
-        yield from next_answer(server, *CALL)
+        yield from next_answer(server, least, most)
         if not is_over(keeping):
             yield "something was answered to a request that wasn't whole"
         yield from server.end()
@@ -78,26 +88,106 @@ def is_over(connection):
 
 def let_go_in_its_head(program):
     """A client that stops in its head."""
-    return let_go_before_its_answer(program, EVENT[:20])
+    return let_go_before_its_answer(program, EVENT[:20], *HEAD)
 
 
 def let_go_in_its_body(program):
     """A client that stops before the last byte of its body."""
-    return let_go_before_its_answer(program, EVENT[:-1])
+    return let_go_before_its_answer(program, EVENT[:-1], *CALL)
 
 
-def let_go_without_reading(program):
-    """A client that reads nothing of an answer longer than the system takes in."""
+def trickle(clients, over):
+    """Sends for each client, a connection and a piece, its piece each second, until it is over. One whose connection is closed
+    is left out."""
+    left = list(clients)
+    while left and not over.wait(1):
+        left = [(connection, piece) for connection, piece in left if is_sent(connection, piece)]
+
+
+def is_sent(connection, piece):
+    try:
+        connection.sendall(piece)
+        return True
+    except OSError:
+        return False
+
+
+def let_go_though_they_trickle(program, requests, workers, least, most):
+    """Clients that each send the front of a request, and then a piece each second, are let go without an answer: another client,
+    behind them, is answered after so long."""
+    with Server(program, 2, workers=workers) as server:
+        slow = [(connect(server.port), piece) for _, piece in requests]
+        server.count(len(slow))
+        for (connection, _), (front, _) in zip(slow, requests):
+            connection.sendall(front)
+        over = threading.Event()
+        sender = threading.Thread(target=trickle, args=(slow, over))
+        sender.start()
+        try:
+            yield from next_answer(server, least, most)
+        finally:
+            over.set()
+            sender.join()
+        if not all([is_over(connection) for connection, _ in slow]):
+            yield "something was answered to a request that wasn't whole"
+        yield from server.end()
+
+
+def trickling_in_their_heads(program):
+    """More clients than there are workers, which each send a little a second: of a method, of empty lines before a request, of
+    fields."""
+    line = b"GET / HTTP/1.1\r\n"
+    kinds = [(b"", b"x"), (b"", b"\n"), (b"", b"\r\n"), (line, b"x"), (line, b"x:\n"), (line, b"x:\r\n")]
+    requests = [kinds[at % len(kinds)] for at in range(SLOW)]
+    return let_go_though_they_trickle(program, requests, MOST_WORKERS, *HEAD)
+
+
+def trickling_in_its_body(program):
+    """A client whose head came whole, and which sends a byte of its body a second."""
+    head = EVENT[: EVENT.index(b"\r\n\r\n") + 4]
+    return let_go_though_they_trickle(program, [(head, b" ")], 1, *WHOLE)
+
+
+def with_a_long_answer(program, reading, least, most):
+    """A client that is slow to read an answer longer than the system takes in is let go. `reading` reads on its connection until
+    it is over."""
     with Server(program, 5) as server:
         yield from talk_over(server, registered(A))
         for front in (0, 10000):
             events = batch(history(A, front, front + 10000))
             yield from talk_over(server, Exchange(post("/events", events), done(10000)))
         server.count()
-        with connect(server.port, room=4096) as keeping:
+        over = threading.Event()
+        with connect(server.port, room=SMALL_ROOM) as keeping:
+            reader = threading.Thread(target=reading, args=(keeping, over))
             keeping.sendall(get(f"/vehicles/{P}/{A}/events"))
-            yield from next_answer(server, *WRITING)
+            reader.start()
+            try:
+                yield from next_answer(server, least, most)
+            finally:
+                over.set()
+                reader.join()
         yield from server.end()
+
+
+def let_go_without_reading(program):
+    """A client that reads nothing of a long answer."""
+    return with_a_long_answer(program, lambda connection, over: None, *WRITING)
+
+
+def let_go_though_it_reads(program):
+    """A client that takes its answer a byte at a time."""
+
+    return with_a_long_answer(program, byte_by_byte, *WHOLE)
+
+
+def byte_by_byte(connection, over):
+    """Reads a byte a hundred times a second, until it is over or there is none."""
+    try:
+        while not over.wait(0.01) and connection.recv(1):
+            pass
+    except OSError:
+        pass
 
 
 def answered(server):
@@ -205,15 +295,19 @@ def short_of_open_files(program):
 
 
 def short_of_open_files_for_long(program):
-    """The same lack for longer than the server waits: one worker gives up, the other goes on, and the end tells of it."""
+    """The same lack for longer than the server waits: one worker gives up, the other goes on, and the end tells of it. The other
+    is held meanwhile by a body that comes slowly, and is answered."""
+    request = post("/vehicles", " " * MOST_LACK + compact([vehicle()]))
+    start = request.index(b"\r\n\r\n") + 4
     with Server(program, 3, workers=2, open_files=OPEN_FILES) as server:
         with connect(server.port) as held:
             server.count()
-            for _ in range(MOST_LACK):
-                held.sendall(b"\n")
+            held.sendall(request[:start])
+            for at in range(start, start + MOST_LACK):
+                held.sendall(request[at : at + 1])
                 time.sleep(1)
-            held.sendall(NOWHERE)
-            yield from differing(read_all(held), error(404, "not_found"))
+            held.sendall(request[start + MOST_LACK :])
+            yield from differing(read_all(held), done(1))
         for _ in range(2):
             yield from talk_over(server, Exchange(NOWHERE, error(404, "not_found")))
         ended, wanted = server.ended(), (3, "", SOCKET)
@@ -224,7 +318,10 @@ def short_of_open_files_for_long(program):
 LIMITS = [
     let_go_in_its_head,
     let_go_in_its_body,
+    trickling_in_their_heads,
+    trickling_in_its_body,
     let_go_without_reading,
+    let_go_though_it_reads,
     silent_behind_a_granted_request,
     sending_behind_a_granted_request,
     idle_for_long,

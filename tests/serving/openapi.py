@@ -8,7 +8,7 @@ import re
 from functools import lru_cache
 
 from harness.counting import ROOT
-from serving.model import compact
+from model.json_text import compact
 
 try:
     from jsonschema import Draft202012Validator

@@ -6,7 +6,9 @@ import tempfile
 from pathlib import Path
 
 from harness.counting import Unwell
-from serving.wire import ask, error, get
+from harness.texts import as_bytes
+from model.http import error
+from serving.wire import ask, get
 
 LISTENING = re.compile(r"listening 127\.0\.0\.1:([0-9]+)\n")
 SECONDS = 120
@@ -32,7 +34,7 @@ class Server:
             words = ["sh", "-c", f'ulimit -n {open_files} && exec "$0" "$@"', *words]
         if table is not None:
             path = Path(self.folder.name, "table.json")
-            path.write_text(table)
+            path.write_bytes(as_bytes(table))
             words += ["--table", str(path)]
         self.faults = open(Path(self.folder.name, "faults"), "w+b")
         self.child = subprocess.Popen(

@@ -12,12 +12,13 @@ from cases.replays import A, P, batch, history
 from harness.building import loading_client
 from harness.case import MAX_BYTES
 from harness.texts import differing
+from model.http import answer
+from model.json_text import compact
 from serving.http import Exchange, done, registered
-from serving.model import compact
 from serving.server import Server
 from serving.settling import settled
 from serving.talking import talk_over
-from serving.wire import answer, ask, get, post
+from serving.wire import ask, get, post
 
 CONNECTIONS = 65600
 CLIENTS = 4

@@ -3,9 +3,10 @@
 import time
 from concurrent.futures import ProcessPoolExecutor, ThreadPoolExecutor
 
+from model.http import error
 from serving.server import Server
 from serving.together import Alone, Result, Sharing
-from serving.wire import ask, error, get
+from serving.wire import ask, get
 
 WORKERS = 4
 PROCESSES = 4

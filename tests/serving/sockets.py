@@ -12,10 +12,11 @@ from cases.replays import A, batch, item
 from harness.building import built
 from harness.case import OUTPUT, RANDOM
 from harness.counting import Skipped, Unwell
+from model.http import error
 from serving.http import Exchange, done, registered
 from serving.server import NotListening, Server
 from serving.talking import talk_over
-from serving.wire import connect, error, get, post
+from serving.wire import connect, get, post
 
 LOOPBACK = "0100007F"
 """127.0.0.1, as the system's list of sockets has it."""
@@ -23,6 +24,16 @@ LISTENING = "0A"
 OTHER_ADDRESS = "127.0.0.2"
 PIDFD_GETFD = 438
 SECONDS = 10
+PAUSE = 0.2
+"""How long the first read of a connection waits for a head, in seconds: the second waits for what is left."""
+HEADS = [
+    b"POST /vehicles HTTP/1.1\r\nContent-Length: 9\r\n\r\n",
+    b"POST /vehicles HTTP/1.1\nContent-Length: 9\n\n",
+    b"POST /vehicles HTTP/1.1\r\nContent-Length: 9\n\r\n",
+    b"POST /vehicles HTTP/1.1\nContent-Length: 9\r\n\n",
+    b"\r\n\n\r\nPOST /vehicles HTTP/1.1\r\nContent-Length: 9\r\nx:\r\ny: \t\r\n\r\n",
+]
+"""Heads, whose lines end in each way, that a body follows."""
 
 
 def addresses_of(port):
@@ -90,21 +101,46 @@ def is_end_of(number, connection):
 
 
 def options_of_a_connection(program):
-    """What is written is sent at once, and each read and each write waits 30 seconds at most."""
+    """What is written is sent at once. A read waits 10 seconds at first, and no longer until the head is there; then it waits 30.
+    A write waits 30."""
     if not hasattr(os, "pidfd_open"):
         raise Skipped("no `pidfd_open` here")
-    with Server(program, 1) as server:
-        server.count()
-        with connect(server.port) as connection:
-            with taken_by(server, connection) as other:
+    with Server(program, len(HEADS)) as server:
+        for head in HEADS:
+            server.count()
+            with connect(server.port) as connection, taken_by(server, connection) as other:
                 if not other.getsockopt(socket.IPPROTO_TCP, socket.TCP_NODELAY):
                     yield "TCP_NODELAY isn't set"
-                for name in ("SO_RCVTIMEO", "SO_SNDTIMEO"):
-                    size = struct.calcsize("ll")
-                    found = struct.unpack("ll", other.getsockopt(socket.SOL_SOCKET, getattr(socket, name), size))
-                    if found != (30, 0):
-                        yield f"{name} is {found}, in place of 30 seconds"
+                if waits_of(other) != (10, 30):
+                    yield f"a read and a write wait for {waits_of(other)} seconds, in place of {(10, 30)}"
+                for complaint in longer_behind(connection, other, head):
+                    yield f"{head!r}: {complaint}"
         yield from server.end()
+
+
+def longer_behind(connection, other, head):
+    """What is wrong with how long reads wait before the last byte of a head, and behind it."""
+    time.sleep(PAUSE)
+    for piece, least, most in ((head[:-1], 0, 10 - PAUSE), (head[-1:], 30, 30)):
+        connection.sendall(piece)
+        if not waits_soon(other, least, most):
+            yield f"behind {piece!r} reads wait for {waits_of(other)[0]} seconds, in place of {least} to {most}"
+
+
+def waits_soon(connection, least, most):
+    """Whether its reads come to wait for so many seconds."""
+    for _ in range(10 * SECONDS):
+        if least <= waits_of(connection)[0] <= most:
+            return True
+        time.sleep(0.1)
+    return False
+
+
+def waits_of(connection):
+    """How many seconds one read of a connection waits, and one write."""
+    size = struct.calcsize("ll")
+    found = [connection.getsockopt(socket.SOL_SOCKET, name, size) for name in (socket.SO_RCVTIMEO, socket.SO_SNDTIMEO)]
+    return tuple(seconds + micros / 1000000 for seconds, micros in (struct.unpack("ll", it) for it in found))
 
 
 def last_line_that_nobody_reads(program):

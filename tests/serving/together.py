@@ -14,9 +14,12 @@ from dataclasses import dataclass, field
 
 from cases.replays import identifier
 from cases.tables import PROFILE, STATES
-from serving.model import EVENT, VEHICLE, Fleet, Table, Vehicle, key_of, refusal_by
+from model.fleet import Fleet, Vehicle, refusal_by
+from model.http import answer, error
+from model.items import EVENT, VEHICLE, key_of
+from model.tables import Table, Tables
 from serving.server import Server, success_of
-from serving.wire import answer, ask, error, get, post
+from serving.wire import ask, get, post
 
 TYPES = sorted({kind for kind, _, _ in PROFILE})
 MOVES = {state: [] for state in STATES}
@@ -276,7 +279,7 @@ class Fronts:
     """The fronts of a vehicle's list of accepted events, by their lengths."""
 
     def __init__(self, key, events):
-        self.key, self.events, self.table = key, events, Table()
+        self.key, self.events, self.tables = key, events, Tables.one()
         self.places = {event["event_id"]: place for place, event in enumerate(events)}
 
     def front(self, length):
@@ -288,7 +291,7 @@ class Fronts:
         """The first event that isn't accepted behind those before it, in words."""
         vehicle = Vehicle()
         for place, event in enumerate(self.events):
-            refusal = refusal_by(self.table, vehicle, event)
+            refusal = refusal_by(self.tables, vehicle, event)
             if refusal:
                 return f"{self.key}: event {place} of the list, {event}, is {refusal}"
             vehicle.accept(event)
@@ -302,7 +305,7 @@ class Fronts:
             return seen.said == self.front(length).standing(self.key)
         if seen.said is None:
             return self.places.get(seen.event["event_id"]) == length and self.events[length] == seen.event
-        refusal = refusal_by(self.table, self.front(length), seen.event)
+        refusal = refusal_by(self.tables, self.front(length), seen.event)
         return refusal == seen.said
 
     def least(self, seen, least, most):

@@ -12,11 +12,12 @@ from cases.replays import A, P, batch, item
 from harness.case import MAX_BYTES, padded
 from harness.counting import Skipped
 from harness.texts import differing
+from model.http import answer, error
 from serving.http import E1, EMPTY, LOOK, done, look, vehicle
 from serving.openapi import NOTED
 from serving.server import Server, success_of
 from serving.talking import talk_over
-from serving.wire import answer, error, get
+from serving.wire import get
 
 
 def installed(name):

@@ -5,41 +5,13 @@ import struct
 import time
 
 from harness.texts import as_bytes
-from serving.model import compact
+from model.json_text import compact
 from serving.openapi import NOTED
 
 SECONDS = 60
 """How long a client waits for bytes before it gives up."""
 MOST_KEPT = 32768
 """How many bytes of what was sent a connection keeps: more than a head has."""
-PHRASES = {
-    200: "OK",
-    400: "Bad Request",
-    404: "Not Found",
-    405: "Method Not Allowed",
-    411: "Length Required",
-    413: "Payload Too Large",
-    501: "Not Implemented",
-    503: "Service Unavailable",
-}
-
-
-def answer(status, value, allow=None):
-    """The bytes of an answer with this body, a value of JSON."""
-    body = value if isinstance(value, str) else compact(value)
-    lines = [
-        f"HTTP/1.1 {status} {PHRASES[status]}",
-        "content-type: application/json",
-        f"content-length: {len(body)}",
-        "connection: close",
-    ]
-    if allow:
-        lines.append(f"allow: {allow}")
-    return "\r\n".join([*lines, "", body]).encode()
-
-
-def error(status, name, allow=None):
-    return answer(status, {"error": name}, allow)
 
 
 def get(target):

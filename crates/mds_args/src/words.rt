@@ -35,8 +35,8 @@ pub enum Command<'a> {
     Replay {
         /// The file's path, or `-` for standard input.
         file: &'a str,
-        /// The path of a file with a table of transitions, or `None` for the profile's table. Here
-        /// `-` is a file of that name.
+        /// The path of a file with a table of transitions, or with several and their times; or `None`
+        /// for the profile's table. Here `-` is a file of that name.
         table: Option<&'a str>,
         /// Whether a vehicle may hold any state before its first event.
         any: bool,
@@ -52,7 +52,7 @@ pub enum Command<'a> {
         /// As for `Replay`.
         table: Option<&'a str>,
     },
-    /// Print a table of transitions.
+    /// Print the table of transitions, or each of several.
     Table {
         /// As for `Replay`.
         table: Option<&'a str>,
@@ -352,7 +352,7 @@ fn with_table<'a>(alloc: Global, form: clap::Command<'a>) -> Result<clap::Comman
         app_of more ≡ with_subcommand (app_of form.entry) table_app.top) }
 {
     let table = clap::Command::new(alloc, "table")
-        .about("Prints a table of transitions")
+        .about("Prints the table of transitions, or each of several")
         .arg(table_option(alloc))?;
     form.subcommand(table)
 }
@@ -365,7 +365,7 @@ fn table_option<'a>(alloc: Global) -> Arg<'a>
     Arg::new(alloc, "table")
         .long("table")
         .value_name("FILE")
-        .help("A table of transitions; without it the profile's")
+        .help("A table of transitions, or several with times; without it the profile's")
 }
 
 #[cfg(test)]

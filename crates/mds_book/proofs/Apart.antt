@@ -34,7 +34,7 @@ apart all lawful_first lawful_second zeros ones =
     let none = none_in_both all.first all.second zeros ones in
     record { no_key_in_both = none; joined = joined all.tables all.first all.second lawful_first lawful_second none }
 
--- what two shards of one table and their seats hold together
+-- what two shards over the same tables and their seats hold together
 pub whole : (all : Collected) (first second : Machine) → first.tables ≡ all.tables → second.tables ≡ all.tables → first.history ≡ all.first → second.history ≡ all.second
     → IsLawful first.tables first.history → IsLawful second.tables second.history → AreOfShard 0 first.history → AreOfShard 1 second.history
     → length first.history ≡ sum_by (λ seat. seat.first) all.seats → length second.history ≡ sum_by (λ seat. seat.second) all.seats → IsWhole all

@@ -12,7 +12,7 @@ use Rattle.mds_core.specs.Lawful.{IsLawful}
 use Rattle.mds_core.specs.Answer.{Answers}
 use Rattle.mds_book.specs.Shards.{shard_of, AreOfShard}
 
--- the table of the book, and the number of its seats
+-- the tables of the book, and the number of its seats
 pub record Opened : Type 0 where
   pub tables : Tables
   pub seats : ℕ

@@ -11,7 +11,7 @@ use Rattle.mds_book.specs.Shards.{AreOfShard}
 use Rattle.mds_book.specs.Seats.{Seated}
 use Rattle.mds_book.specs.Books.{Opened}
 
--- the table of the book, the history of each shard, and the seats in the order in which they were handed in
+-- the tables of the book, the history of each shard, and the seats in the order in which they were handed in
 pub record Collected : Type 0 where
   pub tables : Tables
   pub first : List Request

@@ -13,7 +13,7 @@ use crate::{Keep, Seat, ShardLedger, Slot};
 use mds_core::{Event, Key, Outcome, Reply, Request};
 use mds_settle::Note;
 use mds_shard::Shard;
-use mds_table::Table;
+use mds_table::Tables;
 use std::alloc::{AllocError, Global};
 use std::error::Error;
 use std::fmt;
@@ -51,7 +51,7 @@ impl Error for OpenFault {}
 /// Two shards, each under a lock of its own. A vehicle's calls stand in the shard of its number.
 #[derive(Drop)]
 pub struct Book<L: ShardLedger, M: ShardLedger> {
-    pub(crate) table: Table,
+    pub(crate) tables: Tables,
     pub(crate) seats: usize,
     pub(crate) first: Mutex<Slot<L, 0>>,
     pub(crate) second: Mutex<Slot<M, 1>>,
@@ -63,9 +63,9 @@ impl<L: ShardLedger, M: ShardLedger> Model for Book<L, M> {
 
     ghost Value = { Opened };
 
-    ghost view = { λ book. record { tables = book.table; seats = book.seats } };
+    ghost view = { λ book. record { tables = book.tables; seats = book.seats } };
 
-    ghost invariant = { λ book. (book.table ≡ L.tables) × (book.table ≡ M.tables)
+    ghost invariant = { λ book. (book.tables ≡ L.tables) × (book.tables ≡ M.tables)
         × (book.seats ≡ L.parts) × (book.seats ≡ M.parts) × (0 < book.seats) };
 }
 
@@ -152,7 +152,7 @@ fn with_slot<R: Wait, L: ShardLedger, const N: usize, X, F: FnOnce(&Shard) -> X>
 }
 
 impl<L: ShardLedger, M: ShardLedger> Book<L, M> {
-    /// A book over the table with nothing accepted, and its seats, 1 to [`MAX_SEATS`], which were told nothing. Each ledger
+    /// A book over the tables with nothing accepted, and its seats, 1 to [`MAX_SEATS`], which were told nothing. Each ledger
     /// is handed in blank, cut into a part for each seat. Each shard hashes by the hasher in its place.
     ///
     /// # Errors
@@ -161,7 +161,7 @@ impl<L: ShardLedger, M: ShardLedger> Book<L, M> {
     /// [`OpenFault::Memory`] where there is no memory.
     pub fn open(
         alloc: Global,
-        table: Table,
+        tables: Tables,
         seats: usize,
         keep: Keep,
         first: Blank,
@@ -171,8 +171,9 @@ impl<L: ShardLedger, M: ShardLedger> Book<L, M> {
         requires first { (first.name ≡ L.name) × (first.parts ≡ L.parts) × (first.parts ≡ seats) }
         requires second { (second.name ≡ M.name) × (second.parts ≡ M.parts)
             × (second.parts ≡ seats) }
-        requires table { (table ≡ L.tables) × (table ≡ M.tables) }
-        ensures book { IfOk result (λ opened. opened.0 ≡ record { tables = table; seats = seats }) }
+        requires tables { (tables ≡ L.tables) × (tables ≡ M.tables) }
+        ensures book { IfOk result (λ opened.
+            opened.0 ≡ record { tables = tables; seats = seats }) }
         ensures seats { IfOk result (λ opened.
             opened.1.items ≡ replicate seats (fresh (keeps_all keep))) }
         ensures range { (result ≡ Err OpenFault.BadSeats) ↔ IsBadCount seats }
@@ -180,7 +181,7 @@ impl<L: ShardLedger, M: ShardLedger> Book<L, M> {
         if seats == 0 || seats > MAX_SEATS {
             return Err(OpenFault::BadSeats);
         }
-        match Book::open_all(alloc, table, seats, keep, first, second, hashers) {
+        match Book::open_all(alloc, tables, seats, keep, first, second, hashers) {
             Ok(opened) => Ok(opened),
             Err(AllocError) => Err(OpenFault::Memory),
         }
@@ -193,7 +194,7 @@ impl<L: ShardLedger, M: ShardLedger> Book<L, M> {
     /// `AllocError` where there is no memory.
     fn open_all(
         alloc: Global,
-        table: Table,
+        tables: Tables,
         seats: usize,
         keep: Keep,
         first: Blank,
@@ -203,23 +204,24 @@ impl<L: ShardLedger, M: ShardLedger> Book<L, M> {
         requires first { (first.name ≡ L.name) × (first.parts ≡ L.parts) × (first.parts ≡ seats) }
         requires second { (second.name ≡ M.name) × (second.parts ≡ M.parts)
             × (second.parts ≡ seats) }
-        requires table { (table ≡ L.tables) × (table ≡ M.tables) }
+        requires tables { (tables ≡ L.tables) × (tables ≡ M.tables) }
         requires some { 0 < seats }
-        ensures book { IfOk result (λ opened. opened.0 ≡ record { tables = table; seats = seats }) }
+        ensures book { IfOk result (λ opened.
+            opened.0 ≡ record { tables = tables; seats = seats }) }
         ensures seats { IfOk result (λ opened.
             opened.1.items ≡ replicate seats (fresh (keeps_all keep))) }
     {
         let [first_hasher, second_hasher] = hashers;
-        let (first_slot, first_all) = Slot::open(alloc, table.copy(alloc)?, first, first_hasher);
+        let (first_slot, first_all) = Slot::open(alloc, tables.copy(alloc)?, first, first_hasher);
         let (second_slot, second_all) = Slot::open(
             alloc,
-            table.copy(alloc)?,
+            tables.copy(alloc)?,
             second,
             second_hasher,
         );
         let list = seats_of(alloc, seats, keep, first_all, second_all)?;
         let book = Book {
-            table,
+            tables,
             seats,
             first: Mutex::new(first_slot),
             second: Mutex::new(second_slot),
@@ -227,11 +229,11 @@ impl<L: ShardLedger, M: ShardLedger> Book<L, M> {
         Ok((book, list))
     }
 
-    /// The table of the book.
-    pub fn table(&self) -> &Table
+    /// The tables of the book, which judge each event by the one in force at its time.
+    pub fn tables(&self) -> &Tables
         ensures { result.now ≡ self.now.tables }
     {
-        &self.table
+        &self.tables
     }
 
     /// The number of the shard that holds a vehicle: its device identifier as a number, modulo 2.

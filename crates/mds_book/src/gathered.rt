@@ -9,14 +9,14 @@ ghost use Rattle.mds_book.specs.Settling.{IsSettledBook, IsTorn};
 use crate::{Seat, ShardLedger, Slot};
 use mds_core::Request;
 use mds_settle::{Note, NoteList, judge_lawful};
-use mds_table::Table;
+use mds_table::Tables;
 use std::marker::Model;
 
 /// The histories of both shards, and the notes of all seats, with nothing judged. What the seats counted is what the
 /// histories hold.
 #[derive(Drop)]
 pub struct Gathered<L: ShardLedger, M: ShardLedger> {
-    pub(crate) table: Table,
+    pub(crate) tables: Tables,
     pub(crate) first: Slot<L, 0>,
     pub(crate) second: Slot<M, 1>,
     pub(crate) seats: Vec<Seat<L, M>>,
@@ -29,13 +29,13 @@ impl<L: ShardLedger, M: ShardLedger> Model for Gathered<L, M> {
     ghost Value = { Collected };
 
     ghost view = { λ all. record {
-      tables = all.table;
+      tables = all.tables;
       first = all.first.history;
       second = all.second.history;
       seats = all.seats.items;
     } };
 
-    ghost invariant = { λ all. (all.table ≡ L.tables) × (all.table ≡ M.tables)
+    ghost invariant = { λ all. (all.tables ≡ L.tables) × (all.tables ≡ M.tables)
         × (length all.first.history ≡ sum_by (λ seat. seat.first) all.seats.items)
         × (length all.second.history ≡ sum_by (λ seat. seat.second) all.seats.items) };
 }
@@ -72,7 +72,7 @@ fn judged<L: ShardLedger, const N: usize, S: NoteList>(
         (IsLeastFault L.tables N slot.now.history S.seen seats.now) }
 {
     let shard = slot.shard();
-    judge_lawful(shard.table(), N, shard.history(), seats)
+    judge_lawful(shard.tables(), N, shard.history(), seats)
 }
 
 impl<L: ShardLedger, M: ShardLedger> Gathered<L, M> {
@@ -97,11 +97,11 @@ impl<L: ShardLedger, M: ShardLedger> Gathered<L, M> {
         }
     }
 
-    /// The table of the book.
-    pub fn table(&self) -> &Table
+    /// The tables of the book.
+    pub fn tables(&self) -> &Tables
         ensures { result.now ≡ self.now.tables }
     {
-        &self.table
+        &self.tables
     }
 
     /// Tells that the histories are lawful, each of its shard, and as long as what the seats counted. It does nothing.
@@ -150,11 +150,11 @@ impl<L: ShardLedger, M: ShardLedger> Settled<L, M> {
         self.gathered.notes(seat)
     }
 
-    /// The table of the book.
-    pub fn table(&self) -> &Table
+    /// The tables of the book.
+    pub fn tables(&self) -> &Tables
         ensures { result.now ≡ self.now.tables }
     {
-        self.gathered.table()
+        self.gathered.tables()
     }
 
     /// How many calls were accepted, in both shards.

@@ -104,7 +104,7 @@ impl<L: ShardLedger, M: ShardLedger> Book<L, M> {
         ensures { IsGathered self seats.items result }
     {
         let Book {
-            table,
+            tables,
             seats: _,
             first,
             second,
@@ -113,7 +113,7 @@ impl<L: ShardLedger, M: ShardLedger> Book<L, M> {
         let mut second = second.into_inner();
         count_all(&mut first, &mut second, seats.as_mut_slice());
         let gathered = Gathered {
-            table,
+            tables,
             first,
             second,
             seats,

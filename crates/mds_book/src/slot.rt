@@ -7,7 +7,7 @@ ghost use Rattle.mds_book.specs.Shards.{shard_of as number_of, AreOfShard, count
 
 use mds_core::{Key, Outcome, Reply, Request};
 use mds_shard::Shard;
-use mds_table::Table;
+use mds_table::Tables;
 use std::alloc::{AllocError, Global};
 use std::hash::RandomState;
 use std::marker::{Brand, Model};
@@ -18,7 +18,7 @@ pub trait ShardLedger: Ledger {
     ghost use Rattle.std.specs.Prelude.{List};
     ghost use Rattle.mds_table.specs.Tables.{Tables};
 
-    /// The table of the book.
+    /// The tables of the book.
     ghost tables: { Tables };
 }
 
@@ -74,18 +74,18 @@ impl<L: ShardLedger, const N: usize> Slot<L, N> {
     /// A slot with nothing accepted, and the share of its ledger that has every part.
     pub(crate) fn open(
         alloc: Global,
-        table: Table,
+        tables: Tables,
         blank: Blank,
         hasher: RandomState,
     ) -> (Slot<L, N>, Share<L>)
         requires blank { (blank.name ≡ L.name) × (blank.parts ≡ L.parts) }
-        requires table { table ≡ L.tables }
-        ensures slot { result.0 ≡ record { tables = table; history = [] } }
+        requires tables { tables ≡ L.tables }
+        ensures slot { result.0 ≡ record { tables = tables; history = [] } }
         ensures parts { result.1.parts ≡ L.parts }
         ensures amount { result.1.amount ≡ 0 }
     {
         let (accepted, all) = blank.open::<L>();
-        let shard = Shard::open(alloc, table, hasher);
+        let shard = Shard::open(alloc, tables, hasher);
         (Slot { shard, accepted }, all)
     }
 

@@ -4,12 +4,15 @@ mod cases;
 mod growths;
 mod seats;
 mod settling;
+mod timed;
 
-use mds_core::{Event, Key, Request, Standing};
-use mds_table::{State, TypeName};
+use crate::{Book, Seat, Settled, ShardLedger, reconcile};
+use mds_core::{Event, Key, Reply, Request, Standing};
+use mds_table::{State, Table, Tables, TypeName};
 use std::alloc::{AllocError, Global};
 use std::hash::RandomState;
 use std::random::RandomSource;
+use std::sync::Wait;
 use std::test::Fail;
 use uuid::Uuid;
 
@@ -30,6 +33,10 @@ pub const E1: &str = "00000000-0000-4000-8000-0000000000e1";
 
 pub const E2: &str = "00000000-0000-4000-8000-0000000000e2";
 
+pub const E3: &str = "00000000-0000-4000-8000-0000000000e3";
+
+pub const E4: &str = "00000000-0000-4000-8000-0000000000e4";
+
 pub const DROP_OFF: &[&str] = &["provider_drop_off"];
 
 /// What a test asks; an event is told by its vehicle, identifier, types, state and time.
@@ -38,6 +45,22 @@ pub enum Ask<'a> {
     Register(&'a str),
     Report(&'a str, &'a str, &'a [&'a str], State, u64),
     Look(&'a str),
+}
+
+/// The profile's table, in force from 0 on.
+pub fn profile(alloc: Global) -> Result<Tables, AllocError> {
+    Tables::one(alloc, Table::profile(alloc)?)
+}
+
+/// When the table at this place starts.
+fn start_of(tables: &Tables, at: usize) -> Option<u64> {
+    let (start, _) = tables.entry(at)?;
+    Some(start)
+}
+
+/// When the first two tables start.
+pub fn starts_of(tables: &Tables) -> [Option<u64>; 2] {
+    [start_of(tables, 0), start_of(tables, 1)]
 }
 
 /// A hasher for each shard of a book.
@@ -101,4 +124,30 @@ pub fn available_once() -> Standing {
         last: Some(1000),
         position: None,
     }
+}
+
+/// The settled book of these seats.
+pub fn settled<L: ShardLedger, M: ShardLedger>(
+    book: Book<L, M>,
+    seats: Vec<Seat<L, M>>,
+) -> Result<Settled<L, M>, Fail> {
+    let Ok(settled) = reconcile(book, seats) else {
+        return Err(Fail::from("not settled"));
+    };
+    Ok(settled)
+}
+
+/// Asks the requests in turn: the replies.
+pub fn replies_to<L: ShardLedger, M: ShardLedger, R: Wait>(
+    rt: &R,
+    alloc: Global,
+    book: &Book<L, M>,
+    seat: &mut Seat<L, M>,
+    requests: &[Request],
+) -> Result<Vec<Reply>, AllocError> {
+    let mut replies = Vec::new(alloc);
+    for request in requests {
+        replies.push(book.call(rt, seat, request)?)?;
+    }
+    Ok(replies)
 }

@@ -27,7 +27,7 @@ use Rattle.mds_city.specs.declared.status.Status.{Status}
 use Rattle.mds_city.specs.declared.status.Status.TheVariants as status
 use Rattle.mds_city.specs.Command.{ExplainsReplay, status_on}
 use Rattle.mds_city.specs.Problem.{Tells, status_of}
-use Rattle.mds_city.specs.Source.{HasTableIn, HasItemsIn}
+use Rattle.mds_city.specs.Source.{HasTablesIn, HasItemsIn}
 use Rattle.mds_city.specs.Status.{code_of}
 
 -- two words are the identifiers of a vehicle
@@ -92,9 +92,9 @@ DebugsFront walk counts input input_new old new =
 -- of the debugger: the known bytes of a table file's reader, the table file if one is given, the same of the file of events, and
 -- the words that name a vehicle
 module _ {T R : Type 0} (table_bytes : T → Option (List ℕ)) (table : Option (Source T)) (file_bytes : R → Option (List ℕ)) (file : Source R) (named : Named) where
-  -- the words name this vehicle, and these are the rows and the items of the files
+  -- the words name this vehicle, and these are the tables and the items of the files
   abbrev pub HasFiles : Key → Tables → List EventItem → Type 0
-  HasFiles key tables items = IsNamed named key × HasTableIn table_bytes table tables × HasItemsIn file_bytes file items
+  HasFiles key tables items = IsNamed named key × HasTablesIn table_bytes table tables × HasItemsIn file_bytes file items
 
   -- the session on the vehicle that the words name
   abbrev pub HasSession : Walk → CountsLine → Type 0

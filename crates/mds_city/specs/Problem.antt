@@ -1,9 +1,9 @@
 -- Why a command could not be carried out, and what is said of it.
 use Rattle.std.specs.Prelude.{◌≡◌, ℕ, ◌<◌, List, ◌++◌, length, take, codes, Option, OnOk, IfErr}
 use Rattle.std.specs.Io.KnownBytes.{Appends}
-use Rattle.mds_table.specs.TableFile as table
-use Rattle.mds_table.specs.declared.table_file.TableFault.{TableFault}
-use Rattle.mds_table.specs.declared.table_file.TableFault.TheVariants as table_fault
+use Rattle.mds_table.specs.TimedFile as table
+use Rattle.mds_table.specs.declared.tables_fault.TablesFault.{TablesFault}
+use Rattle.mds_table.specs.declared.tables_fault.TablesFault.TheVariants as tables_fault
 use Rattle.mds_batch.specs.Batch as batch
 use Rattle.mds_batch.specs.declared.batch.BatchFault.{BatchFault}
 use Rattle.mds_batch.specs.declared.batch.BatchFault.TheVariants as batch_fault
@@ -19,7 +19,7 @@ use Rattle.mds_io.specs.Page.{AppendsFront, with_newline}
 -- what is said of a problem
 abbrev pub problem_text : Problem → List ℕ
 problem_text (CannotRead path) = codes "mds_city: cannot read " ++ path.now
-problem_text (NotATable fault) = codes "mds_city: not a table: " ++ table.fault_text fault
+problem_text (NotATable fault) = codes "mds_city: not a table: " ++ table.tables_fault_text fault
 problem_text (NotABatch fault) = codes "mds_city: not a batch: " ++ batch.fault_text fault
 problem_text Socket = codes "mds_city: socket"
 problem_text Random = codes "mds_city: random"
@@ -27,8 +27,8 @@ problem_text Output = codes "mds_city: output"
 problem_text Memory = codes "mds_city: out of memory"
 
 -- the problem where the bytes of a table file have this fault
-abbrev pub table_problem : TableFault → Problem
-table_problem table_fault.Memory = Memory
+abbrev pub table_problem : TablesFault → Problem
+table_problem tables_fault.Memory = Memory
 table_problem fault = NotATable fault
 
 -- the problem where the bytes of a file of items have this fault

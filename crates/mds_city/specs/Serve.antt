@@ -14,7 +14,7 @@ use Rattle.mds_city.specs.declared.problem.Problem.TheVariants.{CannotRead, NotA
 use Rattle.mds_city.specs.declared.status.Status.TheVariants as status
 use Rattle.mds_city.specs.Problem.{status_of, Tells}
 use Rattle.mds_city.specs.Status.{code_of}
-use Rattle.mds_city.specs.Source.{HasTableIn, ExplainsTable}
+use Rattle.mds_city.specs.Source.{HasTablesIn, ExplainsTable}
 use Rattle.mds_city.specs.Text.{accepted_line, listening_line}
 
 -- the line of a shard and a place went out whole, or as many of its bytes as the writer took, fewer than all
@@ -44,7 +44,7 @@ IsSaid (Err stop.Accept) code out out_new faults faults_new =
 IsSaid (Err (stop.Torn shard place)) code out out_new faults faults_new =
     Keeps out out_new × TellsTorn shard place code faults faults_new
 
--- serving with this table and so many workers ended in some way, and that was said
+-- serving with these tables and so many workers ended in some way, and that was said
 abbrev pub Serves : Tables → ℕ → ℕ → Option (List ℕ) → Option (List ℕ) → Option (List ℕ) → Option (List ℕ) → Type 0
 Serves tables workers code out out_new faults faults_new =
     (ended : Result Collected Stop) × IsEnded tables workers ended × IsSaid ended code out out_new faults faults_new
@@ -56,23 +56,23 @@ module _ {H L T : Type 0} (listens : H → ℕ → L → ℕ → Type 0) (host :
   abbrev pub IsPort : ℕ → Type 0
   IsPort port = (listening : L) × listens host number listening port
 
-  -- the table was had, and a front of the line that says where the server listens went out
+  -- the tables were had, and a front of the line that says where the server listens went out
   abbrev pub PrintsListening : Option (List ℕ) → Option (List ℕ) → Type 0
-  PrintsListening out out_new = (tables : Tables) × HasTableIn table_bytes table tables × ((port : ℕ) × IsPort port × AppendsFront out out_new (with_newline (listening_line port)))
+  PrintsListening out out_new = (tables : Tables) × HasTablesIn table_bytes table tables × ((port : ℕ) × IsPort port × AppendsFront out out_new (with_newline (listening_line port)))
 
   -- why nothing was served: a fault of the table file, no random numbers, no port, or a line that could not be printed; and what went out
   abbrev pub StopsBefore : Problem → Option (List ℕ) → Option (List ℕ) → Type 0
   StopsBefore (CannotRead path) out out_new = ExplainsTable table_bytes table (CannotRead path) × Keeps out out_new
   StopsBefore (NotATable fault) out out_new = ExplainsTable table_bytes table (NotATable fault) × Keeps out out_new
   StopsBefore (NotABatch fault) out out_new = ⊥
-  StopsBefore Socket out out_new = (tables : Tables) × HasTableIn table_bytes table tables × Keeps out out_new
-  StopsBefore Random out out_new = (tables : Tables) × HasTableIn table_bytes table tables × Keeps out out_new
+  StopsBefore Socket out out_new = (tables : Tables) × HasTablesIn table_bytes table tables × Keeps out out_new
+  StopsBefore Random out out_new = (tables : Tables) × HasTablesIn table_bytes table tables × Keeps out out_new
   StopsBefore Output out out_new = PrintsListening out out_new
   StopsBefore Memory out out_new = Keeps out out_new ⊎ PrintsListening out out_new
 
-  -- the table was had, and the line that says where the server listens went out
+  -- the tables were had, and the line that says where the server listens went out
   abbrev pub Listened : Tables → Option (List ℕ) → Option (List ℕ) → Type 0
-  Listened tables out out_new = HasTableIn table_bytes table tables × ((port : ℕ) × IsPort port × Appends out out_new (with_newline (listening_line port)))
+  Listened tables out out_new = HasTablesIn table_bytes table tables × ((port : ℕ) × IsPort port × Appends out out_new (with_newline (listening_line port)))
 
   -- what the command came to: nothing was served, for a problem that was told; or it was served, after the first line
   abbrev pub CameToServe : ℕ → ℕ → Option (List ℕ) → Option (List ℕ) → Option (List ℕ) → Option (List ℕ) → Type 0

@@ -1,11 +1,11 @@
 -- What the files that a command reads have, and why they can't be used.
-use Rattle.std.specs.Prelude.{◌≡◌, ◌≢◌, ℕ, ◌+◌, List, Option, Some, None}
+use Rattle.std.specs.Prelude.{◌≡◌, ◌≢◌, ℕ, ◌+◌, List, [], ◌∷◌, Option, Some, None}
 use Rattle.mds_table.specs.Tables.{Tables}
 use Rattle.mds_table.specs.Json.{max_bytes}
 use Rattle.mds_table.specs.Profile.{profile_rows}
-use Rattle.mds_table.specs.TableFile.{HasTable, HasFault as HasTableFault}
-use Rattle.mds_table.specs.declared.table_file.TableFault.{TableFault}
-use Rattle.mds_table.specs.declared.table_file.TableFault.TheVariants as table
+use Rattle.mds_table.specs.TimedFile.{HasTables, HasTablesFault}
+use Rattle.mds_table.specs.declared.tables_fault.TablesFault.{TablesFault}
+use Rattle.mds_table.specs.declared.tables_fault.TablesFault.TheVariants as tables
 use Rattle.mds_batch.specs.declared.batch.BatchFault.{BatchFault}
 use Rattle.mds_batch.specs.declared.batch.BatchFault.TheVariants as batch
 use Rattle.mds_batch.specs.declared.item.EventItem.{EventItem}
@@ -42,20 +42,20 @@ IsReadProblem source Output = ⊥
 
 -- the problem is what is wrong with the bytes of a table file
 abbrev pub IsTableProblem : List ℕ → Problem → Type 0
-IsTableProblem bytes problem = (fault : TableFault) × HasTableFault bytes fault × (problem ≡ table_problem fault)
+IsTableProblem bytes problem = (fault : TablesFault) × HasTablesFault bytes fault × (problem ≡ table_problem fault)
 
 -- the problem is what is wrong with the bytes of a file of events
 abbrev pub IsBatchProblem : List ℕ → Problem → Type 0
 IsBatchProblem bytes problem = (fault : BatchFault) × HasBatchFault bytes fault × (problem ≡ batch_problem fault)
 
--- the rows are those of the table file
-abbrev pub HasTableOf : {R : Type 0} → (R → Option (List ℕ)) → Source R → Tables → Type 0
-HasTableOf remaining source tables = (bytes : List ℕ) × HasBytes remaining source bytes × HasTable bytes tables
+-- the tables are those of the table file
+abbrev pub HasTablesOf : {R : Type 0} → (R → Option (List ℕ)) → Source R → Tables → Type 0
+HasTablesOf remaining source tables = (bytes : List ℕ) × HasBytes remaining source bytes × HasTables bytes tables
 
--- why a table file has no table: it has this fault, its path is told as one that can't be read, or it was opened and there was no
+-- why a table file has no tables: it has this fault, its path is told as one that can't be read, or it was opened and there was no
 -- memory
 abbrev pub ExplainsTableFile : {R : Type 0} → (R → Option (List ℕ)) → Source R → Problem → Type 0
-ExplainsTableFile remaining source (NotATable fault) = (fault ≢ table.Memory) × (bytes : List ℕ) × HasBytes remaining source bytes × HasTableFault bytes fault
+ExplainsTableFile remaining source (NotATable fault) = (fault ≢ tables.Memory) × (bytes : List ℕ) × HasBytes remaining source bytes × HasTablesFault bytes fault
 ExplainsTableFile remaining source (CannotRead path) = path.now ≡ source.path.now
 ExplainsTableFile remaining source Memory = IsOpen source
 ExplainsTableFile remaining source (NotABatch fault) = ⊥
@@ -63,12 +63,12 @@ ExplainsTableFile remaining source Socket = ⊥
 ExplainsTableFile remaining source Random = ⊥
 ExplainsTableFile remaining source Output = ⊥
 
--- the rows are those of the table file, or of the profile where none is given
-abbrev pub HasTableIn : {R : Type 0} → (R → Option (List ℕ)) → Option (Source R) → Tables → Type 0
-HasTableIn remaining None tables = tables ≡ profile_rows
-HasTableIn remaining (Some source) tables = HasTableOf remaining source tables
+-- the tables are those of the table file, or where none is given the profile's alone, from 0
+abbrev pub HasTablesIn : {R : Type 0} → (R → Option (List ℕ)) → Option (Source R) → Tables → Type 0
+HasTablesIn remaining None tables = tables ≡ (0, profile_rows) ∷ []
+HasTablesIn remaining (Some source) tables = HasTablesOf remaining source tables
 
--- why there is no table: where no file is given, only for want of memory
+-- why there are no tables: where no file is given, only for want of memory
 abbrev pub ExplainsTable : {R : Type 0} → (R → Option (List ℕ)) → Option (Source R) → Problem → Type 0
 ExplainsTable remaining None problem = problem ≡ Memory
 ExplainsTable remaining (Some source) problem = ExplainsTableFile remaining source problem

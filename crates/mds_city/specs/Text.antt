@@ -1,9 +1,10 @@
--- The lines that the program prints of a replay and of a table.
-use Rattle.std.specs.Prelude.{ℕ, ◌+◌, List, [], ◌∷◌, ◌++◌, length, codes, decimal, Option, Some, None}
+-- The lines that the program prints of a replay and of tables.
+use Rattle.std.specs.Prelude.{ℕ, ◌+◌, ◌==◌, List, [], ◌∷◌, ◌++◌, length, if◌then◌else◌, codes, decimal, Option, Some, None}
 use Rattle.std.specs.List.{flat_map}
 use Rattle.uuid.specs.Text.{hyphenated_text, lower}
 use Rattle.mds_table.specs.declared.row.Row.{Row}
 use Rattle.mds_table.specs.State.{name_of}
+use Rattle.mds_table.specs.Tables.{Entry, start_of, rows_of, Tables}
 use Rattle.mds_table.specs.declared.state.State.{State}
 use Rattle.mds_steps.specs.StateSet.{names_of}
 use Rattle.mds_core.specs.declared.reply.Standing.{Standing}
@@ -72,6 +73,22 @@ listening_line port = codes "listening 127.0.0.1:" ++ decimal port
 abbrev pub accepted_line : ℕ → List ℕ
 accepted_line accepted = codes "accepted " ++ decimal accepted
 
--- all that is printed of a table: a line a row, in row order, and their number
-abbrev pub table_text : List Row → List ℕ
-table_text rows = row_lines rows ++ with_newline (count_line (length rows))
+-- what is printed of a table's rows: a line a row, in row order, and their number
+abbrev pub rows_text : List Row → List ℕ
+rows_text rows = row_lines rows ++ with_newline (count_line (length rows))
+
+-- the line that says from when a table is in force
+abbrev pub from_line : ℕ → List ℕ
+from_line start = codes "from " ++ decimal start
+
+-- what stands before the rows of one of so many tables: that line, but nothing where the table is alone
+abbrev pub heading : ℕ → ℕ → List ℕ
+heading count start = if count == 1 then [] else with_newline (from_line start)
+
+-- what is printed of one of so many tables
+abbrev pub entry_text : ℕ → Entry → List ℕ
+entry_text count entry = heading count (start_of entry) ++ rows_text (rows_of entry)
+
+-- all that is printed of tables, in order of time
+abbrev pub table_text : Tables → List ℕ
+table_text tables = flat_map (entry_text (length tables)) tables

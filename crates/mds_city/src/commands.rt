@@ -3,22 +3,21 @@ ghost use Rattle.std.specs.Prelude.{◌≡◌, ◌≢◌, ◌<◌, ◌≤◌, If
 ghost use Rattle.std.specs.Io.KnownBytes.{Appends, Keeps};
 ghost use Rattle.mds_trace.specs.declared.report.Report.{Report};
 ghost use Rattle.mds_city.specs.Text.{report_text};
-ghost use Rattle.mds_city.specs.Source.{HasTableIn};
 ghost use Rattle.mds_city.specs.Command.{HasReport, ExplainsReplay, WentOut, Replayed, Told, Tabled, ExplainsPrint, TableWentOut, TableTold, status_on};
 
-use crate::print::{print_report, print_table};
+use crate::print::{print_report, print_tables};
 use crate::problem::{Problem, tell};
-use crate::source::{Source, items_in, table_in};
+use crate::source::{Source, items_in, tables_in};
 use crate::status::Status;
-use mds_table::Row;
 use mds_trace::{Opening, Report, replay};
 use std::alloc::Global;
 use std::io::{Read, Write};
 
-/// Replays a file of events over a table, the profile's where none is given, with this opening of its vehicles, and prints a
-/// line for each item, a line for each vehicle, and the totals. It answers the code of the status that the program ends with: `Done` where each
-/// item was accepted, `Refused` where one was not, and else the one of the problem, which is told to `faults` in one line:
-/// `Fault` for a file that can't be read, is no table or no batch, or an output that fails, `NoMemory` for want of memory.
+/// Replays a file of events over the tables of a table file, or where none is given over the profile's, with this opening of
+/// its vehicles, and prints a line for each item, a line for each vehicle, and the totals. It answers the code of the status
+/// that the program ends with: `Done` where each item was accepted, `Refused` where one was not, and else the one of the
+/// problem, which is told to `faults` in one line: `Fault` for a file that can't be read, is no table or no batch, or an
+/// output that fails, `NoMemory` for want of memory.
 pub fn replay_to<T: Read + Drop, R: Read + Drop, W: Write, E: Write>(
     alloc: Global,
     table: Option<Source<'_, T>>,
@@ -51,7 +50,7 @@ pub(crate) fn status_on(refused: usize) -> Status
     }
 }
 
-/// Replays the file's items over the table and prints the report; it answers how many items were not accepted.
+/// Replays the file's items over the tables and prints the report; it answers how many items were not accepted.
 fn replay_into<'a, T: Read + Drop, R: Read + Drop, W: Write>(
     alloc: Global,
     table: Option<Source<'a, T>>,
@@ -73,7 +72,7 @@ fn replay_into<'a, T: Read + Drop, R: Read + Drop, W: Write>(
     Ok(report.refused)
 }
 
-/// The report of a replay of the file's items over the table.
+/// The report of a replay of the file's items over the tables.
 fn report_on<'a, T: Read + Drop, R: Read + Drop>(
     alloc: Global,
     table: Option<Source<'a, T>>,
@@ -85,14 +84,15 @@ fn report_on<'a, T: Read + Drop, R: Read + Drop>(
         R.remaining file.entry problem
         × (problem ≢ Problem.Output)) }
 {
-    let table = table_in(alloc, table)?;
+    let tables = tables_in(alloc, table)?;
     let items = items_in(alloc, file)?;
-    Ok(replay(alloc, table, &items, opening)?)
+    Ok(replay(alloc, tables, &items, opening)?)
 }
 
-/// Prints a table, the profile's where no file is given: a line for each row, in row order, and their number. It answers
-/// the code of the status that the program ends with: `Done`, or the one of the problem, which is told to `faults` in one
-/// line: `Fault` for a file that can't be read or is no table, or an output that fails, `NoMemory` for want of memory.
+/// Prints the tables of a table file, or where none is given the profile's: a line for each row, in row order, and their
+/// number; of several tables these of each, behind a line that says from when it is in force. It answers the code of the
+/// status that the program ends with: `Done`, or the one of the problem, which is told to `faults` in one line: `Fault` for
+/// a file that can't be read or is no table, or an output that fails, `NoMemory` for want of memory.
 pub fn table_to<T: Read + Drop, W: Write, E: Write>(
     alloc: Global,
     table: Option<Source<'_, T>>,
@@ -111,7 +111,7 @@ pub fn table_to<T: Read + Drop, W: Write, E: Write>(
     }
 }
 
-/// Prints the table.
+/// Prints the tables.
 fn table_into<'a, T: Read + Drop, W: Write>(
     alloc: Global,
     table: Option<Source<'a, T>>,
@@ -122,22 +122,9 @@ fn table_into<'a, T: Read + Drop, W: Write>(
     ensures err { IfErr result (λ problem. ExplainsPrint T.remaining table.entry problem
         × TableWentOut T.remaining table.entry problem (W.contents out.old) (W.contents out.new)) }
 {
-    let rows = rows_on(alloc, table)?;
-    print_table(alloc, out, &rows)?;
+    let tables = tables_in(alloc, table)?;
+    print_tables(alloc, out, &tables)?;
     Ok(())
-}
-
-/// The rows of the table, in row order.
-fn rows_on<'a, T: Read + Drop>(
-    alloc: Global,
-    table: Option<Source<'a, T>>,
-) -> Result<Vec<Row>, Problem<'a>>
-    ensures ok { IfOk result (λ rows. HasTableIn T.remaining table.entry rows.items) }
-    ensures err { IfErr result (λ problem. ExplainsPrint T.remaining table.entry problem
-        × (problem ≢ Problem.Output)) }
-{
-    let table = table_in(alloc, table)?;
-    Ok(table.rows(alloc)?)
 }
 
 #[cfg(test)]

@@ -10,13 +10,13 @@ ghost use Rattle.mds_city.specs.Debug.{Debugs, DebugsFront, DebugWentOut, Explai
 
 use crate::commands::status_on;
 use crate::problem::{Problem, tell};
-use crate::source::{Source, items_in, table_in};
+use crate::source::{Source, items_in, tables_in};
 use crate::status::Status;
 use mds_batch::EventItem;
 use mds_core::{Event, Key};
 use mds_debugger::{CountsLine, print_start, print_walk, read_script, script_of, vehicle_events};
 use mds_io::{PrintError, write_all_of};
-use mds_table::{State, Table};
+use mds_table::{State, Tables};
 use mds_trace::{Opening, Session, SessionFault, replay};
 use std::alloc::{AllocError, Global};
 use std::io::{Read, Write};
@@ -93,7 +93,7 @@ impl From<PrintError> for DebugProblem<'_> {
     }
 }
 
-/// Opens the debugger on a vehicle: replays the file over the table, each vehicle registered before its first event, prints
+/// Opens the debugger on a vehicle: replays the file over the tables, each vehicle registered before its first event, prints
 /// how many of the vehicle's events were accepted and how many refused, and the first place of the session over the
 /// accepted ones; and then carries out the commands of `script`, a line each. It answers the code of the status that the
 /// program ends with: `Done` where each event of the vehicle was accepted, `Refused` where one was not or the file has none,
@@ -188,9 +188,9 @@ fn session_on<'a, T: Read + Drop, R: Read + Drop>(
     let Some(key) = named.key() else {
         return Err(DebugProblem::BadIdentifier);
     };
-    let table = table_in(alloc, table)?;
+    let tables = tables_in(alloc, table)?;
     let items = items_in(alloc, file)?;
-    match open_on(alloc, table, &items, key)? {
+    match open_on(alloc, tables, &items, key)? {
         Some(opened) => Ok(opened),
         None => Err(DebugProblem::NotInFile),
     }
@@ -199,14 +199,14 @@ fn session_on<'a, T: Read + Drop, R: Read + Drop>(
 /// The session over the accepted events of a vehicle, or `None` where no item names it.
 fn open_on(
     alloc: Global,
-    table: Table,
+    tables: Tables,
     items: &[EventItem],
     key: Key,
 ) -> Result<Option<Opened>, AllocError>
     ensures { IfOk result (λ found. MatchOption found (told_of key items.now ≡ 0)
-        (λ opened. IsOpened table items.now key opened.session opened.counts)) }
+        (λ opened. IsOpened tables items.now key opened.session opened.counts)) }
 {
-    let report = replay(alloc, table.copy(alloc)?, items, Opening::Removed)?;
+    let report = replay(alloc, tables.copy(alloc)?, items, Opening::Removed)?;
     let told = vehicle_events(alloc, items, &report.lines, key)?;
     let counts = CountsLine {
         events: told.accepted.len(),
@@ -215,21 +215,21 @@ fn open_on(
     if counts.events == 0 && counts.refused == 0 {
         return Ok(None);
     }
-    let session = session_of(alloc, table, told.accepted)?;
+    let session = session_of(alloc, tables, told.accepted)?;
     Ok(Some(Opened { session, counts }))
 }
 
 /// The session over these events, which lead on from removed.
-fn session_of(alloc: Global, table: Table, events: Vec<Event>) -> Result<Session, AllocError>
-    requires { AreOpenFrom table State.Removed events.items }
+fn session_of(alloc: Global, tables: Tables, events: Vec<Event>) -> Result<Session, AllocError>
+    requires { AreOpenFrom tables State.Removed events.items }
     ensures { IfOk result (λ session. session ≡ record {
-      tables = table;
+      tables = tables;
       opening = State.Removed;
       events = events.items;
       place = record { event = 0; passed = 0 };
     }) }
 {
-    match Session::open(alloc, table, State::Removed, events) {
+    match Session::open(alloc, tables, State::Removed, events) {
         Ok(session) => Ok(session),
         Err(SessionFault::Memory) => Err(AllocError),
         Err(_) => unreachable!(),

@@ -5,7 +5,7 @@ ghost use Rattle.mds_city.specs.Problem.{IsTelling, problem_text, status_of, Tel
 use crate::status::Status;
 use mds_batch::BatchFault;
 use mds_io::{PrintError, WriteError, write_all_of};
-use mds_table::TableFault;
+use mds_table::TablesFault;
 use std::alloc::{AllocError, Global};
 use std::fmt;
 use std::fmt::Write as _;
@@ -16,8 +16,8 @@ use std::io::Write;
 pub enum Problem<'a> {
     /// The file of this path can't be read.
     CannotRead(&'a str),
-    /// The file of transitions is no table.
-    NotATable(TableFault),
+    /// The file of transitions is no table, and no tables that change at stated times.
+    NotATable(TablesFault),
     /// The file of items is no batch.
     NotABatch(BatchFault),
     /// A port can't be had, or no further connection of it.
@@ -58,14 +58,14 @@ impl From<AllocError> for Problem<'_> {
 }
 
 /// What the bytes of a table file have wrong; `CannotRead` is never made of it.
-impl From<TableFault> for Problem<'_> {
+impl From<TablesFault> for Problem<'_> {
     ghost use Rattle.mds_city.specs.Problem.{table_problem};
 
     ghost from_gives = { λ fault problem. problem ≡ table_problem fault };
 
-    fn from(fault: TableFault) -> Self {
+    fn from(fault: TablesFault) -> Self {
         match fault {
-            TableFault::Memory => Problem::Memory,
+            TablesFault::Memory => Problem::Memory,
             fault => Problem::NotATable(fault),
         }
     }

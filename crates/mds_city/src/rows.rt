@@ -1,6 +1,6 @@
-//! The lines that are printed of a table.
+//! The lines that are printed of tables.
 ghost use Rattle.std.specs.Prelude.{Some};
-ghost use Rattle.mds_city.specs.Text.{row_line, count_line};
+ghost use Rattle.mds_city.specs.Text.{row_line, count_line, from_line};
 
 use mds_table::Row;
 use std::fmt;
@@ -20,6 +20,22 @@ impl fmt::Display for RowLine<'_> {
         let from = self.row.from;
         let to = self.row.to;
         write!(f, "{kind} {from} {to}")
+    }
+}
+
+/// The line before the rows of one of several tables.
+#[derive(Clone, Copy)]
+pub struct FromLine {
+    /// The time from which the table is in force, in milliseconds since the Unix epoch.
+    pub start: u64,
+}
+
+impl fmt::Display for FromLine {
+    ghost output = { λ line. Some (from_line line.start) };
+
+    fn fmt<W: fmt::Write>(&self, f: &mut fmt::Formatter<W>) -> fmt::Result {
+        let start = self.start;
+        write!(f, "from {start}")
     }
 }
 

@@ -5,13 +5,13 @@ ghost use Rattle.mds_city.specs.Serve.{CameToServe, IsSaid, Listened, SaysAccept
 
 use crate::page::{AcceptedLine, ListeningLine, print_line};
 use crate::problem::{Problem, tell};
-use crate::source::{Source, table_in};
+use crate::source::{Source, tables_in};
 use crate::status::Status;
 use crate::torn::torn_line;
 use mds_book::{Settled, ShardLedger};
 use mds_io::write_all_of;
 use mds_pool::{NewBook, Port, Stop, serve_and_settle};
-use mds_table::Table;
+use mds_table::Tables;
 use std::alloc::Global;
 use std::hash::RandomState;
 use std::io::{Read, Write};
@@ -51,9 +51,9 @@ pub struct ServeOptions {
     pub each: usize,
 }
 
-/// Serves vehicles over a table, the profile's where none is given, at a port of the host: prints where it listens, and
-/// goes on as [`serve_on`]. It answers the code of the status that the program ends with; a problem is told to `faults` in
-/// one line.
+/// Serves vehicles over the tables of a table file, or where none is given over the profile's, at a port of the host: prints
+/// where it listens, and goes on as [`serve_on`]. It answers the code of the status that the program ends with; a problem
+/// is told to `faults` in one line.
 pub fn serve_at<
     R: Threads + Wait + RandomSource + Sync,
     H: Listens,
@@ -73,14 +73,14 @@ pub fn serve_at<
     ensures { CameToServe H.listens host.now asked.port T.remaining table.entry asked.workers result
         (W.contents out.old) (W.contents out.new) (E.contents faults.old) (E.contents faults.new) }
 {
-    let (table, hashers, listening) = match begun(rt, alloc, host, table, asked.port, out) {
+    let (tables, hashers, listening) = match begun(rt, alloc, host, table, asked.port, out) {
         Ok(begun) => begun,
         Err(problem) => return tell(alloc, faults, problem).code(),
     };
     serve_on(
         rt,
         alloc,
-        table,
+        tables,
         hashers,
         &listening,
         asked.workers,
@@ -90,7 +90,7 @@ pub fn serve_at<
     )
 }
 
-/// The table, a hasher for each shard, and what listens at the port, once it is printed where.
+/// The tables, a hasher for each shard, and what listens at the port, once it is printed where.
 fn begun<'a, R: RandomSource, H: Listens, T: Read + Drop, W: Write>(
     rt: &R,
     alloc: Global,
@@ -98,14 +98,14 @@ fn begun<'a, R: RandomSource, H: Listens, T: Read + Drop, W: Write>(
     table: Option<Source<'a, T>>,
     number: u16,
     out: &mut W,
-) -> Result<(Table, [RandomState; 2], H::Listening), Problem<'a>>
+) -> Result<(Tables, [RandomState; 2], H::Listening), Problem<'a>>
     ensures ok { IfOk result (λ begun. Listened H.listens host.now number T.remaining table.entry
         begun.0 (W.contents out.old) (W.contents out.new)) }
     ensures err { IfErr result (λ problem.
         StopsBefore H.listens host.now number T.remaining table.entry problem
         (W.contents out.old) (W.contents out.new)) }
 {
-    let table = table_in(alloc, table)?;
+    let tables = tables_in(alloc, table)?;
     let (Ok(first), Ok(second)) = (RandomState::new(rt), RandomState::new(rt)) else {
         return Err(Problem::Random);
     };
@@ -113,10 +113,10 @@ fn begun<'a, R: RandomSource, H: Listens, T: Read + Drop, W: Write>(
         return Err(Problem::Socket);
     };
     print_line(alloc, out, &ListeningLine { port })?;
-    Ok((table, [first, second], listening))
+    Ok((tables, [first, second], listening))
 }
 
-/// Serves connections of a port over a table, with a new book of so many seats, 1 to [`mds_book::MAX_SEATS`], each of which
+/// Serves connections of a port over these tables, with a new book of so many seats, 1 to [`mds_book::MAX_SEATS`], each of which
 /// answers so many of them; the book's shards hash by these hashers. At the end it settles the book, and prints how many requests were accepted. It answers the code
 /// of the status that the program ends with: `Done`; `Torn` where the notes of the accepted requests don't fit the
 /// histories; `Fault` where no further connection could be taken, or an output failed; `NoMemory` for want of memory. What
@@ -124,7 +124,7 @@ fn begun<'a, R: RandomSource, H: Listens, T: Read + Drop, W: Write>(
 pub fn serve_on<R: Threads + Wait + Sync, P: Port + Sync, W: Write, E: Write>(
     rt: &R,
     alloc: Global,
-    table: Table,
+    tables: Tables,
     hashers: [RandomState; 2],
     port: &P,
     seats: usize,
@@ -136,10 +136,10 @@ where
     P::In: Send,
     P::Out: Send,
     requires { IsSeatCount seats }
-    ensures { Serves table seats result
+    ensures { Serves tables seats result
         (W.contents out.old) (W.contents out.new) (E.contents faults.old) (E.contents faults.new) }
 {
-    let opening = NewBook::of(table, seats, hashers);
+    let opening = NewBook::of(tables, seats, hashers);
     serve_book::<R, P, Brand, Brand, W, E>(rt, alloc, opening, port, each, out, faults)
 }
 
@@ -161,9 +161,9 @@ where
     requires second { (opening.second.name ≡ M.name) × (opening.second.parts ≡ M.parts) }
     requires parts { (opening.first.parts ≡ opening.seats)
         × (opening.second.parts ≡ opening.seats) }
-    requires table { (opening.table ≡ L.tables) × (opening.table ≡ M.tables) }
+    requires tables { (opening.tables ≡ L.tables) × (opening.tables ≡ M.tables) }
     requires seats { IsSeatCount opening.seats }
-    ensures { Serves opening.table opening.seats result
+    ensures { Serves opening.tables opening.seats result
         (W.contents out.old) (W.contents out.new) (E.contents faults.old) (E.contents faults.new) }
 {
     let ended = serve_and_settle::<R, P, L, M>(rt, alloc, opening, port, each);

@@ -1,14 +1,14 @@
 //! Files that a command reads.
 ghost use Rattle.std.specs.Prelude.{IfOk, IfErr};
-ghost use Rattle.mds_table.specs.TableFile.{HasTable};
+ghost use Rattle.mds_table.specs.TimedFile.{HasTables};
 ghost use Rattle.mds_batch.specs.Items.{IsEventItem};
 ghost use Rattle.mds_batch.specs.Batch.{HasItems};
-ghost use Rattle.mds_city.specs.Source.{HasBytes, IsReadProblem, IsTableProblem, HasTableOf, HasTableIn, ExplainsTableFile, ExplainsTable, IsBatchProblem, HasItemsIn, ExplainsFile};
+ghost use Rattle.mds_city.specs.Source.{HasBytes, IsReadProblem, IsTableProblem, HasTablesOf, HasTablesIn, ExplainsTableFile, ExplainsTable, IsBatchProblem, HasItemsIn, ExplainsFile};
 
 use crate::problem::Problem;
 use mds_batch::{EventItem, read_events};
 use mds_io::{ReadError, read_front};
-use mds_table::{MAX_BYTES, Table};
+use mds_table::{MAX_BYTES, Table, Tables};
 use std::alloc::Global;
 use std::io::Read;
 
@@ -43,38 +43,41 @@ fn bytes_in<'a, R: Read + Drop>(
     }
 }
 
-/// The table of a table file, or the profile's where no file is given.
-pub fn table_in<'a, T: Read + Drop>(
+/// The tables of a table file, or where no file is given the profile's alone, from 0 on.
+pub fn tables_in<'a, T: Read + Drop>(
     alloc: Global,
     source: Option<Source<'a, T>>,
-) -> Result<Table, Problem<'a>>
-    ensures ok { IfOk result (HasTableIn T.remaining source.entry) }
+) -> Result<Tables, Problem<'a>>
+    ensures ok { IfOk result (HasTablesIn T.remaining source.entry) }
     ensures err { IfErr result (ExplainsTable T.remaining source.entry) }
 {
     match source {
-        Some(source) => table_of_file(alloc, source),
-        None => Ok(Table::profile(alloc)?),
+        Some(source) => tables_of_file(alloc, source),
+        None => {
+            let profile = Table::profile(alloc)?;
+            Ok(Tables::one(alloc, profile)?)
+        }
     }
 }
 
-/// The table of a table file.
-fn table_of_file<'a, T: Read + Drop>(
+/// The tables of a table file.
+fn tables_of_file<'a, T: Read + Drop>(
     alloc: Global,
     source: Source<'a, T>,
-) -> Result<Table, Problem<'a>>
-    ensures ok { IfOk result (HasTableOf T.remaining source.entry) }
+) -> Result<Tables, Problem<'a>>
+    ensures ok { IfOk result (HasTablesOf T.remaining source.entry) }
     ensures err { IfErr result (ExplainsTableFile T.remaining source.entry) }
 {
     let bytes = bytes_in(alloc, source)?;
-    table_of_bytes(alloc, &bytes)
+    tables_of_bytes(alloc, &bytes)
 }
 
-/// The table that the bytes of a table file are. What is wrong with them is never told as a fault of what gave them.
-fn table_of_bytes<'a>(alloc: Global, bytes: &[u8]) -> Result<Table, Problem<'a>>
-    ensures table { IfOk result (HasTable bytes.now) }
+/// The tables that the bytes of a table file are. What is wrong with them is never told as a fault of what gave them.
+fn tables_of_bytes<'a>(alloc: Global, bytes: &[u8]) -> Result<Tables, Problem<'a>>
+    ensures tables { IfOk result (HasTables bytes.now) }
     ensures fault { IfErr result (IsTableProblem bytes.now) }
 {
-    Ok(Table::from_json(alloc, bytes)?)
+    Ok(Tables::from_json(alloc, bytes)?)
 }
 
 /// The items of a file of events.

@@ -2,6 +2,7 @@
 mod events;
 mod fleets;
 mod growths;
+mod timed;
 
 use crate::{Event, Key, Position, Request};
 use mds_table::{State, TypeName};
@@ -24,6 +25,7 @@ const E2: u64 = 0x8000_0000_0000_00e2;
 const E3: u64 = 0x8000_0000_0000_00e3;
 
 /// What a test asks.
+#[derive(Drop)]
 enum Ask {
     Register(u64),
     /// An event of a vehicle: its identifier, its types, the state that it leads to, and its time.

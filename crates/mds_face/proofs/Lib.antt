@@ -1,5 +1,6 @@
 -- Lemmas of this crate.
 pub mod CallLemmas
 pub mod ConnectionLemmas
-pub mod ReadingLemmas
 pub mod FleetLemmas
+pub mod ListedLemmas
+pub mod ReadingLemmas

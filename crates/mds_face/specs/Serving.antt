@@ -2,7 +2,7 @@
 use Rattle.std.specs.Prelude.{◌≡◌, ◌⊎◌, ℕ, ◌<◌, ◌≤◌, List, length, take, Option, Some, None, IfSome}
 use Rattle.std.specs.List.{filter_map}
 use Rattle.std.specs.Io.KnownBytes.{Appends, Keeps}
-use Rattle.mds_table.specs.declared.row.Row.{Row}
+use Rattle.mds_table.specs.Tables.{Tables}
 use Rattle.mds_core.specs.declared.key.Key.{Key}
 use Rattle.mds_core.specs.declared.request.Request.{Request}
 use Rattle.mds_core.specs.declared.request.Request.TheVariants.{Look}
@@ -40,8 +40,8 @@ IsUnwritten text old new (Write sent) = IsUnfinished text old new sent
 IsUnwritten text old new (Memory sent) = ⊥
 IsUnwritten text old new (TooManyTurns sent) = IsUnfinished text old new sent
 
--- of a desk: by which reply a request leads from a state to the next, and which events and rows it gives in a state
-module _ {S : Type 0} (Calls : S → Request → Option Reply → S → Type 0) (GivesEvents : S → Key → Option (List Reported) → Type 0) (GivesRows : S → List Row → Type 0) where
+-- of a desk: by which reply a request leads from a state to the next, and which events and tables it gives in a state
+module _ {S : Type 0} (Calls : S → Request → Option Reply → S → Type 0) (GivesEvents : S → Key → Option (List Reported) → Type 0) (GivesRows : S → Tables → Type 0) where
   -- what is asked for is put to the desk, and this is found: a POST's items that aren't faults, one by one and in order, up to the
   -- first that finds no memory; or what a GET looks at
   abbrev pub Finds : S → Asked → Finding → S → Type 0
@@ -50,7 +50,7 @@ module _ {S : Type 0} (Calls : S → Request → Option Reply → S → Type 0) 
   Finds old (asked.Events items) (finding.Replies replies) new = AreCalls Calls old (filter_map report_in items) replies new
   Finds old (asked.One key) (finding.One reply) new = Calls old (Look key) (Some reply) new
   Finds old (asked.History key) (finding.History events) new = GivesEvents old key events × (new ≡ old)
-  Finds old asked.Rows (finding.Rows rows) new = GivesRows old rows × (new ≡ old)
+  Finds old asked.Rows (finding.Rows tables) new = GivesRows old tables × (new ≡ old)
   -- nothing of another kind is found
   Finds old what found new = ⊥
 

@@ -3,24 +3,26 @@ ghost use Rattle.std.specs.Prelude.{◌≡◌, Some, None, IfOk, OnErr, MatchRes
 ghost use Rattle.mds_core.specs.Answer.{IsOutcomeFor};
 ghost use Rattle.mds_core.specs.Machine.{events_in};
 ghost use Rattle.mds_book.specs.Books.{GivesEvents};
+ghost use Rattle.mds_response.specs.Found.{tables_of};
 ghost use Rattle.mds_face.specs.Desk.{FleetCalls};
 ghost use Rattle.mds_face.specs.Seats.{SeatCalls};
 
 use mds_book::{Book, Seat, ShardLedger};
 use mds_core::{Event, Fleet, Key, Reply, Request};
-use mds_table::Row;
+use mds_table::{Row, Tables};
 use std::alloc::{AllocError, Global};
 use std::sync::Wait;
 
-/// Where requests are put, and the accepted events and the rows are asked for.
+/// Where requests are put, and the accepted events and the tables are asked for.
 pub trait Desk {
     ghost use Rattle.std.specs.Prelude.{◌≡◌, List, Option, Some, None, IfOk, OnErr, MatchResult, option_map};
-    ghost use Rattle.mds_table.specs.declared.row.Row.{Row as Allowed};
+    ghost use Rattle.mds_table.specs.Tables.{Tables as Timed};
     ghost use Rattle.mds_core.specs.declared.key.Key.{Key as About};
     ghost use Rattle.mds_core.specs.declared.request.Request.{Request as Asked};
     ghost use Rattle.mds_core.specs.declared.reply.Reply.{Reply as Replied};
     ghost use Rattle.mds_core.specs.Reported.{Reported};
     ghost use Rattle.mds_core.specs.Answer.{IsOutcomeFor};
+    ghost use Rattle.mds_response.specs.Found.{tables_of};
 
     /// From a state, a request leads by its reply to the next; by none where there was no memory.
     ghost calls: { Self → Asked → Option Replied → Self → Type 0 };
@@ -28,8 +30,8 @@ pub trait Desk {
     /// In a state, these are a vehicle's accepted events; none where it isn't registered.
     ghost gives_events: { Self → About → Option (List Reported) → Type 0 };
 
-    /// In a state, these are the rows of the table.
-    ghost gives_rows: { Self → List Allowed → Type 0 };
+    /// In a state, these are the tables.
+    ghost gives_rows: { Self → Timed → Type 0 };
 
     /// The reply to a request.
     ///
@@ -50,13 +52,14 @@ pub trait Desk {
             gives_events self.old key.now (option_map (λ v. v.items) events)) }
         ensures unchanged { self.new ≡ self.old };
 
-    /// The rows of the table in their order. They leave the desk as it was.
+    /// The tables in order of time: each one's starting time, in milliseconds since the Unix epoch, and its rows in their
+    /// order. They leave the desk as it was.
     ///
     /// # Errors
     ///
     /// `AllocError` where there is no memory for them.
-    fn rows(&mut self) -> Result<Vec<Row>, AllocError>
-        ensures rows { IfOk result (λ rows. gives_rows self.old rows.items) }
+    fn rows(&mut self) -> Result<Vec<(u64, Vec<Row>)>, AllocError>
+        ensures rows { IfOk result (λ listed. gives_rows self.old (tables_of listed.items)) }
         ensures unchanged { self.new ≡ self.old };
 
     /// A reply has an outcome that the rules have for such a request.
@@ -75,7 +78,7 @@ impl Desk for Fleet {
 
     ghost gives_events = { λ fleet key found. found ≡ events_in fleet.history key };
 
-    ghost gives_rows = { λ fleet rows. rows ≡ fleet.tables };
+    ghost gives_rows = { λ fleet tables. tables ≡ fleet.tables };
 
     ghost of_its_kind = { λ old request reply new calls. given_is_for old.tables
         (requests_of old.history (key_of request)) request reply.outcome (calls.answer).outcome };
@@ -88,15 +91,33 @@ impl Desk for Fleet {
         Fleet::events(self, self.allocator(), key)
     }
 
-    fn rows(&mut self) -> Result<Vec<Row>, AllocError> {
-        self.table().rows(self.allocator())
+    fn rows(&mut self) -> Result<Vec<(u64, Vec<Row>)>, AllocError> {
+        listed(self.allocator(), self.tables())
     }
+}
+
+/// The starting times of tables and their rows, in order of time.
+///
+/// # Errors
+///
+/// `AllocError` where there is no memory for them.
+fn listed(alloc: Global, tables: &Tables) -> Result<Vec<(u64, Vec<Row>)>, AllocError>
+    ensures { IfOk result (λ listed. tables_of listed.items ≡ tables.now) }
+{
+    let mut list = Vec::with_capacity(alloc, tables.len())?;
+    for at in 0..tables.len() {
+        if let Some((start, table)) = tables.entry(at) {
+            let rows = table.rows(alloc)?;
+            list.push((start, rows))?;
+        }
+    }
+    Ok(list)
 }
 
 /// A caller's seat at a book, as a desk. Its calls wait for the locks of the book.
 #[derive(Drop)]
 pub struct SeatDesk<'a, R: Wait, L: ShardLedger, M: ShardLedger> {
-    /// Where the memory for the events and the rows comes from.
+    /// Where the memory for the events and the tables comes from.
     pub alloc: Global,
     /// The handle by which it waits.
     pub rt: &'a R,
@@ -119,7 +140,7 @@ impl<R: Wait, L: ShardLedger, M: ShardLedger> Desk for SeatDesk<'_, R, L, M> {
 
     ghost gives_events = { λ desk. GivesEvents desk.book.now.tables };
 
-    ghost gives_rows = { λ desk rows. rows ≡ desk.book.now.tables };
+    ghost gives_rows = { λ desk tables. tables ≡ desk.book.now.tables };
 
     ghost of_its_kind = { λ old request reply new calls. let answered = calls.2.0 in
         given_is_for old.book.now.tables (requests_of answered.history (key_of request)) request
@@ -133,7 +154,7 @@ impl<R: Wait, L: ShardLedger, M: ShardLedger> Desk for SeatDesk<'_, R, L, M> {
         self.book.vehicle_events(self.rt, self.alloc, key)
     }
 
-    fn rows(&mut self) -> Result<Vec<Row>, AllocError> {
-        self.book.table().rows(self.alloc)
+    fn rows(&mut self) -> Result<Vec<(u64, Vec<Row>)>, AllocError> {
+        listed(self.alloc, self.book.tables())
     }
 }

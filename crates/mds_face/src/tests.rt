@@ -5,6 +5,7 @@ mod growths;
 mod lengths;
 mod reading;
 mod seats;
+mod tables;
 
 ghost use Rattle.std.specs.Prelude.{◌≡◌, IfOk};
 

@@ -20,13 +20,13 @@ IsSettledEnd book seats (Err stop) = ⊥
 abbrev pub AreWorkers : ℕ → List Seated → Type 0
 AreWorkers count seats = (length seats ≡ count) × All (λ seat. seat.keeps_all ≡ false) seats
 
--- what a book of this table held in the end, with the seats of so many workers
-pub record IsLeft (table : Tables) (count : ℕ) (all : Collected) : Type 0 where
-  pub tables : all.tables ≡ table
+-- what a book over these tables held in the end, with the seats of so many workers
+pub record IsLeft (over : Tables) (count : ℕ) (all : Collected) : Type 0 where
+  pub tables : all.tables ≡ over
   pub workers : AreWorkers count all.seats
   pub whole : IsWhole all
 
--- what serving with this table and so many workers came to: the settled book, or the place at which what was left is torn; or it
+-- what serving with these tables and so many workers came to: the settled book, or the place at which what was left is torn; or it
 -- stopped before
 abbrev pub IsEnded : Tables → ℕ → Result Collected Stop → Type 0
 IsEnded tables workers (Ok all) = IsLeft tables workers all × IsSettledBook all

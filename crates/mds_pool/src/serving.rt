@@ -9,7 +9,7 @@ use mds_book::{
     Book, Keep, OpenFault, OpenGate, Seat, SettleFault, Settled, ShardLedger, reconcile,
 };
 use mds_face::Face;
-use mds_table::Table;
+use mds_table::Tables;
 use std::alloc::Global;
 use std::hash::RandomState;
 use std::sync::Wait;
@@ -35,8 +35,8 @@ pub enum Stop {
 /// What a book is opened with.
 #[derive(Drop)]
 pub struct NewBook {
-    /// Its table.
-    pub table: Table,
+    /// Its tables.
+    pub tables: Tables,
     /// The number of its seats.
     pub seats: usize,
     /// The ledger of the first shard, blank, cut into a part for each seat.
@@ -48,14 +48,14 @@ pub struct NewBook {
 }
 
 impl NewBook {
-    /// A book over this table with so many seats, ledgers that were cut for them, and these hashers.
-    pub fn of(table: Table, seats: usize, hashers: [RandomState; 2]) -> NewBook
-        ensures table { result.table ≡ table }
+    /// A book over these tables with so many seats, ledgers that were cut for them, and these hashers.
+    pub fn of(tables: Tables, seats: usize, hashers: [RandomState; 2]) -> NewBook
+        ensures tables { result.tables ≡ tables }
         ensures seats { result.seats ≡ seats }
         ensures parts { (result.first.parts ≡ seats) × (result.second.parts ≡ seats) }
     {
         NewBook {
-            table,
+            tables,
             seats,
             first: Blank::new(seats as u64),
             second: Blank::new(seats as u64),
@@ -84,12 +84,12 @@ where
     requires second { (opening.second.name ≡ M.name) × (opening.second.parts ≡ M.parts) }
     requires parts { (opening.first.parts ≡ opening.seats)
         × (opening.second.parts ≡ opening.seats) }
-    requires table { (opening.table ≡ L.tables) × (opening.table ≡ M.tables) }
+    requires tables { (opening.tables ≡ L.tables) × (opening.tables ≡ M.tables) }
     requires seats { IsSeatCount opening.seats }
-    ensures { IsEnded opening.table opening.seats result }
+    ensures { IsEnded opening.tables opening.seats result }
 {
     let NewBook {
-        table,
+        tables,
         seats,
         first,
         second,
@@ -97,7 +97,7 @@ where
     } = opening;
     let (book, list) = match Book::<L, M>::open(
         alloc,
-        table,
+        tables,
         seats,
         Keep::Accepted,
         first,

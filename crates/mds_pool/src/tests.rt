@@ -6,7 +6,7 @@ ghost use Rattle.std.specs.Prelude.{◌≡◌};
 use crate::{Ending, PoolCause, Port, PortFault, serve};
 use mds_book::{Book, Gate, Keep, OpenGate, ShardLedger, reconcile};
 use mds_face::Face;
-use mds_table::Table;
+use mds_table::{Table, Tables};
 use std::alloc::Global;
 use std::hash::RandomState;
 use std::io::{self, Write};
@@ -136,7 +136,7 @@ fn served_by<
     gate: &G,
     seats: usize,
     each: usize,
-    table: Table,
+    tables: Tables,
     first: Blank,
     second: Blank,
 ) -> Result<Came, Fail>
@@ -145,12 +145,12 @@ where
     P::Out: Send,
     requires first { (first.name ≡ L.name) × (first.parts ≡ L.parts) × (first.parts ≡ seats) }
     requires second { (second.name ≡ M.name) × (second.parts ≡ M.parts) × (second.parts ≡ seats) }
-    requires table { (table ≡ L.tables) × (table ≡ M.tables) }
+    requires tables { (tables ≡ L.tables) × (tables ≡ M.tables) }
 {
     let hashers = [RandomState::new(rt)?, RandomState::new(rt)?];
     let (book, list) = Book::<L, M>::open(
         alloc,
-        table,
+        tables,
         seats,
         Keep::Accepted,
         first,
@@ -203,11 +203,11 @@ fn comes_to<R: Threads + Wait + RandomSource + Sync, G: Gate + Sync>(
         good: &begun,
         at_once: &ended,
     };
-    let table = Table::profile(alloc)?;
+    let tables = Tables::one(alloc, Table::profile(alloc)?)?;
     let first = Blank::new(seats as u64);
     let second = Blank::new(seats as u64);
     let found = served_by::<R, Requests<'_>, G, Brand, Brand>(
-        rt, alloc, &port, gate, seats, each, table, first, second,
+        rt, alloc, &port, gate, seats, each, tables, first, second,
     )?;
     let wanted = Came {
         failed,

@@ -12,7 +12,7 @@ pub enum Aim<V> {
     One(V),
     /// `GET /vehicles/{provider}/{device}/events`: the accepted events of a vehicle.
     History(V),
-    /// `GET /table`: the rows of the table.
+    /// `GET /table`: the tables, by their rows.
     Rows,
 }
 

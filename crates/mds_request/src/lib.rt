@@ -7,7 +7,7 @@
 //! - `POST /events`: events;
 //! - `GET /vehicles/{provider}/{device}`: one vehicle;
 //! - `GET /vehicles/{provider}/{device}/events`: its accepted events;
-//! - `GET /table`: the rows of the table.
+//! - `GET /table`: the tables, by their rows.
 #![tactic(auto)]
 
 mod aim;

@@ -25,7 +25,7 @@ pub enum Plan {
     One(Key),
     /// The accepted events of a vehicle.
     History(Key),
-    /// The rows of the table.
+    /// The tables, by their rows.
     Rows,
 }
 

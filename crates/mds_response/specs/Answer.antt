@@ -10,10 +10,10 @@ use Rattle.mds_batch.specs.declared.item.ItemFault.{ItemFault}
 use Rattle.mds_batch.specs.Asking.{vehicle_fault, event_fault}
 use Rattle.mds_request.specs.Asked.{Asked, Fixed, Vehicles, Events, One, History, Rows, Fault, fault_word}
 use Rattle.mds_request.specs.Asked.{BadHead, TransferEncoding, NotFound, MethodNotAllowed, LengthRequired, BadLength, TooLong, CutShort, NotJson, NotList, TooMany}
-use Rattle.mds_response.specs.Found.{Finding, replies_in, standing_in, events_in, rows_in, accepted_in}
+use Rattle.mds_response.specs.Found.{Finding, replies_in, standing_in, events_in, tables_in, accepted_in}
 use Rattle.mds_response.specs.Verdicts.{verdicts, failures_from}
 use Rattle.mds_response.specs.Json.{standing_text}
-use Rattle.mds_response.specs.Bodies.{fault_body, memory_body, batch_body, events_body, rows_body}
+use Rattle.mds_response.specs.Bodies.{fault_body, memory_body, batch_body, events_body, tables_body}
 use Rattle.mds_response.specs.Head.{Answer}
 use Rattle.mds_response.specs.declared.failure.Cause.{Cause}
 
@@ -86,7 +86,7 @@ content_of (Vehicles items) found = batch_content (map vehicle_fault items) (rep
 content_of (Events items) found = batch_content (map event_fault items) (replies_in found)
 content_of (One key) found = look_content key (standing_in found)
 content_of (History key) found = events_content (events_in found)
-content_of Rows found = is_there (rows_body (rows_in found))
+content_of Rows found = is_there (tables_body (tables_in found))
 
 -- the answer to what was asked for, by what was found
 abbrev pub answer_to : Asked → Finding → Answer

@@ -1,9 +1,9 @@
 -- The bodies of answers: one text of JSON each.
-use Rattle.std.specs.Prelude.{ℕ, List, codes, decimal}
-use Rattle.mds_table.specs.declared.row.Row.{Row}
+use Rattle.std.specs.Prelude.{ℕ, List, [], ◌∷◌, codes, decimal}
+use Rattle.mds_table.specs.Tables.{Tables, rows_of}
 use Rattle.mds_core.specs.Reported.{Reported}
 use Rattle.mds_response.specs.declared.failure.Failure.{Failure}
-use Rattle.mds_response.specs.Json.{◌+++◌, with_commas, event_text, row_text, failure_text}
+use Rattle.mds_response.specs.Json.{◌+++◌, with_commas, event_text, row_text, table_text, failure_text}
 
 -- the body of a fault of this word
 abbrev pub fault_body : List ℕ → List ℕ
@@ -23,6 +23,7 @@ batch_body failures success total =
 abbrev pub events_body : List Reported → List ℕ
 events_body events = codes "{\"events\":[" +++ with_commas event_text events +++ codes "]}"
 
--- the body of a table, which is a table file too
-abbrev pub rows_body : List Row → List ℕ
-rows_body rows = codes "{\"rows\":[" +++ with_commas row_text rows +++ codes "]}"
+-- the body of tables, which is a file of them too: one table by its rows alone, more with their starting times
+abbrev pub tables_body : Tables → List ℕ
+tables_body (table ∷ []) = codes "{\"rows\":[" +++ with_commas row_text (rows_of table) +++ codes "]}"
+tables_body tables = codes "{\"tables\":[" +++ with_commas table_text tables +++ codes "]}"

@@ -1,6 +1,7 @@
 -- What a desk found of what a request asks for, as plain data.
-use Rattle.std.specs.Prelude.{ℕ, List, [], Option, Some, None, option_map, count_by}
+use Rattle.std.specs.Prelude.{ℕ, List, [], Vec, map, Option, Some, None, option_map, count_by}
 use Rattle.mds_table.specs.declared.row.Row.{Row}
+use Rattle.mds_table.specs.Tables.{Tables}
 use Rattle.mds_core.specs.declared.reply.Standing.{Standing}
 use Rattle.mds_core.specs.declared.reply.Outcome.{Outcome}
 use Rattle.mds_core.specs.declared.reply.Outcome.TheVariants.{Done, Seen, Refused}
@@ -10,13 +11,17 @@ use Rattle.mds_core.specs.Headline.{is_done}
 use Rattle.mds_response.specs.declared.found.Found.{Found}
 use Rattle.mds_response.specs.declared.found.Found.TheVariants as found
 
--- what was found: nothing, the replies to the items of a POST, the reply to a look, the events of a vehicle, or rows
+-- what was found: nothing, the replies to the items of a POST, the reply to a look, the events of a vehicle, or tables
 pub data Finding : Type 0 where
   Nothing : Finding
   Replies : List Reply → Finding
   One : Reply → Finding
   History : Option (List Reported) → Finding
-  Rows : List Row → Finding
+  Rows : Tables → Finding
+
+-- the tables that are listed by their starting times and their rows
+abbrev pub tables_of : {A : Type 0} → List (ℕ × Vec Row A) → Tables
+tables_of listed = map (λ entry. (entry.0, entry.1.items)) listed
 
 -- what was found as plain data
 abbrev pub finding_in : Found → Finding
@@ -24,7 +29,7 @@ finding_in found.Nothing = Nothing
 finding_in (found.Replies replies) = Replies replies.items
 finding_in (found.One reply) = One reply
 finding_in (found.History events) = History (option_map (λ events. events.items) events)
-finding_in (found.Rows rows) = Rows rows.items
+finding_in (found.Rows listed) = Rows (tables_of listed.items)
 
 -- the replies to items: none where something else was found
 abbrev pub replies_in : Finding → List Reply
@@ -47,10 +52,10 @@ abbrev pub events_in : Finding → Option (List Reported)
 events_in (History events) = events
 events_in finding = None
 
--- the rows of a table: none where something else was found
-abbrev pub rows_in : Finding → List Row
-rows_in (Rows rows) = rows
-rows_in finding = []
+-- the tables: none where something else was found
+abbrev pub tables_in : Finding → Tables
+tables_in (Rows tables) = tables
+tables_in finding = []
 
 -- how many of the replies accept
 abbrev pub accepted_in : List Reply → ℕ

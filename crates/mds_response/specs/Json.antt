@@ -5,6 +5,7 @@ use Rattle.std.specs.Fmt.{signed_decimal}
 use Rattle.uuid.specs.Text.{hyphenated_text, lower}
 use Rattle.mds_table.specs.State.{name_of}
 use Rattle.mds_table.specs.declared.row.Row.{Row}
+use Rattle.mds_table.specs.Tables.{Entry, start_of, rows_of}
 use Rattle.mds_core.specs.declared.key.Key.{Key}
 use Rattle.mds_core.specs.declared.position.Position.{Position}
 use Rattle.mds_core.specs.declared.reply.Standing.{Standing}
@@ -67,6 +68,12 @@ event_text event =
 abbrev pub row_text : Row → List ℕ
 row_text row =
     codes "{\"from\":\"" +++ name_of row.from +++ codes "\",\"to\":\"" +++ name_of row.to +++ codes "\",\"type\":\"" +++ row.kind +++ codes "\"}"
+
+-- a table and the time from which it is in force, as a file of several tables has them
+abbrev pub table_text : Entry → List ℕ
+table_text table =
+    codes "{\"from_time\":" +++ decimal (start_of table)
+    +++ codes ",\"rows\":[" +++ with_commas row_text (rows_of table) +++ codes "]}"
 
 -- a failure of this word and index, with what else it tells behind them
 abbrev pub told_text : List ℕ → ℕ → List ℕ → List ℕ

@@ -1,8 +1,8 @@
 //! The bodies of answers.
 ghost use Rattle.std.specs.Prelude.{◌≡◌, IfOk, IfSome, map, option_map, string_bytes};
 ghost use Rattle.mds_request.specs.Asked.{asked_in};
-ghost use Rattle.mds_response.specs.Found.{finding_in};
-ghost use Rattle.mds_response.specs.Bodies.{fault_body, rows_body};
+ghost use Rattle.mds_response.specs.Found.{finding_in, tables_of};
+ghost use Rattle.mds_response.specs.Bodies.{fault_body, tables_body};
 ghost use Rattle.mds_response.specs.Answer.{answer_to, batch_content, look_content, events_content};
 
 use crate::Found;
@@ -31,7 +31,7 @@ pub(crate) fn body_of(alloc: Global, plan: &Plan, found: &Found) -> Result<Strin
         Plan::Events(items) => batch_body(alloc, items, found.replies()),
         Plan::One(key) => look_body(alloc, key, found.standing()),
         Plan::History(_) => events_body(alloc, found.events()),
-        Plan::Rows => rows_body(alloc, found.rows()),
+        Plan::Rows => tables_body(alloc, found.tables()),
     }
 }
 
@@ -90,10 +90,19 @@ fn events_body(alloc: Global, events: Option<&[Event]>) -> Result<String, AllocE
     }
 }
 
-/// The body of the rows of a table.
-fn rows_body(alloc: Global, rows: &[Row]) -> Result<String, AllocError>
-    ensures { IfOk result (λ body. string_bytes body ≡ rows_body rows.now) }
+/// The body of tables by their starting times and rows: of one table its rows alone.
+#[tactic(auto, using(crate::proofs::BodyLaws::several_listed))]
+fn tables_body(alloc: Global, tables: &[(u64, Vec<Row>)]) -> Result<String, AllocError>
+    ensures { IfOk result (λ body. string_bytes body ≡ tables_body (tables_of tables.now)) }
 {
-    let rows = Commas { items: rows };
-    format!(in alloc; "{{\"rows\":[{rows}]}}")
+    match tables {
+        [(_, rows)] => {
+            let rows = Commas { items: rows };
+            format!(in alloc; "{{\"rows\":[{rows}]}}")
+        }
+        _ => {
+            let tables = Commas { items: tables };
+            format!(in alloc; "{{\"tables\":[{tables}]}}")
+        }
+    }
 }

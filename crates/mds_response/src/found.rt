@@ -1,6 +1,6 @@
 //! What was found of what a request asks for.
 ghost use Rattle.std.specs.Prelude.{◌≡◌, option_map};
-ghost use Rattle.mds_response.specs.Found.{finding_in, replies_in, standing_seen, standing_in, events_in, rows_in, accepted_in};
+ghost use Rattle.mds_response.specs.Found.{finding_in, replies_in, standing_seen, standing_in, events_in, tables_in, tables_of, accepted_in};
 
 use mds_core::{Event, Outcome, Reply, Standing};
 use mds_table::Row;
@@ -16,8 +16,8 @@ pub enum Found {
     One(Reply),
     /// The accepted events of a vehicle, or `None` where it isn't registered.
     History(Option<Vec<Event>>),
-    /// The rows of the table.
-    Rows(Vec<Row>),
+    /// The tables in order of time: each one's starting time, in milliseconds since the Unix epoch, and its rows.
+    Rows(Vec<(u64, Vec<Row>)>),
 }
 
 impl Found {
@@ -58,12 +58,12 @@ impl Found {
         }
     }
 
-    /// The rows of a table: none where something else was found.
-    pub(crate) fn rows(&self) -> &[Row]
-        ensures { result.now ≡ rows_in (finding_in self.now) }
+    /// The tables by their starting times and rows: none where something else was found.
+    pub(crate) fn tables(&self) -> &[(u64, Vec<Row>)]
+        ensures { tables_of result.now ≡ tables_in (finding_in self.now) }
     {
         match self {
-            Found::Rows(rows) => rows,
+            Found::Rows(tables) => tables,
             _ => &[],
         }
     }

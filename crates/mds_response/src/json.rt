@@ -1,7 +1,7 @@
 //! Texts of JSON (RFC 8259).
 ghost use Rattle.std.specs.Prelude.{Some};
 ghost use Rattle.std.specs.Fmt.{DisplaysOnOk};
-ghost use Rattle.mds_response.specs.Json.{with_commas, quoted, time_text, position_text, standing_text, event_text, row_text, cause_text, failure_text};
+ghost use Rattle.mds_response.specs.Json.{with_commas, quoted, time_text, position_text, standing_text, event_text, row_text, table_text, cause_text, failure_text};
 
 use crate::{Cause, Failure};
 use mds_batch::ItemFault;
@@ -155,6 +155,17 @@ impl Json for Row {
             f,
             "{{\"from\":\"{from}\",\"to\":\"{to}\",\"type\":\"{kind}\"}}"
         )
+    }
+}
+
+/// A table by its starting time and its rows.
+impl Json for (u64, Vec<Row>) {
+    ghost json = { λ table. table_text (table.0, table.1.items) };
+
+    fn write_json<W: fmt::Write>(&self, f: &mut Formatter<W>) -> fmt::Result {
+        let (start, rows) = self;
+        let rows = Commas { items: rows };
+        write!(f, "{{\"from_time\":{start},\"rows\":[{rows}]}}")
     }
 }
 

@@ -2,6 +2,7 @@
 mod batches;
 mod faults;
 mod growths;
+mod tables;
 mod vehicles;
 
 use crate::{Found, bytes_of};

@@ -1,11 +1,12 @@
 //! What no clause says: the worked cases, and that each call can succeed.
 mod cases;
 mod many;
+mod timed;
 
 use crate::Note;
 use mds_core::{Event, Key, Outcome, Reply, Request};
-use mds_table::{State, TypeName};
-use std::alloc::Global;
+use mds_table::{State, Table, Tables, TypeName};
+use std::alloc::{AllocError, Global};
 use std::test::Fail;
 use uuid::Uuid;
 
@@ -21,6 +22,10 @@ const E1: u64 = 0x8000_0000_0000_00e1;
 
 const E2: u64 = 0x8000_0000_0000_00e2;
 
+const E3: u64 = 0x8000_0000_0000_00e3;
+
+const E4: u64 = 0x8000_0000_0000_00e4;
+
 /// What is asked; an event is told by its vehicle, identifier, type, state and time.
 #[derive(Clone, Copy)]
 enum Ask {
@@ -31,6 +36,11 @@ enum Ask {
 
 /// A note: the shard that was asked, what was asked, and the place and the outcome of the reply.
 type Noted = (usize, Ask, usize, Outcome);
+
+/// The profile's table, in force from 0 on.
+fn profile(alloc: Global) -> Result<Tables, AllocError> {
+    Tables::one(alloc, Table::profile(alloc)?)
+}
 
 /// The identifier with this lower half.
 fn uuid(lower: u64) -> Uuid {

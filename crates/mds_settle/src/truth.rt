@@ -8,26 +8,28 @@ ghost use Rattle.mds_settle.specs.Bounds.{IsBelow, IsLowered, IsTrueTo, IsWrong,
 use crate::same::{is_same_reply, is_same_request};
 use crate::{Note, NoteList};
 use mds_core::{Outcome, Request, answer};
-use mds_table::Table;
+use mds_table::Tables;
 
 /// The least place of a wrong note of the shard, of any list, or the bound where there is none below it.
 pub(crate) fn lowered_by_lists<S: NoteList>(
     lawful: bool,
-    table: &Table,
+    tables: &Tables,
     shard: usize,
     history: &[Request],
     lists: &[S],
     bound: Option<usize>,
 ) -> Option<usize>
-    requires { lawful ≡ true → IsLawful table.now history.now }
+    requires { lawful ≡ true → IsLawful tables.now history.now }
     ensures { IsLowered
-        (λ new. All (λ list. All (IsTrueBelow table.now shard history.now new) (S.seen list)) lists.now)
-        (λ place. Any (λ list. Any (IsWrongAt table.now shard history.now place) (S.seen list)) lists.now)
+        (λ new. All (λ list.
+        All (IsTrueBelow tables.now shard history.now new) (S.seen list)) lists.now)
+        (λ place. Any (λ list.
+        Any (IsWrongAt tables.now shard history.now place) (S.seen list)) lists.now)
         bound result }
 {
     let mut least = bound;
     for list in lists {
-        least = lowered_by_notes(lawful, table, shard, history, list.notes(), least);
+        least = lowered_by_notes(lawful, tables, shard, history, list.notes(), least);
     }
     least
 }
@@ -35,21 +37,21 @@ pub(crate) fn lowered_by_lists<S: NoteList>(
 /// The same of one list.
 fn lowered_by_notes(
     lawful: bool,
-    table: &Table,
+    tables: &Tables,
     shard: usize,
     history: &[Request],
     notes: &[Note],
     bound: Option<usize>,
 ) -> Option<usize>
-    requires { lawful ≡ true → IsLawful table.now history.now }
+    requires { lawful ≡ true → IsLawful tables.now history.now }
     ensures { IsLowered
-        (λ new. All (IsTrueBelow table.now shard history.now new) notes.now)
-        (λ place. Any (IsWrongAt table.now shard history.now place) notes.now)
+        (λ new. All (IsTrueBelow tables.now shard history.now new) notes.now)
+        (λ place. Any (IsWrongAt tables.now shard history.now place) notes.now)
         bound result }
 {
     let mut least = bound;
     for note in notes {
-        least = lowered_by_note(lawful, table, shard, history, note, least);
+        least = lowered_by_note(lawful, tables, shard, history, note, least);
     }
     least
 }
@@ -57,20 +59,20 @@ fn lowered_by_notes(
 /// The same of one note.
 fn lowered_by_note(
     lawful: bool,
-    table: &Table,
+    tables: &Tables,
     shard: usize,
     history: &[Request],
     note: &Note,
     bound: Option<usize>,
 ) -> Option<usize>
-    requires { lawful ≡ true → IsLawful table.now history.now }
+    requires { lawful ≡ true → IsLawful tables.now history.now }
     ensures { IsLowered
-        (λ new. IsTrueBelow table.now shard history.now new note.now)
-        (λ place. IsWrongAt table.now shard history.now place note.now)
+        (λ new. IsTrueBelow tables.now shard history.now new note.now)
+        (λ place. IsWrongAt tables.now shard history.now place note.now)
         bound result }
 {
     let place = note.reply.place;
-    if note.shard != shard || !is_below(place, bound) || is_true(lawful, table, history, note) {
+    if note.shard != shard || !is_below(place, bound) || is_true(lawful, tables, history, note) {
         return bound;
     }
     Some(place)
@@ -88,10 +90,10 @@ pub(crate) fn is_below(place: usize, bound: Option<usize>) -> bool
 }
 
 /// Whether the note's reply is right, and its place, if it is accepted. In a lawful history the second tells the first.
-fn is_true(lawful: bool, table: &Table, history: &[Request], note: &Note) -> bool
-    requires { lawful ≡ true → IsLawful table.now history.now }
-    ensures yes { result ≡ true → IsTrueTo table.now history.now note.now }
-    ensures no { result ≡ false → IsWrong table.now history.now note.now }
+fn is_true(lawful: bool, tables: &Tables, history: &[Request], note: &Note) -> bool
+    requires { lawful ≡ true → IsLawful tables.now history.now }
+    ensures yes { result ≡ true → IsTrueTo tables.now history.now note.now }
+    ensures no { result ≡ false → IsWrong tables.now history.now note.now }
 {
     if is_done(&note.reply.outcome) {
         if !is_stored(history, note) {
@@ -101,7 +103,7 @@ fn is_true(lawful: bool, table: &Table, history: &[Request], note: &Note) -> boo
             return true;
         }
     }
-    has_right_reply(table, history, note)
+    has_right_reply(tables, history, note)
 }
 
 /// Whether the request was accepted.
@@ -122,11 +124,11 @@ fn is_stored(history: &[Request], note: &Note) -> bool
 }
 
 /// Whether the history has as many entries as the note's place says, and the reply is the answer after so many.
-fn has_right_reply(table: &Table, history: &[Request], note: &Note) -> bool
-    ensures { IsTrue result ↔ HasRightReply table.now history.now note.now }
+fn has_right_reply(tables: &Tables, history: &[Request], note: &Note) -> bool
+    ensures { IsTrue result ↔ HasRightReply tables.now history.now note.now }
 {
     match history.get(..note.reply.place) {
-        Some(before) => is_same_reply(&answer(table, before, &note.request), &note.reply),
+        Some(before) => is_same_reply(&answer(tables, before, &note.request), &note.reply),
         None => false,
     }
 }

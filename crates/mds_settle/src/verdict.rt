@@ -10,10 +10,11 @@ use crate::count::first_miscounted;
 use crate::order::lowered_by_orders;
 use crate::truth::lowered_by_lists;
 use mds_core::Request;
-use mds_table::Table;
+use mds_table::Tables;
 
 /// Whether the notes of a shard's callers, one list for each of them, fit the shard's history: those notes count that
-/// are of the shard. It takes no memory.
+/// are of the shard. The tables decide what the answer to a request is: an event is judged by the table in force at its
+/// time. It takes no memory.
 ///
 /// An accepted note is answered from the whole history before its place, as a refusal is and a look: where the history
 /// is known to be lawful, [`judge_lawful`] is faster.
@@ -28,15 +29,15 @@ use mds_table::Table;
 /// - a caller's note with this place follows one of its notes with a greater place, or one of its accepted notes with
 ///   this place.
 pub fn judge<S: NoteList>(
-    table: &Table,
+    tables: &Tables,
     shard: usize,
     history: &[Request],
     notes: &[S],
 ) -> Result<(), usize>
-    ensures exact { IsOk result ↔ IsSettled table.now shard history.now S.seen notes.now }
-    ensures fault { IfErr result (IsLeastFault table.now shard history.now S.seen notes.now) }
+    ensures exact { IsOk result ↔ IsSettled tables.now shard history.now S.seen notes.now }
+    ensures fault { IfErr result (IsLeastFault tables.now shard history.now S.seen notes.now) }
 {
-    judge_with(false, table, shard, history, notes)
+    judge_with(false, tables, shard, history, notes)
 }
 
 /// [`judge`] for a history that is lawful, as a shard's history is at every moment. There an accepted note is right
@@ -48,33 +49,33 @@ pub fn judge<S: NoteList>(
 ///
 /// As in [`judge`].
 pub fn judge_lawful<S: NoteList>(
-    table: &Table,
+    tables: &Tables,
     shard: usize,
     history: &[Request],
     notes: &[S],
 ) -> Result<(), usize>
-    requires { IsLawful table.now history.now }
-    ensures exact { IsOk result ↔ IsSettled table.now shard history.now S.seen notes.now }
-    ensures fault { IfErr result (IsLeastFault table.now shard history.now S.seen notes.now) }
+    requires { IsLawful tables.now history.now }
+    ensures exact { IsOk result ↔ IsSettled tables.now shard history.now S.seen notes.now }
+    ensures fault { IfErr result (IsLeastFault tables.now shard history.now S.seen notes.now) }
 {
-    judge_with(true, table, shard, history, notes)
+    judge_with(true, tables, shard, history, notes)
 }
 
 /// Judges; `lawful` tells that the history is known to be so. Each of three looks lowers the place of the least fault so
 /// far: at wrong notes, at late ones, and at places that haven't exactly one accepted note.
 fn judge_with<S: NoteList>(
     lawful: bool,
-    table: &Table,
+    tables: &Tables,
     shard: usize,
     history: &[Request],
     lists: &[S],
 ) -> Result<(), usize>
-    requires { lawful ≡ true → IsLawful table.now history.now }
+    requires { lawful ≡ true → IsLawful tables.now history.now }
     ensures { MatchResult result
-        (λ _. IsSettled table.now shard history.now S.seen lists.now)
-        (IsLeastFault table.now shard history.now S.seen lists.now) }
+        (λ _. IsSettled tables.now shard history.now S.seen lists.now)
+        (IsLeastFault tables.now shard history.now S.seen lists.now) }
 {
-    let wrong = lowered_by_lists(lawful, table, shard, history, lists, None);
+    let wrong = lowered_by_lists(lawful, tables, shard, history, lists, None);
     let late = lowered_by_orders(shard, lists, wrong);
     let end = end_of(late, history.len());
     match first_miscounted(shard, end, lists) {

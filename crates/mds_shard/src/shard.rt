@@ -12,19 +12,19 @@ use indexmap::{IndexMap, IndexSet};
 use mds_core::{
     Event, EventName, Key, Known, Outcome, Reply, Request, Standing, decide, standing_after,
 };
-use mds_table::Table;
+use mds_table::Tables;
 use std::alloc::{AllocError, Global};
 use std::hash::RandomState;
 use std::marker::Model;
 
-/// The machine of one shard, over one table. Beside its history it keeps where each vehicle stands, the names of the events
-/// that were accepted, and for each entry of the history the place of the vehicle's entry before it; so no call looks
-/// through the history.
+/// The machine of one shard, over the tables that decide. Beside its history it keeps where each vehicle stands, the names of
+/// the events that were accepted, and for each entry of the history the place of the vehicle's entry before it; so no call
+/// looks through the history.
 ///
 /// Every shard is such that its history could have been accepted, and what it keeps beside it is what the history says.
 #[derive(Debug, Drop)]
 pub struct Shard {
-    table: Table,
+    tables: Tables,
     history: Vec<Request>,
     before: Vec<Option<usize>>,
     vehicles: IndexMap<Key, Vehicle, RandomState>,
@@ -37,20 +37,20 @@ impl Model for Shard {
 
     ghost Value = { Machine };
 
-    ghost view = { λ shard. record { tables = shard.table; history = shard.history.items } };
+    ghost view = { λ shard. record { tables = shard.tables; history = shard.history.items } };
 
-    ghost invariant = { λ shard. IsReplay shard.table shard.history.items
+    ghost invariant = { λ shard. IsReplay shard.tables shard.history.items
         shard.before.items shard.vehicles shard.names };
 }
 
 impl Shard {
-    /// A shard over the table, with nothing accepted yet. It takes no memory. Its look-ups hash by `hasher`: where that is
+    /// A shard over the tables, with nothing accepted yet. It takes no memory. Its look-ups hash by `hasher`: where that is
     /// random, nobody can pick keys and identifiers that make them slow.
-    pub fn open(alloc: Global, table: Table, hasher: RandomState) -> Shard
-        ensures { result ≡ record { tables = table; history = [] } }
+    pub fn open(alloc: Global, tables: Tables, hasher: RandomState) -> Shard
+        ensures { result ≡ record { tables = tables; history = [] } }
     {
         Shard {
-            table,
+            tables,
             history: Vec::new(alloc),
             before: Vec::new(alloc),
             vehicles: IndexMap::with_hasher(alloc, hasher),
@@ -75,7 +75,7 @@ impl Shard {
         };
         let reply = Reply {
             place: self.history.len(),
-            outcome: decide(&self.table, &known, request),
+            outcome: decide(&self.tables, &known, request),
         };
         if let Outcome::Done = reply.outcome {
             self.accept(request, vehicle)?;
@@ -170,11 +170,11 @@ impl Shard {
         Ok(Some(events))
     }
 
-    /// The table that decides.
-    pub fn table(&self) -> &Table
+    /// The tables that decide, each event by the one in force at its time.
+    pub fn tables(&self) -> &Tables
         ensures { result.now ≡ self.now.tables }
     {
-        &self.table
+        &self.tables
     }
 
     /// The number of accepted requests.

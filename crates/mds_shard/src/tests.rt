@@ -3,11 +3,12 @@
 mod cases;
 mod growths;
 mod many;
+mod timed;
 
 use crate::Shard;
 use mds_core::{Event, Key, Reply, Request};
-use mds_table::{State, Table, TypeName};
-use std::alloc::Global;
+use mds_table::{State, Table, Tables, TypeName};
+use std::alloc::{AllocError, Global};
 use std::hash::RandomState;
 use std::test::Fail;
 use uuid::Uuid;
@@ -26,6 +27,10 @@ pub const E0: &str = "00000000-0000-4000-8000-0000000000e0";
 pub const E1: &str = "00000000-0000-4000-8000-0000000000e1";
 
 pub const E2: &str = "00000000-0000-4000-8000-0000000000e2";
+
+pub const E3: &str = "00000000-0000-4000-8000-0000000000e3";
+
+pub const E4: &str = "00000000-0000-4000-8000-0000000000e4";
 
 pub const DROP_OFF: &[&str] = &["provider_drop_off"];
 
@@ -67,16 +72,32 @@ pub fn request_of(alloc: Global, asked: Ask<'_>) -> Result<Request, Fail> {
     })
 }
 
+/// The profile's table, in force from 0 on.
+pub fn profile(alloc: Global) -> Result<Tables, AllocError> {
+    Tables::one(alloc, Table::profile(alloc)?)
+}
+
+/// A shard over the profile.
+pub fn opened(alloc: Global, hasher: RandomState) -> Result<Shard, AllocError> {
+    Ok(Shard::open(alloc, profile(alloc)?, hasher))
+}
+
+/// What the shard replies to what is asked.
+fn reply_to(alloc: Global, shard: &mut Shard, asked: Ask<'_>) -> Result<Reply, Fail> {
+    let request = request_of(alloc, asked)?;
+    Ok(shard.step(&request)?)
+}
+
 /// A shard over the profile that was asked all this, and the reply to each request.
 pub fn asked_all(
     alloc: Global,
     hasher: RandomState,
     asked: &[Ask<'_>],
 ) -> Result<(Shard, Vec<Reply>), Fail> {
-    let mut shard = Shard::open(alloc, Table::profile(alloc)?, hasher);
+    let mut shard = opened(alloc, hasher)?;
     let mut replies = Vec::new(alloc);
     for one in asked {
-        replies.push(shard.step(&request_of(alloc, *one)?)?)?;
+        replies.push(reply_to(alloc, &mut shard, *one)?)?;
     }
     Ok((shard, replies))
 }

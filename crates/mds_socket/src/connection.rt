@@ -1,15 +1,15 @@
 //! One connection, whose two ends share its stream.
 ghost use Rattle.std.specs.Prelude.{◌≡◌, ◌<◌};
+ghost use Rattle.std.specs.Io.{ReadsAtMost, WritesAtMost};
 
+use crate::head::HeadProgress;
+use crate::limits::{Part, Timer};
 use std::alloc::{AllocError, Global};
-use std::io::{self, Read, Write};
+use std::io::{self, ErrorKind, Read, Write};
 use std::net::{Shutdown, TcpStream};
 use std::sync::Arc;
 use std::sync::atomic::{AtomicBool, Ordering};
 use std::time::{Clock, Duration};
-
-/// How long one read or one write may wait for the peer, in seconds.
-const CALL_SECONDS: u64 = 30;
 
 /// How long the last bytes of a peer are waited for after the answer, in seconds: one read of them, and all of them.
 const LAST_READ_SECONDS: u64 = 2;
@@ -28,6 +28,8 @@ struct Connection<C: Clock + Copy> {
     clock: C,
     /// Whether the request was read to its end.
     is_read: AtomicBool,
+    /// Whether the peer was late: a call failed that waited for it, or there was no time left for one.
+    is_late: AtomicBool,
 }
 
 impl<C: Clock + Copy> Drop for Connection<C> {
@@ -38,18 +40,35 @@ impl<C: Clock + Copy> Drop for Connection<C> {
             stream: _,
             clock: _,
             is_read: _,
+            is_late: _,
         } = self;
     }
 }
 
 impl<C: Clock + Copy> Connection<C> {
-    /// Does what has to be done before the connection is closed: nothing where no more is expected of the peer, and nothing
-    /// came. Then the system sends the rest of the answer, and its end.
+    /// Does what has to be done before the connection is closed: nothing where the peer was late, so that it isn't waited for
+    /// any longer, or where no more is expected of it, and nothing came. Then the system sends the rest of the answer, and
+    /// its end.
     fn finish(&self) -> io::Result<()> {
+        if self.is_late.load(Ordering::SeqCst) {
+            return Ok(());
+        }
         if self.is_read.load(Ordering::SeqCst) && is_quiet(&self.stream)? {
             return Ok(());
         }
         end(&self.stream, &self.clock)
+    }
+
+    /// What a call came to; where it failed because the peer was late, that is noted.
+    fn noted(&self, came: io::Result<usize>) -> io::Result<usize>
+        ensures { result ≡ came }
+    {
+        if let Err(error) = &came
+            && matches!(error.kind(), ErrorKind::WouldBlock | ErrorKind::TimedOut)
+        {
+            self.is_late.store(true, Ordering::SeqCst);
+        }
+        came
     }
 }
 
@@ -98,33 +117,76 @@ fn is_over<C: Clock>(clock: &C, begun: Duration) -> io::Result<bool> {
     Ok(spent >= Duration::from_secs(LAST_SECONDS))
 }
 
-/// The end of a connection that gives its request.
+/// The end of a connection that gives its request. A head that isn't there within 10 seconds of the first read, and a request
+/// that isn't within 60, make a read fail.
 #[derive(Drop)]
 pub struct SocketIn<C: Clock + Copy> {
     connection: Arc<Connection<C>, Global>,
+    timer: Timer,
+    head: HeadProgress,
 }
 
 impl<C: Clock + Copy> Read for SocketIn<C> {
     fn read(&mut self, buf: &mut [u8]) -> io::Result<usize> {
-        let mut stream = &self.connection.stream;
-        stream.read(buf)
+        let came = self.read_in_time(buf);
+        self.connection.noted(came)
     }
 }
 
-/// The end of a connection that takes its answer.
+impl<C: Clock + Copy> SocketIn<C> {
+    /// One read, which waits no longer than there is time for the head, or for the request.
+    fn read_in_time(&mut self, buf: &mut [u8]) -> io::Result<usize>
+        ensures { ReadsAtMost result buf.new }
+    {
+        let part = if self.head.is_over() {
+            Part::Request
+        } else {
+            Part::Head
+        };
+        let connection = &self.connection;
+        if let Some(wait) = self.timer.next(part, connection.clock.monotonic()?)? {
+            connection.stream.set_read_timeout(Some(wait))?;
+        }
+        let mut stream = &connection.stream;
+        let count = stream.read(buf)?;
+        self.head = self.head.after_all(&buf[..count]);
+        Ok(count)
+    }
+}
+
+/// The end of a connection that takes its answer. One that isn't taken within 60 seconds of the first write makes a write
+/// fail.
 #[derive(Drop)]
 pub struct SocketOut<C: Clock + Copy> {
     connection: Arc<Connection<C>, Global>,
+    timer: Timer,
 }
 
 impl<C: Clock + Copy> Write for SocketOut<C> {
     fn write(&mut self, buf: &[u8]) -> io::Result<usize> {
-        let mut stream = &self.connection.stream;
-        stream.write(buf)
+        let came = self.write_in_time(buf);
+        self.connection.noted(came)
     }
 
     fn flush(&mut self) -> io::Result<()> {
         Ok(())
+    }
+}
+
+impl<C: Clock + Copy> SocketOut<C> {
+    /// One write, which waits no longer than there is time for the answer.
+    fn write_in_time(&mut self, buf: &[u8]) -> io::Result<usize>
+        ensures { WritesAtMost result buf.now }
+    {
+        let connection = &self.connection;
+        if let Some(wait) = self
+            .timer
+            .next(Part::Answer, connection.clock.monotonic()?)?
+        {
+            connection.stream.set_write_timeout(Some(wait))?;
+        }
+        let mut stream = &connection.stream;
+        stream.write(buf)
     }
 }
 
@@ -135,14 +197,15 @@ impl<C: Clock + Copy> SocketIn<C> {
     }
 }
 
-/// Sets the limits of a socket: how long each read and each write may wait, and that what is written is sent at once.
+/// Sets the limits of a socket: how long the first read and the first write may wait, and that what is written is sent at
+/// once.
 pub(crate) fn set_limits(stream: &TcpStream) -> io::Result<()> {
-    stream.set_read_timeout(Some(Duration::from_secs(CALL_SECONDS)))?;
-    stream.set_write_timeout(Some(Duration::from_secs(CALL_SECONDS)))?;
+    stream.set_read_timeout(Some(Part::Head.first_wait()))?;
+    stream.set_write_timeout(Some(Part::Answer.first_wait()))?;
     stream.set_nodelay(true)
 }
 
-/// The two ends of a connection over this stream.
+/// The two ends of a connection over this stream, whose limits are set.
 ///
 /// # Errors
 ///
@@ -158,8 +221,18 @@ pub(crate) fn ends_of<C: Clock + Copy>(
             stream,
             clock,
             is_read: AtomicBool::new(false),
+            is_late: AtomicBool::new(false),
         },
     )?;
     let other = Arc::try_clone(&connection)?;
-    Ok((SocketIn { connection }, SocketOut { connection: other }))
+    let input = SocketIn {
+        connection,
+        timer: Timer::new(Part::Head),
+        head: HeadProgress::new(),
+    };
+    let output = SocketOut {
+        connection: other,
+        timer: Timer::new(Part::Answer),
+    };
+    Ok((input, output))
 }

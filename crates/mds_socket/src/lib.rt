@@ -2,6 +2,9 @@
 #![tactic(auto)]
 
 mod connection;
+mod head;
+pub mod laws;
+mod limits;
 mod socket;
 
 pub use connection::{SocketIn, SocketOut};

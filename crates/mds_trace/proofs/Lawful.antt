@@ -10,7 +10,7 @@ use Rattle.std.proofs.lemmas.Option.{slice_get-get_or, slice_get_within, get_or_
 use Rattle.std.proofs.lemmas.Slice.Eq.{bytes_eq-Decides}
 use Rattle.std.proofs.Math.Seq.{get_or-append_seam}
 use Rattle.mds_table.specs.declared.state.State.TheVariants.{Removed}
-use Rattle.mds_table.specs.Tables.{Tables}
+use Rattle.mds_table.specs.Tables.{Tables, rows_at}
 use Rattle.mds_table.specs.Chain.{Leads}
 use Rattle.mds_core.specs.declared.key.Key.{Key}
 use Rattle.mds_core.specs.declared.request.Request.{Request}
@@ -95,11 +95,11 @@ module _ (tables : Tables) (key registered : Key) where
 
   -- over one event more that is open and leads on, a session may be opened
   pub open_next : (done : List Reported) (event : Reported) → All (λ (one : Reported). one.key ≡ key) done → event.key ≡ key → AreOpenFrom tables Removed done
-      → IsOpen (told done) event → Leads tables (state_of (told done)) event.types event.state → AreOpenFrom tables Removed (done ++ event ∷ [])
+      → IsOpen (told done) event → Leads (rows_at tables event.time) (state_of (told done)) event.types event.state → AreOpenFrom tables Removed (done ++ event ∷ [])
   open_next done event theirs same before is_open leads =
       let new : IsNewAfter done event = new_to event.id done (sym (ap (list_any (λ (one : Reported). bytes_eq one.id event.id)) (reports_of done)) ∙ is_open.new) in
       open_push tables Removed done event before (order_more done event before.order new (comes_next done event theirs same is_open))
-      (subst (λ state. Leads tables state event.types event.state)
+      (subst (λ state. Leads (rows_at tables event.time) state event.types event.state)
       (ap (λ events. option_map_or (λ (one : Reported). one.state) (last_or None events) Removed) (reports_of done) ∙ held_is done) leads)
 
   -- from a list over which a session may be opened, the rest of a career goes on

@@ -1,7 +1,8 @@
 -- An item has one verdict.
 use Rattle.std.proofs.Common.{◌≡◌, ℕ, ◌<◌, List, [], ◌∷◌, ◌++◌, refl, sym, ◌∙◌, ap, subst, arith}
 use Rattle.mds_table.specs.declared.state.State.{State}
-use Rattle.mds_table.specs.Tables.{Tables}
+use Rattle.mds_table.specs.declared.row.Row.{Row}
+use Rattle.mds_table.specs.Tables.{Tables, rows_at}
 use Rattle.mds_steps.specs.Stuck.{IsStuckFrom}
 use Rattle.mds_core.specs.declared.request.Request.{Request}
 use Rattle.mds_core.specs.declared.request.Request.TheVariants.{Report}
@@ -18,8 +19,8 @@ use Rattle.mds_trace.specs.Replay.{accepted_by, prior_of, as_requests, IsOutcome
 use Rattle.mds_trace.proofs.Turns.{InTurn, in_turn}
 
 -- an event gets stuck at one place
-stuck_one : (tables : Tables) (set : List State) (kinds : List (List ℕ)) (a b : ℕ) → IsStuckFrom tables set kinds a → IsStuckFrom tables set kinds b → a ≡ b
-stuck_one tables set kinds a b is_a is_b =
+stuck_one : (rows : List Row) (set : List State) (kinds : List (List ℕ)) (a b : ℕ) → IsStuckFrom rows set kinds a → IsStuckFrom rows set kinds b → a ≡ b
+stuck_one rows set kinds a b is_a is_b =
     let not_before : a < b → ⊥ = λ less. is_a.stuck (omega (arith, less, is_b.within)) (is_b.passed a less) in
     let not_after : b < a → ⊥ = λ more. is_b.stuck (omega (arith, more, is_a.within)) (is_a.passed b more) in
     omega (arith, not_before, not_after)
@@ -40,7 +41,7 @@ first_line : (tables : Tables) (event : Reported) (a b : Verdict) → IsFirst ta
 first_line tables event (Accepted a) (Accepted b) is_a is_b = ap Accepted (is_a.0 ∙ sym is_b.0)
 first_line tables event (Accepted a) (NoOpening b) is_a is_b = absurd (is_b.0 is_a.1.0 is_a.1.1)
 first_line tables event (NoOpening a) (Accepted b) is_a is_b = absurd (is_a.0 is_b.1.0 is_b.1.1)
-first_line tables event (NoOpening a) (NoOpening b) is_a is_b = ap NoOpening (stuck_one tables _ event.types a b is_a.1 is_b.1)
+first_line tables event (NoOpening a) (NoOpening b) is_a is_b = ap NoOpening (stuck_one (rows_at tables event.time) _ event.types a b is_a.1 is_b.1)
 first_line tables event (Refused a) b is_a is_b = absurd is_a
 first_line tables event (Fault a) b is_a is_b = absurd is_a
 first_line tables event (Accepted a) (Refused b) is_a is_b = absurd is_b

@@ -11,7 +11,7 @@ use Rattle.std.proofs.lemmas.Slice.Eq.{bytes_eq-Decides}
 use Rattle.std.proofs.Math.Seq.{get_or-append_seam, take-append_seam}
 use Rattle.std.proofs.lemmas.Option.{slice_get_cases, slice_get_within, slice_get-get_or, get_or_from_slice_get}
 use Rattle.mds_table.specs.declared.state.State.{State}
-use Rattle.mds_table.specs.Tables.{Tables}
+use Rattle.mds_table.specs.Tables.{Tables, rows_at}
 use Rattle.mds_table.specs.Chain.{Leads}
 use Rattle.mds_core.specs.Reported.{Reported}
 use Rattle.mds_trace.specs.declared.session_fault.SessionFault.{SessionFault}
@@ -160,26 +160,27 @@ held_at_take opening events n (suc i) within =
 module _ (tables : Tables) (opening : State) (events : List Reported) where
   -- one more event that leads on
   pub lead_more : (at : ℕ) (event : Reported) → slice_get events at ≡ Some event → EachLeads tables opening (take at events)
-      → Leads tables (held_at opening events at) event.types event.state → EachLeads tables opening (take (at + 1) events)
+      → Leads (rows_at tables event.time) (held_at opening events at) event.types event.state → EachLeads tables opening (take (at + 1) events)
   lead_more at event is before leads i other there =
       let less : i < at + 1 = omega (arith, slice_get_within (take (at + 1) events) i other there, length-take (at + 1) events) in
       let here : slice_get events i ≡ Some other = sym (slice_get_take (at + 1) events i less) ∙ there in
-      subst (λ held. Leads tables held other.types other.state) (sym (held_at_take opening events (at + 1) i (omega (arith, less))))
+      subst (λ held. Leads (rows_at tables other.time) held other.types other.state) (sym (held_at_take opening events (at + 1) i (omega (arith, less))))
       (elim (cases_lt i at) [
         | inl earlier ↦
-            subst (λ held. Leads tables held other.types other.state) (held_at_take opening events at i (omega (arith, earlier)))
+            subst (λ held. Leads (rows_at tables other.time) held other.types other.state) (held_at_take opening events at i (omega (arith, earlier)))
             (before i other (slice_get_take at events i earlier ∙ here))
         | inr rest ↦
             let same : i ≡ at = omega (arith, less, rest) in
             let one : Some event ≡ Some other = sym is ∙ ap (slice_get events) (sym same) ∙ here in
             let equal : event ≡ other = cc in
-            subst (λ (it : Reported). Leads tables (held_at opening events i) it.types it.state) equal
-            (subst (λ place. Leads tables (held_at opening events place) event.types event.state) (sym same) leads)
+            subst (λ (it : Reported). Leads (rows_at tables it.time) (held_at opening events i) it.types it.state) equal
+            (subst (λ place. Leads (rows_at tables event.time) (held_at opening events place) event.types event.state) (sym same) leads)
       ])
 
   -- one more event
   pub open_more : (at : ℕ) (event : Reported) → slice_get events at ≡ Some event → AreOpenFrom tables opening (take at events)
-      → AreInOrder (take (at + 1) events) → Leads tables (held_at opening events at) event.types event.state → AreOpenFrom tables opening (take (at + 1) events)
+      → AreInOrder (take (at + 1) events) → Leads (rows_at tables event.time) (held_at opening events at) event.types event.state
+      → AreOpenFrom tables opening (take (at + 1) events)
   open_more at event is before order leads = record { order = order; lead = lead_more at event is before.lead leads }
 
 -- over no events a session may be opened
@@ -191,7 +192,7 @@ none_open tables opening = record {
 
 -- one more event behind a list
 pub open_push : (tables : Tables) (opening : State) (before : List Reported) (event : Reported) → AreOpenFrom tables opening before
-    → AreInOrder (before ++ event ∷ []) → Leads tables (held_at opening before (length before)) event.types event.state
+    → AreInOrder (before ++ event ∷ []) → Leads (rows_at tables event.time) (held_at opening before (length before)) event.types event.state
     → AreOpenFrom tables opening (before ++ event ∷ [])
 open_push tables opening before event is_open order leads =
     let all = before ++ event ∷ [] in
@@ -203,7 +204,7 @@ open_push tables opening before event is_open order leads =
     ap (λ events. held_at opening events (length before)) (sym front) ∙ held_at_take opening all (length before) (length before) (omega arith) in
     subst (λ events. AreOpenFrom tables opening events) whole
     (open_more tables opening all (length before) event at (subst (λ events. AreOpenFrom tables opening events) (sym front) is_open)
-    (subst (λ events. AreInOrder events) (sym whole) order) (subst (λ state. Leads tables state event.types event.state) held leads))
+    (subst (λ events. AreInOrder events) (sym whole) order) (subst (λ state. Leads (rows_at tables event.time) state event.types event.state) held leads))
 
 -- over events with a fault other than want of memory no session may be opened
 pub not_open : (tables : Tables) (opening : State) (events : List Reported) (fault : SessionFault) → IsFaultOf tables opening events fault → fault ≢ Memory

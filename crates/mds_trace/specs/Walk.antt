@@ -5,7 +5,7 @@ use Rattle.mds_table.specs.Tables.{Tables}
 use Rattle.mds_core.specs.Reported.{Reported}
 use Rattle.mds_trace.specs.declared.session.Place.{Place}
 
--- a table, the state held before the first event, the events, and where the session stands
+-- the tables, the state held before the first event, the events, and where the session stands
 pub record Walk : Type 0 where
   pub tables : Tables
   pub opening : State

@@ -12,7 +12,7 @@ ghost use Rattle.mds_trace.specs.Followed.{IsFollowed};
 use crate::{Opening, Verdict};
 use mds_core::{Event, Known, Standing, decide_event};
 use mds_steps::{StateSet, openings, stuck_from};
-use mds_table::{State, Table};
+use mds_table::{State, Tables};
 
 /// What is kept of a vehicle while its events are replayed.
 #[derive(Debug, Drop)]
@@ -52,24 +52,24 @@ impl Followed {
 
     /// The verdict on one more event of the vehicle, and what is kept of the vehicle then. The event is repeated where the
     /// vehicle has an accepted one with its identifier.
-    pub fn judge(self, table: &Table, event: &Event, repeated: bool) -> (Verdict, Followed)
+    pub fn judge(self, tables: &Tables, event: &Event, repeated: bool) -> (Verdict, Followed)
         ensures verdict { (opening : Openings) (prior : List Reported)
-            → IsFollowed opening table.now event.now.key prior self
+            → IsFollowed opening tables.now event.now.key prior self
             → repeated ≡ has_event (as_requests event.now.key prior) event.now.id
-            → IsVerdictOn opening table.now prior event.now result.0 }
+            → IsVerdictOn opening tables.now prior event.now result.0 }
         ensures followed { (opening : Openings) (prior : List Reported)
-            → IsFollowed opening table.now event.now.key prior self → length prior < usize.MAX
-            → IsFollowed opening table.now event.now.key
+            → IsFollowed opening tables.now event.now.key prior self → length prior < usize.MAX
+            → IsFollowed opening tables.now event.now.key
             (prior ++ accepted_by (item.Event event.now) result.0) result.1 }
     {
         let Some(standing) = self.standing else {
-            return judge_first(table, event);
+            return judge_first(tables, event);
         };
         let known = Known {
             standing: Some(standing),
             has_event: repeated,
         };
-        match decide_event(table, &known, event) {
+        match decide_event(tables, &known, event) {
             Ok(()) => {
                 let followed = Followed {
                     openings: self.openings,
@@ -83,11 +83,12 @@ impl Followed {
 }
 
 /// The verdict on an event of a vehicle of which no state is known, and what is kept of the vehicle then.
-fn judge_first(table: &Table, event: &Event) -> (Verdict, Followed)
-    ensures verdict { IsFirst table.now event.now result.0 }
-    ensures followed { IsFollowed Opening.Any table.now event.now.key
+fn judge_first(tables: &Tables, event: &Event) -> (Verdict, Followed)
+    ensures verdict { IsFirst tables.now event.now result.0 }
+    ensures followed { IsFollowed Opening.Any tables.now event.now.key
         (accepted_by (item.Event event.now) result.0) result.1 }
 {
+    let table = tables.at(event.time());
     let openings = openings(table, event.types(), event.state());
     if openings.states().is_empty() {
         let at = stuck_from(table, &StateSet::all(), event.types());

@@ -16,7 +16,7 @@ use crate::{Opening, Verdict};
 use indexmap::{IndexMap, IndexSet};
 use mds_batch::EventItem;
 use mds_core::{Event, Key};
-use mds_table::Table;
+use mds_table::Tables;
 use std::alloc::AllocError;
 use uuid::Uuid;
 
@@ -28,43 +28,43 @@ pub type AcceptedNames = IndexSet<(Key, Uuid)>;
 
 /// The verdict on an item, with which what is kept of its vehicle goes on.
 pub fn judge_item(
-    table: &Table,
+    tables: &Tables,
     opening: Opening,
     vehicles: &mut Vehicles,
     names: &mut AcceptedNames,
     item: &EventItem,
 ) -> Result<Verdict, AllocError>
     ensures { IfOk result (λ line. (items : List Item) (lines : List Line)
-        → IsReplayed opening table.now items lines vehicles.old.entries names.old.keys
+        → IsReplayed opening tables.now items lines vehicles.old.entries names.old.keys
         → length items < usize.MAX
-        → IsReplayed opening table.now (items ++ item.now ∷ []) (lines ++ line ∷ [])
+        → IsReplayed opening tables.now (items ++ item.now ∷ []) (lines ++ line ∷ [])
         vehicles.new.entries names.new.keys) }
 {
     match item {
-        EventItem::Event(event) => judge_event(table, opening, vehicles, names, event),
+        EventItem::Event(event) => judge_event(tables, opening, vehicles, names, event),
         EventItem::Fault(fault) => Ok(Verdict::Fault(*fault)),
     }
 }
 
 /// The verdict on an event, with which what is kept of its vehicle goes on.
 fn judge_event(
-    table: &Table,
+    tables: &Tables,
     opening: Opening,
     vehicles: &mut Vehicles,
     names: &mut AcceptedNames,
     event: &Event,
 ) -> Result<Verdict, AllocError>
     ensures { IfOk result (λ line. (mentioned : List Vehicle) (accepted : List Reported)
-        → AreFollowed opening table.now mentioned accepted vehicles.old.entries names.old.keys
+        → AreFollowed opening tables.now mentioned accepted vehicles.old.entries names.old.keys
         → length accepted < usize.MAX
-        → IsVerdictOn opening table.now (prior_of event.now.key accepted) event.now line
-        × AreFollowed opening table.now (insert_key same_key mentioned event.now.key)
+        → IsVerdictOn opening tables.now (prior_of event.now.key accepted) event.now line
+        × AreFollowed opening tables.now (insert_key same_key mentioned event.now.key)
         (accepted ++ accepted_by (item.Event event.now) line)
         vehicles.new.entries names.new.keys) }
 {
     let name = (*event.key(), event.id());
     let vehicle = vehicle_at(vehicles, event.key(), opening);
-    let (line, followed) = vehicle.judge(table, event, names.contains(&name));
+    let (line, followed) = vehicle.judge(tables, event, names.contains(&name));
     if line.accepts() {
         names.insert(name)?;
     }

@@ -29,7 +29,7 @@ pub fn accepted_events_open()
     ensures { AcceptedEventsOpen }
 {}
 
-/// Two reports of a replay of the same items, over the same table and with the same opening, have the same verdicts, ends
+/// Two reports of a replay of the same items, over the same tables and with the same opening, have the same verdicts, ends
 /// and counts.
 #[tactic(auto, using(crate::proofs::OneReport::one_report))]
 pub fn reports_are_one()

@@ -17,6 +17,8 @@ mod session_events;
 mod session_fault;
 #[cfg(test)]
 mod session_tests;
+#[cfg(test)]
+mod timed_tests;
 
 pub use replayer::replay;
 pub use report::{Opening, Report, VehicleEnd, Verdict};

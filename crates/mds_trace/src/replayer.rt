@@ -15,10 +15,10 @@ use crate::{Opening, Report, VehicleEnd, Verdict};
 use indexmap::{IndexMap, IndexSet};
 use mds_batch::EventItem;
 use mds_core::Key;
-use mds_table::Table;
+use mds_table::Tables;
 use std::alloc::{AllocError, Global};
 
-/// Replays the items of a provider's file over a table, one after the other.
+/// Replays the items of a provider's file one after the other. Each event goes by the table in force at its own time.
 ///
 /// The verdict on an event is the machine's outcome after a registration of its vehicle and the accepted events of the
 /// vehicle before it. With [`Opening::Any`] an event of a vehicle with no accepted one is accepted where it leads from some
@@ -29,17 +29,17 @@ use std::alloc::{AllocError, Global};
 /// `AllocError` where there is no memory for the report, or for what is kept of the vehicles on the way.
 pub fn replay(
     alloc: Global,
-    table: Table,
+    tables: Tables,
     items: &[EventItem],
     opening: Opening,
 ) -> Result<Report, AllocError>
-    ensures report { IfOk result (IsReport opening table items.now) }
+    ensures report { IfOk result (IsReport opening tables items.now) }
     // With `Removed` the verdicts are the outcomes of the machine, asked anything that reports the same events, each behind
     // a registration of its vehicle.
     ensures runs { IfOk result (λ report.
-        opening ≡ Opening.Removed → AreOutcomes table items.now report.lines.items) }
+        opening ≡ Opening.Removed → AreOutcomes tables items.now report.lines.items) }
 {
-    let (lines, vehicles) = judge_all(alloc, &table, items, opening)?;
+    let (lines, vehicles) = judge_all(alloc, &tables, items, opening)?;
     let accepted = count_accepted(&lines);
     let refused = lines.len() - accepted;
     let vehicles = ends_of(alloc, &vehicles)?;
@@ -54,15 +54,15 @@ pub fn replay(
 /// A verdict on each item, and what is kept of the vehicles in the end.
 fn judge_all(
     alloc: Global,
-    table: &Table,
+    tables: &Tables,
     items: &[EventItem],
     opening: Opening,
 ) -> Result<(Vec<Verdict>, Vehicles), AllocError>
     ensures verdicts { IfOk result (λ judged.
-        AreVerdicts opening table.now items.now judged.0.items) }
+        AreVerdicts opening tables.now items.now judged.0.items) }
     ensures vehicles { IfOk result (λ judged. AreEntries
         (λ key vehicle.
-        IsFollowed opening table.now key
+        IsFollowed opening tables.now key
         (prior_of key (accepted_of items.now judged.0.items)) vehicle)
         (vehicles_of (events_of items.now)) judged.1.entries) }
 {
@@ -70,7 +70,7 @@ fn judge_all(
     let mut names = IndexSet::new(alloc);
     let mut lines = Vec::with_capacity(alloc, items.len())?;
     for item in items {
-        let line = judge_item(table, opening, &mut vehicles, &mut names, item)?;
+        let line = judge_item(tables, opening, &mut vehicles, &mut names, item)?;
         lines.push(line)?;
     }
     Ok((lines, vehicles))

@@ -1,16 +1,17 @@
 //! Sessions: a vehicle's events, walked through type by type.
 ghost use Rattle.std.specs.Prelude.{◌≡◌, ◌≢◌, ◌<◌, ◌≤◌, ◌+◌, ℕ, [], ◌∷◌, IfOk, IfErr, OnErr, OnOk, MatchOption, length};
+ghost use Rattle.mds_core.specs.Reported.{max_event_types};
 ghost use Rattle.mds_trace.specs.declared.session.Halt.TheVariants.{AtEnd, AtStart};
 ghost use Rattle.mds_trace.specs.declared.session.Place.{Place as At};
 ghost use Rattle.mds_trace.specs.declared.session_fault.SessionFault.TheVariants.{Memory};
-ghost use Rattle.mds_trace.specs.Session.{held_at, state_at, AreOpenFrom, IsPlace, types_at, IsStep, ArePossible, KeepsEvents, IsFirstLater, IsPresentChain, IsFaultOf};
+ghost use Rattle.mds_trace.specs.Session.{held_at, state_at, AreOpenFrom, IsPlace, types_at, AreSets, present_rows, IsStep, ArePossible, KeepsEvents, IsFirstLater, IsPresentChain, IsFaultOf};
 
 use crate::SessionFault;
-use crate::session_events::{check_events, first_reporting, held_at, types_at};
+use crate::session_events::{check_events, first_reporting, held_at, time_at, types_at};
 use arrayvec::ArrayVec;
 use mds_core::{Event, MAX_EVENT_TYPES};
 use mds_steps::{StateSet, forward, least_chain};
-use mds_table::{State, Table};
+use mds_table::{State, Table, Tables, TypeName};
 use std::alloc::{AllocError, Global};
 use std::error::Error;
 use std::fmt;
@@ -56,12 +57,12 @@ const MAX_PLACES: usize = MAX_EVENT_TYPES + 1;
 /// The states that are possible at each place in an event, from its first one on.
 type Sets = ArrayVec<StateSet, { MAX_PLACES }>;
 
-/// A walk through a vehicle's events, one type after the other, over one table and from one state held before the
-/// first event. It begins before the first event. Each event leads, by the table, from the state held before it to the
+/// A walk through a vehicle's events, one type after the other, from one state held before the first event. It begins
+/// before the first event. Each event leads, by the table in force at its time, from the state held before it to the
 /// state that it reports.
 #[derive(Debug, Drop)]
 pub struct Session {
-    table: Table,
+    tables: Tables,
     opening: State,
     events: Vec<Event>,
     place: Place,
@@ -76,14 +77,14 @@ impl Model for Session {
     ghost Value = { Walk };
 
     ghost view = { λ session. record {
-      tables = session.table;
+      tables = session.tables;
       opening = session.opening;
       events = session.events.items;
       place = session.place;
     } };
 
     ghost invariant = { λ session.
-        IsWalk session.table session.opening session.events.items session.place session.sets.items };
+        IsWalk session.tables session.opening session.events.items session.place session.sets.items };
 }
 
 impl Session {
@@ -93,27 +94,28 @@ impl Session {
     ///
     /// The fault of the first faulty event: `BadOrder` where it is of another vehicle than the first, has the identifier
     /// of an earlier one, or is earlier than the one before; else `Unlawful` where no chain leads from the state held
-    /// before it to the state that it reports. `Memory` where there is none to compare identifiers.
+    /// before it to the state that it reports, by the table in force at the event's time. `Memory` where there is none
+    /// to compare identifiers.
     pub fn open(
         alloc: Global,
-        table: Table,
+        tables: Tables,
         opening: State,
         events: Vec<Event>,
     ) -> Result<Session, SessionFault>
         ensures opened { IfOk result (λ session. session ≡ record {
-          tables = table;
+          tables = tables;
           opening = opening;
           events = events.items;
           place = record { event = 0; passed = 0 };
         }) }
-        ensures open { OnOk result (AreOpenFrom table opening events.items) }
-        ensures fault { IfErr result (IsFaultOf table opening events.items) }
+        ensures open { OnOk result (AreOpenFrom tables opening events.items) }
+        ensures fault { IfErr result (IsFaultOf tables opening events.items) }
         ensures refused { IfErr result (λ fault.
-            fault ≢ Memory → AreOpenFrom table opening events.items → ⊥) }
+            fault ≢ Memory → AreOpenFrom tables opening events.items → ⊥) }
     {
-        check_events(alloc, &table, opening, &events)?;
+        check_events(alloc, &tables, opening, &events)?;
         Ok(Session {
-            table,
+            tables,
             opening,
             events,
             place: Place {
@@ -140,15 +142,15 @@ impl Session {
     }
 
     /// The states in which chains from [`Session::state`] through the types passed end: where the vehicle may be at this
-    /// place, as far as the present event says.
+    /// place, as far as the present event says, by the table in force at its time.
     pub fn possible(&self) -> StateSet
         ensures { ArePossible self.now result }
     {
         self.sets[self.place.passed]
     }
 
-    /// The least chain of the present event, from the state held before it to the state that it reports; `None` at the
-    /// end.
+    /// The least chain of the present event, from the state held before it to the state that it reports, by the table in
+    /// force at its time; `None` at the end.
     ///
     /// # Errors
     ///
@@ -161,7 +163,7 @@ impl Session {
         match self.events.get(self.place.event) {
             Some(event) => least_chain(
                 alloc,
-                &self.table,
+                self.present_table(),
                 self.state(),
                 event.types(),
                 event.state(),
@@ -282,9 +284,10 @@ impl Session {
         } }
     {
         self.stand_before(event);
-        for _ in 0..types_at(&self.events, event).len() {
-            self.pass_type();
-        }
+        let types = types_at(&self.events, event);
+        let passed = types.len();
+        self.sets = sets_of(self.present_table(), self.state(), types);
+        self.place.passed = passed;
     }
 
     /// Passes one type of the present event, by one step from the last set.
@@ -298,9 +301,20 @@ impl Session {
     {
         let passed = self.place.passed;
         let types = types_at(&self.events, self.place.event);
-        let next = forward(&self.table, &self.sets[passed], &types[passed..passed + 1]);
+        let next = forward(
+            self.present_table(),
+            &self.sets[passed],
+            &types[passed..passed + 1],
+        );
         self.sets.push(next);
         self.place.passed = passed + 1;
+    }
+
+    /// The table in force at the present event's time; at the end, where no type asks for a row, the first table.
+    fn present_table(&self) -> &Table
+        ensures { result.now ≡ present_rows self.now }
+    {
+        self.tables.at(time_at(&self.events, self.place.event))
     }
 }
 
@@ -310,5 +324,19 @@ fn sets_before(held: State) -> Sets
 {
     let mut sets = ArrayVec::new();
     sets.push(StateSet::of(held));
+    sets
+}
+
+/// The sets at all places of an event with these types, by the table in force at its time and with this state held
+/// before it.
+fn sets_of(table: &Table, held: State, types: &[TypeName]) -> Sets
+    requires { length types.now ≤ max_event_types }
+    ensures { AreSets table.now held types.now (length types.now) result.items }
+{
+    let mut sets = sets_before(held);
+    for passed in 0..types.len() {
+        let next = forward(table, &sets[passed], &types[passed..passed + 1]);
+        sets.push(next);
+    }
     sets
 }

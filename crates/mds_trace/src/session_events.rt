@@ -1,13 +1,13 @@
 //! The events of a session: what stands at a place, and whether a session over them may be opened.
 ghost use Rattle.std.specs.Prelude.{◌≡◌, ◌↔◌, ◌≤◌, ◌++◌, List, [], ◌∷◌, length, IsTrue, IfOk, IfErr, OnOk};
 ghost use Rattle.mds_core.specs.Reported.{Reported, max_event_types};
-ghost use Rattle.mds_trace.specs.Session.{held_at, types_at, identifiers_of, AreOpenFrom, AreInOrder, IsNewAfter, ComesNext, FollowsOn, IsFirstReporting, IsFaultOf};
+ghost use Rattle.mds_trace.specs.Session.{held_at, time_at, types_at, identifiers_of, AreOpenFrom, AreInOrder, IsNewAfter, ComesNext, FollowsOn, IsFirstReporting, IsFaultOf};
 
 use crate::SessionFault;
 use indexmap::IndexSet;
 use mds_core::Event;
 use mds_steps::admit;
-use mds_table::{State, Table, TypeName};
+use mds_table::{State, Tables, TypeName};
 use std::alloc::{AllocError, Global};
 use uuid::Uuid;
 
@@ -35,7 +35,18 @@ pub fn types_at(events: &[Event], at: usize) -> &[TypeName]
     }
 }
 
-/// Whether a session over these events may be opened with this state held before them.
+/// The time of the event at this place; 0 past the last event, where no type asks for a row.
+pub fn time_at(events: &[Event], at: usize) -> u64
+    ensures { result ≡ time_at events.now at }
+{
+    match events.get(at) {
+        Some(event) => event.time(),
+        None => 0,
+    }
+}
+
+/// Whether a session over these events may be opened with this state held before them. Each event goes by the table in
+/// force at its own time.
 ///
 /// # Errors
 ///
@@ -43,12 +54,12 @@ pub fn types_at(events: &[Event], at: usize) -> &[TypeName]
 /// identifiers.
 pub fn check_events(
     alloc: Global,
-    table: &Table,
+    tables: &Tables,
     opening: State,
     events: &[Event],
 ) -> Result<(), SessionFault>
-    ensures open { OnOk result (AreOpenFrom table.now opening events.now) }
-    ensures fault { IfErr result (IsFaultOf table.now opening events.now) }
+    ensures open { OnOk result (AreOpenFrom tables.now opening events.now) }
+    ensures fault { IfErr result (IsFaultOf tables.now opening events.now) }
 {
     let mut seen = IndexSet::with_capacity(alloc, events.len())?;
     for (at, event) in events.iter().enumerate() {
@@ -56,6 +67,7 @@ pub fn check_events(
             return Err(SessionFault::BadOrder { event: at });
         }
         let held = held_at(opening, events, at);
+        let table = tables.at(event.time());
         if let Err(none) = admit(table, held, event.types(), event.state()) {
             return Err(SessionFault::Unlawful {
                 event: at,

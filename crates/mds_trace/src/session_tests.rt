@@ -4,8 +4,8 @@ use mds_core::{Event, Key};
 use mds_table::State::{
     Available, Elsewhere, NonContactable, NonOperational, OnTrip, Removed, Reserved,
 };
-use mds_table::{State, Table, TypeName};
-use std::alloc::Global;
+use mds_table::{State, Table, Tables, TypeName};
+use std::alloc::{AllocError, Global};
 use std::test::Fail;
 use uuid::Uuid;
 
@@ -76,7 +76,7 @@ fn opened(
     told: &[Told<'_>],
 ) -> Result<Result<Session, SessionFault>, Fail> {
     let events = events_of(alloc, told)?;
-    Ok(Session::open(alloc, Table::profile(alloc)?, opening, events))
+    Ok(Session::open(alloc, profile(alloc)?, opening, events))
 }
 
 /// The fault of such a session, if it isn't opened.
@@ -309,12 +309,17 @@ fn faults_and_halts_have_texts(rt: HostRuntime) -> Result<(), Fail> {
     Ok(())
 }
 
-/// The profile's table, asked for again where a growth is refused.
-fn profile(alloc: Global) -> Result<Table, Fail> {
-    Ok(match Table::profile(alloc) {
-        Ok(table) => table,
-        Err(_) => Table::profile(alloc)?,
-    })
+/// The profile's table, in force from 0 on.
+fn profile(alloc: Global) -> Result<Tables, AllocError> {
+    Tables::one(alloc, Table::profile(alloc)?)
+}
+
+/// The same, asked for again where a growth is refused.
+fn profile_again(alloc: Global) -> Result<Tables, AllocError> {
+    match profile(alloc) {
+        Ok(tables) => Ok(tables),
+        Err(_) => profile(alloc),
+    }
 }
 
 /// An empty list with room for one event, asked for again where a growth is refused.
@@ -334,7 +339,7 @@ fn trip_end_session(alloc: Global) -> Result<Result<Session, SessionFault>, Fail
     };
     let mut events = room_for_one(alloc)?;
     events.push(Event::new(key, Uuid::parse_str(E1)?, Available, &types, 1000, None)?)?;
-    Ok(Session::open(alloc, profile(alloc)?, OnTrip, events))
+    Ok(Session::open(alloc, profile_again(alloc)?, OnTrip, events))
 }
 
 #[test]
@@ -376,7 +381,7 @@ fn long_session(alloc: Global) -> Result<Session, Fail> {
         let id = Uuid::from_u64_pair(0x4000, number);
         events.push(Event::new(key, id, state, types, 1000, None)?)?;
     }
-    Ok(Session::open(alloc, Table::profile(alloc)?, Available, events)?)
+    Ok(Session::open(alloc, profile(alloc)?, Available, events)?)
 }
 
 #[test]

@@ -179,7 +179,7 @@ Commands:
   serve   Serves vehicles over HTTP at 127.0.0.1
   replay  Replays the events of a file
   debug   Steps through the accepted events of a vehicle, as standard input says
-  table   Prints a table of transitions
+  table   Prints the table of transitions, or each of several
   help    Print this message or the help of the given subcommand(s)
 
 Options:
@@ -195,7 +195,7 @@ Options:
       --port <N>      The port's number; 0 is a free one
       --each <N>      How many connections each worker answers
       --workers <N>   How many workers there are [default: 4]
-      --table <FILE>  A table of transitions; without it the profile's
+      --table <FILE>  A table of transitions, or several with times; without it the profile's
   -h, --help          Print help
 ";
 
@@ -208,7 +208,7 @@ Arguments:
   <FILE>  The file of events; - is standard input
 
 Options:
-      --table <FILE>  A table of transitions; without it the profile's
+      --table <FILE>  A table of transitions, or several with times; without it the profile's
       --any           Lets a vehicle hold any state before its first event
   -h, --help          Print help
 ";
@@ -224,17 +224,17 @@ Arguments:
   <DEVICE>    The vehicle's identifier
 
 Options:
-      --table <FILE>  A table of transitions; without it the profile's
+      --table <FILE>  A table of transitions, or several with times; without it the profile's
   -h, --help          Print help
 ";
 
 const TABLE_HELP: &str = "\
-Prints a table of transitions
+Prints the table of transitions, or each of several
 
 Usage: mds_city table [OPTIONS]
 
 Options:
-      --table <FILE>  A table of transitions; without it the profile's
+      --table <FILE>  A table of transitions, or several with times; without it the profile's
   -h, --help          Print help
 ";
 

@@ -1,11 +1,11 @@
 //! Two locks at once, and how many seats a book may have.
 ghost use Rattle.std.specs.Prelude.{◌≡◌};
 
-use super::{A, B, hashers};
+use super::{A, B, hashers, profile};
 use crate::{Book, Keep, OpenFault, Seat, ShardLedger};
 use mds_core::Request;
 use mds_shard::Shard;
-use mds_table::Table;
+use mds_table::Tables;
 use std::alloc::{AllocError, Global};
 use std::hash::RandomState;
 use std::marker::Brand;
@@ -65,18 +65,18 @@ fn two_locks<
 >(
     rt: &R,
     alloc: Global,
-    table: Table,
+    tables: Tables,
     requests: &[Request; 2],
     first: Blank,
     second: Blank,
 ) -> Result<(usize, usize), Fail>
     requires first { (first.name ≡ L.name) × (first.parts ≡ L.parts) × (first.parts ≡ 1) }
     requires second { (second.name ≡ M.name) × (second.parts ≡ M.parts) × (second.parts ≡ 1) }
-    requires table { (table ≡ L.tables) × (table ≡ M.tables) }
+    requires tables { (tables ≡ L.tables) × (tables ≡ M.tables) }
 {
     let (book, mut seats) = Book::<L, M>::open(
         alloc,
-        table,
+        tables,
         1,
         Keep::All,
         first,
@@ -85,16 +85,29 @@ fn two_locks<
     )?;
     let mut seat = seats.pop().ok_or("a seat")?;
     book.call(rt, &mut seat, &requests[0])?;
+    Ok(while_locked(rt, &book, seat, &requests[1])?)
+}
+
+/// Locks shard 0 until the request was answered: the length of its history, and the turns that were waited.
+fn while_locked<
+    L: ShardLedger + Send + Sync,
+    M: ShardLedger + Send + Sync,
+    R: Threads + Wait + Clock + Sync,
+>(
+    rt: &R,
+    book: &Book<L, M>,
+    seat: Seat<L, M>,
+    request: &Request,
+) -> Result<(usize, usize), AllocError> {
     let flags = Flags {
         locked: AtomicBool::new(false),
         answered: AtomicBool::new(false),
     };
-    let (shared, told) = (&book, &flags);
-    let other = &requests[1];
+    let told = &flags;
     let (found, called) = thread::join(
         rt,
-        move || shared.with_shard(rt, 0, |shard| hold(rt, shard, told)),
-        move || answer_and_tell(rt, shared, seat, other, told),
+        move || book.with_shard(rt, 0, |shard| hold(rt, shard, told)),
+        move || answer_and_tell(rt, book, seat, request, told),
     );
     called?;
     Ok(found)
@@ -104,29 +117,33 @@ fn two_locks<
 fn turns_of_two_locks<R: Threads + Wait + Clock + RandomSource + Sync>(
     rt: &R,
     alloc: Global,
-    table: Table,
+    tables: Tables,
     requests: &[Request; 2],
 ) -> Result<(usize, usize), Fail> {
-    two_locks::<Brand, Brand, R>(rt, alloc, table, requests, Blank::new(1), Blank::new(1))
+    two_locks::<Brand, Brand, R>(rt, alloc, tables, requests, Blank::new(1), Blank::new(1))
+}
+
+/// Registrations of A and of B.
+fn registrations() -> Result<[Request; 2], Fail> {
+    Ok([
+        Request::Register(super::key(A)?),
+        Request::Register(super::key(B)?),
+    ])
 }
 
 #[test]
 fn two_locks_at_once(rt: HostRuntime) -> Result<(), Fail> {
     let alloc = rt.alloc();
-    let requests = [
-        Request::Register(super::key(A)?),
-        Request::Register(super::key(B)?),
-    ];
-    let (length, turns) = turns_of_two_locks(&rt, alloc, Table::profile(alloc)?, &requests)?;
-    assert_eq!(rt; length, 1);
-    assert!(rt; turns < 10_000);
+    let requests = registrations()?;
+    let (length, turns) = turns_of_two_locks(&rt, alloc, profile(alloc)?, &requests)?;
+    assert_eq!(rt; (length, turns < 10_000), (1, true));
     Ok(())
 }
 
 /// The fault of a book of this many seats.
 fn fault_of<L: ShardLedger, M: ShardLedger>(
     alloc: Global,
-    table: Table,
+    tables: Tables,
     seats: usize,
     first: Blank,
     second: Blank,
@@ -134,22 +151,22 @@ fn fault_of<L: ShardLedger, M: ShardLedger>(
 ) -> Option<OpenFault>
     requires first { (first.name ≡ L.name) × (first.parts ≡ L.parts) × (first.parts ≡ seats) }
     requires second { (second.name ≡ M.name) × (second.parts ≡ M.parts) × (second.parts ≡ seats) }
-    requires table { (table ≡ L.tables) × (table ≡ M.tables) }
+    requires tables { (tables ≡ L.tables) × (tables ≡ M.tables) }
 {
-    Book::<L, M>::open(alloc, table, seats, Keep::All, first, second, hashers).err()
+    Book::<L, M>::open(alloc, tables, seats, Keep::All, first, second, hashers).err()
 }
 
 /// The same with ledgers of their own.
 fn open_fault(
     alloc: Global,
-    table: Table,
+    tables: Tables,
     seats: usize,
     hashers: [RandomState; 2],
 ) -> Option<OpenFault> {
     let parts = seats as u64;
     fault_of::<Brand, Brand>(
         alloc,
-        table,
+        tables,
         seats,
         Blank::new(parts),
         Blank::new(parts),
@@ -157,16 +174,20 @@ fn open_fault(
     )
 }
 
+/// The fault of a book over the profile with this many seats.
+fn fault_at<R: RandomSource>(
+    rt: &R,
+    alloc: Global,
+    seats: usize,
+) -> Result<Option<OpenFault>, Fail> {
+    Ok(open_fault(alloc, profile(alloc)?, seats, hashers(rt)?))
+}
+
 #[test]
 fn seats_of_a_book(rt: HostRuntime) -> Result<(), Fail> {
-    let alloc = rt.alloc();
     let bad = Some(OpenFault::BadSeats);
     for (seats, expected) in [(0, bad), (1, None), (64, None), (65, bad)] {
-        assert_eq!(rt;
-            open_fault(alloc, Table::profile(alloc)?, seats, hashers(&rt)?),
-            expected,
-            "{seats}"
-        );
+        assert_eq!(rt; fault_at(&rt, rt.alloc(), seats)?, expected, "{seats}");
     }
     Ok(())
 }

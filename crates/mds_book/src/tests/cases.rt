@@ -1,11 +1,14 @@
 //! The worked cases of vehicles, each asked of a fresh book and a fresh fleet.
-ghost use Rattle.std.specs.Prelude.{◌≡◌};
+ghost use Rattle.std.specs.Prelude.{◌≡◌, ◌<◌};
 
-use super::{A, Ask, B, C, DROP_OFF, E0, E1, E2, available_once, copies, hashers, requests_of};
+use super::{
+    A, Ask, B, C, DROP_OFF, E0, E1, E2, available_once, copies, hashers, profile, requests_of,
+    settled, starts_of,
+};
 use crate::slot::shard_of;
-use crate::{Book, Keep, Seat, ShardLedger, Slot, reconcile};
+use crate::{Book, Keep, Seat, Settled, ShardLedger, Slot};
 use mds_core::{Fleet, Outcome, Reply, Request};
-use mds_table::{State, Table};
+use mds_table::{State, Tables};
 use std::alloc::{AllocError, Global};
 use std::hash::RandomState;
 use std::marker::Brand;
@@ -16,12 +19,13 @@ use std::test::Fail;
 
 /// What came of a list of requests.
 #[derive(Debug, PartialEq, Drop)]
-struct Found {
-    outcomes: Vec<Outcome>,
+pub struct Found {
+    pub outcomes: Vec<Outcome>,
     noted: Vec<Request>,
     first: Vec<Request>,
     second: Vec<Request>,
     counts: [u64; 3],
+    starts: [Option<u64>; 2],
     rows: usize,
     settled: [Option<usize>; 3],
 }
@@ -30,7 +34,7 @@ struct Found {
 fn in_a_book<L: ShardLedger, M: ShardLedger, R: Wait + RandomSource>(
     rt: &R,
     alloc: Global,
-    table: Table,
+    tables: Tables,
     keep: Keep,
     requests: &[Request],
     first: Blank,
@@ -38,27 +42,84 @@ fn in_a_book<L: ShardLedger, M: ShardLedger, R: Wait + RandomSource>(
 ) -> Result<Found, Fail>
     requires first { (first.name ≡ L.name) × (first.parts ≡ L.parts) × (first.parts ≡ 1) }
     requires second { (second.name ≡ M.name) × (second.parts ≡ M.parts) × (second.parts ≡ 1) }
-    requires table { (table ≡ L.tables) × (table ≡ M.tables) }
+    requires tables { (tables ≡ L.tables) × (tables ≡ M.tables) }
 {
-    let (book, mut seats) = Book::<L, M>::open(alloc, table, 1, keep, first, second, hashers(rt)?)?;
+    let (book, seats) = Book::<L, M>::open(alloc, tables, 1, keep, first, second, hashers(rt)?)?;
+    asked_in(rt, alloc, book, seats, requests)
+}
+
+/// What comes of the requests that the first seat of a book asks.
+fn asked_in<L: ShardLedger, M: ShardLedger, R: Wait>(
+    rt: &R,
+    alloc: Global,
+    book: Book<L, M>,
+    mut seats: Vec<Seat<L, M>>,
+    requests: &[Request],
+) -> Result<Found, Fail> {
     let seat = seats.first_mut().ok_or("a seat")?;
+    let outcomes = outcomes_of(rt, alloc, &book, seat, requests)?;
+    let mut found = found_in(rt, alloc, &book, seat, outcomes)?;
+    found.settled = settled_lengths(book, seats)?;
+    Ok(found)
+}
+
+/// Asks the requests in turn: the outcomes.
+fn outcomes_of<L: ShardLedger, M: ShardLedger, R: Wait>(
+    rt: &R,
+    alloc: Global,
+    book: &Book<L, M>,
+    seat: &mut Seat<L, M>,
+    requests: &[Request],
+) -> Result<Vec<Outcome>, AllocError> {
     let mut outcomes = Vec::new(alloc);
     for request in requests {
         outcomes.push(book.call(rt, seat, request)?.outcome)?;
     }
+    Ok(outcomes)
+}
+
+/// What a book and its seat tell behind these outcomes, before it is settled.
+fn found_in<L: ShardLedger, M: ShardLedger, R: Wait>(
+    rt: &R,
+    alloc: Global,
+    book: &Book<L, M>,
+    seat: &Seat<L, M>,
+    outcomes: Vec<Outcome>,
+) -> Result<Found, AllocError> {
+    Ok(Found {
+        outcomes,
+        noted: noted_by(alloc, seat)?,
+        first: history_of(rt, alloc, book, 0)?,
+        second: history_of(rt, alloc, book, 1)?,
+        counts: [seat.accepted(0), seat.accepted(1), seat.accepted(2)],
+        starts: starts_of(book.tables()),
+        rows: book.tables().at(0).row_count(),
+        settled: [None; 3],
+    })
+}
+
+/// The requests that the seat noted.
+fn noted_by<L: ShardLedger, M: ShardLedger>(
+    alloc: Global,
+    seat: &Seat<L, M>,
+) -> Result<Vec<Request>, AllocError> {
     let mut noted = Vec::new(alloc);
     for note in seat.notes() {
         noted.push(note.request.copy())?;
     }
-    Ok(Found {
-        outcomes,
-        noted,
-        first: book.with_shard(rt, 0, |shard| copies(alloc, shard.history()))?,
-        second: book.with_shard(rt, 1, |shard| copies(alloc, shard.history()))?,
-        counts: [seat.accepted(0), seat.accepted(1), seat.accepted(2)],
-        rows: book.table().row_count(),
-        settled: settled_lengths(book, seats)?,
-    })
+    Ok(noted)
+}
+
+/// The history of a shard of the book.
+fn history_of<L: ShardLedger, M: ShardLedger, R: Wait>(
+    rt: &R,
+    alloc: Global,
+    book: &Book<L, M>,
+    number: usize,
+) -> Result<Vec<Request>, AllocError>
+    requires { number < 2 }
+{
+    book.with_shard(rt, number, |shard| copies(alloc, shard.history()))
 }
 
 /// How long each history of a settled book is, and that of a shard that isn't there.
@@ -66,23 +127,34 @@ fn settled_lengths<L: ShardLedger, M: ShardLedger>(
     book: Book<L, M>,
     seats: Vec<Seat<L, M>>,
 ) -> Result<[Option<usize>; 3], Fail> {
-    let settled = reconcile(book, seats).ok().ok_or("settled")?;
-    let length = |shard: usize| settled.history(shard).map(|history| history.len());
-    Ok([length(0), length(1), length(2)])
+    let settled = settled(book, seats)?;
+    Ok([
+        settled_length(&settled, 0),
+        settled_length(&settled, 1),
+        settled_length(&settled, 2),
+    ])
+}
+
+/// How long a history of the settled book is.
+fn settled_length<L: ShardLedger, M: ShardLedger>(
+    settled: &Settled<L, M>,
+    shard: usize,
+) -> Option<usize> {
+    Some(settled.history(shard)?.len())
 }
 
 /// The same with ledgers of its own.
 fn found_in_a_book<R: Wait + RandomSource>(
     rt: &R,
     alloc: Global,
-    table: Table,
+    tables: Tables,
     keep: Keep,
     requests: &[Request],
 ) -> Result<Found, Fail> {
     in_a_book::<Brand, Brand, R>(
         rt,
         alloc,
-        table,
+        tables,
         keep,
         requests,
         Blank::new(1),
@@ -102,12 +174,32 @@ fn of_shard(alloc: Global, requests: &[Request], number: u128) -> Result<Vec<Req
 }
 
 /// What comes of the requests in a fleet.
-fn in_a_fleet(alloc: Global, requests: &[Request]) -> Result<Found, Fail> {
-    let mut fleet = Fleet::open(alloc, Table::profile(alloc)?);
+fn in_a_fleet(alloc: Global, tables: Tables, requests: &[Request]) -> Result<Found, AllocError> {
+    let mut fleet = Fleet::open(alloc, tables);
+    let outcomes = fleet_outcomes(alloc, &mut fleet, requests)?;
+    found_in_a_fleet(alloc, &fleet, outcomes, requests)
+}
+
+/// Asks a fleet the requests in turn: the outcomes.
+fn fleet_outcomes(
+    alloc: Global,
+    fleet: &mut Fleet,
+    requests: &[Request],
+) -> Result<Vec<Outcome>, AllocError> {
     let mut outcomes = Vec::new(alloc);
     for request in requests {
         outcomes.push(fleet.step(request)?.outcome)?;
     }
+    Ok(outcomes)
+}
+
+/// What a book is to tell where a fleet had these outcomes of the requests.
+fn found_in_a_fleet(
+    alloc: Global,
+    fleet: &Fleet,
+    outcomes: Vec<Outcome>,
+    requests: &[Request],
+) -> Result<Found, AllocError> {
     let first = of_shard(alloc, fleet.history(), 0)?;
     let second = of_shard(alloc, fleet.history(), 1)?;
     let counts = [first.len() as u64, second.len() as u64, 0];
@@ -118,7 +210,8 @@ fn in_a_fleet(alloc: Global, requests: &[Request]) -> Result<Found, Fail> {
         first,
         second,
         counts,
-        rows: fleet.table().row_count(),
+        starts: starts_of(fleet.tables()),
+        rows: fleet.tables().at(0).row_count(),
         settled,
     })
 }
@@ -240,24 +333,49 @@ const CASES: [&[Ask<'static>]; 11] = [
     ],
 ];
 
+/// What comes of the requests in a book over the tables, and what in a fleet.
+pub fn in_both<R: Wait + RandomSource>(
+    rt: &R,
+    alloc: Global,
+    tables: Tables,
+    requests: &[Request],
+) -> Result<[Found; 2], Fail> {
+    let expected = in_a_fleet(alloc, tables.copy(alloc)?, requests)?;
+    Ok([
+        found_in_a_book(rt, alloc, tables, Keep::All, requests)?,
+        expected,
+    ])
+}
+
+/// The same of what is asked, over the profile.
+fn asked_of_both<R: Wait + RandomSource>(
+    rt: &R,
+    alloc: Global,
+    asked: &[Ask<'_>],
+) -> Result<[Found; 2], Fail> {
+    let requests = requests_of(alloc, asked)?;
+    in_both(rt, alloc, profile(alloc)?, &requests)
+}
+
 #[test]
 fn book_against_fleet(rt: HostRuntime) -> Result<(), Fail> {
-    let alloc = rt.alloc();
     for asked in CASES {
-        let requests = requests_of(alloc, asked)?;
-        let found = found_in_a_book(&rt, alloc, Table::profile(alloc)?, Keep::All, &requests)?;
-        assert_eq!(rt; found, in_a_fleet(alloc, &requests)?);
+        let [found, expected] = asked_of_both(&rt, rt.alloc(), asked)?;
+        assert_eq!(rt; found, expected);
     }
     Ok(())
 }
 
+/// What comes of a registration between two looks where accepted requests alone are noted.
+fn looks_and_a_registration<R: Wait + RandomSource>(rt: &R, alloc: Global) -> Result<Found, Fail> {
+    let requests = requests_of(alloc, &[Ask::Look(B), Ask::Register(B), Ask::Look(B)])?;
+    found_in_a_book(rt, alloc, profile(alloc)?, Keep::Accepted, &requests)
+}
+
 #[test]
 fn accepted_calls_alone_are_noted(rt: HostRuntime) -> Result<(), Fail> {
-    let alloc = rt.alloc();
-    let requests = requests_of(alloc, &[Ask::Look(B), Ask::Register(B), Ask::Look(B)])?;
-    let table = Table::profile(alloc)?;
-    let found = found_in_a_book(&rt, alloc, table, Keep::Accepted, &requests)?;
-    let registered = requests_of(alloc, &[Ask::Register(B)])?;
+    let found = looks_and_a_registration(&rt, rt.alloc())?;
+    let registered = requests_of(rt.alloc(), &[Ask::Register(B)])?;
     assert_eq!(rt; found.noted, registered);
     assert_eq!(rt; (found.outcomes.len(), found.counts), (3, [0, 1, 0]));
     Ok(())
@@ -266,15 +384,15 @@ fn accepted_calls_alone_are_noted(rt: HostRuntime) -> Result<(), Fail> {
 /// The replies of a slot of shard 0 to requests about its vehicles, up to the first that is about another.
 fn in_a_slot<L: ShardLedger>(
     alloc: Global,
-    table: Table,
+    tables: Tables,
     requests: &[Request],
     blank: Blank,
     hasher: RandomState,
 ) -> Result<Vec<Reply>, AllocError>
     requires blank { (blank.name ≡ L.name) × (blank.parts ≡ L.parts) × (blank.parts ≡ 1) }
-    requires table { table ≡ L.tables }
+    requires tables { tables ≡ L.tables }
 {
-    let (mut slot, mut share) = Slot::<L, 0>::open(alloc, table, blank, hasher);
+    let (mut slot, mut share) = Slot::<L, 0>::open(alloc, tables, blank, hasher);
     let mut replies = Vec::new(alloc);
     for request in requests {
         if shard_of(request.key()) != 0 {
@@ -285,34 +403,36 @@ fn in_a_slot<L: ShardLedger>(
     Ok(replies)
 }
 
-#[test]
-fn first_event_in_a_slot(rt: HostRuntime) -> Result<(), Fail> {
-    let alloc = rt.alloc();
-    let requests = requests_of(alloc, CASES[0])?;
-    let replies = slot_replies(
-        alloc,
-        Table::profile(alloc)?,
-        &requests,
-        RandomState::new(&rt)?,
-    )?;
-    let outcomes = [
-        Outcome::Done,
-        Outcome::Done,
-        Outcome::Seen(available_once()),
-    ];
-    for (place, (reply, outcome)) in replies.iter().zip(&outcomes).enumerate() {
-        assert_eq!(rt; (reply.place, reply.outcome), (place, *outcome));
-    }
-    assert_eq!(rt; replies.len(), 3);
-    Ok(())
-}
-
 /// The same with a ledger of its own.
 fn slot_replies(
     alloc: Global,
-    table: Table,
+    tables: Tables,
     requests: &[Request],
     hasher: RandomState,
 ) -> Result<Vec<Reply>, AllocError> {
-    in_a_slot::<Brand>(alloc, table, requests, Blank::new(1), hasher)
+    in_a_slot::<Brand>(alloc, tables, requests, Blank::new(1), hasher)
+}
+
+/// The replies of a slot to the first case.
+fn first_case_in_a_slot<R: RandomSource>(rt: &R, alloc: Global) -> Result<Vec<Reply>, Fail> {
+    let requests = requests_of(alloc, CASES[0])?;
+    let tables = profile(alloc)?;
+    Ok(slot_replies(alloc, tables, &requests, RandomState::new(rt)?)?)
+}
+
+/// The reply at this place.
+fn at(place: usize, outcome: Outcome) -> Reply {
+    Reply { place, outcome }
+}
+
+#[test]
+fn first_event_in_a_slot(rt: HostRuntime) -> Result<(), Fail> {
+    let replies = first_case_in_a_slot(&rt, rt.alloc())?;
+    let expected = [
+        at(0, Outcome::Done),
+        at(1, Outcome::Done),
+        at(2, Outcome::Seen(available_once())),
+    ];
+    assert_eq!(rt; replies.as_slice(), expected.as_slice());
+    Ok(())
 }

@@ -1,12 +1,15 @@
 //! Books that are settled once their callers, in threads, are done.
 ghost use Rattle.std.specs.Prelude.{◌≡◌};
 
-use super::{A, Ask, C, DROP_OFF, E0, E1, available_once, copies, hashers, key, requests_of};
+use super::{
+    A, Ask, C, DROP_OFF, E0, E1, available_once, copies, hashers, key, profile, requests_of,
+    settled, starts_of,
+};
 use crate::{Book, Keep, Seat, SettleFault, Settled, ShardLedger, reconcile};
 use mds_core::Outcome::{Done, Seen};
 use mds_core::{Event, Outcome, Refusal, Reply, Request};
 use mds_settle::Note;
-use mds_table::{State, Table, TypeName};
+use mds_table::{State, Tables, TypeName};
 use std::alloc::{AllocError, Global};
 use std::marker::Brand;
 use std::random::RandomSource;
@@ -19,20 +22,21 @@ use uuid::Uuid;
 
 /// What the first of two seats asks before the threads begin, and what each asks in its thread.
 #[derive(Clone, Copy)]
-struct Asking<'a> {
-    before: &'a [Request],
-    each: &'a [Vec<Request>],
+pub struct Asking<'a> {
+    pub before: &'a [Request],
+    pub each: &'a [Vec<Request>],
 }
 
 /// What a settled book of two seats tells; the outcomes are those noted, of one seat and then of the other. The events
 /// are counted before it is settled, of the vehicle for which each seat asked first.
 #[derive(Drop)]
-struct Told {
+pub struct Told {
     events: Vec<usize>,
-    accepted: u128,
+    pub starts: [Option<u64>; 2],
+    pub accepted: u128,
     first: Vec<Request>,
     second: Vec<Request>,
-    outcomes: Vec<Outcome>,
+    pub outcomes: Vec<Outcome>,
 }
 
 /// How many requests are asked.
@@ -76,6 +80,22 @@ fn ask_in_threads<
     );
 }
 
+/// How many events the vehicle has that the first of the requests is about.
+fn event_count<L: ShardLedger, M: ShardLedger, R: Wait>(
+    rt: &R,
+    alloc: Global,
+    book: &Book<L, M>,
+    requests: &[Request],
+) -> Result<usize, AllocError> {
+    let Some(request) = requests.first() else {
+        return Ok(0);
+    };
+    let Some(events) = book.vehicle_events(rt, alloc, request.key())? else {
+        return Ok(0);
+    };
+    Ok(events.len())
+}
+
 /// How many events each vehicle has for which a seat asked first.
 fn event_counts<L: ShardLedger, M: ShardLedger, R: Wait>(
     rt: &R,
@@ -83,14 +103,39 @@ fn event_counts<L: ShardLedger, M: ShardLedger, R: Wait>(
     book: &Book<L, M>,
     each: &[Vec<Request>],
 ) -> Result<Vec<usize>, AllocError> {
-    let mut counts = Vec::with_capacity(alloc, each.len())?;
+    let mut counts = Vec::new(alloc);
     for requests in each {
-        if let Some(request) = requests.first() {
-            let events = book.vehicle_events(rt, alloc, request.key())?;
-            counts.push(events.map_or(0, |events| events.len()))?;
-        }
+        counts.push(event_count(rt, alloc, book, requests)?)?;
     }
     Ok(counts)
+}
+
+/// Adds the outcomes of these notes.
+fn add_outcomes(outcomes: &mut Vec<Outcome>, notes: &[Note]) -> Result<(), AllocError> {
+    for note in notes {
+        outcomes.push(note.reply.outcome)?;
+    }
+    Ok(())
+}
+
+/// The outcomes that two seats noted.
+fn noted_outcomes<L: ShardLedger, M: ShardLedger>(
+    alloc: Global,
+    settled: &Settled<L, M>,
+) -> Result<Vec<Outcome>, Fail> {
+    let mut outcomes = Vec::new(alloc);
+    add_outcomes(&mut outcomes, settled.notes(0).ok_or("a seat")?)?;
+    add_outcomes(&mut outcomes, settled.notes(1).ok_or("another seat")?)?;
+    Ok(outcomes)
+}
+
+/// The history of a shard of the settled book.
+fn history_of<L: ShardLedger, M: ShardLedger>(
+    alloc: Global,
+    settled: &Settled<L, M>,
+    shard: usize,
+) -> Result<Vec<Request>, Fail> {
+    Ok(copies(alloc, settled.history(shard).ok_or("a shard")?)?)
 }
 
 /// What a settled book of two seats tells.
@@ -99,20 +144,34 @@ fn told_by<L: ShardLedger, M: ShardLedger>(
     settled: &Settled<L, M>,
     events: Vec<usize>,
 ) -> Result<Told, Fail> {
-    let mut outcomes = Vec::new(alloc);
-    for note in settled.notes(0).ok_or("a seat")? {
-        outcomes.push(note.reply.outcome)?;
-    }
-    for note in settled.notes(1).ok_or("another seat")? {
-        outcomes.push(note.reply.outcome)?;
-    }
     Ok(Told {
         events,
+        starts: starts_of(settled.tables()),
         accepted: settled.accepted(),
-        first: copies(alloc, settled.history(0).ok_or("a shard")?)?,
-        second: copies(alloc, settled.history(1).ok_or("another shard")?)?,
-        outcomes,
+        first: history_of(alloc, settled, 0)?,
+        second: history_of(alloc, settled, 1)?,
+        outcomes: noted_outcomes(alloc, settled)?,
     })
+}
+
+/// What a book tells once these seats asked, each in a thread of its own, and it is settled.
+fn told_by_seats<
+    L: ShardLedger + Send + Sync,
+    M: ShardLedger + Send + Sync,
+    R: Threads + Wait + Sync,
+>(
+    rt: &R,
+    alloc: Global,
+    book: Book<L, M>,
+    mut seats: Vec<Seat<L, M>>,
+    asking: Asking<'_>,
+) -> Result<Told, Fail> {
+    if let Some(seat) = seats.first_mut() {
+        ask(rt, &book, seat, asking.before);
+    }
+    ask_in_threads(rt, &book, &mut seats, asking.each);
+    let events = event_counts(rt, alloc, &book, asking.each)?;
+    told_by(alloc, &settled(book, seats)?, events)
 }
 
 /// What a book tells once its two seats asked.
@@ -123,44 +182,38 @@ fn settled_after<
 >(
     rt: &R,
     alloc: Global,
-    table: Table,
+    tables: Tables,
     asking: Asking<'_>,
     first: Blank,
     second: Blank,
 ) -> Result<Told, Fail>
     requires first { (first.name ≡ L.name) × (first.parts ≡ L.parts) × (first.parts ≡ 2) }
     requires second { (second.name ≡ M.name) × (second.parts ≡ M.parts) × (second.parts ≡ 2) }
-    requires table { (table ≡ L.tables) × (table ≡ M.tables) }
+    requires tables { (tables ≡ L.tables) × (tables ≡ M.tables) }
 {
-    let (book, mut seats) = Book::<L, M>::open(
+    let (book, seats) = Book::<L, M>::open(
         alloc,
-        table,
+        tables,
         2,
         Keep::All,
         first,
         second,
         hashers(rt)?,
     )?;
-    if let Some(seat) = seats.first_mut() {
-        ask(rt, &book, seat, asking.before);
-    }
-    ask_in_threads(rt, &book, &mut seats, asking.each);
-    let events = event_counts(rt, alloc, &book, asking.each)?;
-    let settled = reconcile(book, seats).ok().ok_or("settled")?;
-    told_by(alloc, &settled, events)
+    told_by_seats(rt, alloc, book, seats, asking)
 }
 
 /// The same with ledgers of their own; each request was noted, or there was no memory for it.
-fn told_after<R: Threads + Wait + RandomSource + Sync>(
+pub fn told_after<R: Threads + Wait + RandomSource + Sync>(
     rt: &R,
     alloc: Global,
-    table: Table,
+    tables: Tables,
     asking: Asking<'_>,
 ) -> Result<Told, Fail> {
     let told = settled_after::<Brand, Brand, R>(
         rt,
         alloc,
-        table,
+        tables,
         asking,
         Blank::new(2),
         Blank::new(2),
@@ -180,17 +233,30 @@ fn three_calls<'a>(device: &'a str) -> [Ask<'a>; 3] {
     ]
 }
 
-#[test]
-fn two_seats_two_threads(rt: HostRuntime) -> Result<(), Fail> {
-    let alloc = rt.alloc();
+/// What each of two seats asks.
+fn three_calls_each(alloc: Global) -> Result<Vec<Vec<Request>>, Fail> {
     let mut each = Vec::new(alloc);
     each.push(requests_of(alloc, &three_calls(A))?)?;
     each.push(requests_of(alloc, &three_calls(C))?)?;
+    Ok(each)
+}
+
+/// What a settled book tells whose two seats asked about a vehicle each.
+fn told_of_two_vehicles<R: Threads + Wait + RandomSource + Sync>(
+    rt: &R,
+    alloc: Global,
+) -> Result<Told, Fail> {
+    let each = three_calls_each(alloc)?;
     let asking = Asking {
         before: &[],
         each: &each,
     };
-    let found = told_after(&rt, alloc, Table::profile(alloc)?, asking)?;
+    told_after(rt, alloc, profile(alloc)?, asking)
+}
+
+#[test]
+fn two_seats_two_threads(rt: HostRuntime) -> Result<(), Fail> {
+    let found = told_of_two_vehicles(&rt, rt.alloc())?;
     let seen = Seen(available_once());
     let outcomes = [Done, Done, seen, Done, Done, seen];
     assert_eq!(rt; found.outcomes.as_slice(), outcomes.as_slice());
@@ -202,21 +268,33 @@ fn two_seats_two_threads(rt: HostRuntime) -> Result<(), Fail> {
     Ok(())
 }
 
-/// Reports of one vehicle by turns, a low battery and a charged one, each with an identifier of its own and the caller's.
+/// The report of a turn: by turns a low battery and a charged one, each with an identifier of its own and the caller's.
+fn turn_of(caller: u8, turn: u8) -> Result<Request, Fail> {
+    let id = Uuid::from_u128(caller as u128 * 1000 + turn as u128);
+    let (name, state) = if turn % 2 == 0 {
+        ("battery_low", State::NonOperational)
+    } else {
+        ("battery_charged", State::Available)
+    };
+    let types = [TypeName::new(name)?];
+    Ok(Request::Report(Event::new(key(A)?, id, state, &types, 1000, None)?))
+}
+
+/// A caller's reports of one vehicle by turns.
 fn turns(alloc: Global, caller: u8) -> Result<Vec<Request>, Fail> {
-    let low = [TypeName::new("battery_low")?];
-    let charged = [TypeName::new("battery_charged")?];
     let mut requests = Vec::new(alloc);
     for turn in 0..200u8 {
-        let id = Uuid::from_u128(caller as u128 * 1000 + turn as u128);
-        let event = if turn % 2 == 0 {
-            Event::new(key(A)?, id, State::NonOperational, &low, 1000, None)?
-        } else {
-            Event::new(key(A)?, id, State::Available, &charged, 1000, None)?
-        };
-        requests.push(Request::Report(event))?;
+        requests.push(turn_of(caller, turn)?)?;
     }
     Ok(requests)
+}
+
+/// The reports of two callers.
+fn turns_each(alloc: Global) -> Result<Vec<Vec<Request>>, Fail> {
+    let mut each = Vec::new(alloc);
+    each.push(turns(alloc, 1)?)?;
+    each.push(turns(alloc, 2)?)?;
+    Ok(each)
 }
 
 /// Whether a report was accepted, or found no row for its first type.
@@ -246,30 +324,46 @@ fn alternates(events: &[Request]) -> bool {
     true
 }
 
-#[test]
-fn two_threads_on_one_vehicle(rt: HostRuntime) -> Result<(), Fail> {
-    let alloc = rt.alloc();
-    let asked = [
-        Ask::Register(A),
-        Ask::Report(A, E0, DROP_OFF, State::Available, 1000),
-    ];
-    let before = requests_of(alloc, &asked)?;
-    let mut each = Vec::new(alloc);
-    each.push(turns(alloc, 1)?)?;
-    each.push(turns(alloc, 2)?)?;
+/// How many of the outcomes are acceptances.
+fn count_done(outcomes: &[Outcome]) -> usize {
+    outcomes.iter().filter(|outcome| **outcome == Done).count()
+}
+
+/// Whether the events behind the first two requests alternate.
+fn alternates_behind_two(history: &[Request]) -> bool {
+    let Some(events) = history.get(2..) else {
+        return false;
+    };
+    alternates(events)
+}
+
+/// What a settled book tells whose two seats reported one vehicle.
+fn told_of_one_vehicle<R: Threads + Wait + RandomSource + Sync>(
+    rt: &R,
+    alloc: Global,
+) -> Result<Told, Fail> {
+    let before = requests_of(alloc, BEFORE_TURNS)?;
+    let each = turns_each(alloc)?;
     let asking = Asking {
         before: &before,
         each: &each,
     };
-    let found = told_after(&rt, alloc, Table::profile(alloc)?, asking)?;
-    let done = found
-        .outcomes
-        .iter()
-        .filter(|outcome| **outcome == Done)
-        .count();
+    told_after(rt, alloc, profile(alloc)?, asking)
+}
+
+/// What is asked before the turns.
+const BEFORE_TURNS: &[Ask<'static>] = &[
+    Ask::Register(A),
+    Ask::Report(A, E0, DROP_OFF, State::Available, 1000),
+];
+
+#[test]
+fn two_threads_on_one_vehicle(rt: HostRuntime) -> Result<(), Fail> {
+    let found = told_of_one_vehicle(&rt, rt.alloc())?;
+    let done = count_done(&found.outcomes);
     assert_eq!(rt; (found.outcomes.len(), found.accepted), (402, done as u128));
     assert!(rt; found.outcomes.iter().all(is_done_or_stuck));
-    assert!(rt; alternates(found.first.get(2..).ok_or("events")?));
+    assert!(rt; alternates_behind_two(&found.first));
     Ok(())
 }
 
@@ -296,61 +390,83 @@ fn missed<L: ShardLedger, M: ShardLedger>(
 fn accepted_of_three<L: ShardLedger, M: ShardLedger, R: Wait + RandomSource>(
     rt: &R,
     alloc: Global,
-    table: Table,
+    tables: Tables,
     requests: &[Request],
     first: Blank,
     second: Blank,
 ) -> Result<u128, Fail>
     requires first { (first.name ≡ L.name) × (first.parts ≡ L.parts) × (first.parts ≡ 3) }
     requires second { (second.name ≡ M.name) × (second.parts ≡ M.parts) × (second.parts ≡ 3) }
-    requires table { (table ≡ L.tables) × (table ≡ M.tables) }
+    requires tables { (tables ≡ L.tables) × (tables ≡ M.tables) }
 {
-    let (mut book, mut seats) = Book::<L, M>::open(
+    let (book, mut seats) = Book::<L, M>::open(
         alloc,
-        table,
+        tables,
         3,
         Keep::Accepted,
         first,
         second,
         hashers(rt)?,
     )?;
+    ask_one_each(rt, &book, &mut seats, requests)?;
+    accepted_when_complete(book, seats)
+}
+
+/// Has each seat ask the request of its place.
+fn ask_one_each<L: ShardLedger, M: ShardLedger, R: Wait>(
+    rt: &R,
+    book: &Book<L, M>,
+    seats: &mut [Seat<L, M>],
+    requests: &[Request],
+) -> Result<(), AllocError> {
     for (seat, request) in seats.iter_mut().zip(requests) {
         book.call(rt, seat, request)?;
     }
+    Ok(())
+}
+
+/// How many accepted calls a book tells, once three times a seat was left out.
+fn accepted_when_complete<L: ShardLedger, M: ShardLedger>(
+    mut book: Book<L, M>,
+    mut seats: Vec<Seat<L, M>>,
+) -> Result<u128, Fail> {
     for _ in 0..3 {
         (book, seats) = missed(book, seats)?;
     }
-    Ok(reconcile(book, seats).ok().ok_or("settled")?.accepted())
+    Ok(settled(book, seats)?.accepted())
 }
 
 /// The same with ledgers of their own.
 fn three_accepted<R: Wait + RandomSource>(
     rt: &R,
     alloc: Global,
-    table: Table,
+    tables: Tables,
     requests: &[Request],
 ) -> Result<u128, Fail> {
-    accepted_of_three::<Brand, Brand, R>(rt, alloc, table, requests, Blank::new(3), Blank::new(3))
+    accepted_of_three::<Brand, Brand, R>(rt, alloc, tables, requests, Blank::new(3), Blank::new(3))
+}
+
+/// What each of three seats asks.
+const ONE_EACH: &[Ask<'static>] = &[
+    Ask::Register(A),
+    Ask::Report(A, E1, DROP_OFF, State::Available, 1000),
+    Ask::Register(super::B),
+];
+
+/// How many accepted calls a book of three seats tells.
+fn accepted_of_one_each<R: Wait + RandomSource>(rt: &R, alloc: Global) -> Result<u128, Fail> {
+    let requests = requests_of(alloc, ONE_EACH)?;
+    three_accepted(rt, alloc, profile(alloc)?, &requests)
 }
 
 #[test]
 fn a_seat_left_out(rt: HostRuntime) -> Result<(), Fail> {
-    let alloc = rt.alloc();
-    let asked = [
-        Ask::Register(A),
-        Ask::Report(A, E1, DROP_OFF, State::Available, 1000),
-        Ask::Register(super::B),
-    ];
-    let requests = requests_of(alloc, &asked)?;
-    assert_eq!(rt;
-        three_accepted(&rt, alloc, Table::profile(alloc)?, &requests)?,
-        3
-    );
+    assert_eq!(rt; accepted_of_one_each(&rt, rt.alloc())?, 3);
     Ok(())
 }
 
 /// What a book tells that isn't settled: the shard and the place, the lengths of its histories and of the notes of its
-/// seats, each with one more that isn't there, and the number of its table's rows.
+/// seats, each with one more that isn't there, and the number of rows of its first table.
 #[derive(Debug, PartialEq, Drop)]
 struct Misfit {
     at: (usize, usize),
@@ -364,7 +480,7 @@ struct Misfit {
 fn misfit_of<L: ShardLedger, M: ShardLedger, R: Wait + RandomSource>(
     rt: &R,
     alloc: Global,
-    table: Table,
+    tables: Tables,
     request: &Request,
     wrong: &[usize],
     first: Blank,
@@ -372,11 +488,11 @@ fn misfit_of<L: ShardLedger, M: ShardLedger, R: Wait + RandomSource>(
 ) -> Result<Misfit, Fail>
     requires first { (first.name ≡ L.name) × (first.parts ≡ L.parts) × (first.parts ≡ 1) }
     requires second { (second.name ≡ M.name) × (second.parts ≡ M.parts) × (second.parts ≡ 1) }
-    requires table { (table ≡ L.tables) × (table ≡ M.tables) }
+    requires tables { (tables ≡ L.tables) × (tables ≡ M.tables) }
 {
     let (book, mut seats) = Book::<L, M>::open(
         alloc,
-        table,
+        tables,
         1,
         Keep::All,
         first,
@@ -384,10 +500,21 @@ fn misfit_of<L: ShardLedger, M: ShardLedger, R: Wait + RandomSource>(
         hashers(rt)?,
     )?;
     if let Some(seat) = seats.first_mut() {
-        book.call(rt, seat, request)?;
-        note_wrongly(seat, request, wrong)?;
+        ask_and_note(rt, &book, seat, request, wrong)?;
     }
     misfit_in(book, seats)
+}
+
+/// Asks a request, and notes it again for each shard of these.
+fn ask_and_note<L: ShardLedger, M: ShardLedger, R: Wait>(
+    rt: &R,
+    book: &Book<L, M>,
+    seat: &mut Seat<L, M>,
+    request: &Request,
+    wrong: &[usize],
+) -> Result<(), AllocError> {
+    book.call(rt, seat, request)?;
+    note_wrongly(seat, request, wrong)
 }
 
 /// Notes, for each shard of these, a second acceptance of the request.
@@ -430,7 +557,7 @@ fn misfit_in<L: ShardLedger, M: ShardLedger>(
         at: (shard, place),
         histories: [history(0), history(1), history(2)],
         notes: [notes(0), notes(1)],
-        rows: gathered.table().row_count(),
+        rows: gathered.tables().at(0).row_count(),
     })
 }
 
@@ -438,14 +565,14 @@ fn misfit_in<L: ShardLedger, M: ShardLedger>(
 fn misfit_after<R: Wait + RandomSource>(
     rt: &R,
     alloc: Global,
-    table: Table,
+    tables: Tables,
     request: &Request,
     wrong: &[usize],
 ) -> Result<Misfit, Fail> {
     misfit_of::<Brand, Brand, R>(
         rt,
         alloc,
-        table,
+        tables,
         request,
         wrong,
         Blank::new(1),
@@ -470,7 +597,7 @@ fn notes_that_do_not_fit(rt: HostRuntime) -> Result<(), Fail> {
             notes: [Some(1 + wrong.len()), None],
             rows: 74,
         };
-        let found = misfit_after(&rt, alloc, Table::profile(alloc)?, &request, wrong)?;
+        let found = misfit_after(&rt, alloc, profile(alloc)?, &request, wrong)?;
         assert_eq!(rt; found, expected, "{wrong:?}");
     }
     Ok(())

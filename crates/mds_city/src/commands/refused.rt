@@ -1,5 +1,5 @@
 //! Each command, carried out again where a growth is refused (by `tests/refused-growths`).
-use super::tests::{FIVE_EVENTS, FIVE_LINES, ONE_ROW, file};
+use super::tests::{FIVE_EVENTS, FIVE_LINES, ONE_ROW, TWO_TABLES, TWO_TABLES_LINES, file};
 use super::{replay_to, table_to};
 use crate::debug::tests::{FIRST, PROVIDER, SCRIPT, SCRIPT_LINES, TWO_EVENTS};
 use crate::debug::{Named, debug_to};
@@ -59,14 +59,15 @@ fn replayed(alloc: Global) -> Came {
     (status, out.rest.is_empty(), faults.rest.is_empty())
 }
 
-fn tabled(alloc: Global) -> Came {
+/// The print of a table file, which must come to these lines.
+fn tabled(alloc: Global, text: &str, lines: &str) -> Came {
     let mut out = Expects {
-        rest: b"wake removed available\nrows 1\n",
+        rest: lines.as_bytes(),
     };
     let mut faults = Expects {
         rest: b"mds_city: out of memory\n",
     };
-    let status = table_to(alloc, Some(file("T", ONE_ROW)), &mut out, &mut faults);
+    let status = table_to(alloc, Some(file("T", text)), &mut out, &mut faults);
     (status, out.rest.is_empty(), faults.rest.is_empty())
 }
 
@@ -82,14 +83,26 @@ fn replay_succeeds_after_a_refused_growth(rt: HostRuntime) -> Result<(), Fail> {
     Ok(())
 }
 
-#[test]
-fn table_succeeds_after_a_refused_growth(rt: HostRuntime) -> Result<(), Fail> {
-    let first = tabled(rt.alloc());
-    let came = if is_refused(first) {
-        tabled(rt.alloc())
+/// The same, printed again where a growth was refused.
+fn tabled_again(alloc: Global, text: &str, lines: &str) -> Came {
+    let first = tabled(alloc, text, lines);
+    if is_refused(first) {
+        tabled(alloc, text, lines)
     } else {
         first
-    };
+    }
+}
+
+#[test]
+fn table_succeeds_after_a_refused_growth(rt: HostRuntime) -> Result<(), Fail> {
+    let came = tabled_again(rt.alloc(), ONE_ROW, "wake removed available\nrows 1\n");
+    assert_eq!(rt; came, (0, true, false));
+    Ok(())
+}
+
+#[test]
+fn two_tables_succeed_after_a_refused_growth(rt: HostRuntime) -> Result<(), Fail> {
+    let came = tabled_again(rt.alloc(), TWO_TABLES, TWO_TABLES_LINES);
     assert_eq!(rt; came, (0, true, false));
     Ok(())
 }

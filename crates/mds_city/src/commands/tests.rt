@@ -26,6 +26,44 @@ accepted 3 refused 2
 /// A table of one row.
 pub const ONE_ROW: &str = r#"{"rows":[{"from":"removed","type":"wake","to":"available"}]}"#;
 
+/// A table from 0, another from 2000, and what is printed of both.
+pub const TWO_TABLES: &str = r#"{"tables":[
+{"from_time":0,"rows":[{"from":"removed","type":"wake","to":"available"}]},
+{"from_time":2000,"rows":[{"from":"available","type":"rest","to":"removed"}]}]}"#;
+
+pub const TWO_TABLES_LINES: &str = "from 0
+wake removed available
+rows 1
+from 2000
+rest available removed
+rows 1
+";
+
+/// Events just before the second table starts and exactly then, and one that comes last but is of the first table's time.
+pub const CHANGING_EVENTS: &str = r#"[
+{"provider_id":"00000000-0000-4000-8000-000000000001","device_id":"00000000-0000-4000-8000-00000000000a","event_id":"00000000-0000-4000-8000-0000000000e1","vehicle_state":"available","event_types":["wake"],"timestamp":1999},
+{"provider_id":"00000000-0000-4000-8000-000000000001","device_id":"00000000-0000-4000-8000-00000000000a","event_id":"00000000-0000-4000-8000-0000000000e2","vehicle_state":"removed","event_types":["rest"],"timestamp":1999},
+{"provider_id":"00000000-0000-4000-8000-000000000001","device_id":"00000000-0000-4000-8000-00000000000a","event_id":"00000000-0000-4000-8000-0000000000e3","vehicle_state":"removed","event_types":["rest"],"timestamp":2000},
+{"provider_id":"00000000-0000-4000-8000-000000000001","device_id":"00000000-0000-4000-8000-00000000000a","event_id":"00000000-0000-4000-8000-0000000000e4","vehicle_state":"available","event_types":["wake"],"timestamp":2000},
+{"provider_id":"00000000-0000-4000-8000-000000000001","device_id":"00000000-0000-4000-8000-00000000000b","event_id":"00000000-0000-4000-8000-0000000000e1","vehicle_state":"available","event_types":["wake"],"timestamp":1000}
+]"#;
+
+const CHANGING_LINES: &str = "0 ok available
+1 refused no_chain available 0
+2 ok removed
+3 refused no_chain removed 0
+4 ok available
+vehicle 00000000-0000-4000-8000-000000000001 00000000-0000-4000-8000-00000000000a removed 2
+vehicle 00000000-0000-4000-8000-000000000001 00000000-0000-4000-8000-00000000000b available 1
+accepted 3 refused 2
+";
+
+/// A file of tables that lists one, and one whose table has no rows.
+const ONE_FROM_0: &str =
+    r#"{"tables":[{"from_time":0,"rows":[{"from":"removed","type":"wake","to":"available"}]}]}"#;
+
+const EMPTY_FROM_0: &str = r#"{"tables":[{"from_time":0,"rows":[]}]}"#;
+
 /// What the five events come to over the table of one row.
 pub const FIVE_BY_ONE_ROW: &str = "0 refused no_chain removed 0
 1 refused no_chain removed 0
@@ -86,9 +124,10 @@ fn replays(alloc: Global, case: &Replay) -> bool {
 
 #[test]
 fn worked_replays(rt: HostRuntime) {
-    let cases: [Replay; 12] = [
+    let cases: [Replay; 13] = [
         (None, FIVE_EVENTS, 1, FIVE_LINES, ""),
         (Some(ONE_ROW), FIVE_EVENTS, 1, FIVE_BY_ONE_ROW, ""),
+        (Some(TWO_TABLES), CHANGING_EVENTS, 1, CHANGING_LINES, ""),
         (None, FAULTY_ITEMS, 1, FAULTY_LINES, ""),
         (None, "[]", 0, "accepted 0 refused 0\n", ""),
         (None, "", 3, "", "mds_city: not a batch: not_json\n"),
@@ -132,11 +171,19 @@ fn prints(alloc: Global, case: &Print) -> bool {
 
 #[test]
 fn worked_tables(rt: HostRuntime) {
-    let cases: [Print; 4] = [
+    let cases: [Print; 7] = [
         (ONE_ROW, 0, "wake removed available\nrows 1\n", ""),
         ("", 3, "", "mds_city: not a table: not_json\n"),
         ("[]", 3, "", "mds_city: not a table: not_rows\n"),
         (r#"{"rows":[]}"#, 3, "", "mds_city: not a table: empty\n"),
+        (TWO_TABLES, 0, TWO_TABLES_LINES, ""),
+        (ONE_FROM_0, 0, "wake removed available\nrows 1\n", ""),
+        (
+            EMPTY_FROM_0,
+            3,
+            "",
+            "mds_city: not a table: table 0 empty\n",
+        ),
     ];
     for case in &cases {
         assert!(rt; prints(rt.alloc(), case), "{case:?}");

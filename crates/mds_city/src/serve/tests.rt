@@ -3,8 +3,8 @@ use super::{Listens, begun, serve_on, torn_to};
 use crate::problem::Problem;
 use crate::source::Source;
 use mds_pool::{Port, PortFault};
-use mds_table::Table;
-use std::alloc::Global;
+use mds_table::{Table, Tables};
+use std::alloc::{AllocError, Global};
 use std::hash::RandomState;
 use std::io::{self, ErrorKind, Write};
 use std::random::RandomSource;
@@ -45,11 +45,16 @@ type Case = (usize, u8, &'static str, &'static str);
 
 const ENDS: [Case; 2] = [(0, 0, "accepted 0\n", ""), (1, 3, "", "mds_city: socket\n")];
 
+/// The profile's table, in force from 0 on.
+fn profile(alloc: Global) -> Result<Tables, AllocError> {
+    Tables::one(alloc, Table::profile(alloc)?)
+}
+
 /// Whether serving a port that gives no connection ends so.
 fn ends_so<R: Threads + Wait + Sync>(
     rt: &R,
     alloc: Global,
-    table: Table,
+    tables: Tables,
     hashers: [RandomState; 2],
     case: &Case,
 ) -> bool {
@@ -59,7 +64,7 @@ fn ends_so<R: Threads + Wait + Sync>(
     let came = serve_on(
         rt,
         alloc,
-        table,
+        tables,
         hashers,
         &Closed,
         1,
@@ -73,9 +78,9 @@ fn ends_so<R: Threads + Wait + Sync>(
 #[test]
 fn no_connections_and_first_accept_fails(rt: HostRuntime) -> Result<(), Fail> {
     for case in &ENDS {
-        let table = Table::profile(rt.alloc())?;
+        let tables = profile(rt.alloc())?;
         let hashers = [RandomState::new(&rt)?, RandomState::new(&rt)?];
-        assert!(rt; ends_so(&rt, rt.alloc(), table, hashers, case), "{case:?}");
+        assert!(rt; ends_so(&rt, rt.alloc(), tables, hashers, case), "{case:?}");
     }
     Ok(())
 }
@@ -83,12 +88,12 @@ fn no_connections_and_first_accept_fails(rt: HostRuntime) -> Result<(), Fail> {
 /// An output that fails at the last line isn't told as want of memory.
 #[test]
 fn last_line_fails(rt: HostRuntime) -> Result<(), Fail> {
-    let table = Table::profile(rt.alloc())?;
+    let tables = profile(rt.alloc())?;
     let mut faults = Vec::new(rt.alloc());
     let code = serve_on(
         &rt,
         rt.alloc(),
-        table,
+        tables,
         [RandomState::new(&rt)?, RandomState::new(&rt)?],
         &Closed,
         1,

@@ -4,7 +4,7 @@ use mds_batch::{EventItem, ItemFault};
 use mds_core::{Event, Key, Refusal};
 use mds_io::PrintError;
 use mds_table::State::{Available, NonContactable, OnTrip, Removed};
-use mds_table::{State, Table, TypeName};
+use mds_table::{State, Table, Tables, TypeName};
 use mds_trace::{Session, Verdict};
 use std::alloc::Global;
 use std::io::{self, Error, ErrorKind, Write};
@@ -67,7 +67,8 @@ fn session_of(alloc: Global, told: &[Told<'_>]) -> Result<Session, Fail> {
     for one in told {
         events.push(event_of(alloc, *one)?)?;
     }
-    Ok(Session::open(alloc, Table::profile(alloc)?, Removed, events)?)
+    let tables = Tables::one(alloc, Table::profile(alloc)?)?;
+    Ok(Session::open(alloc, tables, Removed, events)?)
 }
 
 /// What a script prints of a session over the events that are told, with so many refused.

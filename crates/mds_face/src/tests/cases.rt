@@ -1,11 +1,11 @@
 //! The worked answers, each asked of a fleet.
 use super::{Exchange, Sent, answer_text, answered, bytes_sent};
 use mds_core::Fleet;
-use mds_table::Table;
+use mds_table::{Table, Tables};
 use std::alloc::Global;
 use std::test::Fail;
 
-const OK: &str = "200 OK";
+pub const OK: &str = "200 OK";
 
 const BAD: &str = "400 Bad Request";
 
@@ -37,11 +37,11 @@ pub const ONE_FAULTY_OF_THREE: &str =
 "event_id":"00000000-0000-4000-8000-0000000000e2","vehicle_state":"available","event_types":["provider_drop_off"],"timestamp":1000}]"#;
 
 /// A, B and nobody are looked at.
-const LOOK_AT_A: Sent = Sent::Text(
+pub const LOOK_AT_A: Sent = Sent::Text(
     "GET /vehicles/00000000-0000-4000-8000-000000000001/00000000-0000-4000-8000-00000000000a?x=1 HTTP/1.1\r\n\r\n",
 );
 
-const LOOK_AT_B: Sent = Sent::Text(
+pub const LOOK_AT_B: Sent = Sent::Text(
     "GET /vehicles/00000000-0000-4000-8000-000000000001/00000000-0000-4000-8000-00000000000b HTTP/1.0\r\n\r\n",
 );
 
@@ -196,7 +196,8 @@ const OF_NOTHING: &[Exchange] = &[
 
 /// A fleet over the profile.
 pub fn fleet(alloc: Global) -> Result<Fleet, Fail> {
-    Ok(Fleet::open(alloc, Table::profile(alloc)?))
+    let tables = Tables::one(alloc, Table::profile(alloc)?)?;
+    Ok(Fleet::open(alloc, tables))
 }
 
 #[test]
@@ -236,9 +237,9 @@ fn table_is_a_table_file(rt: HostRuntime) -> Result<(), Fail> {
             r#"{"rows":[{"from":"removed","to":"available","type":"agency_drop_off"},{"#
         )
     );
-    let table = Table::from_json(rt.alloc(), body.as_bytes())?;
+    let read = Tables::from_json(rt.alloc(), body.as_bytes())?;
     let profile = Table::profile(rt.alloc())?;
-    let rows = (table.rows(rt.alloc())?, profile.rows(rt.alloc())?);
-    assert_eq!(rt; rows.0.as_slice(), rows.1.as_slice());
+    let rows = (read.at(0).rows(rt.alloc())?, profile.rows(rt.alloc())?);
+    assert_eq!(rt; (read.len(), rows.0.as_slice()), (1, rows.1.as_slice()));
     Ok(())
 }

@@ -2,10 +2,11 @@
 ghost use Rattle.std.specs.Prelude.{◌≡◌, IfSome};
 
 use super::cases::{ONE_FAULTY_OF_THREE, fleet};
+use super::tables::two_tables;
 use super::{Client, Sent, answer_text, answered, bytes_sent};
 use crate::{Desk, Face, ServeFault, Served, memory_bytes, serve_one};
 use mds_core::{Event, Fleet, Key, Reply, Request};
-use mds_table::{Row, State, Table};
+use mds_table::{Row, State, Table, Tables};
 use std::alloc::{AllocError, Global};
 use std::io::{self, Write};
 use std::test::Fail;
@@ -48,7 +49,7 @@ impl Desk for Wanting<'_> {
 
     ghost gives_events = { λ desk key events. Unit {0} };
 
-    ghost gives_rows = { λ desk rows. Unit {0} };
+    ghost gives_rows = { λ desk tables. Unit {0} };
 
     ghost of_its_kind = { λ old request reply new answers. given_is_for old.fleet.now.tables
         (requests_of old.fleet.now.history (key_of request)) request reply.outcome answers.outcome };
@@ -65,7 +66,7 @@ impl Desk for Wanting<'_> {
         Err(AllocError)
     }
 
-    fn rows(&mut self) -> Result<Vec<Row>, AllocError> {
+    fn rows(&mut self) -> Result<Vec<(u64, Vec<Row>)>, AllocError> {
         Err(AllocError)
     }
 }
@@ -160,13 +161,14 @@ impl Write for Counter {
     }
 }
 
-/// What is told of the batch, how many bytes were written and how many requests the fleet holds then.
+/// What is told of a request, how many bytes were written and how many requests the fleet holds then.
 fn told(
     alloc: Global,
     face: &Face,
     fleet: &mut Fleet,
+    bytes: &[u8],
 ) -> (Result<Served, ServeFault>, usize, usize) {
-    let mut client = Client::new(THREE, usize::MAX);
+    let mut client = Client::new(bytes, usize::MAX);
     let mut counter = Counter { count: 0 };
     let served = serve_one(alloc, face, &mut client, &mut counter, fleet);
     (served, counter.count, fleet.history().len())
@@ -192,15 +194,28 @@ fn stands(served: Result<Served, ServeFault>, written: usize, held: usize) -> bo
     }
 }
 
+/// The profile from 0 on.
+fn profile(alloc: Global) -> Result<Tables, AllocError> {
+    Tables::one(alloc, Table::profile(alloc)?)
+}
+
 /// A fleet in which A and B are registered, where memory allows at once or at a second try.
 fn registered(alloc: Global) -> Result<Fleet, AllocError> {
-    let table = match Table::profile(alloc) {
-        Ok(table) => table,
-        Err(AllocError) => Table::profile(alloc)?,
+    let tables = match profile(alloc) {
+        Ok(tables) => tables,
+        Err(AllocError) => profile(alloc)?,
     };
-    let mut fleet = Fleet::open(alloc, table);
+    let mut fleet = Fleet::open(alloc, tables);
     register(&mut fleet)?;
     Ok(fleet)
+}
+
+/// The routes, where memory allows at once or at a second try.
+fn routes(alloc: Global) -> Result<Face, AllocError> {
+    match Face::open(alloc) {
+        Ok(face) => Ok(face),
+        Err(_) => Face::open(alloc),
+    }
 }
 
 /// What was told stands, and the same request is then answered whole (by `tests/refused-growths`).
@@ -208,11 +223,8 @@ fn registered(alloc: Global) -> Result<Fleet, AllocError> {
 fn calls_stand_after_a_refused_growth(rt: HostRuntime) -> Result<(), Fail> {
     let alloc = rt.alloc();
     let mut fleet = registered(alloc)?;
-    let face = match Face::open(alloc) {
-        Ok(face) => face,
-        Err(_) => Face::open(alloc)?,
-    };
-    let (served, written, before) = told(alloc, &face, &mut fleet);
+    let face = routes(alloc)?;
+    let (served, written, before) = told(alloc, &face, &mut fleet, THREE);
     assert!(rt; stands(served, written, before));
     let whole = Ok(Served {
         status: 200,
@@ -221,7 +233,7 @@ fn calls_stand_after_a_refused_growth(rt: HostRuntime) -> Result<(), Fail> {
     if served == whole {
         return Ok(());
     }
-    let (served, _, after) = told(alloc, &face, &mut fleet);
+    let (served, _, after) = told(alloc, &face, &mut fleet, THREE);
     assert_eq!(rt;
         (served, after),
         (
@@ -232,5 +244,33 @@ fn calls_stand_after_a_refused_growth(rt: HostRuntime) -> Result<(), Fail> {
             4
         )
     );
+    Ok(())
+}
+
+/// Two tables are told whole or not at all, and the same request is then answered whole (by `tests/refused-growths`).
+#[test]
+fn tables_are_told_after_a_refused_growth(rt: HostRuntime) -> Result<(), Fail> {
+    let alloc = rt.alloc();
+    let tables = match two_tables(alloc) {
+        Ok(tables) => tables,
+        Err(_) => two_tables(alloc)?,
+    };
+    let mut fleet = Fleet::open(alloc, tables);
+    let face = routes(alloc)?;
+    let bytes = b"GET /table HTTP/1.1\r\n\r\n";
+    let whole = (
+        Ok(Served {
+            status: 200,
+            accepted: 0,
+        }),
+        256,
+        0,
+    );
+    let first = told(alloc, &face, &mut fleet, bytes);
+    if first == whole {
+        return Ok(());
+    }
+    assert_eq!(rt; first, (Err(ServeFault::Memory { sent: 74 }), 74, 0));
+    assert_eq!(rt; told(alloc, &face, &mut fleet, bytes), whole);
     Ok(())
 }

@@ -24,7 +24,7 @@ impl Desk for Archive {
 
     ghost gives_events = { λ desk key events. Unit {0} };
 
-    ghost gives_rows = { λ desk rows. Unit {0} };
+    ghost gives_rows = { λ desk tables. Unit {0} };
 
     ghost of_its_kind = { λ old request reply new none. absurd none };
 
@@ -40,7 +40,7 @@ impl Desk for Archive {
         Ok(Some(events))
     }
 
-    fn rows(&mut self) -> Result<Vec<Row>, AllocError> {
+    fn rows(&mut self) -> Result<Vec<(u64, Vec<Row>)>, AllocError> {
         Err(AllocError)
     }
 }

@@ -2,7 +2,7 @@
 use super::{A, Came, served_by};
 use crate::{Port, PortFault};
 use mds_book::Gate;
-use mds_table::Table;
+use mds_table::{Table, Tables};
 use std::alloc::Global;
 use std::io::{self, Write};
 use std::marker::Brand;
@@ -157,11 +157,11 @@ fn steps_of_serving<R: Threads + Wait + RandomSource + Sync>(
         lacked_memory: AtomicBool::new(false),
     };
     let port = Recorded { record: &record };
-    let table = Table::profile(alloc)?;
+    let tables = Tables::one(alloc, Table::profile(alloc)?)?;
     let first = Blank::new(WORKERS as u64);
     let second = Blank::new(WORKERS as u64);
     let came = served_by::<R, Recorded<'_, R>, Record<'_, R>, Brand, Brand>(
-        rt, alloc, &port, &record, WORKERS, EACH, table, first, second,
+        rt, alloc, &port, &record, WORKERS, EACH, tables, first, second,
     )?;
     let wanted = Came {
         failed: false,

@@ -4,6 +4,7 @@ use crate::{Found, bytes_of};
 use mds_batch::{EventItem, ItemFault};
 use mds_core::{Outcome, Refusal, Reply};
 use mds_request::{HttpFault, Plan};
+use mds_table::{Row, State, TypeName};
 use std::alloc::{AllocError, Global};
 use std::test::Fail;
 
@@ -52,12 +53,35 @@ fn history(alloc: Global) -> Result<Found, Fail> {
     Ok(Found::History(Some(events)))
 }
 
+/// A row from one state to the other.
+fn rows(alloc: Global, from: State, to: State) -> Result<Vec<Row>, Fail> {
+    let kind = TypeName::new("wake")?;
+    let mut rows = Vec::new(alloc);
+    pushed(&mut rows, Row { from, kind, to })?;
+    Ok(rows)
+}
+
+/// Two tables of one row each.
+fn tables(alloc: Global) -> Result<Found, Fail> {
+    let mut tables = Vec::new(alloc);
+    pushed(
+        &mut tables,
+        (0, rows(alloc, State::Removed, State::Available)?),
+    )?;
+    pushed(
+        &mut tables,
+        (2000, rows(alloc, State::Available, State::Removed)?),
+    )?;
+    Ok(Found::Rows(tables))
+}
+
 #[test]
 fn answer_is_whole_after_a_refused_growth(rt: HostRuntime) -> Result<(), Fail> {
     let alloc = rt.alloc();
     let fault = length(alloc, &Plan::Fixed(HttpFault::NotFound), &Found::Nothing)?;
     let batch = length(alloc, &batch(alloc)?, &replies(alloc)?)?;
     let history = length(alloc, &Plan::History(key(0x0a)), &history(alloc)?)?;
-    assert_eq!(rt; (fault, batch, history), (118, 191, 656));
+    let tables = length(alloc, &Plan::Rows, &tables(alloc)?)?;
+    assert_eq!(rt; (fault, batch, history, tables), (118, 191, 656, 256));
     Ok(())
 }

@@ -1,9 +1,9 @@
-//! Answers to a GET.
+//! Answers to a GET of a vehicle.
 use super::{answer, body_in, first_event, key, second_event};
-use crate::{Found, status_of};
+use crate::Found;
 use mds_core::{Outcome, Position, Reply, Standing};
 use mds_request::Plan;
-use mds_table::{State, Table};
+use mds_table::State;
 use std::alloc::Global;
 use std::test::Fail;
 
@@ -90,22 +90,5 @@ fn histories(rt: HostRuntime) -> Result<(), Fail> {
         let text = answer(rt.alloc(), &plan, &history_of(rt.alloc(), count)?)?;
         assert_eq!(rt; body_in(text.as_str()), *expected);
     }
-    Ok(())
-}
-
-/// How the body of the profile's table begins.
-const FIRST_ROWS: &str =
-    r#"{"rows":[{"from":"removed","to":"available","type":"agency_drop_off"},{"from":"available","to":"removed","type":"agency_pick_up"},"#;
-
-#[test]
-fn rows(rt: HostRuntime) -> Result<(), Fail> {
-    let table = Table::profile(rt.alloc())?;
-    let found = Found::Rows(table.rows(rt.alloc())?);
-    let text = answer(rt.alloc(), &Plan::Rows, &found)?;
-    let body = body_in(text.as_str());
-    let status = status_of(&Plan::Rows, &found).as_u16();
-    assert_eq!(rt; (status, body.starts_with(FIRST_ROWS)), (200, true));
-    let read = Table::from_json(rt.alloc(), body.as_bytes())?;
-    assert_eq!(rt; read.rows(rt.alloc())?, table.rows(rt.alloc())?);
     Ok(())
 }

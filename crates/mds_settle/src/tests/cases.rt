@@ -1,21 +1,21 @@
 //! Histories of a shard, what its callers noted, and the verdict.
 use super::Ask::{self, Look, Register, Report};
-use super::{A, B, C, E1, E2, Noted, notes_of, requests_of};
+use super::{A, B, C, E1, E2, Noted, notes_of, profile, requests_of};
 use crate::{Note, judge, judge_lawful};
 use mds_core::Outcome::{self, Done, Refused, Seen};
 use mds_core::{Refusal, Standing, run};
 use mds_table::State::{Available, NonOperational, Removed};
-use mds_table::Table;
+use mds_table::Tables;
 use std::alloc::Global;
 use std::test::Fail;
 
 /// What a shard holds, what its callers noted, and the verdict.
-struct Case {
-    name: &'static str,
-    shard: usize,
-    history: &'static [Ask],
-    lists: &'static [&'static [Noted]],
-    verdict: Result<(), usize>,
+pub struct Case {
+    pub name: &'static str,
+    pub shard: usize,
+    pub history: &'static [Ask],
+    pub lists: &'static [&'static [Noted]],
+    pub verdict: Result<(), usize>,
 }
 
 const UNREGISTERED: Outcome = Refused(Refusal::Unregistered);
@@ -48,7 +48,7 @@ const A_AND_C: &[Ask] = &[Register(A), Register(C)];
 const A_DROPPED_OFF: &[Ask] = &[Register(A), DROP_OFF];
 
 /// The accepted registration of A, the first in its shard.
-const A_FIRST: Noted = (0, Register(A), 0, Done);
+pub const A_FIRST: Noted = (0, Register(A), 0, Done);
 
 const JUDGING_NOTES: &[Case] = &[
     Case {
@@ -330,28 +330,32 @@ fn lists_of(alloc: Global, case: &Case) -> Result<Vec<Vec<Note>>, Fail> {
 }
 
 /// The verdict on a case.
-fn verdict(alloc: Global, case: &Case) -> Result<Result<(), usize>, Fail> {
+pub fn verdict(alloc: Global, tables: &Tables, case: &Case) -> Result<Result<(), usize>, Fail> {
     let history = requests_of(alloc, case.history)?;
     let lists = lists_of(alloc, case)?;
-    Ok(judge(&Table::profile(alloc)?, case.shard, &history, &lists))
+    Ok(judge(tables, case.shard, &history, &lists))
 }
 
 /// The verdict on a case whose history is what a machine accepts of it.
-fn lawful_verdict(alloc: Global, case: &Case) -> Result<Result<(), usize>, Fail> {
+pub fn lawful_verdict(
+    alloc: Global,
+    tables: &Tables,
+    case: &Case,
+) -> Result<Result<(), usize>, Fail> {
     let requests = requests_of(alloc, case.history)?;
     let lists = lists_of(alloc, case)?;
-    let table = Table::profile(alloc)?;
-    let (fleet, _) = run(alloc, table.copy(alloc)?, &requests)?;
-    Ok(judge_lawful(&table, case.shard, fleet.history(), &lists))
+    let (fleet, _) = run(alloc, tables.copy(alloc)?, &requests)?;
+    Ok(judge_lawful(tables, case.shard, fleet.history(), &lists))
 }
 
 #[test]
 fn lawful_cases(rt: HostRuntime) -> Result<(), Fail> {
+    let tables = profile(rt.alloc())?;
     for cases in LAWFUL {
         for case in *cases {
             let found = (
-                verdict(rt.alloc(), case)?,
-                lawful_verdict(rt.alloc(), case)?,
+                verdict(rt.alloc(), &tables, case)?,
+                lawful_verdict(rt.alloc(), &tables, case)?,
             );
             assert_eq!(rt;
                 (case.name, found),
@@ -364,9 +368,10 @@ fn lawful_cases(rt: HostRuntime) -> Result<(), Fail> {
 
 #[test]
 fn unlawful_cases(rt: HostRuntime) -> Result<(), Fail> {
+    let tables = profile(rt.alloc())?;
     for case in UNLAWFUL {
         assert_eq!(rt;
-            (case.name, verdict(rt.alloc(), case)?),
+            (case.name, verdict(rt.alloc(), &tables, case)?),
             (case.name, case.verdict)
         );
     }

@@ -1,9 +1,8 @@
 //! More lists than are walked side by side.
-use super::{A, Ask, Noted, notes_of, request_of};
+use super::{A, Ask, Noted, notes_of, profile, request_of};
 use crate::{Note, judge};
 use mds_core::Outcome::Done;
 use mds_core::Request;
-use mds_table::Table;
 use std::alloc::Global;
 use std::test::Fail;
 
@@ -54,12 +53,12 @@ const CASES: &[(usize, usize, Result<(), usize>)] = &[
 fn more_than_sixty_four_lists(rt: HostRuntime) -> Result<(), Fail> {
     let alloc = rt.alloc();
     let history = history_of(alloc, 66)?;
-    let table = Table::profile(alloc)?;
+    let tables = profile(alloc)?;
     for (callers, last, verdict) in CASES {
         let places = places_and(alloc, callers.saturating_sub(1), *last)?;
         let lists = lists_of(alloc, &places)?;
         assert_eq!(rt;
-            (callers, judge(&table, 0, &history, &lists)),
+            (callers, judge(&tables, 0, &history, &lists)),
             (callers, *verdict)
         );
     }

@@ -1,11 +1,13 @@
 //! The worked cases of vehicles, through a shard.
 use super::{A, Ask, C, DROP_OFF, E0, E1, E2, asked_all, key, request_of};
+use crate::Shard;
 use mds_core::Outcome::{self, Done, Refused, Seen};
 use mds_core::Refusal::{Late, NoChain, Repeated};
 use mds_core::{Reply, Request, Standing};
 use mds_table::State::{Available, NonContactable, NonOperational, OnTrip};
 use std::alloc::{AllocError, Global};
 use std::hash::RandomState;
+use std::random::RandomSource;
 use std::test::Fail;
 
 /// Where A stands after one event that brings it out, and after a second that tells of a low battery.
@@ -137,43 +139,86 @@ fn in_turn(alloc: Global, outcomes: &[Outcome]) -> Result<Vec<Reply>, AllocError
     Ok(replies)
 }
 
+/// The replies of a shard that was asked all this.
+fn replies_to<R: RandomSource>(
+    rt: &R,
+    alloc: Global,
+    asked: &[Ask<'_>],
+) -> Result<Vec<Reply>, Fail> {
+    let (_, replies) = asked_all(alloc, RandomState::new(rt)?, asked)?;
+    Ok(replies)
+}
+
 #[test]
 fn cases_of_vehicles(rt: HostRuntime) -> Result<(), Fail> {
     for (asked, outcomes) in CASES {
-        let (_, found) = asked_all(rt.alloc(), RandomState::new(&rt)?, asked)?;
-        assert_eq!(rt; found, in_turn(rt.alloc(), outcomes)?);
+        let found = replies_to(&rt, rt.alloc(), asked)?;
+        let expected = in_turn(rt.alloc(), outcomes)?;
+        assert_eq!(rt; found, expected);
     }
     Ok(())
 }
 
+/// A shard that was asked the first case.
+fn first_case<R: RandomSource>(rt: &R, alloc: Global) -> Result<Shard, Fail> {
+    let (shard, _) = asked_all(alloc, RandomState::new(rt)?, CASES[0].0)?;
+    Ok(shard)
+}
+
+/// Where A and C stand.
+fn standings(shard: &Shard) -> Result<[Option<Standing>; 2], Fail> {
+    Ok([shard.standing(&key(A)?), shard.standing(&key(C)?)])
+}
+
 #[test]
-fn what_a_shard_tells_of_a_first_event(rt: HostRuntime) -> Result<(), Fail> {
-    let alloc = rt.alloc();
-    let (asked, _) = CASES[0];
-    let (shard, _) = asked_all(alloc, RandomState::new(&rt)?, asked)?;
-    let report = request_of(alloc, asked[1])?;
-    let told = (
-        shard.len(),
-        shard.standing(&key(A)?),
-        shard.standing(&key(C)?),
-    );
-    assert_eq!(rt; told, (2, Some(AVAILABLE), None));
-    assert_eq!(rt; shard.history().last(), Some(&report));
-    assert_eq!(rt; shard.table().row_count(), 74);
+fn standings_after_a_first_event(rt: HostRuntime) -> Result<(), Fail> {
+    let shard = first_case(&rt, rt.alloc())?;
+    assert_eq!(rt; standings(&shard)?, [Some(AVAILABLE), None]);
+    Ok(())
+}
+
+/// The last of the shard's history.
+fn last_request(shard: &Shard) -> Option<Request> {
+    Some(shard.history().last()?.copy())
+}
+
+/// The event that the first case reports.
+fn first_report(alloc: Global) -> Result<Request, Fail> {
+    request_of(alloc, Ask::Report(A, E1, DROP_OFF, Available, 1000))
+}
+
+#[test]
+fn history_after_a_first_event(rt: HostRuntime) -> Result<(), Fail> {
+    let shard = first_case(&rt, rt.alloc())?;
+    assert_eq!(rt; last_request(&shard), Some(first_report(rt.alloc())?));
+    assert_eq!(rt; (shard.len(), shard.tables().at(0).row_count()), (2, 74));
+    Ok(())
+}
+
+/// The reports of the vehicle's events, or nothing where it isn't registered.
+fn reports_of(alloc: Global, shard: &Shard, device: &str) -> Result<Option<Vec<Request>>, Fail> {
+    let Some(events) = shard.events(alloc, &key(device)?)? else {
+        return Ok(None);
+    };
+    let mut reports = Vec::new(alloc);
+    for event in events {
+        reports.push(Request::Report(event))?;
+    }
+    Ok(Some(reports))
+}
+
+#[test]
+fn events_of_a_vehicle(rt: HostRuntime) -> Result<(), Fail> {
+    let shard = first_case(&rt, rt.alloc())?;
+    let reports = reports_of(rt.alloc(), &shard, A)?.ok_or("registered")?;
+    let expected = [first_report(rt.alloc())?];
+    assert_eq!(rt; reports.as_slice(), expected.as_slice());
     Ok(())
 }
 
 #[test]
-fn events_of_a_vehicle_and_of_nobody(rt: HostRuntime) -> Result<(), Fail> {
-    let alloc = rt.alloc();
-    let (asked, _) = CASES[0];
-    let (shard, _) = asked_all(alloc, RandomState::new(&rt)?, asked)?;
-    let mut events = shard.events(alloc, &key(A)?)?.ok_or("registered")?;
-    let only = events.pop().map(Request::Report);
-    assert_eq!(rt; only, Some(request_of(alloc, asked[1])?));
-    assert_eq!(rt;
-        (events.len(), shard.events(alloc, &key(C)?)?.is_none()),
-        (0, true)
-    );
+fn events_of_nobody(rt: HostRuntime) -> Result<(), Fail> {
+    let shard = first_case(&rt, rt.alloc())?;
+    assert_eq!(rt; reports_of(rt.alloc(), &shard, C)?.is_none(), true);
     Ok(())
 }

@@ -1,11 +1,11 @@
 //! A shard of many vehicles against a fleet.
 ghost use Rattle.std.specs.Prelude.{◌<◌};
 
-use super::PROVIDER;
+use super::{PROVIDER, opened, profile};
 use crate::Shard;
 use mds_core::{Event, Fleet, Key, Outcome, Refusal, Reply, Request};
-use mds_table::{State, Table, TypeName};
-use std::alloc::Global;
+use mds_table::{State, TypeName};
+use std::alloc::{AllocError, Global};
 use std::hash::RandomState;
 use std::test::Fail;
 use uuid::Uuid;
@@ -99,29 +99,61 @@ fn kind_of(outcome: &Outcome) -> usize
     }
 }
 
-/// The replies of a shard and of a fleet to the same requests.
-fn both(alloc: Global, hasher: RandomState) -> Result<(Vec<Reply>, Vec<Reply>), Fail> {
-    let mut numbers = Numbers { state: 1 };
-    let mut shard = Shard::open(alloc, Table::profile(alloc)?, hasher);
-    let mut fleet = Fleet::open(alloc, Table::profile(alloc)?);
-    let mut found = Vec::new(alloc);
-    let mut expected = Vec::new(alloc);
-    for number in 0..BYSTANDERS + REQUESTS {
-        let request = nth(&mut numbers, number)?;
-        found.push(shard.step(&request)?)?;
-        expected.push(fleet.step(&request)?)?;
+/// A shard and a fleet that are asked the same requests.
+#[derive(Drop)]
+struct Both {
+    shard: Shard,
+    fleet: Fleet,
+    found: Vec<Reply>,
+    expected: Vec<Reply>,
+}
+
+impl Both {
+    /// A shard and a fleet over the profile that were asked nothing.
+    fn open(alloc: Global, hasher: RandomState) -> Result<Both, AllocError> {
+        Ok(Both {
+            shard: opened(alloc, hasher)?,
+            fleet: Fleet::open(alloc, profile(alloc)?),
+            found: Vec::new(alloc),
+            expected: Vec::new(alloc),
+        })
     }
-    Ok((found, expected))
+
+    /// Asks both a request, and keeps what each replies.
+    fn ask(&mut self, request: &Request) -> Result<(), AllocError> {
+        self.found.push(self.shard.step(request)?)?;
+        self.expected.push(self.fleet.step(request)?)?;
+        Ok(())
+    }
+}
+
+/// A shard and a fleet after the same requests.
+fn after_all(alloc: Global, hasher: RandomState) -> Result<Both, Fail> {
+    let mut numbers = Numbers { state: 1 };
+    let mut both = Both::open(alloc, hasher)?;
+    for number in 0..BYSTANDERS + REQUESTS {
+        both.ask(&nth(&mut numbers, number)?)?;
+    }
+    Ok(both)
+}
+
+/// Whether there is a reply of each kind.
+fn kinds_in(replies: &[Reply]) -> [bool; 7] {
+    let mut seen = [false; 7];
+    for reply in replies {
+        seen[kind_of(&reply.outcome)] = true;
+    }
+    seen
 }
 
 #[test]
 fn ten_thousand_vehicles_as_a_fleet_has_them(rt: HostRuntime) -> Result<(), Fail> {
-    let (found, expected) = both(rt.alloc(), RandomState::new(&rt)?)?;
+    let Both {
+        found,
+        expected,
+        ..
+    } = after_all(rt.alloc(), RandomState::new(&rt)?)?;
     assert_eq!(rt; found.as_slice(), expected.as_slice());
-    let mut seen = [false; 7];
-    for reply in &expected {
-        seen[kind_of(&reply.outcome)] = true;
-    }
-    assert_eq!(rt; seen, [true; 7]);
+    assert_eq!(rt; kinds_in(&expected), [true; 7]);
     Ok(())
 }

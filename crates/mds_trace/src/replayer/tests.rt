@@ -3,7 +3,7 @@ use crate::{Opening, Report, Verdict, replay};
 use arrayvec::ArrayVec;
 use mds_batch::{EventItem, ItemFault, Member};
 use mds_core::{Event, Key, Refusal};
-use mds_table::{State, Table, TypeName};
+use mds_table::{State, Table, Tables, TypeName};
 use std::alloc::{AllocError, Global};
 use std::process::Abort;
 use std::test::Fail;
@@ -70,11 +70,16 @@ fn items(alloc: Global, told: &[Told<'_>]) -> Result<Vec<EventItem>, Fail> {
     Ok(items)
 }
 
-/// The profile's table.
-fn profile(alloc: Global) -> Result<Table, AllocError> {
-    match Table::profile(alloc) {
-        Ok(table) => Ok(table),
-        Err(_) => Table::profile(alloc),
+/// The profile's table, in force from 0 on.
+fn one_profile(alloc: Global) -> Result<Tables, AllocError> {
+    Tables::one(alloc, Table::profile(alloc)?)
+}
+
+/// The same, asked for again where a growth is refused.
+fn profile(alloc: Global) -> Result<Tables, AllocError> {
+    match one_profile(alloc) {
+        Ok(tables) => Ok(tables),
+        Err(_) => one_profile(alloc),
     }
 }
 

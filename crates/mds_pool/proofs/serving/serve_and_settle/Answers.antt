@@ -12,4 +12,4 @@ returns-in-Ok-serve g c =
     let back = c.in-Ok-serve.back.items in
     let grown = subst (λ (old : List Seated). AllZip HasGrown old back) c.in-Ok.ensures.seats c.in-Ok-serve.ensures.ok in
     let settled = subst (λ (book : Opened). IsSettledEnd book back c.settle.result) c.in-Ok.ensures.book c.settle.ensures in
-    ended c.args.opening.table c.args.opening.seats back c.settle.result (workers_grown c.args.opening.seats back grown) settled
+    ended c.args.opening.tables c.args.opening.seats back c.settle.result (workers_grown c.args.opening.seats back grown) settled

@@ -6,5 +6,5 @@ use Rattle.mds_settle.proofs.truth.lowered_by_lists.Given as goal
 -- the bound is lowered by the lists so far
 abbrev pub invariant-loop-list : goal.invariant-loop-list
 invariant-loop-list g l =
-    IsLowered (λ bound. EachOf l.list-index (λ list. All (IsTrueBelow l.table l.shard l.history bound) (g.S.NoteList.seen list)) l.lists)
-    (λ place. Any (λ list. Any (IsWrongAt l.table l.shard l.history place) (g.S.NoteList.seen list)) l.lists) l.fn.bound l.least
+    IsLowered (λ bound. EachOf l.list-index (λ list. All (IsTrueBelow l.tables l.shard l.history bound) (g.S.NoteList.seen list)) l.lists)
+    (λ place. Any (λ list. Any (IsWrongAt l.tables l.shard l.history place) (g.S.NoteList.seen list)) l.lists) l.fn.bound l.least

@@ -6,5 +6,5 @@ use Rattle.mds_settle.proofs.truth.lowered_by_notes.Given as goal
 -- the bound is lowered by the notes so far
 abbrev pub invariant-loop-note : goal.invariant-loop-note
 invariant-loop-note l =
-    IsLowered (λ bound. EachOf l.note-index (IsTrueBelow l.table l.shard l.history bound) l.notes)
-    (λ place. Any (IsWrongAt l.table l.shard l.history place) l.notes) l.fn.bound l.least
+    IsLowered (λ bound. EachOf l.note-index (IsTrueBelow l.tables l.shard l.history bound) l.notes)
+    (λ place. Any (IsWrongAt l.tables l.shard l.history place) l.notes) l.fn.bound l.least

@@ -5,7 +5,7 @@ use Rattle.mds_settle.proofs.verdict.judge_with.Goals as goal
 
 pub returns-in-Some : goal.returns-in-Some
 returns-in-Some g c =
-    let tables = c.args.table.now in
+    let tables = c.args.tables.now in
     let shard = c.args.shard in
     let history = c.args.history.now in
     let seen = g.S.NoteList.seen in
@@ -16,12 +16,12 @@ returns-in-Some g c =
 
 pub returns-in-Some-late : goal.returns-in-Some-late
 returns-in-Some-late g c =
-    at_bound c.args.table.now c.args.shard c.args.history.now g.S.NoteList.seen c.args.lists.now c.lowered_by_lists-wrong.result c.lowered_by_orders-late.result
+    at_bound c.args.tables.now c.args.shard c.args.history.now g.S.NoteList.seen c.args.lists.now c.lowered_by_lists-wrong.result c.lowered_by_orders-late.result
     c.in-Some-late.place c.lowered_by_lists-wrong.ensures c.lowered_by_orders-late.ensures (rw (← c.end_of-end.ensures) c.in-None.ensures) c.in-Some-late.is
 
 pub returns-in-None-late : goal.returns-in-None-late
 returns-in-None-late g c =
-    let tables = c.args.table.now in
+    let tables = c.args.tables.now in
     let shard = c.args.shard in
     let history = c.args.history.now in
     let seen = g.S.NoteList.seen in

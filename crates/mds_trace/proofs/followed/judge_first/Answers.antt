@@ -1,6 +1,7 @@
 use Rattle.std.proofs.Common.{◌≡◌, ℕ, [], ◌∷◌, List, Some, length, ap, subst, arith}
 use Rattle.std.proofs.lemmas.Bool.Decides.{nat_tests}
 use Rattle.mds_table.specs.declared.state.State.{State}
+use Rattle.mds_table.specs.Tables.{rows_at}
 use Rattle.mds_steps.specs.StateSet.{AreInCodeOrder}
 use Rattle.mds_steps.specs.Opening.{AreOpenings}
 use Rattle.mds_steps.proofs.Sets.{some_in}
@@ -8,12 +9,10 @@ use Rattle.mds_core.specs.declared.request.Request.TheVariants.{Register}
 use Rattle.mds_trace.proofs.followed.judge_first.Goals as goal
 use Rattle.mds_trace.proofs.followed.judge_first.Goals.{After-openings-openings}
 
--- the openings are those of the event
-openings_of : (c : After-openings-openings) → AreOpenings c.args.table.now c.args.event.now.types c.args.event.now.state c.openings-openings.result
-openings_of c =
-    let Of : List (List ℕ) → Type 0 = λ types. AreOpenings c.args.table.now types c.args.event.now.state c.openings-openings.result in
-    let To : State → Type 0 = λ state. AreOpenings c.args.table.now c.types.result.now state c.openings-openings.result in
-    subst Of c.types.ensures.types (subst To c.state.ensures c.openings-openings.ensures)
+-- the openings are those of the event, by the table in force at its time
+openings_of : (c : After-openings-openings)
+    → AreOpenings (rows_at c.args.tables.now c.args.event.now.time) c.args.event.now.types c.args.event.now.state c.openings-openings.result
+openings_of c = rw (c.at-table.ensures, c.time.ensures.time, c.types.ensures.types, c.state.ensures) at c.openings-openings.ensures
 
 pub returns-then-is_empty-clause-verdict : goal.returns-then-is_empty-clause-verdict
 returns-then-is_empty-clause-verdict c =
@@ -21,7 +20,7 @@ returns-then-is_empty-clause-verdict c =
     let count = ap length c.states.ensures.items in
     let nothing : length c.openings-openings.result ≡ 0 = grind (arith, nat_tests) in (
       λ from leads. let found = (openings from).1 leads in omega (arith, found.1, nothing),
-      rw (c.all.ensures, c.types-then-is_empty.ensures.types) at c.stuck_from-at.ensures,
+      rw (c.at-table.ensures, c.time.ensures.time, c.all.ensures, c.types-then-is_empty.ensures.types) at c.stuck_from-at.ensures,
     )
 
 pub returns-then-is_empty-clause-followed : goal.returns-then-is_empty-clause-followed

@@ -15,7 +15,7 @@ use Rattle.mds_trace.proofs.judge.judge_event.Goals.{then-accepts+in_ok-insert, 
 pub returns : goal.returns
 returns c = λ mentioned accepted are few.
     let opening = c.args.opening in
-    let tables = c.args.table.now in
+    let tables = c.args.tables.now in
     let event = c.args.event.now in
     let names = c.args.names.now.keys in
     let prior = prior_of event.key accepted in

@@ -16,12 +16,12 @@ returns-in-Event c = IfOk-weaker c.judge_event.result _ _
     let within : length (accepted_of items lines) < MAX = omega (arith, accepted_few items lines, few) in
     let told = judged (vehicles_of (events_of items)) (accepted_of items lines) so_far.vehicles within in
     let Is : EventItem → Type 0 = λ item.
-    IsReplayed c.args.opening c.args.table.now (items ++ item ∷ []) (lines ++ line ∷ []) c.judge_event.new.vehicles.entries c.judge_event.new.names.keys in
-    subst Is (sym c.in-Event.is) (event_replayed c.args.opening c.args.table.now items lines _ _ so_far c.in-Event.event line _ _ told.0 told.1))
+    IsReplayed c.args.opening c.args.tables.now (items ++ item ∷ []) (lines ++ line ∷ []) c.judge_event.new.vehicles.entries c.judge_event.new.names.keys in
+    subst Is (sym c.in-Event.is) (event_replayed c.args.opening c.args.tables.now items lines _ _ so_far c.in-Event.event line _ _ told.0 told.1))
     c.judge_event.ensures
 
 pub returns-in-Fault : goal.returns-in-Fault
 returns-in-Fault c = λ items lines so_far few.
     let Is : EventItem → Type 0 = λ item.
-    IsReplayed c.args.opening c.args.table.now (items ++ item ∷ []) (lines ++ Fault c.in-Fault.fault ∷ []) c.args.vehicles.now.entries c.args.names.now.keys in
-    subst Is (sym c.in-Fault.is) (fault_replayed c.args.opening c.args.table.now items lines _ _ so_far c.in-Fault.fault)
+    IsReplayed c.args.opening c.args.tables.now (items ++ item ∷ []) (lines ++ Fault c.in-Fault.fault ∷ []) c.args.vehicles.now.entries c.args.names.now.keys in
+    subst Is (sym c.in-Fault.is) (fault_replayed c.args.opening c.args.tables.now items lines _ _ so_far c.in-Fault.fault)

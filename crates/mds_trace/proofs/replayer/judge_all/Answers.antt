@@ -9,5 +9,5 @@ use Rattle.mds_trace.proofs.replayer.judge_all.Goals as goal
 pub returns-clause-vehicles : goal.returns-clause-vehicles
 returns-clause-vehicles c =
     let Are : List EventItem → Type 0 = λ items.
-    AreEntries (λ key vehicle. IsFollowed c.args.opening c.args.table.now key (prior_of key (accepted_of items c.loop-item.lines.items)) vehicle) (vehicles_of (events_of items)) c.loop-item.vehicles.entries in
+    AreEntries (λ key vehicle. IsFollowed c.args.opening c.args.tables.now key (prior_of key (accepted_of items c.loop-item.lines.items)) vehicle) (vehicles_of (events_of items)) c.loop-item.vehicles.entries in
     subst Are (take_all c.loop-item.item-index c.args.items.now (omega arith)) c.loop-item.invariant.vehicles.vehicles

@@ -19,9 +19,9 @@ returns-clause-report c = record {
   lines = c.in_ok-lines.ensures.verdicts;
   vehicles =
       let Are : List VehicleEnd → Type 0 = λ ends.
-      AllZip (IsEnd c.args.opening c.args.table (accepted_of c.args.items.now c.in_ok-lines.lines.items)) (vehicles_of (events_of c.args.items.now)) ends in
+      AllZip (IsEnd c.args.opening c.args.tables (accepted_of c.args.items.now c.in_ok-lines.lines.items)) (vehicles_of (events_of c.args.items.now)) ends in
       subst Are (sym c.in_ok-vehicles.ensures)
-      (ends_from c.args.opening c.args.table (accepted_of c.args.items.now c.in_ok-lines.lines.items) _ _ c.in_ok-lines.ensures.vehicles);
+      (ends_from c.args.opening c.args.tables (accepted_of c.args.items.now c.in_ok-lines.lines.items) _ _ c.in_ok-lines.ensures.vehicles);
   accepted = counted (goal.at.returns-clause-report c).After-count_accepted-accepted;
   refused = omega (
     arith,
@@ -36,4 +36,4 @@ returns-clause-report c = record {
 
 pub returns-clause-runs : goal.returns-clause-runs
 returns-clause-runs c = λ removed.
-    replayed_run c.args.table c.args.items.now c.in_ok-lines.lines.items (subst (λ opening. AreVerdicts opening c.args.table c.args.items.now c.in_ok-lines.lines.items) removed c.in_ok-lines.ensures.verdicts)
+    replayed_run c.args.tables c.args.items.now c.in_ok-lines.lines.items (subst (λ opening. AreVerdicts opening c.args.tables c.args.items.now c.in_ok-lines.lines.items) removed c.in_ok-lines.ensures.verdicts)

@@ -28,7 +28,7 @@ returns-then-not-branch-clause-fault c =
 pub returns-in-Err-clause-fault : goal.returns-in-Err-clause-fault
 returns-in-Err-clause-fault c =
     let kept = in_order (goal.at.returns-in-Err-clause-fault c).In_ok-keeps_order in
-    let refused = rw (c.held_at-held.ensures, c.types.ensures.types, c.state.ensures) at c.in-Err.ensures.fault in (
+    let refused = rw (c.at-table.ensures, c.time.ensures.time, c.held_at-held.ensures, c.types.ensures.types, c.state.ensures) at c.in-Err.ensures.fault in (
       c.loop-at.invariant.open_from,
       kept.0.0 c.if-not-branch.false,
       (c.index-events-at.result, at_place (goal.at.returns-in-Err-clause-fault c).In_ok-keeps_order, record { none = refused.0; place = refused.1 }),
@@ -37,8 +37,8 @@ returns-in-Err-clause-fault c =
 pub loop-at-preserved : goal.loop-at-preserved
 loop-at-preserved c =
     let kept = in_order (goal.at.loop-at-preserved c).In_ok-keeps_order in
-    let leads = rw (c.held_at-held.ensures, c.types.ensures.types, c.state.ensures) at (c.in_default.ensures.exact.0 refl) in record {
-      open_from = open_more c.args.table.now c.args.opening c.args.events.now c.loop-at.at c.index-events-at.result
+    let leads = rw (c.at-table.ensures, c.time.ensures.time, c.held_at-held.ensures, c.types.ensures.types, c.state.ensures) at (c.in_default.ensures.exact.0 refl) in record {
+      open_from = open_more c.args.tables.now c.args.opening c.args.events.now c.loop-at.at c.index-events-at.result
           (at_place (goal.at.loop-at-preserved c).In_ok-keeps_order) c.loop-at.invariant.open_from (kept.0.0 c.if-not-branch.false) leads;
       seen = kept.1 c.if-not-branch.false;
     }

@@ -19,7 +19,7 @@ invariant_of-self-2 c =
     let may = rw (← c.self.view_is) at c.requires.accepted in
     let stands = c.standing_after-standing.ensures (requests_of history key) (c.standing_in.ensures ∙ standing_kept history key c.args.vehicle vehicle) few in
     let Puts : ℕ → Type 0 = λ last. PutsVehicle key (record { standing = standing; last = last }) inside.vehicles c.keep.new.vehicles in
-    let pushed = replay_push inside.table history before inside.vehicles c.keep.new.vehicles inside.names c.keep.new.names request c.args.vehicle
+    let pushed = replay_push inside.tables history before inside.vehicles c.keep.new.vehicles inside.names c.keep.new.names request c.args.vehicle
     standing c.self.invariant may vehicle stands (subst Puts (c.len-last.ensures ∙ inside.history.ok.0) c.in_ok-keep.ensures.vehicles) c.in_ok-keep.ensures.names in
     let history_is : c.push.new.self.items ≡ history ++ request ∷ [] =
     c.in_ok-push.ensures.items ∙ ap (λ h. h ++ c.copy.result ∷ []) c.reserve.ensures.items ∙ ap (λ r. history ++ r ∷ []) c.copy.ensures in

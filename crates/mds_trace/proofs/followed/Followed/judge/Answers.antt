@@ -7,7 +7,7 @@ use Rattle.mds_trace.proofs.followed.Followed.judge.Goals as goal
 
 pub returns-in-Ok-clause-verdict : goal.returns-in-Ok-clause-verdict
 returns-in-Ok-clause-verdict c = λ opening prior is repeated.
-    let tables = c.args.table.now in
+    let tables = c.args.tables.now in
     let event = c.args.event.now in
     let held = known_is tables event c.args.self c.in-Some.standing opening prior is c.in-Some.is in
     known_verdict tables event c.args.self c.in-Some.standing opening prior _ is c.in-Some.is
@@ -15,7 +15,7 @@ returns-in-Ok-clause-verdict c = λ opening prior is repeated.
 
 pub returns-in-Ok-clause-followed : goal.returns-in-Ok-clause-followed
 returns-in-Ok-clause-followed c = λ opening prior is few.
-    let tables = c.args.table.now in
+    let tables = c.args.tables.now in
     let event = c.args.event.now in
     let held = known_is tables event c.args.self c.in-Some.standing opening prior is c.in-Some.is in
     let within : length (reports (as_requests event.key prior)) < MAX = rw (reports-as_requests event.key prior) few in
@@ -24,7 +24,7 @@ returns-in-Ok-clause-followed c = λ opening prior is few.
 
 pub returns-in-Err-clause-verdict : goal.returns-in-Err-clause-verdict
 returns-in-Err-clause-verdict c = λ opening prior is repeated.
-    let tables = c.args.table.now in
+    let tables = c.args.tables.now in
     let event = c.args.event.now in
     let held = known_is tables event c.args.self c.in-Some.standing opening prior is c.in-Some.is in
     known_verdict tables event c.args.self c.in-Some.standing opening prior _ is c.in-Some.is

@@ -8,10 +8,10 @@ use Rattle.mds_trace.proofs.session.Session.open.Goals as goal
 
 pub returns-in_err-check_events-clause-refused : goal.returns-in_err-check_events-clause-refused
 returns-in_err-check_events-clause-refused c =
-    let fault : IfErr c.from_residual.result (IsFaultOf c.args.table c.args.opening c.args.events.items) = search rules in
-    IfErr-weaker c.from_residual.result (IsFaultOf c.args.table c.args.opening c.args.events.items)
-    (λ fault. fault ≢ Memory → AreOpenFrom c.args.table c.args.opening c.args.events.items → ⊥)
-    (λ fault is. not_open c.args.table c.args.opening c.args.events.items fault is) fault
+    let fault : IfErr c.from_residual.result (IsFaultOf c.args.tables c.args.opening c.args.events.items) = search rules in
+    IfErr-weaker c.from_residual.result (IsFaultOf c.args.tables c.args.opening c.args.events.items)
+    (λ fault. fault ≢ Memory → AreOpenFrom c.args.tables c.args.opening c.args.events.items → ⊥)
+    (λ fault is. not_open c.args.tables c.args.opening c.args.events.items fault is) fault
 
 pub invariant_of-result : goal.invariant_of-result
 invariant_of-result c = record {

@@ -9,5 +9,5 @@ invariant_of-self c =
       open_from = walk.open_from;
       within = record { event = walk.within.event; passed = omega (arith, more) };
       kept = rw c.push.ensures.items (one_further _ _ _ _ _ _ _ walk.kept (rw c.deref-2.ensures.0 at c.index-deref-passed.is)
-          (rw (c.types_at-types.ensures.types, c.deref.ensures.value) at c.forward-next.ensures));
+          (rw (c.present_table.ensures, ← c.self.view_is, c.types_at-types.ensures.types, c.deref.ensures.value) at c.forward-next.ensures));
     }

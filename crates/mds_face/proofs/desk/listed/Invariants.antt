@@ -1,0 +1,7 @@
+use Rattle.std.proofs.Common.{◌≡◌, take}
+use Rattle.mds_response.specs.Found.{tables_of}
+use Rattle.mds_face.proofs.desk.listed.Given as goal
+
+-- the tables so far are listed
+abbrev pub invariant-loop-at : goal.invariant-loop-at
+invariant-loop-at l = tables_of l.list.items ≡ take l.at l.tables

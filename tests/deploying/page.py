@@ -1,0 +1,372 @@
+"""The page of deploy/page: its text, and what of it is on the screen of a browser after real calls."""
+
+import base64
+import hashlib
+import json
+import re
+
+from cases.replays import identifier
+from cases.tables import PROFILE
+from deploying.passing import NOBODY, path_of, sent
+from deploying.proxies import CITY, PROVIDERS, TOKENS
+from deploying.vehicles import event, short_events, vehicle
+from harness.counting import ROOT, Unwell
+from model.json_text import compact
+
+PAGE = ROOT / "deploy/page/index.html"
+OF_PROXIES = {"unauthorized", "forbidden", "unavailable"}
+"""The refusals that nginx.conf has of its own, beside `too_long`."""
+ENTER = ("Enter", 13, "\r")
+TAB = ("Tab", 9)
+LOOKED_AT, UNKNOWN, TRIED = (vehicle(PROVIDERS[0], number) for number in (900, 901, 902))
+EVENTS, AT_ONCE = 250, 200
+"""How many events a vehicle has, and how many of them the page shows at first."""
+HOSTILE = "<img src=x onerror=\"document.title='marked'\"><script>document.title='marked'</script>"
+UNWANTED = re.compile(r"innerHTML|outerHTML|insertAdjacent|document\.write|\beval\(|src=|<link|@import|Storage|cookie")
+"""What reads text as markup, loads another file, or keeps something."""
+FOCUSED = ["token", "provider", "device", "vehicle-form", "time", "table-form", "route", "body", "batch-form"]
+"""Where the focus goes, in this order: fields by their own names, the buttons of forms by those of the forms."""
+TABLES = {
+    "tables": [
+        {"from_time": 0, "rows": [{"from": "removed", "to": "available", "type": "wake"}]},
+        {
+            "from_time": 2000,
+            "rows": [
+                {"from": "available", "to": "in_depot", "type": "store"},
+                {"from": "available", "to": "in_depot", "type": "tidy"},
+                {"from": "in_depot", "to": "in_depot", "type": "count"},
+            ],
+        },
+    ]
+}
+
+
+def hash_of(text):
+    return f"'sha256-{base64.b64encode(hashlib.sha256(text.encode()).digest()).decode()}'"
+
+
+def one_file(_):
+    """The page names no other file, reads no text as markup, and lets nothing run but its own script, of this hash."""
+    text = PAGE.read_text()
+    policy = re.search(r'Content-Security-Policy" content="([^"]*)"', text).group(1)
+    for part in ("script", "style"):
+        own = re.findall(rf"<{part}>(.*?)</{part}>", text, re.DOTALL)
+        if len(own) != 1 or f"{part}-src {hash_of(own[0])};" not in policy:
+            yield f"the policy has to say {part}-src {' '.join(map(hash_of, own))}"
+    if not policy.startswith("default-src 'none'; "):
+        yield f"the policy is {policy}"
+    for found in UNWANTED.findall(text):
+        yield f"the page has {found}"
+    for address in re.findall(r"https?://[^\"]*", text):
+        if address != "http://www.w3.org/2000/svg":
+            yield f"the page has {address}"
+
+
+def meanings(_):
+    """The page has a meaning of each refusal of docs/http.md and of the proxies, and of no other. It names no state."""
+    page, document, proxy = (path.read_text() for path in (PAGE, ROOT / "docs/http.md", ROOT / "deploy/nginx.conf"))
+    named = re.findall(r"^(?:[0-9]+\.|-) `([a-z_]+)`[,:] ", document, re.MULTILINE)
+    wanted = {*named, *re.findall(r'"error":"([a-z_]+)"', document), *re.findall(r'"error":"([a-z_]+)"', proxy)}
+    found = re.findall(r'<tr id="means-([a-z_]+)"><th scope="row">([a-z_]+)</th><td>.{20,}</td></tr>', page)
+    if len(named) < 20 or not OF_PROXIES <= wanted or sorted(wanted) != sorted(name for name, _ in found):
+        yield f"{sorted(found)}, in place of {sorted(wanted)}"
+    if any(name != shown for name, shown in found):
+        yield f"a row of another name: {found}"
+    for state in {state for _, *both in PROFILE for states in both for state in states.split()} - {"available", "missing"}:
+        if re.search(rf"\b{state}\b", page):
+            yield f"the page names the state {state}"
+
+
+def fill_in(page, **fields):
+    """Puts texts into fields, as if they were typed."""
+    for name, text in fields.items():
+        page.run(f"document.getElementById('{name}').focus(), document.getElementById('{name}').select()")
+        page.ask("Input.dispatchKeyEvent", type="keyDown", key="Delete", code="Delete", windowsVirtualKeyCode=46)
+        page.type(text)
+
+
+def submit(page, part):
+    """Sends a form by the keyboard, and answers what its status then says."""
+    page.run(f"document.querySelector('#{part}-form button').focus()")
+    page.run(f"document.getElementById('{part}-status').textContent = ''")
+    page.press(*ENTER)
+    status = f"document.getElementById('{part}-status').innerText"
+    return page.wait(f"!['', 'Waiting for the answer.'].includes({status}) && {status}")
+
+
+def rows_of(page, name):
+    """The texts of the cells of a table's body, if it is on the screen."""
+    return page.run(
+        f"document.getElementById('{name}').offsetParent === null ? null :"
+        f" [...document.getElementById('{name}').rows].map((row) => [...row.cells].map((cell) => cell.innerText))"
+    )
+
+
+def count_of(page, selector):
+    return page.run(f"document.querySelectorAll({json.dumps(selector)}).length")
+
+
+def unlike(what, found, wanted):
+    if found != wanted:
+        yield f"{what}: {str(found)[:400]}, in place of {str(wanted)[:400]}"
+
+
+def there_is(city, owner, events=()):
+    """Registers a vehicle with these events by way of nginx, if another case hasn't."""
+    for target, items in (("/vehicles", [owner]), ("/events", events)):
+        status, _, body = city.ask(sent("POST", target, TOKENS[1], compact(items).encode()))
+        refused = {failure["error"] for failure in json.loads(body).get("failures", ())}
+        if status != 200 or refused - {"already_registered", "repeated"}:
+            raise Unwell(f"{target}: {status} {body[:200]}")
+
+
+def faults_of(page):
+    """What a browser complains about in the page; that a request was refused isn't that, nor what could be better."""
+    for entry in page.logged:
+        if '"source": "network"' not in entry and '"source": "recommendation"' not in entry:
+            yield f"the browser says {entry}"
+
+
+def a_vehicle(city):
+    """A vehicle's state, and its events on the time line and as rows: the last ones, then all."""
+    page, events = city.page(), list(short_events(LOOKED_AT, EVENTS))
+    there_is(city, LOOKED_AT, events)
+    fill_in(page, token=TOKENS[1], provider=f" {PROVIDERS[0]} ", device=LOOKED_AT["device_id"])
+    last = events[-1]
+    told = f"State held: {last['vehicle_state']}. Accepted events: {EVENTS}."
+    yield from unlike("the status", submit(page, "vehicle"), told)
+    standing = dict(rows_of(page, "standing"))
+    yield from unlike("the state", standing["State held"], last["vehicle_state"])
+    told = f"{last['timestamp']} (1970-01-01T00:00:01.{last['timestamp'] % 1000}Z)"
+    yield from unlike("the last time", standing["Time of the last"], told)
+    where = next(one["location_e7"] for one in reversed(events) if one["location_e7"])
+    found = [float(number) for number in re.findall(r"-?[0-9.e-]+(?= (?:north|east))", standing["Position"])]
+    yield from unlike("the position", [round(number * 1e7) for number in found], [where["lat"], where["lng"]])
+    for first in (EVENTS - AT_ONCE, 0):
+        wanted = [[str(at), ", ".join(one["event_types"]), one["vehicle_state"]] for at, one in enumerate(events)][first:]
+        yield from unlike("the rows", [[row[0], *row[2:]] for row in rows_of(page, "events")], wanted)
+        yield from unlike("points", count_of(page, "#line svg circle"), EVENTS - first)
+        yield from unlike("lanes", count_of(page, "#line svg .lane"), len({one["vehicle_state"] for one in events}))
+        page.run("document.getElementById('earlier').click()")
+    yield from unlike("earlier ones", page.run("document.getElementById('earlier').hidden"), True)
+    yield from faults_of(page)
+
+
+def a_vehicle_without_events(city):
+    """A vehicle that was just registered, one that isn't, and paths that lead nowhere."""
+    page = city.page()
+    there_is(city, TRIED)
+    fill_in(page, token=TOKENS[1], provider=PROVIDERS[0], device=TRIED["device_id"])
+    yield from unlike("the status", submit(page, "vehicle"), "State held: removed. Accepted events: 0.")
+    yield from unlike("the position", dict(rows_of(page, "standing"))["Position"], "none")
+    yield from unlike("time lines", count_of(page, "#line svg"), 0)
+    for device, name in ((UNKNOWN["device_id"], "unregistered"), ("x", "not_found"), ("/../..", "not_found")):
+        fill_in(page, device=device)
+        found = submit(page, "vehicle")
+        if not found.startswith(f"Status 404, {name}: ") or rows_of(page, "standing") is not None:
+            yield f"{device}: {found}"
+    yield from faults_of(page)
+
+
+def tokens_on_the_page(city):
+    """Without a token, with one that nobody has, and with another provider's: what that means. The city may only look."""
+    page = city.page()
+    fill_in(page, provider=PROVIDERS[0], device=UNKNOWN["device_id"], body="[]")
+    for token, part, name in (
+        ("", "vehicle", "401, unauthorized"),
+        (NOBODY, "table", "401, unauthorized"),
+        (TOKENS[2], "vehicle", "403, forbidden"),
+        (CITY, "vehicle", "404, unregistered"),
+        (CITY, "batch", "403, forbidden"),
+    ):
+        fill_in(page, token=token)
+        found = submit(page, part)
+        if not re.fullmatch(rf"Status {name}: \S.{{15,}}", found):
+            yield f"{part} with the token {token!r}: {found}"
+    yield from faults_of(page)
+
+
+def the_table(city):
+    """The table as rows and as a picture: a box for each state, an arrow for each pair, a mark at the state of the vehicle."""
+    page = city.page()
+    there_is(city, TRIED)
+    fill_in(page, token=TOKENS[1], provider=PROVIDERS[0], device=TRIED["device_id"])
+    rows = json.loads(city.ask(sent("GET", "/table", TOKENS[1]))[2])["rows"]
+    told = "One table, in force at all times; rows: 74, types: 27, states: 8."
+    yield from unlike("the status", submit(page, "table"), told)
+    yield from unlike("rows", rows_of(page, "rows"), [[row["type"], row["from"], row["to"]] for row in rows])
+    yield from pictured(page, rows)
+    yield from unlike("marks", count_of(page, "#picture .held"), 0)
+    submit(page, "vehicle")
+    marked = page.run("[...document.querySelectorAll('#picture .held')].map((it) => it.textContent)")
+    yield from unlike("marks", marked, ["removed"])
+    yield from faults_of(page)
+
+
+def pictured(page, rows):
+    """What is wrong with the picture of rows."""
+    titles = page.run("[...document.querySelectorAll('#picture .arrow title')].map((it) => it.textContent)")
+    pairs = {}
+    for row in rows:
+        pairs.setdefault((row["from"], row["to"]), []).append(row["type"])
+    wanted = [f"{start} to {end}: {', '.join(types)}" for (start, end), types in pairs.items()]
+    yield from unlike("arrows", sorted(titles), sorted(wanted))
+    states = {state for row in rows for state in (row["from"], row["to"])}
+    boxes = page.run("[...document.querySelectorAll('#picture [data-state]')].map((it) => it.textContent)")
+    yield from unlike("boxes", sorted(boxes), sorted(states))
+
+
+def answering(page, status, value):
+    """Has each further request of the page be answered so, whatever it asks."""
+    body = json.dumps(json.dumps(value))
+    page.run(f"window.fetch = async () => new Response({body}, {{ status: {status} }}); true")
+
+
+def tables_that_change(city):
+    """Of several tables the one that is in force at the time given, and with a state that no program here knows yet."""
+    page = city.page()
+    answering(page, 200, TABLES)
+    first, second = (table["rows"] for table in TABLES["tables"])
+    for time, rows, told in (
+        ("0", first, "Table 1 of 2, in force from 0 (1970-01-01T00:00:00.000Z) until before 2000 "),
+        ("1999", first, "Table 1 of 2, "),
+        ("2000", second, "Table 2 of 2, in force from 2000 (1970-01-01T00:00:02.000Z) on; rows: 3, types: 3, states: 2."),
+        ("", second, "Table 2 of 2, "),
+    ):
+        fill_in(page, time=time)
+        found = submit(page, "table")
+        if not found.startswith(told):
+            yield f"at {time}: {found}, in place of {told}"
+        yield from unlike("rows", rows_of(page, "rows"), [[row["type"], row["from"], row["to"]] for row in rows])
+        yield from pictured(page, rows)
+    yield from faults_of(page)
+
+
+def a_batch(city):
+    """Registrations and events that are tried by hand, and what each item is answered: each refusal with its meaning."""
+    page, device = city.page(), vehicle(PROVIDERS[0], 903)
+    fill_in(page, token=TOKENS[1], body=compact([device, device, 7, {"provider_id": PROVIDERS[0]}]))
+    yield from unlike("the status", submit(page, "batch"), "Items: 4, accepted: 1, refused: 3.")
+    names = [row[2] for row in rows_of(page, "items")]
+    yield from unlike("answers", names, ["accepted", "already_registered", "not_object", "missing_param: param device_id"])
+    page.run("document.getElementById('route').value = 'events'")
+    good = event(device, 4, ["provider_drop_off"], "available")
+    changed = lambda number, **members: {**good, "event_id": identifier(3, number), **members}
+    items = [
+        good,
+        good,
+        changed(1, timestamp=1001),
+        changed(2, event_types=["trip_end"]),
+        changed(3, timestamp="1000"),
+        changed(4, device_id=UNKNOWN["device_id"]),
+    ]
+    fill_in(page, body=json.dumps(items, indent=1))
+    yield from unlike("the status", submit(page, "batch"), "Items: 6, accepted: 1, refused: 5.")
+    answers = ["accepted", "repeated", "late: last 1002", "no_chain: at 0, held available"]
+    answers += ["bad_param: param timestamp", "unregistered"]
+    found = rows_of(page, "items")
+    yield from unlike("items", [json.loads(row[1]) for row in found], items)
+    yield from unlike("answers", [row[2] for row in found], answers)
+    for _, _, answer, told in found[1:]:
+        if told != page.run(f"document.getElementById('means-{answer.partition(':')[0]}')?.cells[1].innerText"):
+            yield f"{answer} means {told!r}"
+    for body, told in (("[1,2", "not_json"), ("7", "not_list")):
+        fill_in(page, body=body)
+        found = submit(page, "batch")
+        if not found.startswith(f"Status 400, {told}: ") or rows_of(page, "items") is not None:
+            yield f"{body}: {found}"
+    yield from faults_of(page)
+
+
+def hostile_texts(city):
+    """Texts that are markup stay texts: those that are typed, those of a batch, and those that a server answers."""
+    page = city.page()
+    items = [HOSTILE, {"device_id": HOSTILE}, {HOSTILE: 1}]
+    fill_in(page, token=TOKENS[1], provider=HOSTILE, device=HOSTILE, body=json.dumps(items))
+    yield from unlike("the status", submit(page, "vehicle").partition(":")[0], "Status 403, forbidden")
+    fill_in(page, provider=PROVIDERS[0])
+    yield from unlike("the status", submit(page, "vehicle").partition(":")[0], "Status 404, not_found")
+    yield from unlike("the status", submit(page, "batch"), "Items: 3, accepted: 0, refused: 3.")
+    yield from unlike("items", [json.loads(row[1]) for row in rows_of(page, "items")], items)
+    answering(page, 200, {"failures": [{"error": HOSTILE, "index": 0, HOSTILE: HOSTILE}], "success": 0, "total": 1})
+    yield from unlike("the status", submit(page, "batch"), "Items: 1, accepted: 0, refused: 1.")
+    yield from unlike("the answer", rows_of(page, "items")[0][2], f"{HOSTILE}: {HOSTILE} {HOSTILE}")
+    answering(page, 200, {"rows": [{"from": HOSTILE, "to": HOSTILE, "type": HOSTILE}]})
+    submit(page, "table")
+    yield from unlike("rows", rows_of(page, "rows"), [[HOSTILE] * 3])
+    yield from unlike("boxes", page.run("document.querySelector('[data-state]').textContent"), HOSTILE)
+    one = {"event_types": [HOSTILE], "timestamp": 1, "vehicle_state": HOSTILE}
+    answering(page, 200, {"vehicle_state": HOSTILE, "events": [one], "last": 1, "location_e7": None})
+    if HOSTILE not in submit(page, "vehicle") or HOSTILE not in dict(rows_of(page, "standing"))["State held"]:
+        yield "the state isn't told as it is"
+    yield from unlike("the row", rows_of(page, "events")[0][2:], [HOSTILE, HOSTILE])
+    answering(page, 500, {"error": HOSTILE})
+    if not submit(page, "table").startswith(f"Status 500, {HOSTILE}: "):
+        yield "an error isn't told as it is"
+    yield from unlike("images", count_of(page, "img"), 0)
+    yield from unlike("scripts", count_of(page, "script"), 1)
+    yield from unlike("the title", page.run("document.title"), "mds_city: vehicles, table and batches")
+    yield from faults_of(page)
+
+
+def by_keyboard(city):
+    """The focus goes through links, fields and buttons in their order, and each has a name for those who hear the page. So
+    has each picture; results are told by a live region."""
+    page = city.page()
+    where = "document.activeElement.id || document.activeElement.form?.id || document.activeElement.getAttribute('href')"
+    found = []
+    for _ in range(len(FOCUSED) + count_of(page, "nav a")):
+        page.press(*TAB)
+        found.append(page.run(where))
+    links = page.run("[...document.querySelectorAll('nav a')].map((it) => it.getAttribute('href'))")
+    yield from unlike("the focus", found, [*links, *FOCUSED])
+    for link in links:
+        if count_of(page, f"section{link}[aria-labelledby]") != 1:
+            yield f"{link} leads nowhere"
+    fill_in(page, token=TOKENS[1], provider=PROVIDERS[0], device=LOOKED_AT["device_id"], body="[]")
+    there_is(city, LOOKED_AT, list(short_events(LOOKED_AT, EVENTS)))
+    for part in ("vehicle", "table", "batch"):
+        submit(page, part)
+    yield from heard(page.ask("Accessibility.getFullAXTree")["nodes"])
+
+
+def heard(nodes):
+    """What is wrong with the page for those who hear it: nodes with their roles and names."""
+    named = {}
+    for node in nodes:
+        if not node["ignored"]:
+            named.setdefault(node["role"]["value"], []).append(node.get("name", {}).get("value", ""))
+    wanted = {"textbox": 5, "combobox": 1, "button": 4, "link": 4, "image": 2, "table": 6, "heading": 5, "region": 7}
+    for role, least in wanted.items():
+        names = named.get(role, named.get("img", []) if role == "image" else [])
+        if len(names) < least or not all(name.strip() for name in names) or len(set(names)) != len(names):
+            yield f"{role}: {names}"
+    told = [(it["name"], it["value"].get("value")) for node in nodes for it in node.get("properties", ())]
+    if told.count(("live", "polite")) < 3:
+        yield "the results aren't told"
+
+
+def the_page_itself(city):
+    """The page is there without a token, as a page that no other may frame, and for no method but GET and HEAD."""
+    status, head, body = city.ask(sent("GET", "/page", None))
+    yield from unlike("the page", (status, body), (200, PAGE.read_text()))
+    for field in ("content-type: text/html; charset=utf-8", "x-content-type-options: nosniff", "frame-ancestors 'none'"):
+        if field not in head.lower():
+            yield f"{head!r} has no {field}"
+    for method, target, wanted in (("POST", "/page", 405), ("GET", "/page/", 401), ("GET", "/page/index.html", 401)):
+        status, _, _ = city.ask(sent(method, target, None))
+        yield from unlike(f"{method} {target}", status, wanted)
+
+
+TEXTS = [one_file, meanings]
+SCREENS = [
+    the_page_itself,
+    a_vehicle,
+    a_vehicle_without_events,
+    tokens_on_the_page,
+    the_table,
+    tables_that_change,
+    a_batch,
+    hostile_texts,
+    by_keyboard,
+]
