@@ -116,7 +116,7 @@ impl BatchItem for EventItem {
 
     fn request(&self) -> Option<Request> {
         match self {
-            EventItem::Event(event) => Some(Request::Report(*event)),
+            EventItem::Event(event) => Some(Request::Report(event.copy())),
             EventItem::Fault(_) => None,
         }
     }

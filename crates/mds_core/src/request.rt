@@ -4,7 +4,7 @@ ghost use Rattle.std.specs.Prelude.{◌≡◌, option_map};
 use crate::{Event, Key};
 
 /// What the machine is asked. It holds no memory of its own.
-#[derive(Clone, Copy, Debug, PartialEq, Eq, Hash)]
+#[derive(Debug, PartialEq, Eq, Hash, Drop)]
 pub enum Request {
     /// The vehicle is registered with the city.
     Register(Key),
@@ -41,6 +41,10 @@ impl Request {
     pub fn copy(&self) -> Request
         ensures { result ≡ self.now }
     {
-        *self
+        match self {
+            Request::Register(key) => Request::Register(*key),
+            Request::Report(event) => Request::Report(event.copy()),
+            Request::Look(key) => Request::Look(*key),
+        }
     }
 }

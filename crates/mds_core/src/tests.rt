@@ -1,5 +1,4 @@
 //! What no clause says: the worked cases, and that each call can succeed.
-mod depot;
 mod events;
 mod fleets;
 mod growths;

@@ -88,7 +88,7 @@ fn add_accepted(
 {
     match item {
         EventItem::Event(event) if verdict.accepts() && event.key() == key => {
-            accepted.push(*event)?;
+            accepted.push(event.copy())?;
             Ok(())
         }
         _ => Ok(()),

@@ -127,7 +127,7 @@ impl Shard {
             request,
             Vehicle { standing, last },
         )?;
-        self.history.push(*request)?;
+        self.history.push(request.copy())?;
         self.before.push(before)?;
         Ok(())
     }
