@@ -59,7 +59,7 @@ def batches():
 
 
 NAMES = list(MEMBERS)
-SEVENTEEN = json.dumps(["trip_end"] * 17)
+ONE_TYPE_TOO_MANY = json.dumps(["trip_end"] * 65)
 BACKWARDS = "{%s}" % ", ".join(f'"{name}": {MEMBERS[name]}' for name in NAMES[::-1])
 ESCAPED = item().replace("timestamp", "time\\u0073tamp")
 # Texts of JSON that are no objects.
@@ -97,7 +97,7 @@ FAULTY = [
     ({"vehicle_state": '"flying"'}, "bad_param vehicle_state"),
     ({"vehicle_state": "1"}, "bad_param vehicle_state"),
     ({"vehicle_state": '["available"]'}, "bad_param vehicle_state"),
-    ({"event_types": SEVENTEEN}, "bad_param event_types"),
+    ({"event_types": ONE_TYPE_TOO_MANY}, "bad_param event_types"),
     ({"event_types": '["trip-end"]'}, "bad_param event_types"),
     ({"event_types": '["trip end"]'}, "bad_param event_types"),
     ({"event_types": '["Trip"]'}, "bad_param event_types"),
@@ -156,12 +156,12 @@ ACCEPTED = [
     {"device_id": f'"urn:uuid:{A}"', "event_id": '"{%s}"' % A.upper()},
     {"device_id": f'"URN:uuid:{A.upper()}"'},
 ]
-SIXTEEN = json.dumps(["provider_drop_off"] + 7 * ["battery_low", "battery_charged"] + ["comms_lost"])
+MOST_TYPES = json.dumps(["provider_drop_off"] + 31 * ["battery_low", "battery_charged"] + ["comms_lost"])
 # No faults of the item: its event is refused.
 REFUSED = [
     *[({"event_types": f'["{name}"]'}, "refused no_chain removed 0") for name in ("never_heard_of", "_", "0", "a")],
     ({"event_types": f'["{"k" * 32}"]'}, "refused no_chain removed 0"),
-    ({"event_types": SIXTEEN}, "refused no_chain removed 16"),
+    ({"event_types": MOST_TYPES}, "refused no_chain removed 64"),
 ]
 
 

@@ -129,7 +129,7 @@ RUNS = [
         [(B, "available", 1), (A, "available", 1)],
     ),
 ]
-EVERY_STATE = "removed,available,non_operational,reserved,on_trip,elsewhere,non_contactable,missing"
+EVERY_STATE = "removed,available,non_operational,reserved,on_trip,elsewhere,non_contactable,missing,in_depot"
 # The same of vehicles that may hold any state at first, each with the states in which it may have opened.
 ANY_RUNS = [
     (

@@ -4,7 +4,7 @@ import json
 
 from harness.case import MAX_BYTES, Case, lists, not_a_table, padded, started, told
 
-STATES = "removed available non_operational reserved on_trip elsewhere non_contactable missing".split()
+STATES = "removed available non_operational reserved on_trip elsewhere non_contactable missing in_depot".split()
 PARKED = "available non_operational elsewhere non_contactable missing"
 HEARD = "removed available non_operational reserved on_trip elsewhere"
 
@@ -41,9 +41,10 @@ PROFILE = [
     ("unspecified", "non_operational", "available"),
 ]
 PROFILE_ROWS = 74
-ALL = " ".join(STATES)
+# All pairs of eight states are 64: with 64 types they are as many rows as a table may have.
+EIGHT = " ".join(STATES[:8])
 TYPES = [f"k{number:02}" for number in range(65)]
-MOST_ROWS = [(kind, ALL, ALL) for kind in TYPES[:64]]
+MOST_ROWS = [(kind, EIGHT, EIGHT) for kind in TYPES[:64]]
 MOST_TYPES = [(kind, "removed", "available") for kind in TYPES[:64]]
 ONE_MORE = ("one_more", "removed", "available")
 BAD = ("Bad", "removed", "available")

@@ -8,7 +8,7 @@ from model.json_text import NotJson, value_of
 
 MOST_TIME = 9007199254740991
 MOST_LAT, MOST_LNG = 900000000, 1800000000
-MOST_TYPES = 16
+MOST_TYPES = 64
 TYPE_NAME = re.compile(r"[a-z0-9_]{1,32}")
 HYPHENS = "[0-9a-f]{8}-[0-9a-f]{4}-[0-9a-f]{4}-[0-9a-f]{4}-[0-9a-f]{12}"
 IDENTIFIER = re.compile(f"{HYPHENS}|[0-9a-f]{{32}}|urn:uuid:{HYPHENS}|{{{HYPHENS}}}", re.IGNORECASE | re.ASCII)

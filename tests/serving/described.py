@@ -281,7 +281,7 @@ WRONG = [
     (REPORTED, done(1, [{"error": "missing_param", "index": 0, "param": "location_e7"}])),
     (REPORTED, done(1, [{"error": "late", "index": 0}])),
     (REPORTED, done(1, [{"error": "too_late", "index": 0}])),
-    (REPORTED, done(1, [{**CHAIN, "at": 17}])),
+    (REPORTED, done(1, [{**CHAIN, "at": 65}])),
     (REPORTED, done(1, [{**CHAIN, "held": "parked"}])),
     (REPORTED, done(1, [{**CHAIN, "index": "0"}])),
     (REPORTED, done(1, [{**CHAIN, "index": 10000}])),

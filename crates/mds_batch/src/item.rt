@@ -116,7 +116,7 @@ impl BatchItem for EventItem {
 
     fn request(&self) -> Option<Request> {
         match self {
-            EventItem::Event(event) => Some(Request::Report(event.copy())),
+            EventItem::Event(event) => Some(Request::Report(*event)),
             EventItem::Fault(_) => None,
         }
     }

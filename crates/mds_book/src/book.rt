@@ -278,7 +278,7 @@ impl<L: ShardLedger, M: ShardLedger> Book<L, M> {
         if seat.keeps_all || is_done(&reply) {
             seat.notes.push(Note {
                 shard,
-                request: request.copy(),
+                request: *request,
                 reply,
             })?;
         }

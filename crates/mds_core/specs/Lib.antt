@@ -5,6 +5,7 @@ pub use Rattle.mds_table.specs.Chain
 pub use Rattle.mds_table.specs.Tables
 pub mod Position
 pub mod Reported
+pub mod EventTypes
 pub mod EventFault
 pub mod History
 pub mod Known

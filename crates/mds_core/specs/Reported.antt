@@ -15,7 +15,7 @@ pub record Reported : Type 0 where
 
 -- the most types of an event
 abbrev pub max_event_types : ℕ
-max_event_types = 16
+max_event_types = 64
 
 -- the latest time: up to it no two whole numbers are the same double
 abbrev pub max_time : ℕ

@@ -3,8 +3,8 @@ ghost use Rattle.std.specs.Prelude.{◌≡◌, ◌↔◌, ◌≤◌, length, Som
 ghost use Rattle.mds_core.specs.Reported.{max_event_types, max_time, MayBeReported};
 ghost use Rattle.mds_core.specs.EventFault.{FaultOf, event_fault_text};
 
+use crate::event_types::EventTypes;
 use crate::{Key, Position};
-use arrayvec::ArrayVec;
 use mds_table::{State, TypeName};
 use std::error::Error;
 use std::fmt;
@@ -12,18 +12,18 @@ use std::marker::Model;
 use uuid::Uuid;
 
 /// The most types that an event carries.
-pub const MAX_EVENT_TYPES: usize = 16;
+pub const MAX_EVENT_TYPES: usize = 64;
 
 /// The latest time of an event, 2 to the power 53 less 1: up to it no two whole numbers are the same double.
 pub const MAX_TIME: u64 = 9_007_199_254_740_991;
 
 /// An event, as a provider reports it (MDS 2.0, "Events"). It holds no memory of its own.
-#[derive(Debug, PartialEq, Eq, Hash, Drop)]
+#[derive(Clone, Copy, Debug, PartialEq, Eq, Hash)]
 pub struct Event {
     key: Key,
     id: Uuid,
     state: State,
-    types: ArrayVec<TypeName, MAX_EVENT_TYPES>,
+    types: EventTypes,
     time: u64,
     position: Option<Position>,
 }
@@ -37,7 +37,7 @@ impl Model for Event {
       key = event.key;
       id = event.id;
       state = event.state;
-      types = event.types.items;
+      types = event.types;
       time = event.time;
       position = event.position;
     } };
@@ -46,12 +46,12 @@ impl Model for Event {
       key = event.key;
       id = event.id;
       state = event.state;
-      types = record { items = event.types };
+      types = event.types;
       time = event.time;
       position = event.position;
     } };
 
-    ghost invariant = { λ event. MayBeReported event.types.items event.time };
+    ghost invariant = { λ event. MayBeReported event.types event.time };
 }
 
 /// Why no event can be made of some types and a time.
@@ -117,7 +117,7 @@ impl Event {
             key,
             id,
             state,
-            types: copy_types(types),
+            types: EventTypes::of(types),
             time,
             position,
         })
@@ -172,21 +172,6 @@ impl Event {
     pub fn copy(&self) -> Event
         ensures { result ≡ self.now }
     {
-        Event {
-            key: self.key,
-            id: self.id,
-            state: self.state,
-            types: copy_types(self.types.as_slice()),
-            time: self.time,
-            position: self.position,
-        }
+        *self
     }
-}
-
-/// The same types again.
-fn copy_types(types: &[TypeName]) -> ArrayVec<TypeName, MAX_EVENT_TYPES>
-    requires { length types.now ≤ max_event_types }
-    ensures { result.items ≡ types.now }
-{
-    ArrayVec::try_from(types).unwrap()
 }

@@ -47,7 +47,7 @@ impl Fleet {
     {
         let reply = answer(&self.tables, &self.history, request);
         if let Outcome::Done = reply.outcome {
-            self.history.push(request.copy())?;
+            self.history.push(*request)?;
         }
         Ok(reply)
     }

@@ -9,6 +9,7 @@ mod answers;
 mod decision;
 mod event;
 mod event_name;
+mod event_types;
 mod fleet;
 mod key;
 pub mod laws;

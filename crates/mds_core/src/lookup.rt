@@ -81,7 +81,7 @@ pub fn events_in(
         if is_about(request, key) {
             registered = true;
             if let Some(event) = request.event() {
-                events.push(event.copy())?;
+                events.push(*event)?;
             }
         }
     }

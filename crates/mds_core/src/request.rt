@@ -4,7 +4,7 @@ ghost use Rattle.std.specs.Prelude.{◌≡◌, option_map};
 use crate::{Event, Key};
 
 /// What the machine is asked. It holds no memory of its own.
-#[derive(Debug, PartialEq, Eq, Hash, Drop)]
+#[derive(Clone, Copy, Debug, PartialEq, Eq, Hash)]
 pub enum Request {
     /// The vehicle is registered with the city.
     Register(Key),
@@ -41,10 +41,6 @@ impl Request {
     pub fn copy(&self) -> Request
         ensures { result ≡ self.now }
     {
-        match self {
-            Request::Register(key) => Request::Register(*key),
-            Request::Report(event) => Request::Report(event.copy()),
-            Request::Look(key) => Request::Look(*key),
-        }
+        *self
     }
 }

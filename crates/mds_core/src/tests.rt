@@ -1,4 +1,5 @@
 //! What no clause says: the worked cases, and that each call can succeed.
+mod depot;
 mod events;
 mod fleets;
 mod growths;

@@ -7,7 +7,7 @@ use Rattle.std.proofs.lemmas.Bool.Decides.{nat_tests}
 use Rattle.std.proofs.lemmas.Grind.{flat_map-append}
 use Rattle.std.proofs.lemmas.List.Elements.{All-nil, All-push}
 use Rattle.std.proofs.lemmas.Str.{IsUtf8-from_ascii}
-use Rattle.mds_table.specs.declared.state.State.TheVariants.{Removed, Available, NonOperational, Reserved, OnTrip, Elsewhere, NonContactable, Missing}
+use Rattle.mds_table.specs.declared.state.State.TheVariants.{Removed, Available, NonOperational, Reserved, OnTrip, Elsewhere, NonContactable, Missing, InDepot}
 use Rattle.mds_io.specs.Page.{with_newline}
 use Rattle.mds_debugger.specs.declared.script.ScriptCommand.{ScriptCommand}
 use Rattle.mds_debugger.specs.declared.script.ScriptCommand.TheVariants.{Move as Moves, Chain, Quit}
@@ -39,6 +39,7 @@ is_ascii (Moves (Run OnTrip)) = refl
 is_ascii (Moves (Run Elsewhere)) = refl
 is_ascii (Moves (Run NonContactable)) = refl
 is_ascii (Moves (Run Missing)) = refl
+is_ascii (Moves (Run InDepot)) = refl
 is_ascii Chain = refl
 is_ascii Quit = refl
 

@@ -88,7 +88,7 @@ fn add_accepted(
 {
     match item {
         EventItem::Event(event) if verdict.accepts() && event.key() == key => {
-            accepted.push(event.copy())?;
+            accepted.push(*event)?;
             Ok(())
         }
         _ => Ok(()),

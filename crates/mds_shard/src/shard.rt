@@ -127,7 +127,7 @@ impl Shard {
             request,
             Vehicle { standing, last },
         )?;
-        self.history.push(request.copy())?;
+        self.history.push(*request)?;
         self.before.push(before)?;
         Ok(())
     }

@@ -112,7 +112,7 @@ pub fn events_to(
     let mut at = Some(last);
     while let Some(place) = at {
         if let Some(event) = history[place].event() {
-            events.push(event.copy())?;
+            events.push(*event)?;
         }
         at = before[place];
     }

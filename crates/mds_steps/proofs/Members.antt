@@ -9,7 +9,7 @@ use Rattle.std.proofs.lemmas.Bool.{or_cases, or_left, or_right, cond_both, cond-
 use Rattle.std.proofs.lemmas.Nat.Bits.{bit_at_and, bit_at_ones, bit_at-lt}
 use Rattle.std.proofs.lemmas.List.Elements.{All-contains, All-filter, filter_passes, filter_agree, filter_more}
 use Rattle.mds_table.specs.declared.state.State.{State}
-use Rattle.mds_table.specs.declared.state.State.TheVariants.{Removed, Available, NonOperational, Reserved, OnTrip, Elsewhere, NonContactable, Missing}
+use Rattle.mds_table.specs.declared.state.State.TheVariants.{Removed, Available, NonOperational, Reserved, OnTrip, Elsewhere, NonContactable, Missing, InDepot}
 use Rattle.mds_table.specs.declared.state.TheConstants.State.{COUNT}
 use Rattle.mds_table.specs.State.{code_of}
 use Rattle.mds_table.proofs.Rows.{code_below}
@@ -74,6 +74,7 @@ one_state OnTrip = refl
 one_state Elsewhere = refl
 one_state NonContactable = refl
 one_state Missing = refl
+one_state InDepot = refl
 
 pub none_in_mask : (mask : ℕ) → mask < 2 ^ COUNT → states_in mask ≡ [] → mask ≡ 0
 none_in_mask mask fits none = sym (mask_given_back mask fits) ∙ ap mask_of none

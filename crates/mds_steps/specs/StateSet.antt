@@ -2,13 +2,13 @@
 use Rattle.std.specs.Prelude.{ℕ, ◌^◌, filter, sum_by, ◌<◌, ◌↔◌, ◌⊎◌, ◌++◌, List, [], ◌∷◌, Contains, codes}
 use Rattle.std.specs.List.{AllPairs, flat_map}
 use Rattle.mds_table.specs.declared.state.State.{State}
-use Rattle.mds_table.specs.declared.state.State.TheVariants.{Removed, Available, NonOperational, Reserved, OnTrip, Elsewhere, NonContactable, Missing}
+use Rattle.mds_table.specs.declared.state.State.TheVariants.{Removed, Available, NonOperational, Reserved, OnTrip, Elsewhere, NonContactable, Missing, InDepot}
 use Rattle.mds_table.specs.State.{code_of, name_of}
 use Rattle.mds_table.specs.Mask.{has_bit}
 
 -- every state, in the order of codes
 abbrev pub all_states : List State
-all_states = Removed ∷ Available ∷ NonOperational ∷ Reserved ∷ OnTrip ∷ Elsewhere ∷ NonContactable ∷ Missing ∷ []
+all_states = Removed ∷ Available ∷ NonOperational ∷ Reserved ∷ OnTrip ∷ Elsewhere ∷ NonContactable ∷ Missing ∷ InDepot ∷ []
 
 -- the states whose bits a mask has, in the order of codes
 unfoldable pub states_in : ℕ → List State
@@ -39,4 +39,5 @@ AreCommon one other common = (state : State) → Contains common state ↔ (Cont
 abbrev pub flags_of_states : List (List ℕ × ℕ)
 flags_of_states =
     (codes "REMOVED", 1) ∷ (codes "AVAILABLE", 2) ∷ (codes "NON_OPERATIONAL", 4) ∷ (codes "RESERVED", 8)
-    ∷ (codes "ON_TRIP", 16) ∷ (codes "ELSEWHERE", 32) ∷ (codes "NON_CONTACTABLE", 64) ∷ (codes "MISSING", 128) ∷ []
+    ∷ (codes "ON_TRIP", 16) ∷ (codes "ELSEWHERE", 32) ∷ (codes "NON_CONTACTABLE", 64) ∷ (codes "MISSING", 128)
+    ∷ (codes "IN_DEPOT", 256) ∷ []

@@ -24,6 +24,7 @@ bitflag_items! {
         const ELSEWHERE = 32;
         const NON_CONTACTABLE = 64;
         const MISSING = 128;
+        const IN_DEPOT = 256;
     }
 }
 

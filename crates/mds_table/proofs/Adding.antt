@@ -9,7 +9,7 @@ use Rattle.std.proofs.lemmas.List.{get_or-map, length-map}
 use Rattle.serde_json.specs.Data.{Data, null}
 use Rattle.serde_json.specs.Find.{get}
 use Rattle.mds_table.specs.declared.state.State.{State}
-use Rattle.mds_table.specs.declared.state.State.TheVariants.{Removed, Available, NonOperational, Reserved, OnTrip, Elsewhere, NonContactable, Missing}
+use Rattle.mds_table.specs.declared.state.State.TheVariants.{Removed, Available, NonOperational, Reserved, OnTrip, Elsewhere, NonContactable, Missing, InDepot}
 use Rattle.mds_table.specs.declared.row.Row.{Row}
 use Rattle.mds_table.specs.declared.entry.Entry.{Entry}
 use Rattle.mds_table.specs.Row.{row_of, ascends, in_order}
@@ -64,7 +64,7 @@ IsRowFrom entry states row = Contains states row.from × HasRow entry row
 
 -- every state, in the order of codes
 abbrev pub every_state : List State
-every_state = Removed ∷ Available ∷ NonOperational ∷ Reserved ∷ OnTrip ∷ Elsewhere ∷ NonContactable ∷ Missing ∷ []
+every_state = Removed ∷ Available ∷ NonOperational ∷ Reserved ∷ OnTrip ∷ Elsewhere ∷ NonContactable ∷ Missing ∷ InDepot ∷ []
 
 pub among_all : (state : State) → Contains every_state state
 among_all Removed = (0, omega arith, refl)
@@ -75,6 +75,7 @@ among_all OnTrip = (4, omega arith, refl)
 among_all Elsewhere = (5, omega arith, refl)
 among_all NonContactable = (6, omega arith, refl)
 among_all Missing = (7, omega arith, refl)
+among_all InDepot = (8, omega arith, refl)
 
 -- the rows from one more state
 pub rows_from_added : {old mid new : List Row} (from : State) (entry : Entry) (states : List State) → is_marked entry.from from ≡ true

@@ -3,7 +3,7 @@ use Rattle.std.proofs.Common.{◌≡◌, ◌≢◌, ℕ, Bool, true, false, List
 use Rattle.std.specs.Str.{bytes_eq}
 use Rattle.std.proofs.lemmas.Slice.Eq.{bytes_eq-Decides}
 use Rattle.mds_table.specs.declared.state.State.{State}
-use Rattle.mds_table.specs.declared.state.State.TheVariants.{Removed, Available, NonOperational, Reserved, OnTrip, Elsewhere, NonContactable, Missing}
+use Rattle.mds_table.specs.declared.state.State.TheVariants.{Removed, Available, NonOperational, Reserved, OnTrip, Elsewhere, NonContactable, Missing, InDepot}
 use Rattle.mds_table.specs.declared.state.TheConstants.State.{ALL}
 use Rattle.mds_table.specs.State.{name_of}
 use Rattle.mds_table.specs.Json.{state_of_name}
@@ -18,6 +18,7 @@ state_of_name-name_of OnTrip = refl
 state_of_name-name_of Elsewhere = refl
 state_of_name-name_of NonContactable = refl
 state_of_name-name_of Missing = refl
+state_of_name-name_of InDepot = refl
 
 -- two texts that differ
 bytes_eq-false : (xs ys : List ℕ) → xs ≢ ys → bytes_eq xs ys ≡ false

@@ -1,14 +1,15 @@
 -- When two rows are the same.
 use Rattle.std.proofs.Common.{◌≡◌, ℕ, ◌<◌, ◌==◌, cond, lit<, refl, sym, ◌∙◌, ap}
 use Rattle.mds_table.specs.declared.state.State.{State}
-use Rattle.mds_table.specs.declared.state.State.TheVariants.{Removed, Available, NonOperational, Reserved, OnTrip, Elsewhere, NonContactable, Missing}
+use Rattle.mds_table.specs.declared.state.State.TheVariants.{Removed, Available, NonOperational, Reserved, OnTrip, Elsewhere, NonContactable, Missing, InDepot}
 use Rattle.mds_table.specs.declared.state.TheConstants.State.{COUNT}
 use Rattle.mds_table.specs.State.{code_of}
 
 -- the state of a code
 of_code : ℕ → State
 of_code code = cond (code == 0) Removed (cond (code == 1) Available (cond (code == 2) NonOperational (cond (code == 3) Reserved
-    (cond (code == 4) OnTrip (cond (code == 5) Elsewhere (cond (code == 6) NonContactable Missing))))))
+    (cond (code == 4) OnTrip (cond (code == 5) Elsewhere (cond (code == 6) NonContactable
+    (cond (code == 7) Missing InDepot)))))))
 
 of_code-code_of : (state : State) → of_code (code_of state) ≡ state
 unfolding of_code
@@ -20,6 +21,7 @@ of_code-code_of OnTrip = refl
 of_code-code_of Elsewhere = refl
 of_code-code_of NonContactable = refl
 of_code-code_of Missing = refl
+of_code-code_of InDepot = refl
 
 -- states with one code are one state
 pub code_of_injective : (a b : State) → code_of a ≡ code_of b → a ≡ b
@@ -35,3 +37,4 @@ code_below OnTrip = lit< tt
 code_below Elsewhere = lit< tt
 code_below NonContactable = lit< tt
 code_below Missing = lit< tt
+code_below InDepot = lit< tt

@@ -1,7 +1,7 @@
 -- The states of a vehicle: their codes and their names.
 use Rattle.std.specs.Prelude.{ℕ, List, codes}
 use Rattle.mds_table.specs.declared.state.State.{State}
-use Rattle.mds_table.specs.declared.state.State.TheVariants.{Removed, Available, NonOperational, Reserved, OnTrip, Elsewhere, NonContactable, Missing}
+use Rattle.mds_table.specs.declared.state.State.TheVariants.{Removed, Available, NonOperational, Reserved, OnTrip, Elsewhere, NonContactable, Missing, InDepot}
 
 -- the code of a state, by which states are ordered
 abbrev pub code_of : State → ℕ
@@ -13,6 +13,7 @@ code_of OnTrip = 4
 code_of Elsewhere = 5
 code_of NonContactable = 6
 code_of Missing = 7
+code_of InDepot = 8
 
 -- the name of a state, in ASCII
 abbrev pub name_of : State → List ℕ
@@ -24,3 +25,4 @@ name_of OnTrip = codes "on_trip"
 name_of Elsewhere = codes "elsewhere"
 name_of NonContactable = codes "non_contactable"
 name_of Missing = codes "missing"
+name_of InDepot = codes "in_depot"

@@ -7,7 +7,7 @@ use crate::State;
 
 /// A set of states: the bit at a state's code is set where the set has the state. It has a bit for each of the
 /// [`State::COUNT`] states.
-pub type Mask = u8;
+pub type Mask = u16;
 
 /// The set of this state alone.
 pub fn bit_of(state: State) -> Mask

@@ -5,7 +5,8 @@ ghost use Rattle.mds_table.specs.State.{code_of, name_of};
 
 use std::fmt;
 
-/// The state of a vehicle, after MDS 2.0, "Vehicle States". States are ordered by their codes.
+/// The state of a vehicle, after MDS 2.0, "Vehicle States", but for [`State::InDepot`], which is this project's own. States
+/// are ordered by their codes.
 #[derive(Clone, Copy, Debug, PartialEq, Eq, PartialOrd, Ord, Hash)]
 pub enum State {
     /// Off the street: not deployed, or taken away.
@@ -24,11 +25,13 @@ pub enum State {
     NonContactable,
     /// Not to be found.
     Missing,
+    /// In a depot of its provider: off the street, and kept to come back.
+    InDepot,
 }
 
 impl State {
     /// The number of states.
-    pub const COUNT: usize = 8;
+    pub const COUNT: usize = 9;
 
     /// Every state, in the order of codes.
     pub const ALL: [State; State::COUNT] = [
@@ -40,6 +43,7 @@ impl State {
         State::Elsewhere,
         State::NonContactable,
         State::Missing,
+        State::InDepot,
     ];
 
     /// The code of the state: its place in [`State::ALL`], from 0.
@@ -63,6 +67,7 @@ impl State {
             State::Elsewhere => "elsewhere",
             State::NonContactable => "non_contactable",
             State::Missing => "missing",
+            State::InDepot => "in_depot",
         }
     }
 
@@ -80,6 +85,7 @@ impl State {
             "elsewhere" => Some(State::Elsewhere),
             "non_contactable" => Some(State::NonContactable),
             "missing" => Some(State::Missing),
+            "in_depot" => Some(State::InDepot),
             _ => None,
         }
     }

@@ -17,6 +17,7 @@ const STATES: &[(&str, Option<(State, u8)>)] = &[
     ("elsewhere", Some((State::Elsewhere, 5))),
     ("non_contactable", Some((State::NonContactable, 6))),
     ("missing", Some((State::Missing, 7))),
+    ("in_depot", Some((State::InDepot, 8))),
     ("flying", None),
     ("Removed", None),
     ("", None),

@@ -72,7 +72,7 @@ fn expect_alike(
     Ok(())
 }
 
-/// All lists of one or two types of the profile, over all pairs of states: (27 + 27 * 27) * 64 = 48,384 cases.
+/// All lists of one or two types of the profile, over all pairs of states: (27 + 27 * 27) * 81 = 61,236 cases.
 #[test]
 fn sets_admit_as_lists_do(rt: HostRuntime) -> Result<(), Fail> {
     let alloc = rt.alloc();
@@ -90,7 +90,7 @@ fn sets_admit_as_lists_do(rt: HostRuntime) -> Result<(), Fail> {
 
 #[test]
 fn bits_of_sets(rt: HostRuntime) {
-    assert_eq!(rt; StateSet::all().bits().bits(), 255);
+    assert_eq!(rt; StateSet::all().bits().bits(), 511);
     assert_eq!(rt; StateSet::of(State::OnTrip).bits().bits(), 16);
     assert_eq!(rt; StateSet::empty().bits().bits(), 0);
     expect_states(&rt, &StateSet::default(), &[]);

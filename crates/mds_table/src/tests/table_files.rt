@@ -5,7 +5,7 @@ use crate::TableFault::{
 use crate::{MAX_ROWS, MAX_TABLE_TYPES, Table};
 use std::alloc::{AllocError, Global};
 
-/// One state, and eight states: an entry that leads from each of the eight to each of them has 64 rows.
+/// One state, and eight of the nine: an entry that leads from each of the eight to each of them has 64 rows.
 const ONE: &str = r#""removed""#;
 
 const EIGHT: &str =

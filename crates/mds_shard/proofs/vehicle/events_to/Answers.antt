@@ -33,7 +33,7 @@ loop-at-preserved c =
     let more : c.match-event.events.items ≡ found ++ option_to_list (report_of request) =
     elim c.match-event.branch [
       | in-Some-event+in_ok-push w ↦
-          rw w.events-is (w.in_ok-push.ensures.items ∙ ap (λ e. found ++ e ∷ []) w.copy.ensures ∙ ap (λ r. found ++ option_to_list r) w.in-Some-event.ensures)
+          rw w.events-is (w.in_ok-push.ensures.items ∙ ap (λ r. found ++ option_to_list r) w.in-Some-event.ensures)
       | in_default-event w ↦ rw w.events-is (sym (append-nil found) ∙ ap (λ r. found ++ option_to_list r) w.in_default-event.ensures)
     ] in
     walk_goes_on history before c.args.last place found c.match-event.events.items request (get_or before place None) c.requires.before at at_before here.0 more

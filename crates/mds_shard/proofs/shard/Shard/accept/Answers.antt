@@ -22,7 +22,7 @@ invariant_of-self-2 c =
     let pushed = replay_push inside.tables history before inside.vehicles c.keep.new.vehicles inside.names c.keep.new.names request c.args.vehicle
     standing c.self.invariant may vehicle stands (subst Puts (c.len-last.ensures ∙ inside.history.ok.0) c.in_ok-keep.ensures.vehicles) c.in_ok-keep.ensures.names in
     let history_is : c.push.new.self.items ≡ history ++ request ∷ [] =
-    c.in_ok-push.ensures.items ∙ ap (λ h. h ++ c.copy.result ∷ []) c.reserve.ensures.items ∙ ap (λ r. history ++ r ∷ []) c.copy.ensures in
+    c.in_ok-push.ensures.items ∙ ap (λ h. h ++ request ∷ []) c.reserve.ensures.items in
     let before_is : c.push-2.new.self.items ≡ before ++ option_map (λ v. v.last) c.args.vehicle ∷ [] =
     c.in_ok-push-2.ensures.items ∙ ap (λ b. b ++ c.last_in-before.result ∷ []) c.reserve-2.ensures.items ∙ ap (λ e. before ++ e ∷ []) c.last_in-before.ensures in
     rw (history_is, before_is) pushed
