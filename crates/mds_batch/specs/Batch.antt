@@ -42,6 +42,18 @@ HasFault bytes NotList = (value : Data) × IsShortTextOf value bytes × IsListFa
 HasFault bytes TooMany = (value : Data) × IsShortTextOf value bytes × IsListFault value TooMany
 HasFault bytes Memory = Unit {0}
 
+-- the bytes are a short text of one value, and the item is what it stands for
+abbrev pub IsItemText : {A : Type 0} → (Data → A → Type 0) → List ℕ → A → Type 0
+IsItemText IsItemOf bytes item = (value : Data) × IsShortTextOf value bytes × IsItemOf value item
+
+-- why bytes are no text of one item: too many, or no text of JSON; want of memory says nothing of them
+abbrev pub HasItemFault : List ℕ → BatchFault → Type 0
+HasItemFault bytes TooLong = HasTextFault bytes text.TooLong
+HasItemFault bytes NotJson = HasTextFault bytes text.NotJson
+HasItemFault bytes NotList = ⊥
+HasItemFault bytes TooMany = ⊥
+HasItemFault bytes Memory = Unit {0}
+
 -- the word for a fault
 abbrev pub fault_text : BatchFault → List ℕ
 fault_text Memory = codes "out of memory"

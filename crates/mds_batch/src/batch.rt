@@ -1,8 +1,9 @@
 //! Batches, read into items.
-ghost use Rattle.std.specs.Prelude.{◌≡◌, ◌≤◌, length, map, Some, option_map, IfOk, IfErr};
+ghost use Rattle.std.specs.Prelude.{◌≡◌, ◌≤◌, length, map, Some, option_map, IfOk, IfErr, IsUtf8};
 ghost use Rattle.serde_json.specs.View.{view};
+ghost use Rattle.mds_table.specs.Json.{max_bytes};
 ghost use Rattle.mds_batch.specs.Items.{IsVehicleItem, IsEventItem};
-ghost use Rattle.mds_batch.specs.Batch.{max_items, listed, AreItemsOf, HasItems, IsListFault, HasFault, fault_text};
+ghost use Rattle.mds_batch.specs.Batch.{max_items, listed, AreItemsOf, HasItems, IsListFault, HasFault, HasItemFault, fault_text};
 
 use crate::event::EventFields;
 use crate::list::{ItemFields, ItemList};
@@ -94,13 +95,23 @@ fn read_batch<F: ItemFields + Drop>(alloc: Global, bytes: &[u8]) -> Result<Vec<F
     ensures items { IfOk result (λ items. HasItems F.is_item bytes.now items.items) }
     ensures fault { IfErr result (HasFault bytes.now) }
 {
-    if bytes.len() > MAX_BYTES {
-        return Err(BatchFault::TooLong);
-    }
-    let text = from_utf8(bytes).ok().ok_or(BatchFault::NotJson)?;
+    let text = text_of(bytes)?;
     let mut list = ItemList::<F>::new(alloc);
     if !read_text(alloc, text, &mut list)? {
         return Err(BatchFault::NotList);
     }
     list.into_items().ok_or(BatchFault::TooMany)
+}
+
+/// The text that bytes are, if they are few enough.
+pub(crate) fn text_of(bytes: &[u8]) -> Result<&str, BatchFault>
+    ensures text { IfOk result (λ text. text.now ≡ bytes.now) }
+    ensures utf8 { IfOk result (λ _. IsUtf8 bytes.now) }
+    ensures short { IfOk result (λ _. length bytes.now ≤ max_bytes) }
+    ensures fault { IfErr result (HasItemFault bytes.now) }
+{
+    if bytes.len() > MAX_BYTES {
+        return Err(BatchFault::TooLong);
+    }
+    from_utf8(bytes).ok().ok_or(BatchFault::NotJson)
 }

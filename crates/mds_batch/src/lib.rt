@@ -15,6 +15,7 @@ mod list;
 mod location;
 mod member;
 mod number;
+mod reader;
 mod slot;
 #[cfg(test)]
 mod tests;
@@ -25,3 +26,4 @@ mod vehicle;
 pub use batch::{BatchFault, MAX_ITEMS, read_events, read_vehicles};
 pub use item::{BatchItem, EventItem, ItemFault, VehicleItem};
 pub use member::Member;
+pub use reader::{ItemReader, read_item};

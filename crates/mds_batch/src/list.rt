@@ -42,7 +42,7 @@ pub(crate) trait ItemFields: Fields {
 }
 
 /// Reads the item that the next value is.
-fn read_item<F: ItemFields>(
+pub(crate) fn read_item<F: ItemFields>(
     fields: &mut F,
     tokens: &mut Tokens<'_>,
     depth: usize,

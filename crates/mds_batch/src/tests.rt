@@ -1,6 +1,7 @@
 //! What no clause says: values from outside, and that each call can succeed.
 mod by_value;
 mod events;
+mod items;
 mod members;
 mod seeded;
 mod texts;

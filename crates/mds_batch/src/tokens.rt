@@ -7,7 +7,7 @@ ghost use Rattle.mds_table.specs.Json.{items_in};
 ghost use Rattle.mds_batch.specs.Reading.{value_at, items_at, members_at, IsHeadOf, HasBegun};
 ghost use Rattle.mds_batch.specs.declared.tokens.ReadFault.TheVariants.{NotJson as not_json};
 
-use crate::list::{ItemFields, ItemList};
+use crate::list::{ItemFields, ItemList, read_item};
 use crate::number::number_of;
 use json::{Invalid, Reader, Scratch, Token};
 use serde_json::Number;
@@ -217,4 +217,22 @@ pub(crate) fn read_text<F: ItemFields + Drop>(
         return Err(ReadFault::NotJson);
     }
     Ok(is_list)
+}
+
+/// Reads the item that a whole text is.
+pub(crate) fn read_whole<F: ItemFields>(
+    text: &str,
+    scratch: &mut Scratch,
+    fields: &mut F,
+) -> Result<F::Item, ReadFault>
+    ensures item { IfOk result (λ item. (value : Data) × (read text.now ≡ Some value)
+        × F.is_item value item) }
+    ensures fault { result ≡ Err not_json → read text.now ≡ None }
+{
+    let mut tokens = Reader::new(text, scratch)?;
+    let item = read_item(fields, &mut tokens, MAX_DEPTH)?;
+    if tokens.next().is_some() {
+        return Err(ReadFault::NotJson);
+    }
+    Ok(item)
 }

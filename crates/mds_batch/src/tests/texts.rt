@@ -129,7 +129,7 @@ const HALVES: &[(&[u8], &[u8])] = &[
 ];
 
 /// The pieces, each as often as it stands.
-fn text_of(alloc: Global, pieces: &[(&str, usize)]) -> Result<String, AllocError> {
+pub fn text_of(alloc: Global, pieces: &[(&str, usize)]) -> Result<String, AllocError> {
     let mut text = String::new(alloc);
     for (piece, times) in pieces {
         text.push_str(piece.repeat(alloc, *times)?.as_str())?;

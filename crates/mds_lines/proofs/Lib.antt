@@ -1,0 +1,4 @@
+-- Lemmas of this crate.
+pub mod ErrorLemmas
+pub mod LineLemmas
+pub mod FeedLemmas

@@ -1,0 +1,314 @@
+//! What no clause says: values from outside, and that each call can succeed.
+use crate::{LineFault, LineReader};
+use mds_batch::{BatchItem, EventItem, ItemFault, Member, read_item};
+use std::alloc::{AllocError, Global};
+use std::process::Abort;
+use std::test::Fail;
+
+/// An event.
+const EVENT: &str =
+    r#"{"provider_id":"00000000-0000-4000-8000-000000000001","device_id":"00000000-0000-4000-8000-00000000000a","event_id":"00000000-0000-4000-8000-0000000000e1","vehicle_state":"on_trip","event_types":["trip_start"],"timestamp":1000}"#;
+
+/// Streams, and the faults of their items, or the first fault of the stream.
+const STREAMS: &[(&str, Result<&[ItemFault], LineFault>)] = &[
+    // no items
+    ("", Ok(&[])),
+    ("\n", Ok(&[])),
+    ("\n\r\n \t\n\t ", Ok(&[])),
+    // lines of one item each; the last may end without a line feed
+    ("7", Ok(&[NO_OBJECT])),
+    ("7\n", Ok(&[NO_OBJECT])),
+    ("7\r\n{}\r\n", Ok(&[NO_OBJECT, NO_PROVIDER])),
+    ("{}\n7", Ok(&[NO_PROVIDER, NO_OBJECT])),
+    ("\n\n{}\n \r\n\n7\r\n\n", Ok(&[NO_PROVIDER, NO_OBJECT])),
+    (
+        "\"\u{e4}\u{20ac}\u{1f6f4}\"\n{\"\u{20ac}\":0}",
+        Ok(&[NO_OBJECT, NO_PROVIDER]),
+    ),
+    // a line that is no JSON; blank lines are counted too
+    ("{", Err(LineFault::NotJson { line: 0 })),
+    ("{\n7", Err(LineFault::NotJson { line: 0 })),
+    ("7\n{\n7\n", Err(LineFault::NotJson { line: 1 })),
+    ("7\n\n{}{}\n7\n", Err(LineFault::NotJson { line: 2 })),
+    (
+        "{}\r\n7\r\n\"\u{20ac}\n\"\n",
+        Err(LineFault::NotJson { line: 2 }),
+    ),
+    ("{\n}\n", Err(LineFault::NotJson { line: 0 })),
+    ("7\n\u{b}\n", Err(LineFault::NotJson { line: 1 })),
+    ("7\n\u{a0}", Err(LineFault::NotJson { line: 1 })),
+    ("7\r8\n", Err(LineFault::NotJson { line: 0 })),
+];
+
+const NO_OBJECT: ItemFault = ItemFault::NotObject;
+
+const NO_PROVIDER: ItemFault = ItemFault::Missing(Member::ProviderId);
+
+/// The items of a stream that is fed in pieces of this length, or its first fault, which later calls answer too.
+fn in_pieces(alloc: Global, stream: &[u8], len: usize) -> Result<Vec<EventItem>, LineFault> {
+    let mut reader = LineReader::open(alloc);
+    let mut first = Ok(());
+    for piece in stream.chunks(len.max(1)) {
+        let fed = reader.feed(piece);
+        if first.is_ok() {
+            first = fed;
+        } else if fed != first {
+            return Err(LineFault::Memory);
+        }
+    }
+    let items = reader.finish();
+    match first {
+        Ok(()) => items,
+        Err(fault) => match items {
+            Err(other) if other == fault => Err(fault),
+            _ => Err(LineFault::Memory),
+        },
+    }
+}
+
+/// The same of a stream that is cut in two.
+fn cut_at(alloc: Global, stream: &[u8], at: usize) -> Result<Vec<EventItem>, LineFault> {
+    let mut reader = LineReader::open(alloc);
+    let (front, rest) = stream.split_at(at.min(stream.len()));
+    let fed = reader.feed(front).is_ok() && reader.feed(rest).is_ok();
+    let again = reader.feed(b"");
+    let items = reader.finish();
+    if fed != again.is_ok() {
+        return Err(LineFault::Memory);
+    }
+    items
+}
+
+/// Why no item is an event, of each item in turn.
+fn faults(alloc: Global, items: &[EventItem]) -> Result<Vec<ItemFault>, Fail> {
+    let mut faults = Vec::new(alloc);
+    for item in items {
+        faults.push(item.fault().ok_or("an event")?)?;
+    }
+    Ok(faults)
+}
+
+/// Compares what was read with what is expected.
+fn same(
+    rt: &impl Abort,
+    alloc: Global,
+    read: Result<Vec<EventItem>, LineFault>,
+    expected: &Result<&[ItemFault], LineFault>,
+) -> Result<(), Fail> {
+    match read {
+        Ok(items) => {
+            let found = faults(alloc, items.as_slice())?;
+            assert_eq!(rt; Ok(found.as_slice()), *expected);
+        }
+        Err(fault) => assert_eq!(rt; Err(fault), *expected),
+    }
+    Ok(())
+}
+
+#[test]
+fn streams_whole_and_byte_by_byte(rt: HostRuntime) -> Result<(), Fail> {
+    for (stream, expected) in STREAMS {
+        for len in [usize::MAX, 1, 2, 3] {
+            same(
+                &rt,
+                rt.alloc(),
+                in_pieces(rt.alloc(), stream.as_bytes(), len),
+                expected,
+            )?;
+        }
+    }
+    Ok(())
+}
+
+#[test]
+fn streams_cut_at_each_byte(rt: HostRuntime) -> Result<(), Fail> {
+    for (stream, expected) in STREAMS {
+        for at in 0..stream.len() + 1 {
+            same(
+                &rt,
+                rt.alloc(),
+                cut_at(rt.alloc(), stream.as_bytes(), at),
+                expected,
+            )?;
+        }
+    }
+    Ok(())
+}
+
+/// Each line's item is that of its text alone.
+#[test]
+fn events_among_other_lines(rt: HostRuntime) -> Result<(), Fail> {
+    let alloc = rt.alloc();
+    let mut stream = Vec::new(alloc);
+    for text in [EVENT, "\n \r\n", EVENT, "\r\n7\n{}\n", EVENT] {
+        stream.extend_from_slice(text.as_bytes())?;
+    }
+    let mut expected = Vec::new(alloc);
+    for text in [EVENT, EVENT, "7", "{}", EVENT] {
+        expected.push(read_item(alloc, text.as_bytes())?)?;
+    }
+    for len in [1, 7, 100, 100_000] {
+        let found = in_pieces(alloc, stream.as_slice(), len)?;
+        assert_eq!(rt; (len, found.as_slice()), (len, expected.as_slice()));
+    }
+    Ok(())
+}
+
+/// Bytes that aren't UTF-8 in a line, and a character that a line feed divides.
+#[test]
+fn no_characters(rt: HostRuntime) -> Result<(), Fail> {
+    for (stream, line) in [
+        (b"7\n\"\xff\"\n".as_slice(), 1),
+        (b"\"\xe2\x82\n\xac\"\n".as_slice(), 0),
+    ] {
+        let expected = Err(LineFault::NotJson { line });
+        for at in 0..stream.len() + 1 {
+            same(&rt, rt.alloc(), cut_at(rt.alloc(), stream, at), &expected)?;
+        }
+    }
+    Ok(())
+}
+
+/// A stream of so many bytes: an item, so many blanks, and a last byte.
+fn of_length(alloc: Global, len: usize, last: u8) -> Result<Vec<u8>, AllocError> {
+    let mut stream = Vec::new(alloc);
+    stream.push(b'7')?;
+    stream.resize(len.saturating_sub(1), b' ')?;
+    stream.push(last)?;
+    Ok(stream)
+}
+
+#[test]
+fn most_bytes(rt: HostRuntime) -> Result<(), Fail> {
+    let alloc = rt.alloc();
+    for last in *b" \n" {
+        let stream = of_length(alloc, 4_194_304, last)?;
+        same(
+            &rt,
+            rt.alloc(),
+            in_pieces(alloc, stream.as_slice(), 1_000_000),
+            &Ok(&[NO_OBJECT]),
+        )?;
+    }
+    let stream = of_length(alloc, 4_194_304, b'{')?;
+    let expected = Err(LineFault::NotJson { line: 0 });
+    same(
+        &rt,
+        rt.alloc(),
+        in_pieces(alloc, stream.as_slice(), 4_194_304),
+        &expected,
+    )?;
+    for last in *b" \n{" {
+        let stream = of_length(alloc, 4_194_305, last)?;
+        for len in [1_000_000, 4_194_304, 4_194_305] {
+            same(
+                &rt,
+                rt.alloc(),
+                in_pieces(alloc, stream.as_slice(), len),
+                &Err(LineFault::TooLong),
+            )?;
+        }
+    }
+    Ok(())
+}
+
+/// A line that is no JSON, before and behind the most bytes.
+#[test]
+fn the_first_of_two_faults(rt: HostRuntime) -> Result<(), Fail> {
+    let alloc = rt.alloc();
+    let mut stream = of_length(alloc, 4_194_306, b'\n')?;
+    stream[1] = b'{';
+    same(
+        &rt,
+        rt.alloc(),
+        in_pieces(alloc, stream.as_slice(), 5_000_000),
+        &Err(LineFault::TooLong),
+    )?;
+    stream[4_194_303] = b'\n';
+    let expected = Err(LineFault::NotJson { line: 0 });
+    same(
+        &rt,
+        rt.alloc(),
+        in_pieces(alloc, stream.as_slice(), 5_000_000),
+        &expected,
+    )
+}
+
+/// How many items a stream of so many lines has, with these bytes behind them.
+fn count(alloc: Global, lines: usize, end: &str) -> Result<usize, LineFault> {
+    let mut reader = LineReader::open(alloc);
+    for _ in 0..lines {
+        reader.feed(b"7\n")?;
+    }
+    reader.feed(end.as_bytes())?;
+    Ok(reader.finish()?.len())
+}
+
+#[test]
+fn most_items(rt: HostRuntime) {
+    let alloc = rt.alloc();
+    let ends = ["", "\n \n", "7", "7\n", "{", "{\n", "7\n{\n"];
+    let not_json = Err(LineFault::NotJson { line: 10_000 });
+    let too_many = Err(LineFault::TooMany);
+    let expected = [
+        Ok(10_000),
+        Ok(10_000),
+        too_many,
+        too_many,
+        not_json,
+        not_json,
+        too_many,
+    ];
+    for (end, expected) in ends.iter().zip(expected) {
+        assert_eq!(rt; (end, count(alloc, 10_000, end)), (end, expected));
+    }
+}
+
+#[test]
+fn texts_of_faults(rt: HostRuntime) -> Result<(), Fail> {
+    let (long, many) = (LineFault::TooLong, LineFault::TooMany);
+    let line = LineFault::NotJson { line: 7 };
+    let text = format!(in rt.alloc(); "{long}, {many}, {line}, {}", LineFault::Memory)?;
+    assert_eq!(rt;
+        text.as_str(),
+        "too_long, too_many, not_json 7, out of memory"
+    );
+    Ok(())
+}
+
+/// How many items the events of two pieces are.
+fn two_pieces(alloc: Global) -> Result<usize, LineFault> {
+    let mut reader = LineReader::open(alloc);
+    reader.feed(EVENT.as_bytes())?;
+    reader.feed(b"\n7\n")?;
+    reader.feed(EVENT.as_bytes())?;
+    Ok(reader.finish()?.len())
+}
+
+/// A stream, fed again from its beginning where a growth is refused (by `tests/refused-growths`).
+#[test]
+fn a_stream_is_read_after_a_refused_growth(rt: HostRuntime) {
+    let alloc = rt.alloc();
+    let read = match two_pieces(alloc) {
+        Err(LineFault::Memory) => two_pieces(alloc),
+        other => other,
+    };
+    assert_eq!(rt; read, Ok(3));
+}
+
+/// Want of memory is kept, as any fault is (growths are refused by `tests/refused-growths`).
+#[test]
+fn memory_is_kept_after_a_refused_growth(rt: HostRuntime) {
+    let mut reader = LineReader::open(rt.alloc());
+    let fed = [
+        reader.feed(b"7\n7\n"),
+        reader.feed(b"7"),
+        reader.feed(b"\n"),
+    ];
+    let ended = reader.finish().map(|items| items.len());
+    let kept = match fed {
+        [Ok(()), Ok(()), Ok(())] => ended == Ok(3) || ended == Err(LineFault::Memory),
+        [_, _, last] => last == Err(LineFault::Memory) && ended == Err(LineFault::Memory),
+    };
+    assert!(rt; kept);
+}
