@@ -1,6 +1,6 @@
 -- Tables in order of time, one more at a time, and what keeps one from coming next.
 use Rattle.std.proofs.Common.{◌≡◌, ℕ, suc, ◌+◌, ◌<◌, ◌≤◌, List, [], ◌∷◌, ◌++◌, length, take, map, get_or, slice_get, true, false, Option, Some, None, option_map, nat_lt, nat_le, refl, sym, ◌∙◌, ap, subst, arith}
-use Rattle.std.specs.List.{All, last_or}
+use Rattle.std.specs.List.{All, AllZip, last_or}
 use Rattle.std.specs.Option.{IsSomeAnd}
 use Rattle.std.specs.Ordering.{nat_cmp, is_lt}
 use Rattle.std.proofs.lemmas.Bool.{and_parts}
@@ -8,6 +8,7 @@ use Rattle.std.proofs.lemmas.Bool.Decides.{nat_tests}
 use Rattle.std.proofs.lemmas.List.{map_push, length-take, take_more}
 use Rattle.std.proofs.lemmas.List.Elements.{All-push}
 use Rattle.std.proofs.lemmas.Option.{slice_get_within, slice_get_read}
+use Rattle.std.proofs.lemmas.Slice.Zip.{AllZip-long}
 use Rattle.mds_table.specs.declared.table_file.TableFault.{TableFault}
 use Rattle.mds_table.specs.declared.tables_fault.TablesFault.{TablesFault}
 use Rattle.mds_table.specs.declared.tables_fault.TablesFault.TheVariants.{BadEntry}
@@ -15,7 +16,7 @@ use Rattle.mds_table.specs.Row.{ascends}
 use Rattle.mds_table.specs.Json.{max_time}
 use Rattle.mds_table.specs.Tables.{Entry, start_of}
 use Rattle.mds_table.specs.Timed.{max_tables, AreInTime}
-use Rattle.mds_table.specs.TimedFile.{AreEntriesOf, start_told, Follows, IsFirstAt, HasListFault, HasTimesFault}
+use Rattle.mds_table.specs.TimedFile.{start_told, Follows, IsFirstAt, HasListFault, HasTimesFault}
 use Rattle.mds_table.specs.TimedRead.{IsStartFault}
 
 -- the last of a list with one more is that one
@@ -62,21 +63,14 @@ in_time_push (x ∷ xs) entry times follows late = record {
 
 -- one more item and its table
 pub entries_push : {X : Type 0} (IsEntryOf : X → Entry → Type 0) (items : List X) (entries : List Entry) (item : X) (entry : Entry)
-    → AreEntriesOf IsEntryOf items entries → IsEntryOf item entry → AreEntriesOf IsEntryOf (items ++ item ∷ []) (entries ++ entry ∷ [])
+    → AllZip IsEntryOf items entries → IsEntryOf item entry → AllZip IsEntryOf (items ++ item ∷ []) (entries ++ entry ∷ [])
 entries_push IsEntryOf [] [] item entry are is = (is, tt)
 entries_push IsEntryOf [] (e ∷ es) item entry are is = absurd are
 entries_push IsEntryOf (i ∷ rest) [] item entry are is = absurd are
 entries_push IsEntryOf (i ∷ rest) (e ∷ es) item entry are is = (are.0, entries_push IsEntryOf rest es item entry are.1 is)
 
--- as many tables as items
-pub same_count : {X : Type 0} (IsEntryOf : X → Entry → Type 0) (items : List X) (entries : List Entry) → AreEntriesOf IsEntryOf items entries → length entries ≡ length items
-same_count IsEntryOf [] [] are = refl
-same_count IsEntryOf [] (e ∷ es) are = absurd are
-same_count IsEntryOf (i ∷ rest) [] are = absurd are
-same_count IsEntryOf (i ∷ rest) (e ∷ es) are = ap suc (same_count IsEntryOf rest es are.1)
-
 -- tables that are there stand for themselves
-pub own_entries : (entries : List Entry) → AreEntriesOf (λ told entry. entry ≡ told) entries entries
+pub own_entries : (entries : List Entry) → AllZip (λ told entry. entry ≡ told) entries entries
 own_entries [] = tt
 own_entries (e ∷ es) = (refl, own_entries es)
 
@@ -94,10 +88,10 @@ none_before (x ∷ xs) is = absurd (some_last x xs is) where
 module _ {X : Type 0} (IsEntryOf : X → Entry → Type 0) (start_in : X → Option ℕ) (HasFaultIn : X → TableFault → Type 0) (items : List X) where
   -- a start that can't come next
   pub start_fault : (at : ℕ) (before : List Entry) (item : X) (start : ℕ) (last : Option ℕ) (fault : TablesFault) → length items ≤ max_tables
-      → slice_get items at ≡ Some item → AreEntriesOf IsEntryOf (take at items) before → AreInTime before → last ≡ option_map start_of (last_or None before)
+      → slice_get items at ≡ Some item → AllZip IsEntryOf (take at items) before → AreInTime before → last ≡ option_map start_of (last_or None before)
       → start_in item ≡ Some start → IsStartFault at last start fault → HasListFault IsEntryOf start_in HasFaultIn items fault
   start_fault at before item start None fault few here are times is told wrong =
-      let first : at ≡ 0 = omega (arith, none_before before (sym is), same_count IsEntryOf (take at items) before are, length-take at items, slice_get_within items at item here) in
+      let first : at ≡ 0 = omega (arith, none_before before (sym is), AllZip-long IsEntryOf (take at items) before are, length-take at items, slice_get_within items at item here) in
       subst (HasListFault IsEntryOf start_in HasFaultIn items) (sym wrong.0)
       (subst (λ n. IsFirstAt IsEntryOf items n (λ last item. IsSomeAnd (start_in item) (λ start. start ≡ 0 → ⊥))) first (
         few,

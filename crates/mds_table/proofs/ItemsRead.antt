@@ -1,7 +1,8 @@
 -- The items of a file of tables, read one at a time.
 use Rattle.std.proofs.Common.{◌≡◌, ℕ, ◌+◌, ◌≤◌, List, ◌∷◌, [], ◌++◌, codes, length, take, slice_get, Bool, true, false, if◌then◌else◌, nat_le, Option, Some, None, option_map, option_and_then, refl, sym, ◌∙◌, ap, subst, inl, inr, ⊎_elim, leb-true, arith}
-use Rattle.std.specs.List.{last_or}
+use Rattle.std.specs.List.{AllZip, last_or}
 use Rattle.std.specs.Option.{IsSomeAnd}
+use Rattle.std.proofs.lemmas.Slice.Zip.{AllZip-long}
 use Rattle.serde_json.specs.Data.{Data}
 use Rattle.serde_json.specs.Find.{get, as_number, as_u64}
 use Rattle.mds_table.specs.declared.row.Row.{Row}
@@ -11,9 +12,9 @@ use Rattle.mds_table.specs.Json.{max_time, time_in}
 use Rattle.mds_table.specs.TableFile.{entries_in, AreTableOf, HasRowsFault}
 use Rattle.mds_table.specs.Tables.{Entry, start_of}
 use Rattle.mds_table.specs.Timed.{max_tables, AreInTime, AreTimed}
-use Rattle.mds_table.specs.TimedFile.{AreEntriesOf, Follows, start_in, IsTableItem, HasItemFault, HasItemsFault}
+use Rattle.mds_table.specs.TimedFile.{Follows, start_in, IsTableItem, HasItemFault, HasItemsFault}
 use Rattle.mds_table.specs.TimedRead.{IsStartFault, IsTableFault, IsItemsFault}
-use Rattle.mds_table.proofs.InTime.{some_and, start_fault, in_time_push, entries_push, same_count, last_push}
+use Rattle.mds_table.proofs.InTime.{some_and, start_fault, in_time_push, entries_push, last_push}
 
 -- a start that is read isn't past the latest time
 start_early : (item : Data) (start : ℕ) → start_in item ≡ Some start → start ≤ max_time
@@ -34,14 +35,14 @@ start_early item start is = by_time (get (codes "from_time") item) (entries_in i
   by_time (Some d) rows is = by_number (option_and_then as_u64 (as_number d)) rows is
 
 -- all items are read
-pub all_timed : (items : List Data) (at : ℕ) (entries : List Entry) → AreEntriesOf IsTableItem (take at items) entries → take at items ≡ items
+pub all_timed : (items : List Data) (at : ℕ) (entries : List Entry) → AllZip IsTableItem (take at items) entries → take at items ≡ items
     → 1 ≤ length items → length items ≤ max_tables → AreInTime entries → AreTimed entries
 all_timed items at entries are whole some few times =
-    let count : length entries ≡ length items = same_count IsTableItem (take at items) entries are ∙ ap length whole in
+    let count : length entries ≡ length items = AllZip-long IsTableItem (take at items) entries are ∙ ap length whole in
     record { some = omega (arith, count, some); few = omega (arith, count, few); times = times }
 
 module _ (items : List Data) (at : ℕ) (entries : List Entry) (item : Data) (few : length items ≤ max_tables) (here : slice_get items at ≡ Some item)
-    (are : AreEntriesOf IsTableItem (take at items) entries) (times : AreInTime entries) where
+    (are : AllZip IsTableItem (take at items) entries) (times : AreInTime entries) where
   -- an item that isn't of the right form
   pub bad_item : start_in item ≡ None → IsItemsFault items (BadEntry at)
   bad_item none = inr (few, entries, are, times, some_and (λ item. start_in item ≡ None) (slice_get items at) item here none)
@@ -75,9 +76,9 @@ module _ (items : List Data) (at : ℕ) (entries : List Entry) (item : Data) (fe
     next_times table follows = in_time_push entries (start, table) times (follows_end follows) (start_early item start told)
 
     pub next_items : (rows : List Data) (table : List Row) → entries_in item ≡ Some rows → AreTableOf rows table → take (at + 1) items ≡ take at items ++ item ∷ []
-        → AreEntriesOf IsTableItem (take (at + 1) items) (entries ++ (start, table) ∷ [])
+        → AllZip IsTableItem (take (at + 1) items) (entries ++ (start, table) ∷ [])
     next_items rows table is read more =
-        subst (λ front. AreEntriesOf IsTableItem front (entries ++ (start, table) ∷ [])) (sym more)
+        subst (λ front. AllZip IsTableItem front (entries ++ (start, table) ∷ [])) (sym more)
         (entries_push IsTableItem (take at items) entries item (start, table) are (record { start = told; rows = some_and (λ rows. AreTableOf rows table) (entries_in item) rows is read }))
 
 -- the last start after one more

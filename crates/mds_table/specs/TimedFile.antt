@@ -1,6 +1,6 @@
 -- The file of tables that change at stated times: the tables that it stands for, and its first fault.
 use Rattle.std.specs.Prelude.{◌≡◌, ◌≢◌, ◌⊎◌, ℕ, ◌<◌, ◌≤◌, List, [], ◌∷◌, ◌++◌, length, take, codes, nat_le, if◌then◌else◌, Option, Some, None, option_map, option_and_then, is_some, IsSomeAnd, slice_get}
-use Rattle.std.specs.List.{last_or}
+use Rattle.std.specs.List.{AllZip, last_or}
 use Rattle.std.specs.Fmt.{decimal}
 use Rattle.serde_json.specs.Data.{Data}
 use Rattle.serde_json.specs.Find.{get, as_array}
@@ -16,13 +16,6 @@ use Rattle.mds_table.specs.TableFile.{entries_in, AreTableOf, HasRowsFault, HasE
 use Rattle.mds_table.specs.Tables.{Entry, start_of}
 use Rattle.mds_table.specs.Timed.{max_tables, AreInTime, AreTimed}
 
--- there are as many tables as items, and each is what the item at its place stands for
-abbrev pub AreEntriesOf : {X : Type 0} → (X → Entry → Type 0) → List X → List Entry → Type 0
-AreEntriesOf IsEntryOf [] [] = Unit {0}
-AreEntriesOf IsEntryOf [] (entry ∷ entries) = ⊥
-AreEntriesOf IsEntryOf (item ∷ items) [] = ⊥
-AreEntriesOf IsEntryOf (item ∷ items) (entry ∷ entries) = IsEntryOf item entry × AreEntriesOf IsEntryOf items entries
-
 -- a table may start at this time after the last one before it: the first at 0, each other later
 abbrev pub Follows : Option ℕ → ℕ → Type 0
 Follows None start = start ≡ 0
@@ -32,7 +25,7 @@ Follows (Some last) start = last < start
 -- start and of the item at the place.
 abbrev pub IsFirstAt : {X : Type 0} → (X → Entry → Type 0) → List X → ℕ → (Option ℕ → X → Type 0) → Type 0
 IsFirstAt IsEntryOf items at P =
-    (length items ≤ max_tables) × (before : List Entry) × AreEntriesOf IsEntryOf (take at items) before × AreInTime before
+    (length items ≤ max_tables) × (before : List Entry) × AllZip IsEntryOf (take at items) before × AreInTime before
     × IsSomeAnd (slice_get items at) (P (option_map start_of (last_or None before)))
 
 -- The first fault of a list of items that are to stand for tables: there is none, or too many; then, item by item, that it
@@ -47,11 +40,7 @@ HasListFault IsEntryOf start_in HasFaultIn items (NotRising at) =
     IsFirstAt IsEntryOf items at (λ last item. IsSomeAnd (start_in item) (λ start. IsSomeAnd last (λ earlier. start ≤ earlier)))
 HasListFault IsEntryOf start_in HasFaultIn items (InTable (Some at) fault) =
     IsFirstAt IsEntryOf items at (λ last item. IsSomeAnd (start_in item) (Follows last) × HasFaultIn item fault)
-HasListFault IsEntryOf start_in HasFaultIn items (InTable None fault) = ⊥
-HasListFault IsEntryOf start_in HasFaultIn items Memory = ⊥
-HasListFault IsEntryOf start_in HasFaultIn items TooLong = ⊥
-HasListFault IsEntryOf start_in HasFaultIn items NotJson = ⊥
-HasListFault IsEntryOf start_in HasFaultIn items NotRows = ⊥
+HasListFault IsEntryOf start_in HasFaultIn items _ = ⊥
 
 -- the time from which a table that is there is to be in force, if it isn't past the latest
 abbrev pub start_told : Entry → Option ℕ
@@ -95,7 +84,7 @@ pub record HasOneTable (bytes : List ℕ) (entries : List Entry) : Type 0 where
 -- tables that items stand for
 pub record AreTablesOf (items : List Data) (entries : List Entry) : Type 0 where
   pub timed : AreTimed entries
-  pub each : AreEntriesOf IsTableItem items entries
+  pub each : AllZip IsTableItem items entries
 
 -- the bytes are a file of these tables: a table file, which is one table from 0, or a file of tables with their starts
 abbrev pub HasTables : List ℕ → List Entry → Type 0
@@ -113,12 +102,7 @@ HasTablesFault bytes TooLong = HasTextFault bytes text.TooLong
 HasTablesFault bytes NotJson = HasTextFault bytes text.NotJson
 HasTablesFault bytes NotRows = (value : Data) × IsShortTextOf value bytes × (entries_in value ≡ None) × (tables_in value ≡ None)
 HasTablesFault bytes (InTable None fault) = HasEntries bytes (λ entries. HasRowsFault entries fault)
-HasTablesFault bytes (InTable (Some at) fault) = HasItems bytes (λ items. HasItemsFault items (InTable (Some at) fault))
-HasTablesFault bytes NoTables = HasItems bytes (λ items. HasItemsFault items NoTables)
-HasTablesFault bytes TooManyTables = HasItems bytes (λ items. HasItemsFault items TooManyTables)
-HasTablesFault bytes (BadEntry at) = HasItems bytes (λ items. HasItemsFault items (BadEntry at))
-HasTablesFault bytes FirstNotZero = HasItems bytes (λ items. HasItemsFault items FirstNotZero)
-HasTablesFault bytes (NotRising at) = HasItems bytes (λ items. HasItemsFault items (NotRising at))
+HasTablesFault bytes fault = HasItems bytes (λ items. HasItemsFault items fault)
 
 -- the fault of a file whose text has this one
 abbrev pub of_text : TextFault → TablesFault
@@ -129,13 +113,7 @@ of_text text.NotJson = NotJson
 -- the fault of a file one of whose tables has this one
 abbrev pub of_table : Option ℕ → TableFault → TablesFault
 of_table at table.Memory = Memory
-of_table at table.TooLong = InTable at table.TooLong
-of_table at table.NotJson = InTable at table.NotJson
-of_table at table.NotRows = InTable at table.NotRows
-of_table at (table.BadRow n) = InTable at (table.BadRow n)
-of_table at table.TooManyRows = InTable at table.TooManyRows
-of_table at table.TooManyTypes = InTable at table.TooManyTypes
-of_table at table.Empty = InTable at table.Empty
+of_table at fault = InTable at fault
 
 -- the words for a fault
 abbrev pub tables_fault_text : TablesFault → List ℕ

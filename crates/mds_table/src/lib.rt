@@ -3,7 +3,8 @@
 //! A table is a set of rows, each a state, an event type and the state that it leads to. States and event types are
 //! named after the micromobility mode of the Mobility Data Specification (MDS) 2.0, section "Vehicle States" and
 //! "Event Types"; which rows the profile has is this project's own choice. A table is the profile's, or is read from
-//! a table file, whose form is this project's own as well.
+//! a table file, whose form is this project's own as well. Several tables may follow one another, each in force from a
+//! stated time on.
 #![tactic(auto)]
 
 mod entry;
