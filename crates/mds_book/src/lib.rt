@@ -3,7 +3,6 @@
 #![tactic(auto)]
 
 mod book;
-mod gate;
 mod gathered;
 mod seat;
 mod settling;
@@ -12,8 +11,8 @@ mod slot;
 mod tests;
 
 pub use book::{Book, MAX_SEATS, OpenFault};
-pub use gate::{Gate, OpenGate};
 pub use gathered::{Gathered, Settled};
+pub use mds_gate::{Gate, OpenGate};
 pub use mds_settle::{Note, NoteList, judge};
 pub use seat::{Keep, Seat};
 pub use settling::{SettleFault, reconcile};

@@ -1,8 +1,8 @@
 -- What the program does with the words of its command line.
 use Rattle.std.specs.Prelude.{◌≡◌, ◌≢◌, ◌⊎◌, ℕ, ◌<◌, ◌≤◌, List, Option, Some, None, Bool, true, false, codes, option_map}
 use Rattle.std.specs.Io.KnownBytes.{Keeps}
-use Rattle.mds_trace.specs.declared.report.Opening.{Opening}
-use Rattle.mds_trace.specs.declared.report.Opening.TheVariants.{Removed, Any}
+use Rattle.mds_replay.specs.declared.report.Opening.{Opening}
+use Rattle.mds_replay.specs.declared.report.Opening.TheVariants.{Removed, Any}
 use Rattle.mds_book.specs.Books.{IsSeatCount}
 use Rattle.mds_city.specs.declared.problem.Problem.TheVariants as problem
 use Rattle.mds_city.specs.declared.source.Source.{Source}

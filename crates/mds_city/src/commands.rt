@@ -1,7 +1,7 @@
 //! What the commands do, over any readers and writers.
 ghost use Rattle.std.specs.Prelude.{◌≡◌, ◌≢◌, ◌<◌, ◌≤◌, IfOk, IfErr, OnOk};
 ghost use Rattle.std.specs.Io.KnownBytes.{Appends, Keeps};
-ghost use Rattle.mds_trace.specs.declared.report.Report.{Report};
+ghost use Rattle.mds_replay.specs.declared.report.Report.{Report};
 ghost use Rattle.mds_city.specs.Text.{report_text};
 ghost use Rattle.mds_city.specs.Command.{HasReport, ExplainsReplay, WentOut, Replayed, Told, Tabled, ExplainsPrint, TableWentOut, TableTold, status_on};
 

@@ -7,9 +7,9 @@ use Rattle.mds_core.specs.Reported.{Reported}
 use Rattle.mds_core.specs.History.{same_key}
 use Rattle.mds_batch.specs.declared.item.EventItem.{EventItem}
 use Rattle.mds_batch.specs.declared.item.EventItem.TheVariants.{Event, Fault}
-use Rattle.mds_trace.specs.declared.report.Verdict.{Verdict}
-use Rattle.mds_trace.specs.Verdict.{accepts}
-use Rattle.mds_trace.specs.Replay.{accepted_by, accepted_of, prior_of}
+use Rattle.mds_replay.specs.declared.report.Verdict.{Verdict}
+use Rattle.mds_replay.specs.Verdict.{accepts}
+use Rattle.mds_replay.specs.Replay.{accepted_by, accepted_of, prior_of}
 use Rattle.mds_debugger.specs.Vehicle.{is_event_of, told_of}
 
 one_few : (key : Key) (event : Reported) (is on : Bool) → same_key event.key key ≡ is

@@ -1,6 +1,6 @@
 //! The events of one vehicle in a replay.
 ghost use Rattle.std.specs.Prelude.{◌≡◌, ◌+◌, ◌++◌, IfOk, OnOk, length};
-ghost use Rattle.mds_trace.specs.Replay.{accepted_by, accepted_of, prior_of};
+ghost use Rattle.mds_replay.specs.Replay.{accepted_by, accepted_of, prior_of};
 ghost use Rattle.mds_debugger.specs.Vehicle.{is_event_of, told_of};
 
 use mds_batch::EventItem;

@@ -34,6 +34,10 @@ const STREAMS: &[(&str, Result<&[ItemFault], LineFault>)] = &[
         "{}\r\n7\r\n\"\u{20ac}\n\"\n",
         Err(LineFault::NotJson { line: 2 }),
     ),
+    (
+        "\r\n\"\u{20ac}\"\r\n{\"\u{20ac}\":\r\n\n7",
+        Err(LineFault::NotJson { line: 2 }),
+    ),
     ("{\n}\n", Err(LineFault::NotJson { line: 0 })),
     ("7\n\u{b}\n", Err(LineFault::NotJson { line: 1 })),
     ("7\n\u{a0}", Err(LineFault::NotJson { line: 1 })),
@@ -169,69 +173,56 @@ fn no_characters(rt: HostRuntime) -> Result<(), Fail> {
     Ok(())
 }
 
-/// A stream of so many bytes: an item, so many blanks, and a last byte.
-fn of_length(alloc: Global, len: usize, last: u8) -> Result<Vec<u8>, AllocError> {
+/// Pieces of long streams with how often each stands, and the faults of their items, or the first fault of the stream.
+const LONG_STREAMS: &[(&[(&str, usize)], Result<&[ItemFault], LineFault>)] = &[
+    // the most bytes
+    (&[("7", 1), (" ", 4_194_303)], Ok(&[NO_OBJECT])),
+    (&[("7", 1), (" ", 4_194_302), ("\n", 1)], Ok(&[NO_OBJECT])),
+    (
+        &[("7", 1), (" ", 4_194_302), ("{", 1)],
+        Err(LineFault::NotJson { line: 0 }),
+    ),
+    // one more, whatever it is
+    (&[("7", 1), (" ", 4_194_304)], Err(LineFault::TooLong)),
+    (
+        &[("7", 1), (" ", 4_194_303), ("\n", 1)],
+        Err(LineFault::TooLong),
+    ),
+    (
+        &[("7", 1), (" ", 4_194_303), ("{", 1)],
+        Err(LineFault::TooLong),
+    ),
+    // a line that is no JSON, and ends within the limit; and one that ends behind it
+    (
+        &[("{", 1), (" ", 4_194_302), ("\n", 1), ("7", 9)],
+        Err(LineFault::NotJson { line: 0 }),
+    ),
+    (
+        &[("{", 1), (" ", 4_194_303), ("\n", 1), ("7", 9)],
+        Err(LineFault::TooLong),
+    ),
+];
+
+/// The bytes of these pieces.
+fn stream_of(alloc: Global, pieces: &[(&str, usize)]) -> Result<Vec<u8>, AllocError> {
     let mut stream = Vec::new(alloc);
-    stream.push(b'7')?;
-    stream.resize(len.saturating_sub(1), b' ')?;
-    stream.push(last)?;
+    for (piece, times) in pieces {
+        stream.extend_from_slice(piece.repeat(alloc, *times)?.as_bytes())?;
+    }
     Ok(stream)
 }
 
 #[test]
 fn most_bytes(rt: HostRuntime) -> Result<(), Fail> {
     let alloc = rt.alloc();
-    for last in *b" \n" {
-        let stream = of_length(alloc, 4_194_304, last)?;
-        same(
-            &rt,
-            rt.alloc(),
-            in_pieces(alloc, stream.as_slice(), 1_000_000),
-            &Ok(&[NO_OBJECT]),
-        )?;
-    }
-    let stream = of_length(alloc, 4_194_304, b'{')?;
-    let expected = Err(LineFault::NotJson { line: 0 });
-    same(
-        &rt,
-        rt.alloc(),
-        in_pieces(alloc, stream.as_slice(), 4_194_304),
-        &expected,
-    )?;
-    for last in *b" \n{" {
-        let stream = of_length(alloc, 4_194_305, last)?;
-        for len in [1_000_000, 4_194_304, 4_194_305] {
-            same(
-                &rt,
-                rt.alloc(),
-                in_pieces(alloc, stream.as_slice(), len),
-                &Err(LineFault::TooLong),
-            )?;
+    for (pieces, expected) in LONG_STREAMS {
+        let stream = stream_of(alloc, pieces)?;
+        for len in [16_384, 4_194_304, 5_000_000] {
+            let read = in_pieces(alloc, stream.as_slice(), len);
+            same(&rt, alloc, read, expected)?;
         }
     }
     Ok(())
-}
-
-/// A line that is no JSON, before and behind the most bytes.
-#[test]
-fn the_first_of_two_faults(rt: HostRuntime) -> Result<(), Fail> {
-    let alloc = rt.alloc();
-    let mut stream = of_length(alloc, 4_194_306, b'\n')?;
-    stream[1] = b'{';
-    same(
-        &rt,
-        rt.alloc(),
-        in_pieces(alloc, stream.as_slice(), 5_000_000),
-        &Err(LineFault::TooLong),
-    )?;
-    stream[4_194_303] = b'\n';
-    let expected = Err(LineFault::NotJson { line: 0 });
-    same(
-        &rt,
-        rt.alloc(),
-        in_pieces(alloc, stream.as_slice(), 5_000_000),
-        &expected,
-    )
 }
 
 /// How many items a stream of so many lines has, with these bytes behind them.

@@ -1,17 +1,5 @@
 -- Lemmas of this crate.
-pub mod Following
-pub mod Entries
-pub mod Mentions
-pub mod Verdicts
-pub mod Keeping
-pub mod Replaying
-pub mod Ends
-pub mod Turns
-pub mod Runs
-pub mod Asked
 pub mod SessionLemmas
 pub mod Passed
 pub mod Lawful
 pub mod Accepted
-pub mod OneVerdict
-pub mod OneReport

@@ -7,9 +7,9 @@ use Rattle.mds_core.specs.declared.request.Request.{Request}
 use Rattle.mds_core.specs.History.{requests_of, reports, state_of}
 use Rattle.mds_core.specs.Lawful.{IsLawful}
 use Rattle.mds_batch.specs.declared.item.EventItem.{EventItem}
-use Rattle.mds_trace.specs.declared.report.Opening.TheVariants as opening
-use Rattle.mds_trace.specs.declared.report.Verdict.{Verdict}
-use Rattle.mds_trace.specs.Replay.{prior_of, accepted_of, AreVerdicts}
+use Rattle.mds_replay.specs.declared.report.Opening.TheVariants as opening
+use Rattle.mds_replay.specs.declared.report.Verdict.{Verdict}
+use Rattle.mds_replay.specs.Replay.{prior_of, accepted_of, AreVerdicts}
 use Rattle.mds_trace.specs.Session.{AreOpenFrom, held_at}
 
 -- in a lawful history, a session over the events of a registered vehicle may be opened from removed, and the state held

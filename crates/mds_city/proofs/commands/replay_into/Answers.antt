@@ -1,7 +1,7 @@
 use Rattle.std.proofs.Common.{ℕ, List, Option, inr, refl}
 use Rattle.mds_io.specs.declared.page.PrintError.{PrintError}
 use Rattle.mds_io.specs.declared.page.PrintError.TheVariants as write
-use Rattle.mds_trace.specs.declared.report.Opening.{Opening}
+use Rattle.mds_replay.specs.declared.report.Opening.{Opening}
 use Rattle.mds_city.specs.declared.source.Source.{Source}
 use Rattle.mds_city.specs.Problem.{written_problem}
 use Rattle.mds_city.specs.Command.{ExplainsReplay, PrintsFront, WentOut}

@@ -1,6 +1,6 @@
 use Rattle.std.proofs.Common.{◌≡◌, ℕ, List, Option, inl, inr, ap, ◌∙◌}
 use Rattle.std.proofs.KnownBytes.{Keeps-refl}
-use Rattle.mds_trace.specs.declared.report.Opening.{Opening}
+use Rattle.mds_replay.specs.declared.report.Opening.{Opening}
 use Rattle.mds_city.specs.declared.source.Source.{Source}
 use Rattle.mds_city.specs.declared.problem.Problem.{Problem}
 use Rattle.mds_city.specs.declared.problem.Problem.TheVariants.{CannotRead, NotATable, NotABatch, Socket, Random, Output, Memory}

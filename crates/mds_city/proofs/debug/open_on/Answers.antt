@@ -1,7 +1,7 @@
 use Rattle.std.proofs.Common.{subst}
 use Rattle.mds_table.specs.Tables.{Tables}
-use Rattle.mds_trace.specs.declared.report.Opening.TheVariants.{Removed}
-use Rattle.mds_trace.specs.Replay.{AreVerdicts}
+use Rattle.mds_replay.specs.declared.report.Opening.TheVariants.{Removed}
+use Rattle.mds_replay.specs.Replay.{AreVerdicts}
 use Rattle.mds_trace.proofs.Accepted.{accepted_events_open}
 use Rattle.mds_city.proofs.debug.open_on.Goals as goal
 

@@ -1,5 +1,5 @@
 use Rattle.std.proofs.Common.{◌≡◌, ◌++◌, drop}
-use Rattle.mds_trace.specs.Replay.{accepted_of, prior_of}
+use Rattle.mds_replay.specs.Replay.{accepted_of, prior_of}
 use Rattle.mds_debugger.proofs.vehicle.accepted_events.Given as goal
 
 -- the events so far, and those of the items that are left

@@ -1,0 +1,22 @@
+//! Where workers can be stopped, one by one.
+#![tactic(auto)]
+
+/// What each of many workers passes on its way. A worker enters before a piece of its work and leaves after it; a gate
+/// may make it wait there.
+pub trait Gate {
+    /// Before the piece of this number, counted from 0, of the worker of this number.
+    fn enter(&self, worker: usize, nth: usize);
+
+    /// After that piece.
+    fn leave(&self, worker: usize, nth: usize);
+}
+
+/// The gate that does nothing.
+#[derive(Clone, Copy, Debug, PartialEq, Eq, Hash)]
+pub struct OpenGate;
+
+impl Gate for OpenGate {
+    fn enter(&self, _worker: usize, _nth: usize) {}
+
+    fn leave(&self, _worker: usize, _nth: usize) {}
+}

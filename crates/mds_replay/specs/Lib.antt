@@ -1,0 +1,6 @@
+-- Definitions that the contracts cite.
+pub mod Items
+pub mod Verdict
+pub mod Replay
+pub mod Followed
+pub mod Laws

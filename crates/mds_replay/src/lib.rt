@@ -1,0 +1,16 @@
+//! The replayer of a provider's file: what becomes of each item, one after the other, and where the vehicles end.
+//!
+//! A verdict on an item rests on the accepted items of its vehicle that stand before it, and on nothing else. Where each
+//! vehicle is taken as registered first, the verdicts are the outcomes of the machine, whatever it is asked between.
+#![tactic(auto)]
+
+mod followed;
+mod judge;
+pub mod laws;
+mod replayer;
+mod report;
+#[cfg(test)]
+mod timed_tests;
+
+pub use replayer::replay;
+pub use report::{Opening, Report, VehicleEnd, Verdict};

@@ -1,0 +1,103 @@
+//! The replay of a file's items.
+ghost use Rattle.std.specs.Prelude.{◌≡◌, map, count_by, IfOk};
+ghost use Rattle.mds_replay.specs.Verdict.{accepts};
+ghost use Rattle.mds_replay.specs.Items.{events_of, vehicles_of};
+ghost use Rattle.mds_replay.specs.Replay.{accepted_of, prior_of, AreVerdicts, IsReport};
+ghost use Rattle.mds_replay.specs.Laws.{AreOutcomes};
+ghost use Rattle.mds_replay.specs.Followed.{AreEntries, IsFollowed, end_at};
+
+#[cfg(test)]
+mod tests;
+
+use crate::followed::Followed;
+use crate::judge::{Vehicles, judge_item};
+use crate::{Opening, Report, VehicleEnd, Verdict};
+use indexmap::{IndexMap, IndexSet};
+use mds_batch::EventItem;
+use mds_core::Key;
+use mds_table::Tables;
+use std::alloc::{AllocError, Global};
+
+/// Replays the items of a provider's file one after the other. Each event goes by the table in force at its own time.
+///
+/// The verdict on an event is the machine's outcome after a registration of its vehicle and the accepted events of the
+/// vehicle before it. With [`Opening::Any`] an event of a vehicle with no accepted one is accepted where it leads from some
+/// state to the one that it reports. A faulty item is passed over, and mentions no vehicle.
+///
+/// # Errors
+///
+/// `AllocError` where there is no memory for the report, or for what is kept of the vehicles on the way.
+pub fn replay(
+    alloc: Global,
+    tables: Tables,
+    items: &[EventItem],
+    opening: Opening,
+) -> Result<Report, AllocError>
+    ensures report { IfOk result (IsReport opening tables items.now) }
+    // With `Removed` the verdicts are the outcomes of the machine, asked anything that reports the same events, each behind
+    // a registration of its vehicle.
+    ensures runs { IfOk result (λ report.
+        opening ≡ Opening.Removed → AreOutcomes tables items.now report.lines.items) }
+{
+    let (lines, vehicles) = judge_all(alloc, &tables, items, opening)?;
+    let accepted = count_accepted(&lines);
+    let refused = lines.len() - accepted;
+    let vehicles = ends_of(alloc, &vehicles)?;
+    Ok(Report {
+        lines,
+        vehicles,
+        accepted,
+        refused,
+    })
+}
+
+/// A verdict on each item, and what is kept of the vehicles in the end.
+fn judge_all(
+    alloc: Global,
+    tables: &Tables,
+    items: &[EventItem],
+    opening: Opening,
+) -> Result<(Vec<Verdict>, Vehicles), AllocError>
+    ensures verdicts { IfOk result (λ judged.
+        AreVerdicts opening tables.now items.now judged.0.items) }
+    ensures vehicles { IfOk result (λ judged. AreEntries
+        (λ key vehicle.
+        IsFollowed opening tables.now key
+        (prior_of key (accepted_of items.now judged.0.items)) vehicle)
+        (vehicles_of (events_of items.now)) judged.1.entries) }
+{
+    let mut vehicles = IndexMap::new(alloc);
+    let mut names = IndexSet::new(alloc);
+    let mut lines = Vec::with_capacity(alloc, items.len())?;
+    for item in items {
+        let line = judge_item(tables, opening, &mut vehicles, &mut names, item)?;
+        lines.push(line)?;
+    }
+    Ok((lines, vehicles))
+}
+
+/// How many of the verdicts accept.
+fn count_accepted(lines: &[Verdict]) -> usize
+    ensures { result ≡ count_by accepts lines.now }
+{
+    lines.iter().filter(|verdict| verdict.accepts()).count()
+}
+
+/// Where the vehicles end.
+fn ends_of(alloc: Global, vehicles: &Vehicles) -> Result<Vec<VehicleEnd>, AllocError>
+    ensures { IfOk result (λ ends. ends.items ≡ map end_at vehicles.now.entries) }
+{
+    vehicles.iter().map(end_of).collect(alloc)
+}
+
+/// Where a vehicle ends of which this is kept.
+fn end_of(entry: (&Key, &Followed)) -> VehicleEnd
+    ensures { result ≡ end_at (entry.entry.0.now, entry.entry.1.now) }
+{
+    let (key, vehicle) = entry;
+    VehicleEnd {
+        key: *key,
+        openings: vehicle.openings.copy(),
+        standing: vehicle.standing,
+    }
+}
