@@ -8,5 +8,6 @@ pub mod Batch
 pub mod Reading
 pub mod Slot
 pub mod Filled
+pub mod Told
 pub mod Listed
 pub mod Laws

@@ -2,6 +2,9 @@
 ghost use Rattle.std.specs.Prelude.{◌≡◌, Some, None, IfOk, IfErr};
 ghost use Rattle.serde_json.specs.Data.{Members, object};
 ghost use Rattle.mds_batch.specs.Items.{position_in, fault_at, fault_of, event_members, IsEventOf};
+ghost use Rattle.mds_core.specs.Reported.{MayBeReported};
+ghost use Rattle.mds_batch.specs.declared.item.EventItem.TheVariants.{Event as Reports};
+ghost use Rattle.mds_batch.specs.Told.{reported_by};
 ghost use Rattle.mds_batch.specs.Filled.{HoldsEvent};
 
 use crate::form::{read_state, read_time, read_uuid};
@@ -12,8 +15,8 @@ use crate::tokens::{Fields, ReadFault, Tokens};
 use crate::types::{TypeList, read_types};
 use crate::vehicle::VehicleFields;
 use crate::{EventItem, ItemFault, Member};
-use mds_core::{Event, Position};
-use mds_table::State;
+use mds_core::{Event, Key, Position};
+use mds_table::{State, TypeName};
 use uuid::Uuid;
 
 /// The members of an event.
@@ -28,12 +31,40 @@ pub(crate) struct EventFields {
     position: Slot<Option<Position>>,
 }
 
+/// What an event says beside its types.
+struct Told {
+    key: Key,
+    id: Uuid,
+    state: State,
+    time: u64,
+    position: Option<Position>,
+}
+
+/// Makes the event of what is told and of these types, in the place of an item.
+fn put_event(item: &mut EventItem, told: Told, types: &[TypeName])
+    requires { MayBeReported types.now told.time }
+    ensures { item.new ≡ Reports (reported_by told types.now) }
+{
+    let Told {
+        key,
+        id,
+        state,
+        time,
+        position,
+    } = told;
+    if let EventItem::Event(event) = item {
+        event.assign(key, id, state, types, time, position).unwrap();
+        return;
+    }
+    *item = EventItem::Event(Event::new(key, id, state, types, time, position).unwrap());
+}
+
 impl EventFields {
-    /// The event that the members report.
-    fn event(&self) -> Result<Event, ItemFault>
-        requires { (found : Members) × HoldsEvent found self.now }
+    /// What the members say of the event that they report, beside its types.
+    fn told(&self) -> Result<Told, ItemFault>
         ensures event { (found : Members) → HoldsEvent found self.now
-            → IfOk result (IsEventOf (object found)) }
+            → IfOk result (λ told.
+            IsEventOf (object found) (reported_by told self.now.types.names.items)) }
         ensures fault { (found : Members) → HoldsEvent found self.now
             → IfErr result (λ fault. fault_of event_members (object found) ≡ Some fault) }
     {
@@ -43,7 +74,13 @@ impl EventFields {
         self.has_types.required(Member::EventTypes)?;
         let time = self.time.required(Member::Timestamp)?;
         let position = self.position()?;
-        Ok(Event::new(key, id, state, self.types.names(), time, position).unwrap())
+        Ok(Told {
+            key,
+            id,
+            state,
+            time,
+            position,
+        })
     }
 
     /// The position of the event: none where the member isn't there or is null.
@@ -111,10 +148,10 @@ impl ItemFields for EventFields {
     }
 
     #[tactic(auto, unfolding(crate::specs::Items::IsEventItem))]
-    fn item(&self) -> EventItem {
-        match self.event() {
-            Ok(event) => EventItem::Event(event),
-            Err(fault) => EventItem::Fault(fault),
+    fn fill(&self, item: &mut EventItem) {
+        match self.told() {
+            Ok(told) => put_event(item, told, self.types.names()),
+            Err(fault) => *item = EventItem::Fault(fault),
         }
     }
 

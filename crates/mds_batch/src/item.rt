@@ -56,7 +56,7 @@ pub enum VehicleItem {
 }
 
 /// An item of a batch of events. It holds no memory of its own.
-#[derive(Debug, PartialEq, Eq, Hash, Drop)]
+#[derive(Clone, Copy, Debug, PartialEq, Eq, Hash)]
 pub enum EventItem {
     /// The event that is reported.
     Event(Event),

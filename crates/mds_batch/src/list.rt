@@ -18,7 +18,7 @@ pub(crate) trait ItemFields: Fields {
     ghost use Rattle.serde_json.specs.Find.{as_object};
 
     /// What an item is: what its members say, or what is wrong with it.
-    type Item: Drop;
+    type Item: Copy;
 
     /// A value of a batch is this item.
     ghost is_item: { Data → Self.Item → Type 0 };
@@ -31,44 +31,47 @@ pub(crate) trait ItemFields: Fields {
     fn clear(&mut self)
         ensures { Self.holds no_members self.new };
 
-    /// The item that the members make.
-    fn item(&self) -> Self::Item
+    /// Makes the item that the members make, in the place of another one.
+    fn fill(&self, item: &mut Self::Item)
         requires { (found : Members) × Self.holds found self.now }
-        ensures { (found : Members) → Self.holds found self.now → is_item (object found) result };
+        ensures { (found : Members) → Self.holds found self.now → is_item (object found) item.new };
 
     /// The item that a value is which is no object.
     fn no_object() -> Self::Item
         ensures { (value : Data) → as_object value ≡ None → is_item value result };
 }
 
-/// Reads the item that the next value is.
+/// Reads the item that the next value is, into the place of another one.
 pub(crate) fn read_item<F: ItemFields>(
     fields: &mut F,
+    item: &mut F::Item,
     tokens: &mut Tokens<'_>,
     depth: usize,
-) -> Result<F::Item, ReadFault>
-    ensures item { IfOk result (λ item. (value : Data)
-        × (value_at depth tokens.old ≡ Some (value, tokens.new)) × F.is_item value item) }
+) -> Result<(), ReadFault>
+    ensures item { OnOk result ((value : Data)
+        × (value_at depth tokens.old ≡ Some (value, tokens.new)) × F.is_item value item.new) }
     ensures fault { result ≡ Err not_json → value_at depth tokens.old ≡ None }
 {
     match begin(tokens, depth)? {
         Head::Object => {
             fields.clear();
             read_members(fields, tokens, depth - 1)?;
-            Ok(fields.item())
+            fields.fill(item);
         }
         Head::Array => {
             pass_items(tokens, depth - 1)?;
-            Ok(F::no_object())
+            *item = F::no_object();
         }
-        _ => Ok(F::no_object()),
+        _ => *item = F::no_object(),
     }
+    Ok(())
 }
 
-/// The items of a batch.
+/// The items of a batch. Each is made in one place, and copied from there behind the others.
 #[derive(Drop)]
 pub(crate) struct ItemList<F: ItemFields + Drop> {
     fields: F,
+    item: F::Item,
     items: Vec<F::Item>,
     is_too_long: bool,
 }
@@ -80,6 +83,7 @@ impl<F: ItemFields + Drop> ItemList<F> {
     {
         ItemList {
             fields: F::new(),
+            item: F::no_object(),
             items: Vec::new(alloc),
             is_too_long: false,
         }
@@ -102,20 +106,20 @@ impl<F: ItemFields + Drop> ItemList<F> {
             Head::Object => {
                 self.fields.clear();
                 read_members(&mut self.fields, tokens, depth - 1)?;
-                let item = self.fields.item();
-                self.push(item)?;
+                self.fields.fill(&mut self.item);
+                self.push()?;
                 Ok(true)
             }
             _ => Ok(false),
         }
     }
 
-    /// Adds an item.
-    fn push(&mut self, item: F::Item) -> Result<(), AllocError>
-        ensures pushed { OnOk result (self.new.items.items ≡ self.old.items.items ++ item ∷ []) }
+    /// Adds the item that was made last.
+    fn push(&mut self) -> Result<(), AllocError>
+        ensures pushed { OnOk result (self.new.items.items ≡ self.old.items.items ++ self.old.item ∷ []) }
         ensures same { OnOk result (self.new.is_too_long ≡ self.old.is_too_long) }
     {
-        Ok(self.items.push(item)?)
+        Ok(self.items.push(self.item)?)
     }
 
     /// The items, or `None` where there were more than [`MAX_ITEMS`].
@@ -141,8 +145,8 @@ impl<F: ItemFields + Drop> Sequence for ItemList<F> {
             self.is_too_long = true;
             return Ok(());
         }
-        let item = read_item(&mut self.fields, tokens, depth)?;
-        self.push(item)?;
+        read_item(&mut self.fields, &mut self.item, tokens, depth)?;
+        self.push()?;
         Ok(())
     }
 }

@@ -16,6 +16,7 @@ use std::alloc::Global;
 pub struct ItemReader {
     scratch: Scratch,
     fields: EventFields,
+    item: EventItem,
 }
 
 impl ItemReader {
@@ -24,6 +25,7 @@ impl ItemReader {
         ItemReader {
             scratch: Scratch::new(alloc),
             fields: EventFields::new(),
+            item: EventFields::no_object(),
         }
     }
 
@@ -38,7 +40,8 @@ impl ItemReader {
         ensures fault { IfErr result (HasItemFault bytes.now) }
     {
         let text = text_of(bytes)?;
-        Ok(read_whole(text, &mut self.scratch, &mut self.fields)?)
+        read_whole(text, &mut self.scratch, &mut self.fields, &mut self.item)?;
+        Ok(self.item)
     }
 }
 

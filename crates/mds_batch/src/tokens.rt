@@ -219,20 +219,21 @@ pub(crate) fn read_text<F: ItemFields + Drop>(
     Ok(is_list)
 }
 
-/// Reads the item that a whole text is.
+/// Reads the item that a whole text is, into the place of another one.
 pub(crate) fn read_whole<F: ItemFields>(
     text: &str,
     scratch: &mut Scratch,
     fields: &mut F,
-) -> Result<F::Item, ReadFault>
-    ensures item { IfOk result (λ item. (value : Data) × (read text.now ≡ Some value)
-        × F.is_item value item) }
+    item: &mut F::Item,
+) -> Result<(), ReadFault>
+    ensures item { OnOk result ((value : Data) × (read text.now ≡ Some value)
+        × F.is_item value item.new) }
     ensures fault { result ≡ Err not_json → read text.now ≡ None }
 {
     let mut tokens = Reader::new(text, scratch)?;
-    let item = read_item(fields, &mut tokens, MAX_DEPTH)?;
+    read_item(fields, item, &mut tokens, MAX_DEPTH)?;
     if tokens.next().is_some() {
         return Err(ReadFault::NotJson);
     }
-    Ok(item)
+    Ok(())
 }

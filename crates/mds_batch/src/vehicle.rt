@@ -69,11 +69,11 @@ impl ItemFields for VehicleFields {
     }
 
     #[tactic(auto, unfolding(crate::specs::Items::IsVehicleItem))]
-    fn item(&self) -> VehicleItem {
-        match self.key() {
+    fn fill(&self, item: &mut VehicleItem) {
+        *item = match self.key() {
             Ok(key) => VehicleItem::Vehicle(key),
             Err(fault) => VehicleItem::Fault(fault),
-        }
+        };
     }
 
     #[tactic(auto, unfolding(crate::specs::Items::IsVehicleItem))]

@@ -4,3 +4,4 @@ pub mod Outcomes
 pub mod Histories
 pub mod RunLaws
 pub mod OfTheirKind
+pub mod Blanks

@@ -1,5 +1,5 @@
 //! Events, as providers report them.
-ghost use Rattle.std.specs.Prelude.{◌≡◌, ◌↔◌, ◌≤◌, length, Some, IsOk, IfOk, IfErr};
+ghost use Rattle.std.specs.Prelude.{◌≡◌, ◌↔◌, ◌≤◌, length, Some, IsOk, IfOk, IfErr, OnOk, OnErr};
 ghost use Rattle.mds_core.specs.Reported.{max_event_types, max_time, MayBeReported};
 ghost use Rattle.mds_core.specs.EventFault.{FaultOf, event_fault_text};
 
@@ -79,6 +79,23 @@ impl fmt::Display for EventFault {
 
 impl Error for EventFault {}
 
+/// Whether an event may have these types and this time.
+fn check(types: &[TypeName], time: u64) -> Result<(), EventFault>
+    ensures exact { IsOk result ↔ MayBeReported types.now time }
+    ensures fault { IfErr result (FaultOf types.now time) }
+{
+    if types.is_empty() {
+        return Err(EventFault::NoTypes);
+    }
+    if types.len() > MAX_EVENT_TYPES {
+        return Err(EventFault::TooManyTypes);
+    }
+    if time > MAX_TIME {
+        return Err(EventFault::BadTime);
+    }
+    Ok(())
+}
+
 impl Event {
     /// An event of these types, 1 to [`MAX_EVENT_TYPES`], in their order, at a time in milliseconds since the Unix epoch.
     ///
@@ -104,15 +121,7 @@ impl Event {
         }) }
         ensures fault { IfErr result (FaultOf types.now time) }
     {
-        if types.is_empty() {
-            return Err(EventFault::NoTypes);
-        }
-        if types.len() > MAX_EVENT_TYPES {
-            return Err(EventFault::TooManyTypes);
-        }
-        if time > MAX_TIME {
-            return Err(EventFault::BadTime);
-        }
+        check(types, time)?;
         Ok(Event {
             key,
             id,
@@ -121,6 +130,43 @@ impl Event {
             time,
             position,
         })
+    }
+
+    /// Becomes the event that [`Event::new`] makes of these. It is changed in its place: only what it has of its own is
+    /// written, and the room for further types stays untouched.
+    ///
+    /// # Errors
+    ///
+    /// Those of [`Event::new`]; it stays as it was then.
+    pub fn assign(
+        &mut self,
+        key: Key,
+        id: Uuid,
+        state: State,
+        types: &[TypeName],
+        time: u64,
+        position: Option<Position>,
+    ) -> Result<(), EventFault>
+        ensures exact { IsOk result ↔ MayBeReported types.now time }
+        ensures event { OnOk result (self.new ≡ record {
+          key = key;
+          id = id;
+          state = state;
+          types = types.now;
+          time = time;
+          position = position;
+        }) }
+        ensures fault { IfErr result (FaultOf types.now time) }
+        ensures unchanged { OnErr result (self.new ≡ self.old) }
+    {
+        check(types, time)?;
+        self.key = key;
+        self.id = id;
+        self.state = state;
+        self.types.assign(types);
+        self.time = time;
+        self.position = position;
+        Ok(())
     }
 
     /// The vehicle.

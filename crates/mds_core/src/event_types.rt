@@ -49,6 +49,16 @@ impl EventTypes {
         }
     }
 
+    /// Leaves these types. Only the slots that hold a type, before or after, are written.
+    pub(crate) fn assign(&mut self, types: &[TypeName])
+        requires { length types.now ≤ max_event_types }
+        ensures { self.new ≡ types.now }
+    {
+        self.names[..self.count].fill(TypeName::default());
+        self.names[..types.len()].copy_from_slice(types);
+        self.count = types.len();
+    }
+
     /// The types, one after the other.
     pub(crate) fn as_slice(&self) -> &[TypeName]
         ensures types { result.now ≡ self.now }

@@ -1,5 +1,5 @@
 //! Positions, events and requests.
-use super::{A, E1, key, types_of, uuid};
+use super::{A, B, E0, E1, key, types_of, uuid};
 use crate::{Event, EventFault, MAX_EVENT_TYPES, MAX_TIME, Position, Refusal};
 use mds_table::{State, TypeName};
 use std::test::Fail;
@@ -72,6 +72,27 @@ fn event_faults_come_in_order(rt: HostRuntime) -> Result<(), Fail> {
         let fault = Event::new(key(A), uuid(E1), State::Missing, &types, *time, None).err();
         assert_eq!(rt; (names.len(), time, &fault), (names.len(), time, expected));
     }
+    Ok(())
+}
+
+#[test]
+fn an_event_becomes_another_or_stays(rt: HostRuntime) -> Result<(), Fail> {
+    let types = types_of(rt.alloc(), MOST_TYPES)?;
+    let mut event = Event::new(key(A), uuid(E1), State::Missing, &types, 7, None)?;
+    for (names, time, expected) in &FAULTS {
+        let types = types_of(rt.alloc(), names)?;
+        let fault = event
+            .assign(key(B), uuid(E0), State::Removed, &types, *time, None)
+            .err();
+        let kept = if expected.is_some() { 7 } else { *time };
+        assert_eq!(rt; (&fault, event.time()), (expected, kept));
+    }
+    let types = [TypeName::new("located")?];
+    assert_eq!(rt; (*event.key(), event.id()), (key(B), uuid(E0)));
+    assert_eq!(rt;
+        (event.state(), event.types()),
+        (State::Removed, types.as_slice())
+    );
     Ok(())
 }
 

@@ -16,6 +16,6 @@ pub returns-in_ok-push-in-Object-clause-list : goal.returns-in_ok-push-in-Object
 returns-in_ok-push-in-Object-clause-list g c =
     let begun = subst (λ head. HasBegun c.args.depth c.args.tokens.now head c.begin.new.tokens) c.in-Object.is c.in_ok-begin.ensures.begun in
     let read = c.in_ok-read_members-in-Object.ensures.members in
-    let is = c.item-item.ensures read.0 read.2 in
+    let is = c.fill.ensures read.0 read.2 in
     let pushed = c.in_ok-push-in-Object.ensures in
-    (object read.0, begun.1 ∙ ap (parse_map object) read.1, (object read.0 ∷ [], refl, rw (pushed.pushed, pushed.same) (only_item g.F.ItemFields.is_item (object read.0) c.item-item.result c.args.self.now.items.items c.args.self.now.is_too_long c.requires is)))
+    (object read.0, begun.1 ∙ ap (parse_map object) read.1, (object read.0 ∷ [], refl, rw (pushed.pushed, pushed.same) (only_item g.F.ItemFields.is_item (object read.0) c.fill.new.item c.args.self.now.items.items c.args.self.now.is_too_long c.requires is)))
