@@ -1,10 +1,4 @@
 -- Definitions that the contracts cite.
-pub mod Text
-pub mod Status
-pub mod Problem
-pub mod Source
-pub mod Command
 pub mod Program
-pub mod Debug
 pub mod Serve
 pub mod Torn

@@ -4,17 +4,17 @@ use Rattle.std.specs.Io.KnownBytes.{Keeps}
 use Rattle.mds_replay.specs.declared.report.Opening.{Opening}
 use Rattle.mds_replay.specs.declared.report.Opening.TheVariants.{Removed, Any}
 use Rattle.mds_book.specs.Books.{IsSeatCount}
-use Rattle.mds_city.specs.declared.problem.Problem.TheVariants as problem
-use Rattle.mds_city.specs.declared.source.Source.{Source}
-use Rattle.mds_city.specs.declared.status.Status.{Status}
-use Rattle.mds_city.specs.declared.status.Status.TheVariants as status
+use Rattle.mds_commands.specs.declared.problem.Problem.TheVariants as problem
+use Rattle.mds_commands.specs.declared.source.Source.{Source}
+use Rattle.mds_commands.specs.declared.status.Status.{Status}
+use Rattle.mds_commands.specs.declared.status.Status.TheVariants as status
 use Rattle.mds_args.specs.declared.words.Command.{Command}
 use Rattle.mds_args.specs.declared.words.Command.TheVariants.{Serve, Replay, Debug, Table}
-use Rattle.mds_city.specs.Command.{Replayed, Told, Tabled, TableTold}
-use Rattle.mds_city.specs.Debug.{Debugs}
+use Rattle.mds_commands.specs.Command.{Replayed, Told, Tabled, TableTold}
+use Rattle.mds_commands.specs.Debug.{Debugs}
 use Rattle.mds_city.specs.Serve.{CameToServe}
-use Rattle.mds_city.specs.Problem.{Tells}
-use Rattle.mds_city.specs.Status.{code_of}
+use Rattle.mds_commands.specs.Problem.{Tells}
+use Rattle.mds_commands.specs.Status.{code_of}
 use Rattle.mds_args.specs.declared.error.WordsError.{WordsError}
 use Rattle.mds_args.specs.declared.error.WordsErrorKind.{WordsErrorKind}
 use Rattle.mds_args.specs.declared.error.WordsErrorKind.TheVariants.{Help, Mistake, Memory}

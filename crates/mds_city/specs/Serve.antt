@@ -1,5 +1,5 @@
 -- What the command that serves does.
-use Rattle.std.specs.Prelude.{◌≡◌, ◌⊎◌, ℕ, ◌<◌, ◌+◌, List, length, take, Option, Result, Ok, Err}
+use Rattle.std.specs.Prelude.{◌≡◌, ◌⊎◌, ℕ, ◌<◌, ◌+◌, List, ◌++◌, length, take, codes, decimal, Option, Result, Ok, Err}
 use Rattle.std.specs.Io.KnownBytes.{Appends, Keeps}
 use Rattle.mds_table.specs.Tables.{Tables}
 use Rattle.mds_io.specs.Page.{AppendsFront, with_newline}
@@ -8,14 +8,21 @@ use Rattle.mds_book.specs.Gathering.{Collected}
 use Rattle.mds_pool.specs.Serving.{IsEnded}
 use Rattle.mds_pool.specs.declared.serving.Stop.{Stop}
 use Rattle.mds_pool.specs.declared.serving.Stop.TheVariants as stop
-use Rattle.mds_city.specs.declared.source.Source.{Source}
-use Rattle.mds_city.specs.declared.problem.Problem.{Problem}
-use Rattle.mds_city.specs.declared.problem.Problem.TheVariants.{CannotRead, NotATable, NotABatch, Socket, Random, Output, Memory}
-use Rattle.mds_city.specs.declared.status.Status.TheVariants as status
-use Rattle.mds_city.specs.Problem.{status_of, Tells}
-use Rattle.mds_city.specs.Status.{code_of}
-use Rattle.mds_city.specs.Source.{HasTablesIn, ExplainsTable}
-use Rattle.mds_city.specs.Text.{accepted_line, listening_line}
+use Rattle.mds_commands.specs.declared.source.Source.{Source}
+use Rattle.mds_commands.specs.declared.problem.Problem.{Problem}
+use Rattle.mds_commands.specs.declared.problem.Problem.TheVariants.{CannotRead, NotATable, NotABatch, Socket, Random, Output, Memory}
+use Rattle.mds_commands.specs.declared.status.Status.TheVariants as status
+use Rattle.mds_commands.specs.Problem.{status_of, Tells}
+use Rattle.mds_commands.specs.Status.{code_of}
+use Rattle.mds_commands.specs.Source.{HasTablesIn, ExplainsTable}
+
+-- the line that says where a server listens
+abbrev pub listening_line : ℕ → List ℕ
+listening_line port = codes "listening 127.0.0.1:" ++ decimal port
+
+-- the line that says how many requests a server accepted
+abbrev pub accepted_line : ℕ → List ℕ
+accepted_line accepted = codes "accepted " ++ decimal accepted
 
 -- the line of a shard and a place went out whole, or as many of its bytes as the writer took, fewer than all
 abbrev pub TellsTorn : ℕ → ℕ → ℕ → Option (List ℕ) → Option (List ℕ) → Type 0

@@ -2,17 +2,9 @@
 //! events, and prints tables of transitions.
 #![tactic(auto)]
 
-mod commands;
-mod debug;
-mod lines;
 mod page;
-mod print;
-mod problem;
 mod program;
-mod rows;
 mod serve;
-mod source;
-mod status;
 mod torn;
 
 use crate::program::{Opens, run, tell_words, words_of};

@@ -2,7 +2,7 @@
 ghost use Rattle.std.specs.Prelude.{Some, IfSome, OnOk, OnErr};
 ghost use Rattle.std.specs.Io.KnownBytes.{Appends};
 ghost use Rattle.mds_io.specs.Page.{AppendsFront, with_newline};
-ghost use Rattle.mds_city.specs.Text.{accepted_line, listening_line};
+ghost use Rattle.mds_city.specs.Serve.{accepted_line, listening_line};
 
 use mds_io::{PrintError, end_page};
 use std::alloc::Global;

@@ -2,17 +2,13 @@
 ghost use Rattle.std.specs.Prelude.{◌≡◌, ◌≢◌, ◌↔◌, ℕ, List, Option, ⊤, Err, codes, map, option_map, IsTrue, IfOk, IfErr};
 ghost use Rattle.std.specs.IoError.{error_kind};
 ghost use Rattle.mds_args.specs.Error.{words_kind};
-ghost use Rattle.mds_city.specs.Problem.{Tells};
+ghost use Rattle.mds_commands.specs.Problem.{Tells};
 ghost use Rattle.mds_city.specs.Program.{Carries, Explains, HasWorkers, IsFileNamed, IsFileOf, Runs};
 ghost use Rattle.mds_city.specs.Program.{opening_if};
 
-use crate::commands::{replay_to, table_to};
-use crate::debug::{Named, debug_to};
-use crate::problem::{Problem, tell};
 use crate::serve::{Listens, ServeOptions, serve_at};
-use crate::source::Source;
-use crate::status::Status;
 use mds_args::{Command, WordsError, WordsErrorKind, parse_words};
+use mds_commands::{Named, Problem, Source, Status, debug_to, replay_to, table_to, tell};
 use mds_io::write_all_of;
 use mds_trace::Opening;
 use std::alloc::Global;

@@ -4,11 +4,9 @@ ghost use Rattle.mds_book.specs.Books.{IsSeatCount};
 ghost use Rattle.mds_city.specs.Serve.{CameToServe, IsSaid, Listened, SaysAccepted, Serves, StopsBefore, TellsTorn};
 
 use crate::page::{AcceptedLine, ListeningLine, print_line};
-use crate::problem::{Problem, tell};
-use crate::source::{Source, tables_in};
-use crate::status::Status;
 use crate::torn::torn_line;
 use mds_book::{Settled, ShardLedger};
+use mds_commands::{Problem, Source, Status, tables_in, tell};
 use mds_io::write_all_of;
 use mds_pool::{NewBook, Port, Stop, serve_and_settle};
 use mds_table::Tables;

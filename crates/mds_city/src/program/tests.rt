@@ -1,8 +1,7 @@
 //! The program's words, over files and streams in memory.
 use super::{Opens, WordsFault, run, tell_words, words_of};
-use crate::commands::tests::{FIVE_BY_ONE_ROW, FIVE_EVENTS, FIVE_LINES, ONE_ROW};
 use crate::serve::Listens;
-use crate::status::Status;
+use mds_commands::Status;
 use mds_pool::{Port, PortFault};
 use std::alloc::Global;
 use std::io::{self, ErrorKind, Write};
@@ -11,9 +10,30 @@ use std::sync::Wait;
 use std::test::Fail;
 use std::thread::Threads;
 
+/// Two events of a vehicle, of which the second comes with a time before that of the first, and the lines of their replay.
+const EVENTS: &str = r#"[
+{"provider_id":"00000000-0000-4000-8000-000000000001","device_id":"00000000-0000-4000-8000-00000000000a","event_id":"00000000-0000-4000-8000-0000000000e1","vehicle_state":"available","event_types":["provider_drop_off"],"timestamp":1000},
+{"provider_id":"00000000-0000-4000-8000-000000000001","device_id":"00000000-0000-4000-8000-00000000000a","event_id":"00000000-0000-4000-8000-0000000000e2","vehicle_state":"available","event_types":["provider_drop_off"],"timestamp":999}
+]"#;
+
+const LINES: &str = "0 ok available
+1 refused late 1000
+vehicle 00000000-0000-4000-8000-000000000001 00000000-0000-4000-8000-00000000000a available 1
+accepted 1 refused 1
+";
+
+/// A table of one row, its lines, and those of the two events over it.
+const ONE_ROW: &str = r#"{"rows":[{"from":"removed","type":"wake","to":"available"}]}"#;
+
 const ONE_ROW_LINES: &str = "wake removed available\nrows 1\n";
 
-/// A folder with the five events, the table of one row, and that table once more in a file named `-`.
+const LINES_BY_ONE_ROW: &str = "0 refused no_chain removed 0
+1 refused no_chain removed 0
+vehicle 00000000-0000-4000-8000-000000000001 00000000-0000-4000-8000-00000000000a removed 0
+accepted 0 refused 2
+";
+
+/// A folder with the two events, the table of one row, and that table once more in a file named `-`.
 #[derive(Clone, Copy)]
 struct Folder;
 
@@ -22,7 +42,7 @@ impl Opens for Folder {
 
     fn open(&self, path: &str) -> Option<&'static [u8]> {
         match path {
-            "events" => Some(FIVE_EVENTS.as_bytes()),
+            "events" => Some(EVENTS.as_bytes()),
             "rows" | "-" => Some(ONE_ROW.as_bytes()),
             _ => None,
         }
@@ -142,11 +162,11 @@ const FILES: [Case<'static>; 14] = [
         "",
         CANNOT_READ,
     ),
-    (&["mds_city", "replay", "events"], 1, FIVE_LINES, ""),
+    (&["mds_city", "replay", "events"], 1, LINES, ""),
     (
         &["mds_city", "replay", "events", "--table", "rows"],
         1,
-        FIVE_BY_ONE_ROW,
+        LINES_BY_ONE_ROW,
         "",
     ),
     (
@@ -158,7 +178,7 @@ const FILES: [Case<'static>; 14] = [
     (
         &["mds_city", "replay", "--table", "-", "events"],
         1,
-        FIVE_BY_ONE_ROW,
+        LINES_BY_ONE_ROW,
         "",
     ),
     (&["mds_city", "replay", "none"], 3, "", CANNOT_READ),

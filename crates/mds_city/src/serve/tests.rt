@@ -1,7 +1,6 @@
 //! How serving ends, and what is said of it.
 use super::{Listens, begun, serve_on, torn_to};
-use crate::problem::Problem;
-use crate::source::Source;
+use mds_commands::{Problem, Source};
 use mds_pool::{Port, PortFault};
 use mds_table::{Table, Tables};
 use std::alloc::{AllocError, Global};

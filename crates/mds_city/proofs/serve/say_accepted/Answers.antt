@@ -1,11 +1,11 @@
 use Rattle.std.proofs.Common.{◌≡◌, ◌⊎◌, ◌∙◌, ℕ, List, Option, inl, inr, ap, subst}
 use Rattle.mds_io.specs.declared.page.PrintError.{PrintError}
 use Rattle.mds_io.specs.declared.page.PrintError.TheVariants as write
-use Rattle.mds_city.specs.declared.problem.Problem.{Problem}
-use Rattle.mds_city.specs.declared.problem.Problem.TheVariants.{Output, Memory}
-use Rattle.mds_city.specs.Problem.{written_problem}
+use Rattle.mds_commands.specs.declared.problem.Problem.{Problem}
+use Rattle.mds_commands.specs.declared.problem.Problem.TheVariants.{Output, Memory}
+use Rattle.mds_commands.specs.Problem.{written_problem}
 use Rattle.mds_city.specs.Serve.{IsTold}
-use Rattle.mds_city.specs.Status.{code_of}
+use Rattle.mds_commands.specs.Status.{code_of}
 use Rattle.mds_city.proofs.serve.say_accepted.Goals as goal
 
 -- a line that could not be printed is told as an output that failed, or as want of memory

@@ -1,9 +1,9 @@
 use Rattle.std.proofs.Common.{◌∙◌, ℕ, List, Option, inl, inr, ap}
-use Rattle.mds_city.specs.declared.source.Source.{Source}
-use Rattle.mds_city.specs.declared.problem.Problem.{Problem}
-use Rattle.mds_city.specs.declared.problem.Problem.TheVariants.{CannotRead, NotATable, NotABatch, Socket, Random, Output, Memory}
+use Rattle.mds_commands.specs.declared.source.Source.{Source}
+use Rattle.mds_commands.specs.declared.problem.Problem.{Problem}
+use Rattle.mds_commands.specs.declared.problem.Problem.TheVariants.{CannotRead, NotATable, NotABatch, Socket, Random, Output, Memory}
 use Rattle.mds_city.specs.Serve.{StopsBefore}
-use Rattle.mds_city.specs.Status.{code_of}
+use Rattle.mds_commands.specs.Status.{code_of}
 use Rattle.mds_city.proofs.serve.serve_at.Goals as goal
 
 module _ {H L T : Type 0} (listens : H → ℕ → L → ℕ → Type 0) (host : H) (number : ℕ) (table_bytes : T → Option (List ℕ)) (table : Option (Source T)) where

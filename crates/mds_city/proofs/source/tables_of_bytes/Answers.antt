@@ -1,7 +1,0 @@
-use Rattle.std.proofs.Common.{refl}
-use Rattle.mds_city.proofs.ErrorLemmas.{passed_on}
-use Rattle.mds_city.proofs.source.tables_of_bytes.Goals as goal
-
-pub returns-in_err-from_json-clause-fault : goal.returns-in_err-from_json-clause-fault
-returns-in_err-from_json-clause-fault c =
-    passed_on _ _ _ c.from_residual.ensures.1 (c.in_err-from_json.field-0.0, c.in_err-from_json.ensures.fault, refl)

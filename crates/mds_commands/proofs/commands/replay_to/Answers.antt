@@ -1,0 +1,41 @@
+use Rattle.std.proofs.Common.{◌≡◌, ℕ, List, Option, inl, inr, ap, ◌∙◌}
+use Rattle.std.proofs.KnownBytes.{Keeps-refl}
+use Rattle.mds_replay.specs.declared.report.Opening.{Opening}
+use Rattle.mds_commands.specs.declared.source.Source.{Source}
+use Rattle.mds_commands.specs.declared.problem.Problem.{Problem}
+use Rattle.mds_commands.specs.declared.problem.Problem.TheVariants.{CannotRead, NotATable, NotABatch, Socket, Random, Output, Memory}
+use Rattle.mds_commands.specs.Command.{WentOut, status_on}
+use Rattle.mds_commands.specs.Status.{code_of}
+use Rattle.mds_commands.proofs.commands.replay_to.Goals as goal
+
+-- whatever the problem, nothing went out before it, or a front of the report's text
+out_before : {T R : Type 0} (begins : Opening) (table_bytes : T → Option (List ℕ)) (table : Option (Source T)) (file_bytes : R → Option (List ℕ)) (file : Source R)
+    (problem : Problem) (old new : Option (List ℕ)) → WentOut begins table_bytes table file_bytes file problem old new → WentOut begins table_bytes table file_bytes file Memory old new
+out_before begins table_bytes table file_bytes file (CannotRead path) old new out = inl out
+out_before begins table_bytes table file_bytes file (NotATable fault) old new out = inl out
+out_before begins table_bytes table file_bytes file (NotABatch fault) old new out = inl out
+out_before begins table_bytes table file_bytes file Socket old new out = absurd out
+out_before begins table_bytes table file_bytes file Random old new out = absurd out
+out_before begins table_bytes table file_bytes file Output old new out = inr out
+out_before begins table_bytes table file_bytes file Memory old new out = out
+
+pub returns-in-Ok-clause-ran : goal.returns-in-Ok-clause-ran
+returns-in-Ok-clause-ran g c _ =
+    let done = c.in-Ok.ensures.ok in
+    let same : c.in-Ok.refused ≡ done.0.refused = done.3 in
+    ((done.0, done.1, done.2, c.code.ensures ∙ ap code_of (c.status_on.ensures ∙ ap status_on same)), Keeps-refl _)
+
+pub returns-in-Err-clause-told : goal.returns-in-Err-clause-told
+returns-in-Err-clause-told g c _ =
+    let failed = c.in-Err.ensures.err in
+    elim c.tell.ensures [
+      | inl told ↦ (c.in-Err.problem, c.code-in-Err.ensures ∙ ap code_of told.0, failed.0, failed.1, told.1)
+      | inr told ↦ (
+        Memory,
+        c.code-in-Err.ensures ∙ ap code_of told.0,
+        tt,
+        out_before c.args.opening g.T.Read.remaining c.args.table g.R.Read.remaining c.args.file c.in-Err.problem
+            (g.W.Write.contents c.args.out.now) (g.W.Write.contents c.replay_into.new.out) failed.1,
+        told.1,
+      )
+    ]

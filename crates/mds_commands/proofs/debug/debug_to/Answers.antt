@@ -1,0 +1,54 @@
+use Rattle.std.proofs.Common.{◌∙◌, ℕ, List, Option, inl, inr, ap}
+use Rattle.std.proofs.KnownBytes.{Keeps-refl}
+use Rattle.mds_commands.specs.declared.debug.Named.{Named}
+use Rattle.mds_commands.specs.declared.debug.DebugProblem.{DebugProblem}
+use Rattle.mds_commands.specs.declared.debug.DebugProblem.TheVariants.{BadIdentifier, NotInFile, Other}
+use Rattle.mds_commands.specs.declared.problem.Problem.TheVariants.{CannotRead, NotATable, NotABatch, Socket, Random, Output, Memory}
+use Rattle.mds_commands.specs.declared.source.Source.{Source}
+use Rattle.mds_commands.specs.Command.{status_on}
+use Rattle.mds_commands.specs.Debug.{DebugWentOut, ExplainsDebug, IsOther}
+use Rattle.mds_commands.specs.Status.{code_of}
+use Rattle.mds_commands.proofs.debug.debug_to.Goals as goal
+
+module _ {T R : Type 0} (table_bytes : T → Option (List ℕ)) (table : Option (Source T)) (file_bytes : R → Option (List ℕ)) (file : Source R) (named : Named) where
+  -- whatever the problem, nothing went out before it, or a front of what is printed
+  out_before : (problem : DebugProblem) (input input_new old new : Option (List ℕ)) → IsOther problem
+      → DebugWentOut table_bytes table file_bytes file named problem input input_new old new
+      → DebugWentOut table_bytes table file_bytes file named (Other Memory) input input_new old new
+  out_before BadIdentifier input input_new old new other out = absurd other
+  out_before NotInFile input input_new old new other out = absurd other
+  out_before (Other (CannotRead path)) input input_new old new other out = inl out.1
+  out_before (Other (NotATable fault)) input input_new old new other out = inl out.1
+  out_before (Other (NotABatch fault)) input input_new old new other out = inl out.1
+  out_before (Other Socket) input input_new old new other out = inl out.1
+  out_before (Other Random) input input_new old new other out = inl out.1
+  out_before (Other Output) input input_new old new other out = inr out
+  out_before (Other Memory) input input_new old new other out = out
+
+  -- where memory is wanting to tell a problem, that explains the want of memory as well
+  explained_before : (problem : DebugProblem) → IsOther problem → ExplainsDebug table_bytes table file_bytes file named problem
+      → ExplainsDebug table_bytes table file_bytes file named (Other Memory)
+  explained_before BadIdentifier other why = absurd other
+  explained_before NotInFile other why = absurd other
+  explained_before (Other problem) other why = (why.0, tt)
+
+pub returns-in-Ok : goal.returns-in-Ok
+returns-in-Ok g c =
+    let shown = c.in-Ok.ensures.ok in
+    let code = c.code.ensures ∙ ap code_of (c.status_on.ensures ∙ ap status_on shown.4) in
+    inl ((shown.0, shown.1, shown.2, shown.3, code), Keeps-refl _)
+
+pub returns-in-Err : goal.returns-in-Err
+returns-in-Err g c =
+    let failed = c.in-Err.ensures.err in
+    elim c.tell_debug.ensures [
+      | inl told ↦ inr (c.in-Err.problem, c.code-in-Err.ensures ∙ ap code_of told.0, failed.0, failed.1, told.1)
+      | inr told ↦ inr (
+        Other Memory,
+        c.code-in-Err.ensures ∙ ap code_of told.1,
+        explained_before g.T.Read.remaining c.args.table g.R.Read.remaining c.args.file c.args.named c.in-Err.problem told.0 failed.0,
+        out_before g.T.Read.remaining c.args.table g.R.Read.remaining c.args.file c.args.named c.in-Err.problem
+            (g.I.Read.remaining c.args.script.now) (g.I.Read.remaining c.debug_into.new.script) (g.W.Write.contents c.args.out.now) (g.W.Write.contents c.debug_into.new.out) told.0 failed.1,
+        told.2,
+      )
+    ]

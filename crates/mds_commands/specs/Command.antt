@@ -1,0 +1,102 @@
+-- What the commands do.
+use Rattle.std.specs.Prelude.{◌≡◌, ◌⊎◌, ◌==◌, ℕ, List, Option, if◌then◌else◌}
+use Rattle.std.specs.Io.KnownBytes.{Appends, Keeps}
+use Rattle.mds_table.specs.Tables.{Tables}
+use Rattle.mds_batch.specs.declared.item.EventItem.{EventItem}
+use Rattle.mds_replay.specs.declared.report.Report.{Report}
+use Rattle.mds_commands.specs.declared.source.Source.{Source}
+use Rattle.mds_commands.specs.declared.problem.Problem.{Problem}
+use Rattle.mds_commands.specs.declared.problem.Problem.TheVariants.{CannotRead, NotATable, NotABatch, Socket, Random, Output, Memory}
+use Rattle.mds_commands.specs.declared.status.Status.{Status}
+use Rattle.mds_commands.specs.declared.status.Status.TheVariants.{Done, Refused}
+use Rattle.mds_io.specs.Page.{AppendsFront}
+use Rattle.mds_commands.specs.Status.{code_of}
+use Rattle.mds_commands.specs.Problem.{status_of, Tells}
+use Rattle.mds_replay.specs.declared.report.Opening.{Opening}
+use Rattle.mds_replay.specs.declared.report.Opening.TheVariants as opening
+use Rattle.mds_replay.specs.Replay.{IsReport}
+use Rattle.mds_replay.specs.Laws.{AreOutcomes}
+use Rattle.mds_commands.specs.Source.{HasTablesIn, ExplainsTable, HasItemsIn, ExplainsFile}
+use Rattle.mds_commands.specs.Text.{report_text, table_text}
+
+-- the status of a replay by how many items it refused
+abbrev pub status_on : ℕ → Status
+status_on refused = if refused == 0 then Done else Refused
+
+-- of a replay: what its vehicles hold at first, the known bytes of a table file's reader, the table file if one is given, and
+-- the same of the file of events
+module _ {T R : Type 0} (begins : Opening) (table_bytes : T → Option (List ℕ)) (table : Option (Source T)) (file_bytes : R → Option (List ℕ)) (file : Source R) where
+  -- the report of a replay of the file's items over the tables; with registrations before, its verdicts are the outcomes of the
+  -- machine's run
+  abbrev pub HasReport : Report → Type 0
+  HasReport report =
+      (tables : Tables) × (items : List EventItem) × HasTablesIn table_bytes table tables × HasItemsIn file_bytes file items
+      × IsReport begins tables items report × (begins ≡ opening.Removed → AreOutcomes tables items report.lines.items)
+
+  -- the report's text went out; the status is 0 where each item was accepted, else 1
+  abbrev pub Replayed : ℕ → Option (List ℕ) → Option (List ℕ) → Type 0
+  Replayed status old new = (report : Report) × HasReport report × Appends old new (report_text begins report) × (status ≡ code_of (status_on report.refused))
+
+  -- the tables were had, and then the problem is one of the file of events
+  abbrev pub ExplainsEvents : Problem → Type 0
+  ExplainsEvents problem = (tables : Tables) × HasTablesIn table_bytes table tables × ExplainsFile file_bytes file problem
+
+  -- the problem's cause lies in the file that it names, if it names one; the table file is looked at first
+  abbrev pub ExplainsReplay : Problem → Type 0
+  ExplainsReplay (CannotRead path) = ExplainsTable table_bytes table (CannotRead path) ⊎ ExplainsEvents (CannotRead path)
+  ExplainsReplay (NotATable fault) = ExplainsTable table_bytes table (NotATable fault)
+  ExplainsReplay (NotABatch fault) = ExplainsEvents (NotABatch fault)
+  ExplainsReplay Socket = ⊥
+  ExplainsReplay Random = ⊥
+  ExplainsReplay Output = Unit {0}
+  ExplainsReplay Memory = Unit {0}
+
+  -- a front of the report's text went out
+  abbrev pub PrintsFront : Option (List ℕ) → Option (List ℕ) → Type 0
+  PrintsFront old new = (report : Report) × HasReport report × AppendsFront old new (report_text begins report)
+
+  -- what went out before a problem: nothing where a file was at fault, a front of the report where the output was
+  abbrev pub WentOut : Problem → Option (List ℕ) → Option (List ℕ) → Type 0
+  WentOut (CannotRead path) old new = Keeps old new
+  WentOut (NotATable fault) old new = Keeps old new
+  WentOut (NotABatch fault) old new = Keeps old new
+  WentOut Socket old new = ⊥
+  WentOut Random old new = ⊥
+  WentOut Output old new = PrintsFront old new
+  WentOut Memory old new = Keeps old new ⊎ PrintsFront old new
+
+  -- a problem has this status, is explained, and was told
+  abbrev pub Told : ℕ → Option (List ℕ) → Option (List ℕ) → Option (List ℕ) → Option (List ℕ) → Type 0
+  Told status old new faults_old faults_new =
+      (problem : Problem) × (status ≡ code_of (status_of problem)) × ExplainsReplay problem × WentOut problem old new × Tells faults_old faults_new problem
+
+-- of a print of tables: the known bytes of its file's reader, and the file if one is given
+module _ {T : Type 0} (table_bytes : T → Option (List ℕ)) (table : Option (Source T)) where
+  -- the tables' text went out
+  abbrev pub Tabled : Option (List ℕ) → Option (List ℕ) → Type 0
+  Tabled old new = (tables : Tables) × HasTablesIn table_bytes table tables × Appends old new (table_text tables)
+
+  -- the problem's cause lies in the file, if it is a fault of a file
+  abbrev pub ExplainsPrint : Problem → Type 0
+  ExplainsPrint (CannotRead path) = ExplainsTable table_bytes table (CannotRead path)
+  ExplainsPrint (NotATable fault) = ExplainsTable table_bytes table (NotATable fault)
+  ExplainsPrint (NotABatch fault) = ⊥
+  ExplainsPrint Socket = ⊥
+  ExplainsPrint Random = ⊥
+  ExplainsPrint Output = Unit {0}
+  ExplainsPrint Memory = Unit {0}
+
+  -- what went out before a problem: nothing where the file was at fault, else a front of the tables' text
+  abbrev pub TableWentOut : Problem → Option (List ℕ) → Option (List ℕ) → Type 0
+  TableWentOut (CannotRead path) old new = Keeps old new
+  TableWentOut (NotATable fault) old new = Keeps old new
+  TableWentOut (NotABatch fault) old new = Keeps old new
+  TableWentOut Socket old new = ⊥
+  TableWentOut Random old new = ⊥
+  TableWentOut Output old new = (tables : Tables) × HasTablesIn table_bytes table tables × AppendsFront old new (table_text tables)
+  TableWentOut Memory old new = Keeps old new ⊎ ((tables : Tables) × HasTablesIn table_bytes table tables × AppendsFront old new (table_text tables))
+
+  -- a problem has this status, is explained, and was told
+  abbrev pub TableTold : ℕ → Option (List ℕ) → Option (List ℕ) → Option (List ℕ) → Option (List ℕ) → Type 0
+  TableTold status old new faults_old faults_new =
+      (problem : Problem) × (status ≡ code_of (status_of problem)) × ExplainsPrint problem × TableWentOut problem old new × Tells faults_old faults_new problem

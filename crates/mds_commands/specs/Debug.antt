@@ -1,0 +1,130 @@
+-- What the debugger's command does.
+use Rattle.std.specs.Prelude.{◌≡◌, ◌≢◌, ◌⊎◌, ◌+◌, ℕ, List, [], ◌++◌, length, codes, Option, Some}
+use Rattle.std.specs.Io.KnownBytes.{Appends, Consumes, Keeps}
+use Rattle.uuid.specs.Text.{parsed}
+use Rattle.mds_table.specs.declared.state.State.TheVariants as state
+use Rattle.mds_table.specs.Tables.{Tables}
+use Rattle.mds_core.specs.declared.key.Key.{Key}
+use Rattle.mds_batch.specs.declared.item.EventItem.{EventItem}
+use Rattle.mds_replay.specs.declared.report.Opening.TheVariants.{Removed}
+use Rattle.mds_replay.specs.declared.report.Verdict.{Verdict}
+use Rattle.mds_trace.specs.declared.session.Place.{Place}
+use Rattle.mds_replay.specs.Replay.{AreVerdicts, accepted_of, prior_of}
+use Rattle.mds_trace.specs.Walk.{Walk}
+use Rattle.mds_debugger.specs.declared.line.CountsLine.{CountsLine}
+use Rattle.mds_debugger.specs.declared.script.ScriptCommand.{ScriptCommand}
+use Rattle.mds_debugger.specs.Input.{IsRead}
+use Rattle.mds_debugger.specs.Printed.{PrintsStart, PrintsScript, PrintsFront}
+use Rattle.mds_debugger.specs.Script.{IsScript}
+use Rattle.mds_debugger.specs.Vehicle.{told_of}
+use Rattle.mds_io.specs.Page.{AppendsFront, with_newline}
+use Rattle.mds_commands.specs.declared.debug.Named.{Named}
+use Rattle.mds_commands.specs.declared.debug.DebugProblem.{DebugProblem}
+use Rattle.mds_commands.specs.declared.debug.DebugProblem.TheVariants.{BadIdentifier, NotInFile, Other}
+use Rattle.mds_commands.specs.declared.problem.Problem.TheVariants as problem
+use Rattle.mds_commands.specs.declared.source.Source.{Source}
+use Rattle.mds_commands.specs.declared.status.Status.{Status}
+use Rattle.mds_commands.specs.declared.status.Status.TheVariants as status
+use Rattle.mds_commands.specs.Command.{ExplainsReplay, status_on}
+use Rattle.mds_commands.specs.Problem.{Tells, status_of}
+use Rattle.mds_commands.specs.Source.{HasTablesIn, HasItemsIn}
+use Rattle.mds_commands.specs.Status.{code_of}
+
+-- two words are the identifiers of a vehicle
+abbrev pub IsNamed : Named → Key → Type 0
+IsNamed named key = (parsed named.provider.now ≡ Some key.provider) × (parsed named.device.now ≡ Some key.device)
+
+-- the status that the program ends with
+abbrev pub debug_status_of : DebugProblem → Status
+debug_status_of BadIdentifier = status.BadWords
+debug_status_of NotInFile = status.Refused
+debug_status_of (Other problem) = status_of problem
+
+-- the problem is one that other commands may have
+abbrev pub IsOther : DebugProblem → Type 0
+IsOther BadIdentifier = ⊥
+IsOther NotInFile = ⊥
+IsOther (Other problem) = Unit {0}
+
+-- the problem is one that may come while a session is shown
+abbrev pub IsOfShowing : DebugProblem → Type 0
+IsOfShowing told = (told ≡ Other problem.Output) ⊎ (told ≡ Other problem.Memory)
+
+-- what is said of the problem went out, or a front of it
+abbrev pub TellsDebug : Option (List ℕ) → Option (List ℕ) → DebugProblem → Type 0
+TellsDebug old new BadIdentifier = AppendsFront old new (with_newline (codes "mds_city: bad identifier"))
+TellsDebug old new NotInFile = AppendsFront old new (with_newline (codes "mds_city: vehicle not in file"))
+TellsDebug old new (Other problem) = Tells old new problem
+
+-- the session over the events of a vehicle that a replay of these items accepts, before the first of them, and how many of the
+-- vehicle's events are accepted and refused; there are some
+pub record IsOpened (tables : Tables) (items : List EventItem) (key : Key) (walk : Walk) (counts : CountsLine) : Type 0 where
+  pub lines : List Verdict
+  pub verdicts : AreVerdicts Removed tables items lines
+  pub walk_is : walk ≡ record { tables = tables; opening = state.Removed; events = prior_of key (accepted_of items lines); place = record { event = 0; passed = 0 } }
+  pub events : counts.events ≡ length (prior_of key (accepted_of items lines))
+  pub all : counts.events + counts.refused ≡ told_of key items
+  pub some_told : told_of key items ≢ 0
+
+-- what a session's start and a script print went out
+abbrev pub Debugged : Walk → CountsLine → List ℕ → Option (List ℕ) → Option (List ℕ) → Type 0
+Debugged walk counts bytes old new =
+    (start : List ℕ) × (script : List (Option ScriptCommand)) × (to : Place) × (text : List ℕ)
+    × PrintsStart walk counts start × IsScript bytes script × PrintsScript walk script to text × Appends old new (start ++ text)
+
+-- besides, the script that was read: all that the reader had or the first of it, or a front where reading broke off
+abbrev pub Shown : Walk → CountsLine → Option (List ℕ) → Option (List ℕ) → Option (List ℕ) → Option (List ℕ) → Type 0
+Shown walk counts input input_new old new = (bytes : List ℕ) × IsRead input input_new bytes × Debugged walk counts bytes old new
+
+-- the start of a session went out, and then a front of what the script that was read prints
+abbrev pub DebugsPart : Walk → CountsLine → Option (List ℕ) → Option (List ℕ) → Option (List ℕ) → Option (List ℕ) → Type 0
+DebugsPart walk counts input input_new old new =
+    (start : List ℕ) × PrintsStart walk counts start × (middle : Option (List ℕ)) × Appends old middle start
+    × (Keeps middle new
+    ⊎ ((bytes : List ℕ) × IsRead input input_new bytes × (script : List (Option ScriptCommand)) × IsScript bytes script
+    × PrintsFront walk script middle new))
+
+-- a front of what a session's start and a script print went out
+abbrev pub DebugsFront : Walk → CountsLine → Option (List ℕ) → Option (List ℕ) → Option (List ℕ) → Option (List ℕ) → Type 0
+DebugsFront walk counts input input_new old new =
+    ((start : List ℕ) × PrintsStart walk counts start × AppendsFront old new start) ⊎ DebugsPart walk counts input input_new old new
+
+-- of the debugger: the known bytes of a table file's reader, the table file if one is given, the same of the file of events, and
+-- the words that name a vehicle
+module _ {T R : Type 0} (table_bytes : T → Option (List ℕ)) (table : Option (Source T)) (file_bytes : R → Option (List ℕ)) (file : Source R) (named : Named) where
+  -- the words name this vehicle, and these are the tables and the items of the files
+  abbrev pub HasFiles : Key → Tables → List EventItem → Type 0
+  HasFiles key tables items = IsNamed named key × HasTablesIn table_bytes table tables × HasItemsIn file_bytes file items
+
+  -- the session on the vehicle that the words name
+  abbrev pub HasSession : Walk → CountsLine → Type 0
+  HasSession walk counts = (key : Key) × (tables : Tables) × (items : List EventItem) × HasFiles key tables items × IsOpened tables items key walk counts
+
+  -- the problem's cause; the words are looked at first, then the table file, the file, and the vehicle
+  abbrev pub ExplainsDebug : DebugProblem → Type 0
+  ExplainsDebug BadIdentifier = (key : Key) → IsNamed named key → ⊥
+  ExplainsDebug NotInFile = (key : Key) × (tables : Tables) × (items : List EventItem) × HasFiles key tables items × (told_of key items ≡ 0)
+  ExplainsDebug (Other problem) = ((key : Key) × IsNamed named key) × ExplainsReplay Removed table_bytes table file_bytes file problem
+
+  -- a front of what the debugger prints went out
+  abbrev pub DebugPrintsFront : Option (List ℕ) → Option (List ℕ) → Option (List ℕ) → Option (List ℕ) → Type 0
+  DebugPrintsFront input input_new old new =
+      (walk : Walk) × (counts : CountsLine) × HasSession walk counts × DebugsFront walk counts input input_new old new
+
+  -- what went out before a problem: a front where the output failed or memory was wanting; else nothing, and nothing of the
+  -- script was read
+  abbrev pub DebugWentOut : DebugProblem → Option (List ℕ) → Option (List ℕ) → Option (List ℕ) → Option (List ℕ) → Type 0
+  DebugWentOut (Other problem.Output) input input_new old new = DebugPrintsFront input input_new old new
+  DebugWentOut (Other problem.Memory) input input_new old new = Keeps old new ⊎ DebugPrintsFront input input_new old new
+  DebugWentOut problem input input_new old new = Consumes input input_new [] × Keeps old new
+
+  -- the session was shown, as the script that was read says, and the status tells whether an event of the vehicle was refused
+  abbrev pub Shows : ℕ → Option (List ℕ) → Option (List ℕ) → Option (List ℕ) → Option (List ℕ) → Type 0
+  Shows code input input_new old new =
+      (walk : Walk) × (counts : CountsLine) × HasSession walk counts × Shown walk counts input input_new old new × (code ≡ code_of (status_on counts.refused))
+
+  -- what the debugger did: it showed a session, or told why it couldn't
+  abbrev pub Debugs : ℕ → Option (List ℕ) → Option (List ℕ) → Option (List ℕ) → Option (List ℕ) → Option (List ℕ) → Option (List ℕ) → Type 0
+  Debugs code input input_new old new faults faults_new =
+      (Shows code input input_new old new × Keeps faults faults_new)
+      ⊎ ((problem : DebugProblem) × (code ≡ code_of (debug_status_of problem)) × ExplainsDebug problem × DebugWentOut problem input input_new old new × TellsDebug faults faults_new problem)

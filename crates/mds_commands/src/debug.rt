@@ -1,0 +1,262 @@
+//! The debugger's command.
+ghost use Rattle.std.specs.Prelude.{◌≡◌, ◌≢◌, ◌⊎◌, IfOk, IfErr, OnOk, MatchOption};
+ghost use Rattle.uuid.specs.Text.{parsed};
+ghost use Rattle.mds_core.specs.declared.key.Key.{Key as Vehicle};
+ghost use Rattle.mds_trace.specs.Walk.{Walk};
+ghost use Rattle.mds_debugger.specs.declared.line.CountsLine.{CountsLine as Counts};
+ghost use Rattle.mds_trace.specs.Session.{AreOpenFrom};
+ghost use Rattle.mds_debugger.specs.Vehicle.{told_of};
+ghost use Rattle.mds_commands.specs.Debug.{Debugs, DebugsFront, DebugWentOut, ExplainsDebug, HasSession, IsNamed, IsOfShowing, IsOpened, IsOther, Shown, TellsDebug, debug_status_of};
+
+use crate::commands::status_on;
+use crate::problem::{Problem, tell};
+use crate::source::{Source, items_in, tables_in};
+use crate::status::Status;
+use mds_batch::EventItem;
+use mds_core::{Event, Key};
+use mds_debugger::{CountsLine, print_start, print_walk, read_script, script_of, vehicle_events};
+use mds_io::{PrintError, write_all_of};
+use mds_table::{State, Tables};
+use mds_trace::{Opening, Session, SessionFault, replay};
+use std::alloc::{AllocError, Global};
+use std::io::{Read, Write};
+use uuid::Uuid;
+
+/// The words that name a vehicle.
+#[derive(Clone, Copy, Debug)]
+pub struct Named<'a> {
+    /// Its provider's identifier.
+    pub provider: &'a str,
+    /// Its device's.
+    pub device: &'a str,
+}
+
+impl Named<'_> {
+    /// The vehicle, or `None` where a word is no identifier.
+    fn key(&self) -> Option<Key>
+        ensures { MatchOption result ((key : Vehicle) → IsNamed self.now key
+            → ⊥) (IsNamed self.now) }
+    {
+        let provider = identifier(self.provider)?;
+        let device = identifier(self.device)?;
+        Some(Key { provider, device })
+    }
+}
+
+/// The identifier that a word is, if it is one.
+fn identifier(word: &str) -> Option<Uuid>
+    ensures { result ≡ parsed word.now }
+{
+    Uuid::try_parse(word).ok()
+}
+
+/// Why the debugger's command could not be carried out.
+#[derive(Clone, Copy, Debug)]
+pub enum DebugProblem<'a> {
+    /// A word that should name the vehicle is no identifier.
+    BadIdentifier,
+    /// No event of the file is of the vehicle.
+    NotInFile,
+    /// What may hinder other commands too.
+    Other(Problem<'a>),
+}
+
+impl<'a> From<Problem<'a>> for DebugProblem<'a> {
+    ghost use Rattle.mds_commands.specs.declared.debug.DebugProblem.TheVariants.{Other};
+
+    ghost from_gives = { λ problem more. more ≡ Other problem };
+
+    fn from(problem: Problem<'a>) -> Self {
+        DebugProblem::Other(problem)
+    }
+}
+
+impl From<AllocError> for DebugProblem<'_> {
+    ghost use Rattle.mds_commands.specs.declared.problem.Problem.TheVariants.{Memory};
+    ghost use Rattle.mds_commands.specs.declared.debug.DebugProblem.TheVariants.{Other};
+
+    ghost from_gives = { λ _ problem. problem ≡ Other Memory };
+
+    fn from(_refused: AllocError) -> Self {
+        DebugProblem::Other(Problem::Memory)
+    }
+}
+
+impl From<PrintError> for DebugProblem<'_> {
+    ghost use Rattle.mds_commands.specs.Problem.{written_problem};
+    ghost use Rattle.mds_commands.specs.declared.debug.DebugProblem.TheVariants.{Other};
+
+    ghost from_gives = { λ fault problem. problem ≡ Other (written_problem fault) };
+
+    fn from(fault: PrintError) -> Self {
+        DebugProblem::Other(fault.into())
+    }
+}
+
+/// Opens the debugger on a vehicle: replays the file over the tables, each vehicle registered before its first event, prints
+/// how many of the vehicle's events were accepted and how many refused, and the first place of the session over the
+/// accepted ones; and then carries out the commands of `script`, a line each. It answers the code of the status that the
+/// program ends with: `Done` where each event of the vehicle was accepted, `Refused` where one was not or the file has none,
+/// `BadWords` where a word is no identifier, and else the one of the problem. A problem is told to `faults` in one line. The
+/// words are looked at first, then the table file, the file, and the vehicle.
+pub fn debug_to<T: Read + Drop, R: Read + Drop, I: Read, W: Write, E: Write>(
+    alloc: Global,
+    table: Option<Source<'_, T>>,
+    file: Source<'_, R>,
+    named: Named<'_>,
+    script: &mut I,
+    out: &mut W,
+    faults: &mut E,
+) -> u8
+    ensures { Debugs T.remaining table.entry R.remaining file.entry named.entry result
+        (I.remaining script.old) (I.remaining script.new)
+        (W.contents out.old) (W.contents out.new) (E.contents faults.old) (E.contents faults.new) }
+{
+    match debug_into(alloc, table, file, named, script, out) {
+        Ok(refused) => status_on(refused).code(),
+        Err(problem) => tell_debug(alloc, faults, problem).code(),
+    }
+}
+
+/// Tells the problem in one line, and answers its status. Where there is no memory to lay the line out, the problem that
+/// is told is that. Where the writer fails the status stays.
+fn tell_debug<E: Write>(alloc: Global, faults: &mut E, problem: DebugProblem<'_>) -> Status
+    ensures { ((result ≡ debug_status_of problem.entry)
+        × TellsDebug (E.contents faults.old) (E.contents faults.new) problem.entry)
+        ⊎ (IsOther problem.entry × (result ≡ Status.NoMemory)
+        × TellsDebug (E.contents faults.old) (E.contents faults.new)
+        (DebugProblem.Other Problem.Memory)) }
+{
+    match problem {
+        DebugProblem::BadIdentifier => {
+            let _ = write_all_of(faults, b"mds_city: bad identifier\n");
+            Status::BadWords
+        }
+        DebugProblem::NotInFile => {
+            let _ = write_all_of(faults, b"mds_city: vehicle not in file\n");
+            Status::Refused
+        }
+        DebugProblem::Other(problem) => tell(alloc, faults, problem),
+    }
+}
+
+/// Shows the session; it answers how many of the vehicle's events were refused.
+fn debug_into<'a, T: Read + Drop, R: Read + Drop, I: Read, W: Write>(
+    alloc: Global,
+    table: Option<Source<'a, T>>,
+    file: Source<'a, R>,
+    named: Named<'a>,
+    script: &mut I,
+    out: &mut W,
+) -> Result<usize, DebugProblem<'a>>
+    ensures ok { IfOk result (λ refused. (walk : Walk) × (counts : Counts)
+        × HasSession T.remaining table.entry R.remaining file.entry named.entry walk counts
+        × Shown walk counts (I.remaining script.old) (I.remaining script.new) (W.contents out.old)
+        (W.contents out.new) × (refused ≡ counts.refused)) }
+    ensures err { IfErr result (λ problem. ExplainsDebug T.remaining table.entry R.remaining
+        file.entry named.entry problem
+        × DebugWentOut T.remaining table.entry R.remaining file.entry named.entry problem
+        (I.remaining script.old) (I.remaining script.new)
+        (W.contents out.old) (W.contents out.new)) }
+{
+    let opened = session_on(alloc, table, file, named)?;
+    let refused = opened.counts.refused;
+    show(alloc, opened, script, out)?;
+    Ok(refused)
+}
+
+/// A session over a vehicle's accepted events, and how many of its events were accepted and refused.
+#[derive(Drop)]
+struct Opened {
+    session: Session,
+    counts: CountsLine,
+}
+
+/// The session over the accepted events of the vehicle that the words name.
+fn session_on<'a, T: Read + Drop, R: Read + Drop>(
+    alloc: Global,
+    table: Option<Source<'a, T>>,
+    file: Source<'a, R>,
+    named: Named<'a>,
+) -> Result<Opened, DebugProblem<'a>>
+    ensures ok { IfOk result (λ opened. HasSession T.remaining table.entry R.remaining file.entry
+        named.entry opened.session opened.counts) }
+    ensures err { IfErr result (λ problem. ExplainsDebug T.remaining table.entry R.remaining
+        file.entry named.entry problem
+        × (problem ≢ DebugProblem.Other Problem.Output)) }
+{
+    let Some(key) = named.key() else {
+        return Err(DebugProblem::BadIdentifier);
+    };
+    let tables = tables_in(alloc, table)?;
+    let items = items_in(alloc, file)?;
+    match open_on(alloc, tables, &items, key)? {
+        Some(opened) => Ok(opened),
+        None => Err(DebugProblem::NotInFile),
+    }
+}
+
+/// The session over the accepted events of a vehicle, or `None` where no item names it.
+fn open_on(
+    alloc: Global,
+    tables: Tables,
+    items: &[EventItem],
+    key: Key,
+) -> Result<Option<Opened>, AllocError>
+    ensures { IfOk result (λ found. MatchOption found (told_of key items.now ≡ 0)
+        (λ opened. IsOpened tables items.now key opened.session opened.counts)) }
+{
+    let report = replay(alloc, tables.copy(alloc)?, items, Opening::Removed)?;
+    let told = vehicle_events(alloc, items, &report.lines, key)?;
+    let counts = CountsLine {
+        events: told.accepted.len(),
+        refused: told.refused,
+    };
+    if counts.events == 0 && counts.refused == 0 {
+        return Ok(None);
+    }
+    let session = session_of(alloc, tables, told.accepted)?;
+    Ok(Some(Opened { session, counts }))
+}
+
+/// The session over these events, which lead on from removed.
+fn session_of(alloc: Global, tables: Tables, events: Vec<Event>) -> Result<Session, AllocError>
+    requires { AreOpenFrom tables State.Removed events.items }
+    ensures { IfOk result (λ session. session ≡ record {
+      tables = tables;
+      opening = State.Removed;
+      events = events.items;
+      place = record { event = 0; passed = 0 };
+    }) }
+{
+    match Session::open(alloc, tables, State::Removed, events) {
+        Ok(session) => Ok(session),
+        Err(SessionFault::Memory) => Err(AllocError),
+        Err(_) => unreachable!(),
+    }
+}
+
+/// Prints the start of the session, and what the commands of the script print.
+fn show<'a, I: Read, W: Write>(
+    alloc: Global,
+    opened: Opened,
+    script: &mut I,
+    out: &mut W,
+) -> Result<(), DebugProblem<'a>>
+    ensures ok { OnOk result (Shown opened.session opened.counts (I.remaining script.old)
+        (I.remaining script.new) (W.contents out.old) (W.contents out.new)) }
+    ensures err { IfErr result (λ problem. IsOfShowing problem
+        × DebugsFront opened.session opened.counts
+        (I.remaining script.old) (I.remaining script.new) (W.contents out.old)
+        (W.contents out.new)) }
+{
+    let mut session = opened.session;
+    print_start(alloc, out, &session, opened.counts)?;
+    let script = read_script(alloc, script)?;
+    let commands = script_of(alloc, &script.bytes)?;
+    print_walk(alloc, out, &mut session, &commands)?;
+    Ok(())
+}
+
+#[cfg(test)]
+pub(crate) mod tests;

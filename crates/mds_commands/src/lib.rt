@@ -1,0 +1,21 @@
+//! The commands that work on files: a replay, a print of tables, and the debugger, over any readers and writers.
+//!
+//! Each answers the code of the status that the program ends with. A problem is told in one line, and has its cause: words
+//! that name no vehicle, a file's own fault, an output that failed, or memory that was wanting. Where words or a file are
+//! at fault, nothing is printed. Serving tells its problems, and has its tables, by this crate too.
+#![tactic(auto)]
+
+mod commands;
+mod debug;
+mod lines;
+mod print;
+mod problem;
+mod rows;
+mod source;
+mod status;
+
+pub use commands::{replay_to, table_to};
+pub use debug::{Named, debug_to};
+pub use problem::{Problem, tell};
+pub use source::{Source, tables_in};
+pub use status::Status;

@@ -1,0 +1,106 @@
+//! Files that a command reads.
+ghost use Rattle.std.specs.Prelude.{IfOk, IfErr};
+ghost use Rattle.mds_table.specs.TimedFile.{HasTables};
+ghost use Rattle.mds_batch.specs.Items.{IsEventItem};
+ghost use Rattle.mds_batch.specs.Batch.{HasItems};
+ghost use Rattle.mds_commands.specs.Source.{HasBytes, IsReadProblem, IsTableProblem, HasTablesOf, HasTablesIn, ExplainsTableFile, ExplainsTable, IsBatchProblem, HasItemsIn, ExplainsFile};
+
+use crate::problem::Problem;
+use mds_batch::{EventItem, read_events};
+use mds_io::{ReadError, read_front};
+use mds_table::{MAX_BYTES, Table, Tables};
+use std::alloc::Global;
+use std::io::Read;
+
+/// How many bytes of a file are read at most: one more than are taken, so that a longer file is seen to be too long.
+const MAX_READ: usize = MAX_BYTES + 1;
+
+/// A file that a command reads.
+#[derive(Drop)]
+pub struct Source<'a, R> {
+    /// Its path, as the word was written.
+    pub path: &'a str,
+    /// What reads it, or `None` where it could not be opened.
+    pub reader: Option<R>,
+}
+
+/// The bytes of the file, or its first `MAX_READ`.
+fn bytes_in<'a, R: Read + Drop>(
+    alloc: Global,
+    source: Source<'a, R>,
+) -> Result<Vec<u8>, Problem<'a>>
+    ensures ok { IfOk result (λ bytes. HasBytes R.remaining source.entry bytes.items) }
+    ensures err { IfErr result (IsReadProblem source.entry) }
+{
+    let path = source.path;
+    let Some(mut reader) = source.reader else {
+        return Err(Problem::CannotRead(path));
+    };
+    match read_front(alloc, &mut reader, MAX_READ) {
+        Ok(bytes) => Ok(bytes),
+        Err(ReadError::Memory) => Err(Problem::Memory),
+        Err(ReadError::Device | ReadError::TooManyTurns) => Err(Problem::CannotRead(path)),
+    }
+}
+
+/// The tables of a table file, or where no file is given the profile's alone, from 0 on.
+///
+/// # Errors
+///
+/// `CannotRead` with the file's path, where it couldn't be opened or read; `NotATable` with the first fault of its bytes;
+/// `Memory` where there was none for a file that was opened, or for the profile's table.
+pub fn tables_in<'a, T: Read + Drop>(
+    alloc: Global,
+    source: Option<Source<'a, T>>,
+) -> Result<Tables, Problem<'a>>
+    ensures ok { IfOk result (HasTablesIn T.remaining source.entry) }
+    ensures err { IfErr result (ExplainsTable T.remaining source.entry) }
+{
+    match source {
+        Some(source) => tables_of_file(alloc, source),
+        None => {
+            let profile = Table::profile(alloc)?;
+            Ok(Tables::one(alloc, profile)?)
+        }
+    }
+}
+
+/// The tables of a table file.
+fn tables_of_file<'a, T: Read + Drop>(
+    alloc: Global,
+    source: Source<'a, T>,
+) -> Result<Tables, Problem<'a>>
+    ensures ok { IfOk result (HasTablesOf T.remaining source.entry) }
+    ensures err { IfErr result (ExplainsTableFile T.remaining source.entry) }
+{
+    let bytes = bytes_in(alloc, source)?;
+    tables_of_bytes(alloc, &bytes)
+}
+
+/// The tables that the bytes of a table file are. What is wrong with them is never told as a fault of what gave them.
+fn tables_of_bytes<'a>(alloc: Global, bytes: &[u8]) -> Result<Tables, Problem<'a>>
+    ensures tables { IfOk result (HasTables bytes.now) }
+    ensures fault { IfErr result (IsTableProblem bytes.now) }
+{
+    Ok(Tables::from_json(alloc, bytes)?)
+}
+
+/// The items of a file of events.
+pub fn items_in<'a, R: Read + Drop>(
+    alloc: Global,
+    source: Source<'a, R>,
+) -> Result<Vec<EventItem>, Problem<'a>>
+    ensures ok { IfOk result (λ items. HasItemsIn R.remaining source.entry items.items) }
+    ensures err { IfErr result (ExplainsFile R.remaining source.entry) }
+{
+    let bytes = bytes_in(alloc, source)?;
+    items_of_bytes(alloc, &bytes)
+}
+
+/// The items that the bytes of a file of events are. What is wrong with them is never told as a fault of what gave them.
+fn items_of_bytes<'a>(alloc: Global, bytes: &[u8]) -> Result<Vec<EventItem>, Problem<'a>>
+    ensures items { IfOk result (λ items. HasItems IsEventItem bytes.now items.items) }
+    ensures fault { IfErr result (IsBatchProblem bytes.now) }
+{
+    Ok(read_events(alloc, bytes)?)
+}
