@@ -3,6 +3,7 @@
 from cases.batches import batches, items
 from cases.commands import commands, examples, orders, paths, spaced_paths, wrong_words
 from cases.debugging import faults, long_sessions, scripts, starts_before_its_script
+from cases.depot import depots
 from cases.helps import help_asked_for
 from cases.pictures import PICTURED
 from cases.replays import replays
@@ -22,6 +23,7 @@ SUBJECTS = [
     table_files,
     tables_files,
     changing_tables,
+    depots,
     batches,
     items,
     replays,

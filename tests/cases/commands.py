@@ -14,6 +14,7 @@ NOTHING = "accepted 0 refused 0\n"
 
 OPTIONS = {
     "begins-midway": ["--any"],
+    "into-a-depot": ["--table", str(EXAMPLES / "depot-table.json")],
     "rules-change": ["--table", str(EXAMPLES / "changing-table.json")],
 }
 """What examples are replayed with."""

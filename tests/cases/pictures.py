@@ -6,7 +6,7 @@ import tempfile
 from pathlib import Path
 from xml.etree import ElementTree
 
-from cases.tables import PROFILE, STATES
+from cases.tables import PROFILE
 from harness.counting import ROOT
 from harness.texts import differing
 
@@ -87,7 +87,8 @@ def picture_of_the_profile(program):
     if sorted(arrows_in(drawn)) != wanted:
         yield f"arrows {sorted(arrows_in(drawn))}, in place of {wanted}"
     labels, boxes = rooms_in(drawn)
-    if (len(labels), len(boxes)) != (len(wanted), len(STATES)):
+    named = {state for pair in pairs for state in pair}
+    if (len(labels), len(boxes)) != (len(wanted), len(named)):
         yield f"{len(labels)} labels and {len(boxes)} boxes"
     for at, label in enumerate(labels):
         covered = max(common(label, other) for other in [*labels[:at], *labels[at + 1 :], *boxes])
