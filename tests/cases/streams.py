@@ -66,7 +66,7 @@ def output_that_ends_midway(program):
         Path(folder, "input").touch()
         for words, given in LONG.items():
             Path(folder, "input").write_text(given)
-            whole, front = read_from(program, words, folder, None), read_from(program, words, folder, FRONT)
+            whole, front = (read_from(program, words, folder, most) for most in (-1, FRONT))
             if whole[1:] != (0, b"") or len(whole[0]) < MOST_WAITING:
                 yield f"{words}: {len(whole[0])} bytes, and {whole[1:]}"
             if front != (whole[0][:FRONT], 3, OUTPUT.encode()):
@@ -74,13 +74,12 @@ def output_that_ends_midway(program):
 
 
 def read_from(program, words, folder, most):
-    """The bytes of standard output up to so many, behind which it is closed, the status, and standard error."""
+    """The bytes of standard output, all for -1 or so many, behind which it is closed, the status, and standard error."""
     with open(Path(folder, "input")) as given, open(Path(folder, "faults"), "w+b") as faults:
-        child = subprocess.Popen(
-            [program, *words.split()], cwd=folder, stdin=given, stdout=subprocess.PIPE, stderr=faults, bufsize=0
-        )
+        words = [program, *words.split()]
+        child = subprocess.Popen(words, cwd=folder, stdin=given, stdout=subprocess.PIPE, stderr=faults, bufsize=FRONT)
         with child.stdout:
-            found = b"".join(iter(lambda: child.stdout.read(1 << 16), b"")) if most is None else child.stdout.read(most)
+            found = child.stdout.read(most)
         status = child.wait(timeout=SECONDS)
         faults.seek(0)
         return found, status, faults.read()
