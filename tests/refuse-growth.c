@@ -1,5 +1,8 @@
-/* Refuses one growth of memory: the one of the number in REFUSE, counted from 1, and makes the file REFUSED then. Loaded
-   before the C library by tests/refused-growths; no part of the program. */
+/* Refuses growths of memory. Loaded before the C library by tests/refused-growths and tests/clients; no part of the program.
+
+   REFUSE: the number of the growth that is refused, counted from 1 over all threads; LACK: how many are, from it on, 1 unless
+   given. BETWEEN: where a growth has this many bytes each growth behind it is refused, up to and with the next one that has as
+   many. The file REFUSED is made when the first growth of a number is refused, and the last one of BETWEEN. */
 #define _GNU_SOURCE
 #include <dlfcn.h>
 #include <errno.h>
@@ -7,22 +10,51 @@
 #include <stdlib.h>
 #include <unistd.h>
 
-static int is_refused(void)
+static long first, behind, between, count, bounds;
+
+static long told(const char *name, long otherwise)
 {
-    static long left = -1;
-    if (left < 0) {
-        const char *number = getenv("REFUSE");
-        left = number ? atol(number) : 0;
-    }
-    if (left > 0 && --left == 0) {
-        const char *mark = getenv("REFUSED");
-        int made = mark ? open(mark, O_CREAT | O_WRONLY, 0600) : -1;
-        if (made >= 0)
-            close(made);
+    const char *number = getenv(name);
+    return number ? atol(number) : otherwise;
+}
+
+/* What the environment says, before a second thread can be there. */
+__attribute__((constructor)) static void ask(void)
+{
+    first = told("REFUSE", 0);
+    behind = first + told("LACK", 1);
+    between = told("BETWEEN", 0);
+}
+
+static void mark(void)
+{
+    const char *name = getenv("REFUSED");
+    int made = name ? open(name, O_CREAT | O_WRONLY, 0600) : -1;
+    if (made >= 0)
+        close(made);
+}
+
+static int is_between(size_t size)
+{
+    if (between == 0)
+        return 0;
+    if (size != (size_t)between)
+        return bounds % 2 == 1;
+    if (++bounds % 2 == 1)
+        return 0;
+    mark();
+    return 1;
+}
+
+static int is_refused(size_t size)
+{
+    long number = __atomic_add_fetch(&count, 1, __ATOMIC_SEQ_CST);
+    int refused = is_between(size) || (first != 0 && number >= first && number < behind);
+    if (refused && number == first)
+        mark();
+    if (refused)
         errno = ENOMEM;
-        return 1;
-    }
-    return 0;
+    return refused;
 }
 
 void *malloc(size_t size)
@@ -30,7 +62,7 @@ void *malloc(size_t size)
     static void *(*next)(size_t);
     if (!next)
         next = (void *(*)(size_t))dlsym(RTLD_NEXT, "malloc");
-    return is_refused() ? NULL : next(size);
+    return is_refused(size) ? NULL : next(size);
 }
 
 void *realloc(void *old, size_t size)
@@ -38,7 +70,7 @@ void *realloc(void *old, size_t size)
     static void *(*next)(void *, size_t);
     if (!next)
         next = (void *(*)(void *, size_t))dlsym(RTLD_NEXT, "realloc");
-    return is_refused() ? NULL : next(old, size);
+    return is_refused(size) ? NULL : next(old, size);
 }
 
 void *aligned_alloc(size_t alignment, size_t size)
@@ -46,7 +78,7 @@ void *aligned_alloc(size_t alignment, size_t size)
     static void *(*next)(size_t, size_t);
     if (!next)
         next = (void *(*)(size_t, size_t))dlsym(RTLD_NEXT, "aligned_alloc");
-    return is_refused() ? NULL : next(alignment, size);
+    return is_refused(size) ? NULL : next(alignment, size);
 }
 
 int posix_memalign(void **found, size_t alignment, size_t size)
@@ -54,5 +86,5 @@ int posix_memalign(void **found, size_t alignment, size_t size)
     static int (*next)(void **, size_t, size_t);
     if (!next)
         next = (int (*)(void **, size_t, size_t))dlsym(RTLD_NEXT, "posix_memalign");
-    return is_refused() ? ENOMEM : next(found, alignment, size);
+    return is_refused(size) ? ENOMEM : next(found, alignment, size);
 }

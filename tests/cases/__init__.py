@@ -8,7 +8,7 @@ from cases.helps import help_asked_for
 from cases.pictures import PICTURED
 from cases.replays import replays
 from cases.serve import outputs_of_serve, ports, tables_of_serve, words_of_serve
-from cases.streams import memory, streams
+from cases.streams import memory, output_that_ends_midway, streams
 from cases.tables import table_files
 from cases.timed import changing_tables, tables_files
 
@@ -38,5 +38,5 @@ SUBJECTS = [
     outputs_of_serve,
 ]
 """What yields cases."""
-INTERPLAYS = [starts_before_its_script, *PICTURED]
+INTERPLAYS = [starts_before_its_script, output_that_ends_midway, *PICTURED]
 """What runs the program by itself, or a tool, and says what is wrong."""

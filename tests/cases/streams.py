@@ -1,10 +1,27 @@
 """Streams that fail, and memory that is refused."""
 
-from cases.replays import A, batch, item, replayed
+import subprocess
+import tempfile
+from pathlib import Path
+
+from cases.replays import A, P, batch, history, item, replayed
 from cases.tables import MOST_ROWS, ONE_ROW, table_file
 from harness.case import FULL, NO_MEMORY, NO_STREAMS, OUTPUT, Case, cannot_read, not_a_batch, not_a_table, told
 
 ONE = batch([item()])
+EVENTS = 5000
+"""Of a vehicle: what is printed of each command then, is more than a page, and more than a pipe holds."""
+LONG = {
+    "replay events.json": "",
+    "replay -": batch(history(A, 0, EVENTS)),
+    "table --table table.json": "",
+    f"debug events.json {P} {A}": "step\nchain\n" * EVENTS,
+}
+"""The words of commands, and their standard input."""
+LONG_FILES = {"events.json": batch(history(A, 0, EVENTS)), "table.json": table_file(MOST_ROWS)}
+FRONT, MOST_WAITING = 1000, (1 << 16) + 1000
+"""Bytes that are read of standard output, and as many as that and a pipe hold."""
+SECONDS = 60
 
 
 def streams():
@@ -14,8 +31,9 @@ def streams():
             more = {"given": ONE, "files": {"table.json": ONE_ROW}, "stdout": stdout}
             yield told(words, OUTPUT, **more)
             yield told(words, "", stderr=FULL, **more)
-        longer = {"table.json": table_file(MOST_ROWS)}
-        yield told("table --table table.json", OUTPUT, files=longer, stdout=stdout, name="more than a page")
+        for words, given in LONG.items():
+            yield told(words, OUTPUT, given=given, files=LONG_FILES, stdout=stdout, name="more than a page")
+            yield told(words, "", given=given, files=LONG_FILES, stdout=stdout, stderr=FULL, name="more than a page")
     files = {"table.json": "7"}
     for stderr in NO_STREAMS:
         yield replayed(ONE, ["ok available"], [(A, "available", 1)], stderr=stderr)
@@ -37,3 +55,31 @@ def memory():
         yield Case(words, memory=8 * 2**20, status=4, faults=NO_MEMORY, **given)
         yield Case(words, memory=8 * 2**20, status=4, stderr=FULL, **given)
     yield replayed(many, ["fault not_object"], [], memory=16 * 2**20, name="where memory is there")
+
+
+def output_that_ends_midway(program):
+    """Who reads standard output goes once it has begun, and before it is whole: that is told, as of any output that fails. What
+    came until then is a front of the whole."""
+    with tempfile.TemporaryDirectory() as folder:
+        for name, text in LONG_FILES.items():
+            Path(folder, name).write_text(text)
+        Path(folder, "input").touch()
+        for words, given in LONG.items():
+            Path(folder, "input").write_text(given)
+            whole, front = (read_from(program, words, folder, most) for most in (-1, FRONT))
+            if whole[1:] != (0, b"") or len(whole[0]) < MOST_WAITING:
+                yield f"{words}: {len(whole[0])} bytes, and {whole[1:]}"
+            if front != (whole[0][:FRONT], 3, OUTPUT.encode()):
+                yield f"{words}, of which {FRONT} bytes are read: {front[0][-100:]!r}, and {front[1:]}"
+
+
+def read_from(program, words, folder, most):
+    """The bytes of standard output, all for -1 or so many, behind which it is closed, the status, and standard error."""
+    with open(Path(folder, "input")) as given, open(Path(folder, "faults"), "w+b") as faults:
+        words = [program, *words.split()]
+        child = subprocess.Popen(words, cwd=folder, stdin=given, stdout=subprocess.PIPE, stderr=faults, bufsize=FRONT)
+        with child.stdout:
+            found = child.stdout.read(most)
+        status = child.wait(timeout=SECONDS)
+        faults.seek(0)
+        return found, status, faults.read()

@@ -30,18 +30,18 @@ def loading_client():
 
 
 class Refusal:
-    """A growth of memory that is refused: the one of this number, counted from 1, or none for 0. As a context it has the
-    environment of the run that it is for, and says whether the run came to it."""
+    """Growths of memory that are refused: so many from the one of this number on, counted from 1, or none for 0; and all between
+    two that have so many bytes. As a context it has the environment of the run that it is for, and says whether the run came to
+    them."""
 
-    def __init__(self, number):
-        self.number = number
+    def __init__(self, number, many=1, between=0):
+        self.growths = {"REFUSE": str(number), "LACK": str(many), "BETWEEN": str(between)}
         self.shim = built("refuse-growth.so", "tests/refuse-growth.c", "-shared", "-fPIC", "-O1", "-ldl")
 
     def __enter__(self):
         self.folder = tempfile.TemporaryDirectory()
         self.mark = Path(self.folder.name, "refused")
-        told = {"LD_PRELOAD": str(self.shim), "REFUSE": str(self.number), "REFUSED": str(self.mark)}
-        self.env = {**os.environ, **told}
+        self.env = {**os.environ, **self.growths, "LD_PRELOAD": str(self.shim), "REFUSED": str(self.mark)}
         return self
 
     def __exit__(self, *_):

@@ -2,17 +2,20 @@
 
 import select
 
-from cases.replays import A, B, P, batch, identifier, item
+from cases.replays import A, B, P, batch, history, identifier, item
+from harness.case import MAX_ITEMS
 from harness.texts import differing
 from model.http import error
 from serving.http import BAD_HEADS, EMPTY, HEAD_BYTES, Exchange, changed, done, head, look, registered, vehicle
 from serving.server import Server
 from serving.talking import sent, talk_over
-from serving.wire import connect, get, hang_up, post, read_all
+from serving.wire import close, connect, get, hang_up, post, read_all
 
 REGISTER = post("/vehicles", [vehicle()])
 EVENT = post("/events", batch([item()]))
 MOST_WORKERS = 64
+SMALL_ROOM = 4096
+"""How many bytes of an answer the system takes in for a client that is slow to read it."""
 
 
 def silent(connection, seconds):
@@ -118,12 +121,13 @@ def hanging_up(program):
     whole and ended, and either of what was reset."""
     devices = [identifier(2, number) for number in range(40)]
     requests = [post("/vehicles", [vehicle(device)]) for device in devices]
-    with Server(program, 400) as server:
+    with Server(program, 480) as server:
         for request in requests:
             body = request.index(b"\r\n\r\n") + 4
             for part in (0, 10, body, len(request) - 1):
-                server.count()
-                hang_up(server.port, request[:part], reset=part % 2 == 1)
+                for reset in (False, True):
+                    server.count()
+                    hang_up(server.port, request[:part], reset)
         if any(is_registered(server, device) for device in devices):
             yield "a registration that wasn't sent whole was taken in"
         for at, request in enumerate(requests):
@@ -146,6 +150,34 @@ def hanging_up_before_a_long_answer(program):
                 server.count()
                 hang_up(server.port, request, reset)
         yield from talk_over(server, look(A, "removed", 0, None))
+        yield from server.end()
+
+
+def long_list(server, device):
+    """Registers a vehicle, and gives it a list of events whose answer is longer than the system takes in."""
+    yield from talk_over(server, registered(device))
+    for front in (0, MAX_ITEMS):
+        events = batch(history(device, front, front + MAX_ITEMS))
+        yield from talk_over(server, Exchange(post("/events", events), done(MAX_ITEMS)))
+
+
+def hanging_up_amid_its_answer(program):
+    """Clients that read the start of an answer that is longer than the system takes in, and hang up then, with an end and with a
+    reset: a client that waits behind them is answered once they have gone, and not before."""
+    with Server(program, 12) as server:
+        yield from long_list(server, A)
+        for reset in (False, True, True, False):
+            server.count(2)
+            reading = connect(server.port, room=SMALL_ROOM)
+            reading.sendall(get(f"/vehicles/{P}/{A}/events"))
+            if not reading.recv(100).startswith(b"HTTP/1.1 200 OK\r\n"):
+                yield "no answer began"
+            with connect(server.port) as waiting:
+                waiting.sendall(get(f"/vehicles/{P}/{B}"))
+                if not silent(waiting, 0.3):
+                    yield "an answer while the only worker writes to another client"
+                close(reading, reset)
+                yield from differing(read_all(waiting), error(404, "unregistered"))
         yield from server.end()
 
 
@@ -200,5 +232,6 @@ CONNECTIONS = [
     expecting_interim_answers,
     hanging_up,
     hanging_up_before_a_long_answer,
+    hanging_up_amid_its_answer,
     silent_beside_working,
 ]

@@ -6,13 +6,13 @@ import socket
 import threading
 import time
 
-from cases.replays import A, B, P, batch, history
+from cases.replays import A, B, P
 from harness.case import SOCKET
 from harness.counting import Unwell
 from harness.texts import differing
 from model.http import error
 from model.json_text import compact
-from serving.connections import EVENT, MOST_WORKERS, silent
+from serving.connections import EVENT, MOST_WORKERS, SMALL_ROOM, long_list, silent
 from serving.http import Exchange, done, look, registered, vehicle
 from serving.server import Server, success_of
 from serving.talking import talk_over
@@ -44,8 +44,6 @@ LACK, MOST_LACK = 3, 36
 AT_ONCE = 1 << 16
 SLOW = MOST_WORKERS + 16
 """Clients that send a byte a second: more than there are workers."""
-SMALL_ROOM = 4096
-"""How many bytes of an answer the system takes in for a client that is slow to read it."""
 
 
 def next_answer(server, least, most):
@@ -152,10 +150,7 @@ def with_a_long_answer(program, reading, least, most):
     """A client that is slow to read an answer longer than the system takes in is let go. `reading` reads on its connection until
     it is over."""
     with Server(program, 5) as server:
-        yield from talk_over(server, registered(A))
-        for front in (0, 10000):
-            events = batch(history(A, front, front + 10000))
-            yield from talk_over(server, Exchange(post("/events", events), done(10000)))
+        yield from long_list(server, A)
         server.count()
         over = threading.Event()
         with connect(server.port, room=SMALL_ROOM) as keeping:

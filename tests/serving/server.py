@@ -80,8 +80,15 @@ class Server:
 
     def memory(self):
         """How many bytes the process holds."""
+        return self.bytes_of("VmRSS")
+
+    def most_memory(self):
+        """How many bytes it held at most."""
+        return self.bytes_of("VmHWM")
+
+    def bytes_of(self, name):
         status = Path(f"/proc/{self.child.pid}/status").read_text()
-        return int(re.search(r"VmRSS:\s*([0-9]+) kB", status).group(1)) * 1024
+        return int(re.search(rf"{name}:\s*([0-9]+) kB", status).group(1)) * 1024
 
     def ended(self):
         """The status, and what else came on both outputs, of the server, which ends by itself."""

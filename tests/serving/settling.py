@@ -2,6 +2,7 @@
 
 import os
 import time
+from concurrent.futures import ThreadPoolExecutor
 
 from cases.replays import P, identifier
 from harness.counting import Unwell
@@ -38,8 +39,8 @@ def sockets_of(server):
 
 
 def taken_at_once(server, requests):
-    """Has each worker take one of these requests, of which there are as many, and answers what they said to be accepted."""
-    connections, success = [connect(server.port) for _ in requests], 0
+    """Has each worker take one of these requests, of which there are as many, and gives their answers."""
+    connections = [connect(server.port) for _ in requests]
     try:
         for _ in range(100 * SECONDS):
             if sockets_of(server) > len(requests):
@@ -47,14 +48,16 @@ def taken_at_once(server, requests):
             time.sleep(0.01)
         else:
             raise Unwell("the workers didn't take a connection each")
-        for connection, request in zip(connections, requests):
-            connection.sendall(request)
-        for connection in connections:
-            success += success_of(read_all(connection))
+        with ThreadPoolExecutor(len(requests)) as pool:
+            return list(pool.map(answered, connections, requests))
     finally:
         for connection in connections:
             connection.close()
-    return success
+
+
+def answered(connection, request):
+    connection.sendall(request)
+    return read_all(connection)
 
 
 def settled(program, seats, turns, items):
@@ -63,7 +66,7 @@ def settled(program, seats, turns, items):
     with Server(program, turns, workers=seats) as server:
         for turn in range(turns):
             requests = list(requests_of(seats, turn, items))
-            success = taken_at_once(server, requests)
+            success = sum(map(success_of, taken_at_once(server, requests)))
             server.count(seats, success)
             if success != seats * items:
                 raise Unwell(f"{success} were accepted in turn {turn}, in place of {seats * items}")

@@ -8,15 +8,15 @@ import tempfile
 from concurrent.futures import ThreadPoolExecutor
 from pathlib import Path
 
-from cases.replays import A, P, batch, history
+from cases.replays import A, P, batch, history, item
 from harness.building import loading_client
-from harness.case import MAX_BYTES
+from harness.case import MAX_BYTES, lists, padded
 from harness.texts import differing
-from model.http import answer
+from model.http import answer, error
 from model.json_text import compact
 from serving.http import Exchange, done, registered
 from serving.server import Server
-from serving.settling import settled
+from serving.settling import settled, taken_at_once
 from serving.talking import talk_over
 from serving.wire import ask, get, post
 
@@ -28,7 +28,10 @@ MOST_SETTLING = 10
 """How many seconds a server may take to settle 300000 accepted requests, and to end."""
 WORKERS, MOST_GROWN = 4, 100 * 2**20
 """Workers that read large bodies, and how many bytes the server may have grown by behind them."""
-
+MOST_DEEP = 127
+"""How deep lists and objects may be."""
+DEEP_WORKERS, MOST_OF_DEEP = 16, 4 * MAX_BYTES
+"""Workers that read deep bodies, and how many bytes each may take."""
 
 def files_of_looks(folder):
     """A file of requests for each client, which look at a vehicle."""
@@ -98,4 +101,40 @@ def memory_behind_long_items(program):
         yield from server.end()
 
 
-SIZES = [many_connections_of_one_worker, many_calls_of_one_seat, many_requests_of_many_seats, memory_behind_long_items]
+def deep_bodies():
+    """Bodies about as long as one may be, whose values are as deep as they may be, or deeper, and their answers: lists in a list,
+    objects in one of an event's ignored members, and lists that don't end."""
+    count = MAX_BYTES // (2 * MOST_DEEP) - 1
+    listed = f"[[{','.join([lists(MOST_DEEP - 2)] * count)}]]"
+    yield listed, done(1, [{"error": "not_object", "index": 0}])
+    depth = MOST_DEEP - 3
+    objects = '{"":' * depth + "0" + "}" * depth
+    ignored = ",".join([objects] * (MAX_BYTES // (len(objects) + 1) - 1))
+    yield batch([item(ignored=f"[{ignored}]")]), done(1, [{"error": "unregistered", "index": 0}])
+    yield padded(f"[[{lists(MOST_DEEP - 1)}]]", MAX_BYTES), error(400, "not_json")
+    yield "[" * MAX_BYTES, error(400, "not_json")
+
+
+def memory_of_deep_values(program):
+    """Each of many workers reads a body of 4 MB of deep values at the same time: together they take, at most and for a moment,
+    the bytes of the bodies four times."""
+    asked = [(post("/events", body), wanted) for body, wanted in deep_bodies()] * (DEEP_WORKERS // 4)
+    with Server(program, 2, workers=DEEP_WORKERS) as server:
+        before = server.memory()
+        found = taken_at_once(server, [request for request, _ in asked])
+        for answered, (_, wanted) in zip(found, asked):
+            yield from differing(answered, wanted)
+        grown = server.most_memory() - before
+        if grown > MOST_OF_DEEP * DEEP_WORKERS:
+            yield f"{grown} bytes at most for {DEEP_WORKERS} bodies, in place of {MOST_OF_DEEP * DEEP_WORKERS}"
+        server.count(DEEP_WORKERS)
+        yield from server.end()
+
+
+SIZES = [
+    many_connections_of_one_worker,
+    many_calls_of_one_seat,
+    many_requests_of_many_seats,
+    memory_behind_long_items,
+    memory_of_deep_values,
+]

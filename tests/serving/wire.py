@@ -81,6 +81,11 @@ def hang_up(port, request, reset):
     """Sends some bytes, reads nothing, and closes: with an end, or with a reset."""
     connection = connect(port)
     connection.sendall(request)
+    close(connection, reset)
+
+
+def close(connection, reset):
+    """Closes a connection with an end, or with a reset."""
     if reset:
         connection.setsockopt(socket.SOL_SOCKET, socket.SO_LINGER, struct.pack("ii", 1, 0))
     connection.close()

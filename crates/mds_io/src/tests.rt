@@ -2,8 +2,8 @@
 ghost use Rattle.std.specs.Prelude.{◌≡◌, ◌≤◌, IfOk};
 
 use crate::{
-    MAX_CALLS, PrintError, ReadError, WriteError, WriteErrorKind, add_line, flush_page, read_front,
-    read_more, read_up_to, write_all_of,
+    MAX_CALLS, PrintError, ReadError, WriteError, WriteErrorKind, add_line, end_page, flush_page,
+    read_front, read_more, read_up_to, write_all_of,
 };
 use std::alloc::{AllocError, Global};
 use std::io::{self, Error, ErrorKind, Read, Write};
@@ -352,5 +352,60 @@ fn calls_are_few(rt: HostRuntime) -> Result<(), Fail> {
     };
     write_all_of(&mut out, &bytes)?;
     assert_eq!(rt; (out.left, out.calls), (68_927, 1));
+    Ok(())
+}
+
+/// The length of a file that is read, and of two chunks of it and one byte behind them, again from a new reader where a growth
+/// is refused.
+fn length_again(alloc: Global) -> Result<usize, ReadError> {
+    let file = || Gulps {
+        left: 131_073,
+        calls: 0,
+    };
+    let read = match read_front(alloc, &mut file(), 200_000) {
+        Err(ReadError::Memory) => read_front(alloc, &mut file(), 200_000),
+        other => other,
+    };
+    Ok(read?.len())
+}
+
+/// What two kinds of reads give behind three bytes, each made again where its growth is refused, which leaves the bytes as they
+/// were.
+fn read_behind(alloc: Global) -> Result<Vec<u8>, ReadError> {
+    let mut bytes = Vec::new(alloc);
+    let mut room = [0u8; 4];
+    let mut calls = MAX_CALLS;
+    let more = read_more(&mut b"abc".as_slice(), &mut bytes, &mut room, 9, &mut calls);
+    if more == Err(ReadError::Memory) && bytes.is_empty() {
+        read_more(&mut b"abc".as_slice(), &mut bytes, &mut room, 9, &mut calls)?;
+    }
+    let mut rest = b"defghijklmnop".as_slice();
+    if read_up_to(&mut rest, &mut bytes, &mut room, 16, &mut calls).is_err() {
+        bytes.truncate(3);
+        rest = b"defghijklmnop".as_slice();
+        read_up_to(&mut rest, &mut bytes, &mut room, 16, &mut calls)?;
+    }
+    Ok(bytes)
+}
+
+/// Lays two lines out and puts them out, on a page of their own.
+fn two_lines(alloc: Global, out: &mut Gulps) -> Result<(), PrintError> {
+    let mut page = String::new(alloc);
+    add_line(out, &mut page, &"accepted 3")?;
+    end_page(out, &mut page, &7)
+}
+
+/// Each call that takes memory, made again where its growth is refused (by `tests/refused-growths`).
+#[test]
+fn calls_succeed_after_a_refused_growth(rt: HostRuntime) -> Result<(), Fail> {
+    assert_eq!(rt; length_again(rt.alloc()), Ok(131_073));
+    let bytes = read_behind(rt.alloc())?;
+    assert_eq!(rt; bytes.as_slice(), b"abcdefghijklmnop".as_slice());
+    let mut out = Gulps { left: 20, calls: 0 };
+    if two_lines(rt.alloc(), &mut out) == Err(PrintError::Memory) {
+        assert_eq!(rt; (out.left, out.calls), (20, 0));
+        two_lines(rt.alloc(), &mut out)?;
+    }
+    assert_eq!(rt; (out.left, out.calls), (7, 1));
     Ok(())
 }

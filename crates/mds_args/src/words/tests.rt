@@ -271,3 +271,32 @@ fn mistakes_are_told(rt: HostRuntime) -> Result<(), Fail> {
     assert!(rt; told.as_str().starts_with("error: ") && told.as_str().ends_with("\n"));
     Ok(())
 }
+
+/// The command that words ask for, or why they ask for none.
+fn command_of<'a>(alloc: Global, words: &'a [&'a str]) -> Result<Command<'a>, WordsErrorKind> {
+    parse_words(alloc, words).map_err(|error| error.kind())
+}
+
+/// The same, asked again where a growth is refused.
+fn command_again<'a>(alloc: Global, words: &'a [&'a str]) -> Result<Command<'a>, WordsErrorKind> {
+    match command_of(alloc, words) {
+        Err(WordsErrorKind::Memory) => command_of(alloc, words),
+        other => other,
+    }
+}
+
+/// Words that ask for a command, mistaken ones, and such as ask for help (growths are refused by `tests/refused-growths`).
+#[test]
+fn words_are_read_after_a_refused_growth(rt: HostRuntime) -> Result<(), Fail> {
+    let words = ["mds_city", "serve", "--port", "80", "--each", "9"];
+    let served = serve(80, 9, 4, None).ok_or("a command")?;
+    assert_eq!(rt; command_again(rt.alloc(), &words), Ok(served));
+    let mistake = Err(WordsErrorKind::Mistake);
+    assert_eq!(rt;
+        command_again(rt.alloc(), &["mds_city", "table", "X"]),
+        mistake
+    );
+    let help = Err(WordsErrorKind::Help);
+    assert_eq!(rt; command_again(rt.alloc(), &["mds_city", "--help"]), help);
+    Ok(())
+}

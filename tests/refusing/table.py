@@ -1,0 +1,54 @@
+"""Each public call of a crate that can find no memory, by the test that refuses its growths one by one.
+
+The tests have `after_a_refused_growth` in their names: each makes its calls again where a growth is refused, and passes whichever
+growth that is. A call is named as its callers name it."""
+
+TESTED = {
+    ("mds_table", "call_succeeds_after_a_refused_growth"): [
+        "Table::profile",
+        "Table::from_json",
+        "Table::rows",
+        "Table::copy",
+    ],
+    ("mds_table", "tables_after_a_refused_growth"): ["Tables::one", "Tables::from_json", "Tables::copy"],
+    ("mds_steps", "least_chain_succeeds_after_a_refused_growth"): ["least_chain"],
+    ("mds_core", "call_succeeds_after_a_refused_growth"): ["Fleet::step", "Fleet::events", "run"],
+    ("mds_shard", "step_succeeds_after_a_refused_growth"): ["Shard::step", "Shard::events"],
+    ("mds_book", "calls_succeed_after_a_refused_growth"): ["Book::open", "Book::call", "Book::vehicle_events"],
+    ("mds_io", "calls_succeed_after_a_refused_growth"): [
+        "read_front",
+        "read_up_to",
+        "read_more",
+        "add_line",
+        "end_page",
+    ],
+    ("mds_batch", "call_succeeds_after_a_refused_growth"): ["read_vehicles", "read_events"],
+    ("mds_batch", "an_item_is_read_after_a_refused_growth"): ["read_item", "ItemReader::read"],
+    ("mds_lines", "a_stream_is_read_after_a_refused_growth"): ["LineReader::feed", "LineReader::finish"],
+    ("mds_trace", "replay_succeeds_after_a_refused_growth"): ["replay"],
+    ("mds_trace", "session_succeeds_after_a_refused_growth"): ["Session::open", "Session::chain"],
+    ("mds_request", "call_succeeds_after_a_refused_growth"): ["Face::open", "plan_of", "HeadStatus::plan"],
+    ("mds_response", "answer_is_whole_after_a_refused_growth"): ["bytes_of"],
+    ("mds_face", "calls_stand_after_a_refused_growth"): ["serve_one"],
+    ("mds_args", "words_are_read_after_a_refused_growth"): ["parse_words"],
+}
+"""A crate and its test, and the calls of the crate that it makes."""
+
+WITHOUT = ["mds_table::Tables::new", "mds_io::flush_page"]
+"""Calls that take no memory, though their fault is a type that could tell of a lack: that of calls beside them."""
+UNTESTED = [
+    "mds_table::json::value_of",
+    "mds_book::Slot::step",
+    "mds_debugger::read_script",
+    "mds_debugger::script_of",
+    "mds_debugger::vehicle_events",
+    "mds_debugger::print_start",
+    "mds_debugger::print_walk",
+    "mds_face::Desk::call",
+    "mds_face::Desk::events",
+    "mds_face::Desk::rows",
+    "mds_face::read_plan",
+    "mds_pool::serve",
+    "mds_pool::serve_and_settle",
+]
+"""Calls whose growths are refused in no such test yet: only in the runs of the whole program, or by way of calls above them."""
