@@ -11,3 +11,8 @@ pub mod Runs
 pub mod Asked
 pub mod OneVerdict
 pub mod OneReport
+pub mod Places
+pub mod Puts
+pub mod Own
+pub mod Shares
+pub mod Collected

@@ -41,7 +41,7 @@ accepted_few (item ∷ items) (line ∷ lines) =
     omega (arith, length-append (accepted_by item line) (accepted_of items lines), one_at_most item line, accepted_few items lines)
 
 -- an element of a list with one element more is one of the list, or the last
-slice_get_push : {X : Type 0} (xs : List X) (x y : X) (i : ℕ) → slice_get (xs ++ x ∷ []) i ≡ Some y
+pub slice_get_push : {X : Type 0} (xs : List X) (x y : X) (i : ℕ) → slice_get (xs ++ x ∷ []) i ≡ Some y
     → ((i < length xs) × (slice_get xs i ≡ Some y)) ⊎ ((i ≡ length xs) × (x ≡ y))
 slice_get_push [] x y zero is = inr (refl, (cc))
 slice_get_push [] x y (suc i) is = cc

@@ -4,3 +4,5 @@ pub mod Verdict
 pub mod Replay
 pub mod Followed
 pub mod Laws
+pub mod Parts
+pub mod WithFault

@@ -73,7 +73,7 @@ fn judge_event(
 }
 
 /// What is kept of a vehicle so far.
-fn vehicle_at(vehicles: &Vehicles, key: &Key, opening: Opening) -> Followed
+pub fn vehicle_at(vehicles: &Vehicles, key: &Key, opening: Opening) -> Followed
     ensures { (tables : Tables) (mentioned : List Vehicle) (accepted : List Reported)
         (seen : List (Vehicle × List ℕ))
         → AreFollowed opening tables mentioned accepted vehicles.now.entries seen

@@ -2,15 +2,23 @@
 //!
 //! A verdict on an item rests on the accepted items of its vehicle that stand before it, and on nothing else. Where each
 //! vehicle is taken as registered first, the verdicts are the outcomes of the machine, whatever it is asked between.
+//!
+//! Several workers may share a replay. The report is the same, however many there are.
 #![tactic(auto)]
 
+#[cfg(test)]
+mod cases;
+mod collect;
 mod followed;
 mod judge;
 pub mod laws;
+mod part;
 mod replayer;
 mod report;
 #[cfg(test)]
 mod timed_tests;
+mod workers;
 
 pub use replayer::replay;
 pub use report::{Opening, Report, VehicleEnd, Verdict};
+pub use workers::{MAX_WORKERS, WithFault, replay_with};

@@ -1,8 +1,12 @@
 //! The replay of a file's items.
-ghost use Rattle.std.specs.Prelude.{◌≡◌, map, count_by, IfOk};
+ghost use Rattle.std.specs.Prelude.{◌≡◌, List, map, count_by, IfOk};
+ghost use Rattle.std.specs.List.{AllZip};
+ghost use Rattle.mds_table.specs.Tables.{Tables};
+ghost use Rattle.mds_batch.specs.declared.item.EventItem.{EventItem as Item};
+ghost use Rattle.mds_replay.specs.declared.report.Opening.{Opening as Openings};
 ghost use Rattle.mds_replay.specs.Verdict.{accepts};
 ghost use Rattle.mds_replay.specs.Items.{events_of, vehicles_of};
-ghost use Rattle.mds_replay.specs.Replay.{accepted_of, prior_of, AreVerdicts, IsReport};
+ghost use Rattle.mds_replay.specs.Replay.{accepted_of, prior_of, AreVerdicts, IsEnd, IsReport};
 ghost use Rattle.mds_replay.specs.Laws.{AreOutcomes};
 ghost use Rattle.mds_replay.specs.Followed.{AreEntries, IsFollowed, end_at};
 
@@ -40,15 +44,27 @@ pub fn replay(
         opening ≡ Opening.Removed → AreOutcomes tables items.now report.lines.items) }
 {
     let (lines, vehicles) = judge_all(alloc, &tables, items, opening)?;
+    let vehicles = ends_of(alloc, &vehicles)?;
+    Ok(report_of(lines, vehicles))
+}
+
+/// The report of these verdicts and ends.
+pub fn report_of(lines: Vec<Verdict>, vehicles: Vec<VehicleEnd>) -> Report
+    ensures report { (opening : Openings) (tables : Tables) (items : List Item)
+        → AreVerdicts opening tables items lines.items
+        → AllZip (IsEnd opening tables (accepted_of items lines.items))
+        (vehicles_of (events_of items)) vehicles.items
+        → IsReport opening tables items result }
+    ensures lines { result.lines ≡ lines }
+{
     let accepted = count_accepted(&lines);
     let refused = lines.len() - accepted;
-    let vehicles = ends_of(alloc, &vehicles)?;
-    Ok(Report {
+    Report {
         lines,
         vehicles,
         accepted,
         refused,
-    })
+    }
 }
 
 /// A verdict on each item, and what is kept of the vehicles in the end.
@@ -91,7 +107,7 @@ fn ends_of(alloc: Global, vehicles: &Vehicles) -> Result<Vec<VehicleEnd>, AllocE
 }
 
 /// Where a vehicle ends of which this is kept.
-fn end_of(entry: (&Key, &Followed)) -> VehicleEnd
+pub fn end_of(entry: (&Key, &Followed)) -> VehicleEnd
     ensures { result ≡ end_at (entry.entry.0.now, entry.entry.1.now) }
 {
     let (key, vehicle) = entry;

@@ -12,6 +12,8 @@ mod session_tests;
 #[cfg(test)]
 mod timed_tests;
 
-pub use mds_replay::{Opening, Report, VehicleEnd, Verdict, replay};
+pub use mds_replay::{
+    MAX_WORKERS, Opening, Report, VehicleEnd, Verdict, WithFault, replay, replay_with,
+};
 pub use session::{Halt, Place, Session};
 pub use session_fault::SessionFault;
