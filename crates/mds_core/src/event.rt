@@ -169,6 +169,18 @@ impl Event {
         Ok(())
     }
 
+    /// Becomes the same event as another one, in its place as by [`Event::assign`].
+    pub fn assign_from(&mut self, other: &Event)
+        ensures { self.new ≡ other.now }
+    {
+        self.key = other.key;
+        self.id = other.id;
+        self.state = other.state;
+        self.types.assign(other.types.as_slice());
+        self.time = other.time;
+        self.position = other.position;
+    }
+
     /// The vehicle.
     pub fn key(&self) -> &Key
         ensures { result.now ≡ self.now.key }

@@ -16,6 +16,7 @@ use mds_table::Tables;
 use std::alloc::{AllocError, Global};
 use std::hash::RandomState;
 use std::marker::Model;
+use std::slice::from_ref;
 
 /// The machine of one shard, over the tables that decide. Beside its history it keeps where each vehicle stands, the names of
 /// the events that were accepted, and for each entry of the history the place of the vehicle's entry before it; so no call
@@ -127,7 +128,7 @@ impl Shard {
             request,
             Vehicle { standing, last },
         )?;
-        self.history.push(*request)?;
+        self.history.extend_from_slice(from_ref(request))?;
         self.before.push(before)?;
         Ok(())
     }

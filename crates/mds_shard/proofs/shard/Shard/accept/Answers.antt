@@ -21,8 +21,8 @@ invariant_of-self-2 c =
     let Puts : ℕ → Type 0 = λ last. PutsVehicle key (record { standing = standing; last = last }) inside.vehicles c.keep.new.vehicles in
     let pushed = replay_push inside.tables history before inside.vehicles c.keep.new.vehicles inside.names c.keep.new.names request c.args.vehicle
     standing c.self.invariant may vehicle stands (subst Puts (c.len-last.ensures ∙ inside.history.ok.0) c.in_ok-keep.ensures.vehicles) c.in_ok-keep.ensures.names in
-    let history_is : c.push.new.self.items ≡ history ++ request ∷ [] =
-    c.in_ok-push.ensures.items ∙ ap (λ h. h ++ request ∷ []) c.reserve.ensures.items in
-    let before_is : c.push-2.new.self.items ≡ before ++ option_map (λ v. v.last) c.args.vehicle ∷ [] =
-    c.in_ok-push-2.ensures.items ∙ ap (λ b. b ++ c.last_in-before.result ∷ []) c.reserve-2.ensures.items ∙ ap (λ e. before ++ e ∷ []) c.last_in-before.ensures in
+    let history_is : c.extend_from_slice.new.self.items ≡ history ++ request ∷ [] =
+    c.in_ok-extend_from_slice.ensures.items ∙ ap (λ h. h ++ c.from_ref.result.now) c.reserve.ensures.items ∙ ap (λ r. history ++ r) c.from_ref.ensures.value in
+    let before_is : c.push.new.self.items ≡ before ++ option_map (λ v. v.last) c.args.vehicle ∷ [] =
+    c.in_ok-push.ensures.items ∙ ap (λ b. b ++ c.last_in-before.result ∷ []) c.reserve-2.ensures.items ∙ ap (λ e. before ++ e ∷ []) c.last_in-before.ensures in
     rw (history_is, before_is) pushed
