@@ -1,4 +1,5 @@
 //! What no clause says: worked cases, and each call once.
+mod depot;
 mod lists;
 
 use crate::{NoChain, StateSet, admit, forward, least_chain, openings, stuck_from};

@@ -138,7 +138,7 @@ fn profile_masks(alloc: Global, name: &str) -> Result<[Mask; State::COUNT], Fail
 fn masks(rt: HostRuntime) -> Result<(), Fail> {
     let ended = profile_masks(rt.alloc(), "trip_end")?;
     let available = bit_of(State::Available);
-    assert_eq!(rt; ended, [0, 0, 0, 0, available, 0, 0, 0]);
+    assert_eq!(rt; ended, [0, 0, 0, 0, available, 0, 0, 0, 0]);
     let has_each = (
         has(available, State::Available),
         has(available, State::OnTrip),
@@ -146,6 +146,26 @@ fn masks(rt: HostRuntime) -> Result<(), Fail> {
     assert_eq!(rt; (available, has_each), (2, (true, false)));
     let unknown = profile_masks(rt.alloc(), "trip_ends")?;
     assert_eq!(rt; unknown, [0; State::COUNT]);
+    Ok(())
+}
+
+/// Vehicles are stored in a depot and go out again, and by one type from each state to each.
+const OF_A_DEPOT: &[u8] = br#"{"rows":[
+{"from":"available","type":"store","to":"in_depot"},
+{"from":"in_depot","type":"go","to":["removed","available"]},
+{"from":["removed","available","non_operational","reserved","on_trip","elsewhere","non_contactable","missing","in_depot"],"type":"x",
+"to":["removed","available","non_operational","reserved","on_trip","elsewhere","non_contactable","missing","in_depot"]}]}"#;
+
+/// The ninth state has the ninth bit.
+#[test]
+fn masks_of_a_depot(rt: HostRuntime) -> Result<(), Fail> {
+    let table = Table::from_json(rt.alloc(), OF_A_DEPOT)?;
+    assert_eq!(rt; (table.row_count(), bit_of(State::InDepot)), (84, 256));
+    let store = table.masks(&TypeName::new("store")?);
+    assert_eq!(rt; store, [0, 256, 0, 0, 0, 0, 0, 0, 0]);
+    let go = table.masks(&TypeName::new("go")?);
+    assert_eq!(rt; go, [0, 0, 0, 0, 0, 0, 0, 0, 3]);
+    assert_eq!(rt; table.masks(&TypeName::new("x")?), [511; State::COUNT]);
     Ok(())
 }
 

@@ -1,4 +1,5 @@
 //! Sets of states answer as plain lists of states do, which ask the table for each row.
+use super::depot::DEPOT;
 use super::expect_states;
 use crate::{NoChain, StateSet, admit};
 use bitflags::Flags;
@@ -72,6 +73,21 @@ fn expect_alike(
     Ok(())
 }
 
+/// Asserts that both ways give one answer for all lists of these types that begin with this one and have one or two types.
+fn expect_alike_from(
+    rt: &impl Abort,
+    alloc: Global,
+    table: &Table,
+    first: &TypeName,
+    types: &[TypeName],
+) -> Result<(), AllocError> {
+    expect_alike(rt, alloc, table, &[first.copy()])?;
+    for second in types {
+        expect_alike(rt, alloc, table, &[first.copy(), second.copy()])?;
+    }
+    Ok(())
+}
+
 /// All lists of one or two types of the profile, over all pairs of states: (27 + 27 * 27) * 81 = 61,236 cases.
 #[test]
 fn sets_admit_as_lists_do(rt: HostRuntime) -> Result<(), Fail> {
@@ -80,10 +96,20 @@ fn sets_admit_as_lists_do(rt: HostRuntime) -> Result<(), Fail> {
     let types = types_of(alloc, &table)?;
     assert_eq!(rt; types.len(), 27);
     for first in &types {
-        expect_alike(&rt, alloc, &table, &[first.copy()])?;
-        for second in &types {
-            expect_alike(&rt, alloc, &table, &[first.copy(), second.copy()])?;
-        }
+        expect_alike_from(&rt, alloc, &table, first, &types)?;
+    }
+    Ok(())
+}
+
+/// The same over a table that leads to the ninth state, too: (3 + 3 * 3) * 81 = 972 cases.
+#[test]
+fn sets_admit_as_lists_do_over_a_depot(rt: HostRuntime) -> Result<(), Fail> {
+    let alloc = rt.alloc();
+    let table = Table::from_json(alloc, DEPOT.as_bytes())?;
+    let types = types_of(alloc, &table)?;
+    assert_eq!(rt; types.len(), 3);
+    for first in &types {
+        expect_alike_from(&rt, alloc, &table, first, &types)?;
     }
     Ok(())
 }
@@ -94,4 +120,52 @@ fn bits_of_sets(rt: HostRuntime) {
     assert_eq!(rt; StateSet::of(State::OnTrip).bits().bits(), 16);
     assert_eq!(rt; StateSet::empty().bits().bits(), 0);
     expect_states(&rt, &StateSet::default(), &[]);
+}
+
+/// The bit of each state.
+const BITS: [(u16, State); 9] = [
+    (1, State::Removed),
+    (2, State::Available),
+    (4, State::NonOperational),
+    (8, State::Reserved),
+    (16, State::OnTrip),
+    (32, State::Elsewhere),
+    (64, State::NonContactable),
+    (128, State::Missing),
+    (256, State::InDepot),
+];
+
+/// The states whose bits are in the number, in the order of codes.
+fn listed(alloc: Global, number: u16) -> Result<Vec<State>, AllocError> {
+    let mut states = Vec::new(alloc);
+    for (bit, state) in &BITS {
+        if number & *bit != 0 {
+            states.push(*state)?;
+        }
+    }
+    Ok(states)
+}
+
+/// The set of these states.
+fn set_of(states: &[State]) -> StateSet {
+    let mut set = StateSet::empty();
+    for state in states {
+        set = set.union(&StateSet::of(*state));
+    }
+    set
+}
+
+/// The empty set, and the 511 others.
+#[test]
+fn sets_are_their_lists(rt: HostRuntime) -> Result<(), Fail> {
+    for number in 0u16..512 {
+        let states = listed(rt.alloc(), number)?;
+        let set = set_of(&states);
+        expect_states(&rt, &set, &states);
+        let found = (set.bits().bits(), set.is_empty());
+        assert_eq!(rt; found, (number, states.is_empty()));
+        let held = State::ALL.iter().filter(|state| set.contains(**state)).count();
+        assert_eq!(rt; held, states.len());
+    }
+    Ok(())
 }

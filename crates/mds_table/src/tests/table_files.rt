@@ -5,11 +5,15 @@ use crate::TableFault::{
 use crate::{MAX_ROWS, MAX_TABLE_TYPES, Table};
 use std::alloc::{AllocError, Global};
 
-/// One state, and eight of the nine: an entry that leads from each of the eight to each of them has 64 rows.
+/// One state, eight of the nine, and all: an entry that leads from each of the eight to each of them has 64 rows, and one
+/// that leads from each of the nine to each of them has 81.
 const ONE: &str = r#""removed""#;
 
 const EIGHT: &str =
     r#"["removed","available","non_operational","reserved","on_trip","elsewhere","non_contactable","missing"]"#;
+
+const NINE: &str =
+    r#"["removed","available","non_operational","reserved","on_trip","elsewhere","non_contactable","missing","in_depot"]"#;
 
 /// A file: a text; so many entries, each of a type of its own (`t0`, `t1` ..), and the states that they lead from and to;
 /// a text; so many spaces. And how many rows the file stands for, or its first fault.
@@ -22,7 +26,7 @@ type File = (
 );
 
 /// Whole files, entries and the limits.
-const FILES: [File; 15] = [
+const FILES: [File; 18] = [
     // whole files
     ("", (0, ""), "{", 0, Err(NotJson)),
     ("", (0, ""), "[]", 0, Err(NotRows)),
@@ -99,6 +103,28 @@ const FILES: [File; 15] = [
         r#"{"from":"flying","type":"x","to":"removed"}]}"#,
         0,
         Err(BadRow(MAX_ROWS / 64)),
+    ),
+    // all pairs of nine states for 50 types are 4050 rows; for all 64 they would be 5184
+    (
+        r#"{"rows":["#,
+        (50, NINE),
+        r#"{"from":"in_depot","type":"x","to":"in_depot"}]}"#,
+        0,
+        Ok(4051),
+    ),
+    (
+        r#"{"rows":["#,
+        (51, NINE),
+        r#"{"from":"in_depot","type":"t0","to":"in_depot"}]}"#,
+        0,
+        Err(TooManyRows),
+    ),
+    (
+        r#"{"rows":["#,
+        (MAX_TABLE_TYPES, NINE),
+        r#"{"from":"in_depot","type":"t0","to":"in_depot"}]}"#,
+        0,
+        Err(TooManyRows),
     ),
     // most bytes
     (
