@@ -25,7 +25,8 @@ TESTED = {
     ("mds_batch", "call_succeeds_after_a_refused_growth"): ["read_vehicles", "read_events"],
     ("mds_batch", "an_item_is_read_after_a_refused_growth"): ["read_item", "ItemReader::read"],
     ("mds_lines", "a_stream_is_read_after_a_refused_growth"): ["LineReader::feed", "LineReader::finish"],
-    ("mds_trace", "replay_succeeds_after_a_refused_growth"): ["replay"],
+    ("mds_replay", "replay_succeeds_after_a_refused_growth"): ["replay"],
+    ("mds_replay", "replay_with_succeeds_after_a_refused_growth"): ["replay_with"],
     ("mds_trace", "session_succeeds_after_a_refused_growth"): ["Session::open", "Session::chain"],
     ("mds_request", "call_succeeds_after_a_refused_growth"): ["Face::open", "plan_of", "HeadStatus::plan"],
     ("mds_response", "answer_is_whole_after_a_refused_growth"): ["bytes_of"],
@@ -50,5 +51,6 @@ UNTESTED = [
     "mds_face::read_plan",
     "mds_pool::serve",
     "mds_pool::serve_and_settle",
+    "mds_commands::tables_in",
 ]
 """Calls whose growths are refused in no such test yet: only in the runs of the whole program, or by way of calls above them."""
