@@ -164,7 +164,10 @@ fn sets_are_their_lists(rt: HostRuntime) -> Result<(), Fail> {
         expect_states(&rt, &set, &states);
         let found = (set.bits().bits(), set.is_empty());
         assert_eq!(rt; found, (number, states.is_empty()));
-        let held = State::ALL.iter().filter(|state| set.contains(**state)).count();
+        let held = State::ALL
+            .iter()
+            .filter(|state| set.contains(**state))
+            .count();
         assert_eq!(rt; held, states.len());
     }
     Ok(())

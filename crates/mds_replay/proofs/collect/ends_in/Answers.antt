@@ -13,4 +13,4 @@ loop-key-preserved c =
     let Are : List Key → List VehicleEnd → Type 0 = λ some ends. AllZip Is some ends in
     subst (λ ends. Are (take (c.loop-key.key-index + 1) keys) ends) (sym {A = List VehicleEnd} c.in_ok-push.ensures.items)
     (subst (λ some. Are some (c.loop-key.ends.items ++ c.end_in.result ∷ [])) (take_push keys c.loop-key.key-index c.key-item.result c.loop-key-test.true c.key-item.is)
-        (all_push Is (take c.loop-key.key-index keys) c.loop-key.ends.items c.key-item.result c.end_in.result c.loop-key.invariant c.end_in.ensures))
+    (all_push Is (take c.loop-key.key-index keys) c.loop-key.ends.items c.key-item.result c.end_in.result c.loop-key.invariant c.end_in.ensures))

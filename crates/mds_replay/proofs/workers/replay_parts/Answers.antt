@@ -14,7 +14,7 @@ returns-clause-parts g c = λ worker part at.
     let parts = c.loop-result.parts.items in
     let results = c.in_ok-results.results.items in
     let end = YieldsList-end (YieldsList-from_vec {s = c.into_iter-result-iterator.result} results (search rules) (search rules))
-        c.loop-result.yielded c.loop-result.result-iterator c.loop-result.yielded_by c.next.result c.next.new.self c.in-None.is c.next.ensures.steps in
+    c.loop-result.yielded c.loop-result.result-iterator c.loop-result.yielded_by c.next.result c.next.new.self c.in-None.is c.next.ensures.steps in
     let same : map Ok parts ≡ results = sym c.loop-result.invariant ∙ sym (map-id c.loop-result.yielded) ∙ end.0 in
     let its : slice_get results worker ≡ Some (Ok part) = ap (λ all. slice_get all worker) (sym same) ∙ slice_get-map Ok parts worker ∙ ap (option_map Ok) at in
     let count : length parts ≡ c.args.workers = omega (arith, length-map {B = Result Part AllocError} parts Ok, ap length same, c.in_ok-results.ensures.len, c.in_ok-results.results.ok.0) in
