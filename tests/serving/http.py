@@ -4,6 +4,7 @@ import json
 from dataclasses import dataclass, field
 
 from cases.batches import ACCEPTED, BACKWARDS, ESCAPED, FAULTS, FAULTY, GOOD, NAMES, NO_OBJECTS, REFUSED
+from cases.depot import DEPOT, STORED
 from cases.replays import RUNS, A, B, P, batch, event, item, second_events
 from cases.tables import ONE_ROW, PROFILE_ROWS
 from cases.timed import CHANGES, CHANGING, MANY_TABLES, edges, tables_file
@@ -503,4 +504,14 @@ def changes():
     yield Talk([Exchange(get("/table"), answer(200, one))], table=tables_file(CHANGES[:1]))
 
 
-TALKS = [worked, heads, targets, methods, lengths, order, bodies, items, positions, runs, changes]
+def depots():
+    """Vehicles that are stored in a depot, by the events of one batch and one by one: the state is told of the vehicle, and
+    the table is one that can be posted to another server."""
+    rows = [{"from": before, "to": after, "type": kind} for kind, before, after in
+            [("go", "in_depot", "available"), ("store", "available", "in_depot"), ("wake", "removed", "available")]]
+    listed, end = Exchange(get("/table"), answer(200, {"rows": rows})), look(A, "in_depot", 2, 1000)
+    yield Talk([listed, registered(A), judged(STORED), end], table=DEPOT)
+    yield Talk([registered(A), *[judged([it]) for it in STORED], end], table=DEPOT)
+
+
+TALKS = [worked, heads, targets, methods, lengths, order, bodies, items, positions, runs, changes, depots]
