@@ -194,7 +194,8 @@ def answered(server, pieces, ends):
     """What the server answers, or why nothing came."""
     server.count()
     try:
-        found = ask_in_pieces(server.port, pieces, ends=ends)
+        # what stands behind a whole request may come when the server has answered and gone
+        found = ask_in_pieces(server.port, pieces, ends=ends, gone=True)
     except OSError as fault:
         return f"{type(fault).__name__}: {fault}".encode()
     server.count(0, success_of(found))

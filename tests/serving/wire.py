@@ -46,11 +46,16 @@ def connect(port, room=None):
     return connection
 
 
-def read_all(connection):
-    """All bytes until the server ends its side. They are noted, to be held against openapi.json."""
+def read_all(connection, gone=False):
+    """All bytes until the server ends its side. They are noted, to be held against openapi.json. `gone`: the server may have
+    closed before all was sent, which resets the connection behind its answer."""
     pieces = []
-    while piece := connection.recv(1 << 16):
-        pieces.append(piece)
+    try:
+        while piece := connection.recv(1 << 16):
+            pieces.append(piece)
+    except ConnectionError:
+        if not gone or not pieces:
+            raise
     answered = b"".join(pieces)
     NOTED.note(connection.sent, answered)
     return answered
@@ -63,18 +68,27 @@ def ask(port, request):
         return read_all(connection)
 
 
-def ask_in_pieces(port, pieces, pause=0.0, ends=False):
+def ask_in_pieces(port, pieces, pause=0.0, ends=False, gone=False):
     """What is answered to a request that is sent in pieces, with a pause before each but the first; `ends`: after the last
-    one the client ends its side."""
+    one the client ends its side; `gone`: the server may have answered and closed before that."""
     with connect(port) as connection:
         connection.setsockopt(socket.IPPROTO_TCP, socket.TCP_NODELAY, 1)
-        for at, piece in enumerate(pieces):
-            if at and pause:
-                time.sleep(pause)
-            connection.sendall(piece)
-        if ends:
-            connection.shutdown(socket.SHUT_WR)
-        return read_all(connection)
+        try:
+            send_in_pieces(connection, pieces, pause)
+            if ends:
+                connection.shutdown(socket.SHUT_WR)
+        except OSError:
+            if not gone:
+                raise
+        return read_all(connection, gone)
+
+
+def send_in_pieces(connection, pieces, pause):
+    """Sends the pieces, with a pause before each but the first."""
+    for at, piece in enumerate(pieces):
+        if at and pause:
+            time.sleep(pause)
+        connection.sendall(piece)
 
 
 def hang_up(port, request, reset):
