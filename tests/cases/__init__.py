@@ -5,7 +5,6 @@ from cases.commands import commands, examples, orders, paths, spaced_paths, wron
 from cases.debugging import faults, long_sessions, scripts, starts_before_its_script
 from cases.depot import depots
 from cases.helps import help_asked_for
-from cases.lines import line_files
 from cases.pictures import PICTURED
 from cases.replays import replays
 from cases.serve import outputs_of_serve, ports, tables_of_serve, words_of_serve
@@ -28,7 +27,6 @@ SUBJECTS = [
     batches,
     items,
     replays,
-    line_files,
     scripts,
     long_sessions,
     faults,

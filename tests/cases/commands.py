@@ -92,17 +92,14 @@ WRONG = [
     ["replay", "events.json", "--all"],
     ["replay", "events.json", "--any", "--any"],
     ["replay", "events.json", "--any=yes"],
-    ["replay", "events.json", "--lines", "--lines"],
-    ["replay", "events.json", "--lines=yes"],
     ["table", "--any"],
-    ["table", "--lines"],
+    ["replay", "events.json", "--lines"],
     ["replay", "events.json", "--workers", "4"],
     ["debug"],
     ["debug", "events.json"],
     ["debug", "events.json", P],
     ["debug", "events.json", P, A, "more"],
     ["debug", "events.json", P, A, "--any"],
-    ["debug", "events.json", P, A, "--lines"],
     ["debug", "events.json", P, A, "--table"],
 ]
 NO_TEXTS = [

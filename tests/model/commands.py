@@ -3,13 +3,13 @@
 from dataclasses import dataclass, field
 
 from harness.case import NOT_TEXT, SOME, cannot_read, not_a_batch, not_a_table
-from model.items import BatchFault, identifier_in, items_of, line_items_of
+from model.items import BatchFault, identifier_in, items_of
 from model.replays import Replay, debugged
 from model.tables import TableFault, Tables, tables_of
 
 MOST_SCRIPT = 1048576
 OPERANDS = {"replay": 1, "debug": 3, "table": 0}
-FLAGS = {"replay": ["--any", "--lines"], "debug": [], "table": []}
+FLAGS = {"replay": ["--any"], "debug": [], "table": []}
 MISTAKE = (2, b"", SOME)
 
 
@@ -70,9 +70,9 @@ class Run:
         except TableFault as fault:
             raise Problem(3, not_a_table(fault)) from None
 
-    def items(self, path, lines=False):
+    def items(self, path):
         try:
-            return (line_items_of if lines else items_of)(self.read(path))
+            return items_of(self.read(path))
         except BatchFault as fault:
             raise Problem(3, not_a_batch(fault)) from None
 
@@ -83,7 +83,7 @@ class Run:
         tables, [path] = self.tables(words), words.operands
         if path == "-":
             self.files = {**self.files, "-": self.given}
-        replay = Replay(tables, self.items(path, "--lines" in words.flags), "--any" in words.flags)
+        replay = Replay(tables, self.items(path), "--any" in words.flags)
         return int(replay.accepted() < len(replay.verdicts)), replay.printed()
 
     def debug(self, words):

@@ -15,9 +15,9 @@ word_rule name = record (new_rule name) { required = true }
 abbrev pub table_rule : Rule
 table_rule = record (new_rule (codes "table")) { long = Some (codes "table"); value_names = 1 }
 
--- a flag of this name
-abbrev pub flag_rule : Text → Rule
-flag_rule name = record (new_rule name) { long = Some name; action = Some SetTrue }
+-- the flag `--any`
+abbrev pub any_rule : Rule
+any_rule = record (new_rule (codes "any")) { long = Some (codes "any"); action = Some SetTrue }
 
 -- an option of this name, which takes a number of this range
 abbrev pub number_rule : Text → ℕ → ℕ → Rule
@@ -46,10 +46,9 @@ abbrev pub serve_app : App
 serve_app =
     with_rule (with_rule (with_rule (with_rule (new_app (codes "serve")) (needed_number_rule (codes "port") max_port)) (needed_number_rule (codes "each") max_each)) workers_rule) table_rule
 
--- the command `replay`, with its file, the option and the flags
+-- the command `replay`, with its file, the option and the flag
 abbrev pub replay_app : App
-replay_app =
-    with_rule (with_rule (with_rule (with_rule (new_app (codes "replay")) (word_rule (codes "FILE"))) table_rule) (flag_rule (codes "any"))) (flag_rule (codes "lines"))
+replay_app = with_rule (with_rule (with_rule (new_app (codes "replay")) (word_rule (codes "FILE"))) table_rule) any_rule
 
 -- the command `debug`, with its file, its vehicle's provider and device, and the option
 abbrev pub debug_app : App
@@ -71,7 +70,7 @@ program_app = with_subcommand (with_subcommand (with_subcommand (with_subcommand
 -- the name of a command
 abbrev pub name_of : Command → Text
 name_of (Serve port each workers table) = codes "serve"
-name_of (Replay file table any lines) = codes "replay"
+name_of (Replay file table any) = codes "replay"
 name_of (Debug file provider device table) = codes "debug"
 name_of (Table table) = codes "table"
 
@@ -95,9 +94,9 @@ abbrev pub HasValues : List Row → Command → Type 0
 HasValues values (Serve port each workers table) =
     IsNumber 0 max_port (first_of (codes "port") values) port × IsNumber 0 max_each (first_of (codes "each") values) each
     × IsNumber 1 max_workers (first_of (codes "workers") values) workers × (first_of (codes "table") values ≡ option_map (λ path. path.now) table)
-HasValues values (Replay file table any lines) =
+HasValues values (Replay file table any) =
     (first_of (codes "FILE") values ≡ Some file.now) × (first_of (codes "table") values ≡ option_map (λ path. path.now) table)
-    × (IsTrue any ↔ (first_of (codes "any") values ≡ Some (codes "true"))) × (IsTrue lines ↔ (first_of (codes "lines") values ≡ Some (codes "true")))
+    × (IsTrue any ↔ (first_of (codes "any") values ≡ Some (codes "true")))
 HasValues values (Debug file provider device table) =
     (first_of (codes "FILE") values ≡ Some file.now) × (first_of (codes "PROVIDER") values ≡ Some provider.now)
     × (first_of (codes "DEVICE") values ≡ Some device.now) × (first_of (codes "table") values ≡ option_map (λ path. path.now) table)

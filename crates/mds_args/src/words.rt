@@ -6,7 +6,7 @@ ghost use Rattle.clap.specs.Words.{subcommand_of, subcommand_rows_of, takes, wit
 ghost use Rattle.mds_args.specs.Error.{HasCause, IsCause, words_kind};
 ghost use Rattle.mds_args.specs.Words.{Asks, AsksNothing, IsAskedBy, AreTaken};
 ghost use Rattle.mds_args.specs.Words.{HasNoNumber, HasValues, IsNumber, LacksNumber, LacksOneOf};
-ghost use Rattle.mds_args.specs.Words.{name_of, debug_app, flag_rule, max_each, max_port, max_workers};
+ghost use Rattle.mds_args.specs.Words.{name_of, any_rule, debug_app, max_each, max_port, max_workers};
 ghost use Rattle.mds_args.specs.Words.{needed_number_rule, number_rule, program_app, replay_app};
 ghost use Rattle.mds_args.specs.Words.{serve_app, table_app, table_rule, word_rule, workers_rule};
 
@@ -40,8 +40,6 @@ pub enum Command<'a> {
         table: Option<&'a str>,
         /// Whether a vehicle may hold any state before its first event.
         any: bool,
-        /// Whether each line of the file is an item; else the file is one batch of them.
-        lines: bool,
     },
     /// Step through the accepted events of a vehicle.
     Debug {
@@ -181,7 +179,6 @@ fn replay_of<'a>(values: &ArgMatches<'a>) -> Option<Command<'a>>
         file,
         table: values.get_str("table"),
         any: is_set(values, "any"),
-        lines: is_set(values, "lines"),
     })
 }
 
@@ -311,14 +308,7 @@ fn with_replay<'a>(alloc: Global, form: clap::Command<'a>) -> Result<clap::Comma
     let file = word(alloc, "FILE", "The file of events; - is standard input");
     let with_file = bare.arg(file)?;
     let with_table = with_file.arg(table_option(alloc))?;
-    let any = flag(
-        alloc,
-        "any",
-        "Lets a vehicle hold any state before its first event",
-    );
-    let with_any = with_table.arg(any)?;
-    let lines = flag(alloc, "lines", "Takes each line of the file as an item");
-    let replay = with_any.arg(lines)?;
+    let replay = with_table.arg(any_option(alloc))?;
     form.subcommand(replay)
 }
 
@@ -337,15 +327,15 @@ fn with_debug<'a>(alloc: Global, form: clap::Command<'a>) -> Result<clap::Comman
     form.subcommand(debug)
 }
 
-/// A flag, which takes no value.
-fn flag<'a>(alloc: Global, name: &'a str, help: &'a str) -> Arg<'a>
-    ensures rule { rule_of result ≡ flag_rule name.entry.now }
+/// The flag `--any`.
+fn any_option<'a>(alloc: Global) -> Arg<'a>
+    ensures rule { rule_of result ≡ any_rule }
     ensures local { result.global ≡ false }
 {
-    Arg::new(alloc, name)
-        .long(name)
+    Arg::new(alloc, "any")
+        .long("any")
         .action(ArgAction::SetTrue)
-        .help(help)
+        .help("Lets a vehicle hold any state before its first event")
 }
 
 /// A word that must be given.

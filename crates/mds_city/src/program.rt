@@ -4,13 +4,11 @@ ghost use Rattle.std.specs.IoError.{error_kind};
 ghost use Rattle.mds_args.specs.Error.{words_kind};
 ghost use Rattle.mds_commands.specs.Problem.{Tells};
 ghost use Rattle.mds_city.specs.Program.{Carries, Explains, HasWorkers, IsFileNamed, IsFileOf, Runs};
-ghost use Rattle.mds_city.specs.Program.{form_if, opening_if, options_of};
+ghost use Rattle.mds_city.specs.Program.{opening_if};
 
 use crate::serve::{Listens, ServeOptions, serve_at};
 use mds_args::{Command, WordsError, WordsErrorKind, parse_words};
-use mds_commands::{
-    Form, Named, Problem, ReplayOptions, Source, Status, debug_to, replay_to, table_to, tell,
-};
+use mds_commands::{Named, Problem, Source, Status, debug_to, replay_to, table_to, tell};
 use mds_io::write_all_of;
 use mds_trace::Opening;
 use std::alloc::Global;
@@ -174,30 +172,15 @@ fn carry_out<
             debug_to(alloc, table, file, named, &mut script, out, faults)
         }
         Command::Table { table } => table_to(alloc, file_if_named(files, table), out, faults),
-        Command::Replay {
-            file,
-            table,
-            any,
-            lines,
-        } => {
+        Command::Replay { file, table, any } => {
             let table = file_if_named(files, table);
-            let options = options_of(any, lines);
+            let opening = opening_if(any);
             if is_standard_input(file) {
                 let file = open_file(file, input);
-                return replay_to(alloc, table, file, options, out, faults);
+                return replay_to(alloc, table, file, opening, out, faults);
             }
-            replay_to(alloc, table, file_of(files, file), options, out, faults)
+            replay_to(alloc, table, file_of(files, file), opening, out, faults)
         }
-    }
-}
-
-/// What these flags ask of a replay.
-fn options_of(any: bool, lines: bool) -> ReplayOptions
-    ensures { result ≡ options_of any lines }
-{
-    ReplayOptions {
-        opening: opening_if(any),
-        form: form_if(lines),
     }
 }
 
@@ -206,13 +189,6 @@ fn opening_if(any: bool) -> Opening
     ensures { result ≡ opening_if any }
 {
     if any { Opening::Any } else { Opening::Removed }
-}
-
-/// How the file of a replay has its items: with the flag `--lines` one on each line.
-fn form_if(lines: bool) -> Form
-    ensures { result ≡ form_if lines }
-{
-    if lines { Form::Lines } else { Form::Batch }
 }
 
 /// Whether the file of a replay is standard input.

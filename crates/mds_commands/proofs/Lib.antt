@@ -1,4 +1,3 @@
 -- Lemmas of this crate.
 pub mod ErrorLemmas
 pub mod PrintLemmas
-pub mod FedLemmas

@@ -5,4 +5,3 @@ pub mod Problem
 pub mod Source
 pub mod Command
 pub mod Debug
-pub mod Stream

@@ -7,43 +7,33 @@ ghost use Rattle.mds_commands.specs.Command.{HasReport, ExplainsReplay, WentOut,
 
 use crate::print::{print_report, print_tables};
 use crate::problem::{Problem, tell};
-use crate::source::{Form, Source, items_in, tables_in};
+use crate::source::{Source, items_in, tables_in};
 use crate::status::Status;
-use crate::stream::report_of_lines;
 use mds_trace::{Opening, Report, replay};
 use std::alloc::Global;
 use std::io::{Read, Write};
 
-/// What is asked of a replay.
-#[derive(Clone, Copy, Debug, PartialEq, Eq, Hash)]
-pub struct ReplayOptions {
-    /// What the vehicles hold at first.
-    pub opening: Opening,
-    /// How the file has its items.
-    pub form: Form,
-}
-
-/// Replays a file of events, which has its items in this form, over the tables of a table file, or where none is given over
-/// the profile's, with this opening of its vehicles. It prints a line for each item, a line for each vehicle, and the totals.
-/// It answers the code of the status that the program ends with: `Done` where each item was accepted, `Refused` where one was
-/// not, and else the one of the problem, which is told to `faults` in one line: `Fault` for a file that can't be read, is no
-/// table, no batch or no lines of items, or an output that fails, `NoMemory` for want of memory.
+/// Replays a file of events over the tables of a table file, or where none is given over the profile's, with this opening of
+/// its vehicles, and prints a line for each item, a line for each vehicle, and the totals. It answers the code of the status
+/// that the program ends with: `Done` where each item was accepted, `Refused` where one was not, and else the one of the
+/// problem, which is told to `faults` in one line: `Fault` for a file that can't be read, is no table or no batch, or an
+/// output that fails, `NoMemory` for want of memory.
 pub fn replay_to<T: Read + Drop, R: Read + Drop, W: Write, E: Write>(
     alloc: Global,
     table: Option<Source<'_, T>>,
     file: Source<'_, R>,
-    options: ReplayOptions,
+    opening: Opening,
     out: &mut W,
     faults: &mut E,
 ) -> u8
-    ensures ran { result < 2 → Replayed options T.remaining table.entry R.remaining file.entry
+    ensures ran { result < 2 → Replayed opening T.remaining table.entry R.remaining file.entry
         result
         (W.contents out.old) (W.contents out.new)
         × Keeps (E.contents faults.old) (E.contents faults.new) }
-    ensures told { 2 ≤ result → Told options T.remaining table.entry R.remaining file.entry result
+    ensures told { 2 ≤ result → Told opening T.remaining table.entry R.remaining file.entry result
         (W.contents out.old) (W.contents out.new) (E.contents faults.old) (E.contents faults.new) }
 {
-    match replay_into(alloc, table, file, options, out) {
+    match replay_into(alloc, table, file, opening, out) {
         Ok(refused) => status_on(refused).code(),
         Err(problem) => tell(alloc, faults, problem).code(),
     }
@@ -65,20 +55,20 @@ fn replay_into<'a, T: Read + Drop, R: Read + Drop, W: Write>(
     alloc: Global,
     table: Option<Source<'a, T>>,
     file: Source<'a, R>,
-    options: ReplayOptions,
+    opening: Opening,
     out: &mut W,
 ) -> Result<usize, Problem<'a>>
     ensures ok { IfOk result (λ refused. (report : Report)
-        × HasReport options T.remaining table.entry R.remaining file.entry report
-        × Appends (W.contents out.old) (W.contents out.new) (report_text options.opening report)
+        × HasReport opening T.remaining table.entry R.remaining file.entry report
+        × Appends (W.contents out.old) (W.contents out.new) (report_text opening report)
         × (refused ≡ report.refused)) }
-    ensures err { IfErr result (λ problem. ExplainsReplay options T.remaining table.entry
+    ensures err { IfErr result (λ problem. ExplainsReplay opening T.remaining table.entry
         R.remaining file.entry problem
-        × WentOut options T.remaining table.entry R.remaining file.entry problem
+        × WentOut opening T.remaining table.entry R.remaining file.entry problem
         (W.contents out.old) (W.contents out.new)) }
 {
-    let report = report_on(alloc, table, file, options)?;
-    print_report(alloc, out, &report, options.opening)?;
+    let report = report_on(alloc, table, file, opening)?;
+    print_report(alloc, out, &report, opening)?;
     Ok(report.refused)
 }
 
@@ -87,21 +77,16 @@ fn report_on<'a, T: Read + Drop, R: Read + Drop>(
     alloc: Global,
     table: Option<Source<'a, T>>,
     file: Source<'a, R>,
-    options: ReplayOptions,
+    opening: Opening,
 ) -> Result<Report, Problem<'a>>
-    ensures ok { IfOk result (HasReport options T.remaining table.entry R.remaining file.entry) }
-    ensures err { IfErr result (λ problem. ExplainsReplay options T.remaining table.entry
+    ensures ok { IfOk result (HasReport opening T.remaining table.entry R.remaining file.entry) }
+    ensures err { IfErr result (λ problem. ExplainsReplay opening T.remaining table.entry
         R.remaining file.entry problem
         × (problem ≢ Problem.Output)) }
 {
     let tables = tables_in(alloc, table)?;
-    match options.form {
-        Form::Batch => {
-            let items = items_in(alloc, file)?;
-            Ok(replay(alloc, tables, &items, options.opening)?)
-        }
-        Form::Lines => report_of_lines(alloc, tables, file, options.opening),
-    }
+    let items = items_in(alloc, file)?;
+    Ok(replay(alloc, tables, &items, opening)?)
 }
 
 /// Prints the tables of a table file, or where none is given the profile's: a line for each row, in row order, and their

@@ -2,4 +2,3 @@
 pub mod ErrorLemmas
 pub mod LineLemmas
 pub mod FeedLemmas
-pub mod LineLaws

@@ -6,7 +6,6 @@
 #![tactic(auto)]
 
 mod fault;
-pub mod laws;
 mod lines;
 mod reader;
 #[cfg(test)]

@@ -5,5 +5,3 @@ pub mod Walk
 pub mod Session
 pub mod SessionFault
 pub mod SessionLaws
-pub mod Feeding
-pub mod LineReport

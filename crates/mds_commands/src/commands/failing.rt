@@ -1,40 +1,28 @@
 //! Readers and writers that fail.
-use super::tests::{BATCH, LINES};
-use super::{ReplayOptions, replay_to, table_to};
+use super::{replay_to, table_to};
 use crate::source::Source;
-use std::alloc::Global;
+use mds_trace::Opening;
 use std::io;
 use std::io::{ErrorKind, Read, Write};
-use std::process::Abort;
 use std::test::Fail;
 
-/// A reader that gives one byte of a text a call, and then fails.
+/// A reader that gives one byte a call, so many, and then fails.
 #[derive(Drop)]
-struct Breaks<'a> {
-    text: &'a [u8],
+struct Breaks {
+    left: usize,
 }
 
-impl Read for Breaks<'_> {
+impl Read for Breaks {
     fn read(&mut self, buf: &mut [u8]) -> io::Result<usize> {
-        let [first, rest @ ..] = self.text else {
+        if self.left == 0 {
             return Err(io::Error::from(ErrorKind::Other));
-        };
+        }
         if buf.is_empty() {
             return Ok(0);
         }
-        buf[0] = *first;
-        self.text = rest;
+        self.left -= 1;
+        buf[0] = b'[';
         Ok(1)
-    }
-}
-
-/// A reader whose every call is interrupted.
-#[derive(Drop)]
-struct Pauses {}
-
-impl Read for Pauses {
-    fn read(&mut self, _buf: &mut [u8]) -> io::Result<usize> {
-        Err(io::Error::from(ErrorKind::Interrupted))
     }
 }
 
@@ -59,53 +47,33 @@ impl Write for Full {
     }
 }
 
-/// Stops the test unless the replay of a file that this reads is told as one that can't be read.
-fn expect_unread<R: Read + Drop>(
-    rt: &impl Abort,
-    alloc: Global,
-    options: ReplayOptions,
-    reader: R,
-) {
-    let mut out = Vec::new(alloc);
-    let mut faults = Vec::new(alloc);
-    let source = Source {
-        path: "events.json",
-        reader: Some(reader),
-    };
-    let table: Option<Source<'_, &[u8]>> = None;
-    let status = replay_to(alloc, table, source, options, &mut out, &mut faults);
-    assert_eq!(rt; status, 3);
-    assert!(rt; out.is_empty());
-    assert_eq!(rt;
-        faults.as_slice(),
-        b"mds_city: cannot read events.json\n".as_slice()
-    );
-}
-
-/// Files that can't be read to their ends: a fault of the lines before is not told.
 #[test]
-fn file_that_cannot_be_read(rt: HostRuntime) {
-    let cases = [
-        (BATCH, ""),
-        (BATCH, "["),
-        (BATCH, "[]"),
-        (LINES, ""),
-        (LINES, "7\n"),
-        (LINES, "7\n{\n7\n"),
-    ];
-    for (options, text) in cases {
-        let reader = Breaks {
-            text: text.as_bytes(),
+fn file_that_cannot_be_read(rt: HostRuntime) -> Result<(), Fail> {
+    let alloc = rt.alloc();
+    for left in 0..4usize {
+        let mut out = Vec::new(alloc);
+        let mut faults = Vec::new(alloc);
+        let source = Source {
+            path: "events.json",
+            reader: Some(Breaks { left }),
         };
-        expect_unread(&rt, rt.alloc(), options, reader);
+        let table: Option<Source<'_, &[u8]>> = None;
+        let status = replay_to(
+            alloc,
+            table,
+            source,
+            Opening::Removed,
+            &mut out,
+            &mut faults,
+        );
+        assert_eq!(rt; status, 3);
+        assert!(rt; out.is_empty());
+        assert_eq!(rt;
+            faults.as_slice(),
+            b"mds_city: cannot read events.json\n".as_slice()
+        );
     }
-}
-
-#[test]
-fn file_whose_reads_are_interrupted(rt: HostRuntime) {
-    for options in [BATCH, LINES] {
-        expect_unread(&rt, rt.alloc(), options, Pauses {});
-    }
+    Ok(())
 }
 
 #[test]
@@ -119,9 +87,16 @@ fn table_that_was_not_opened_comes_first(rt: HostRuntime) -> Result<(), Fail> {
     };
     let file = Source {
         path: "events.json",
-        reader: Some(Breaks { text: b"" }),
+        reader: Some(Breaks { left: 0 }),
     };
-    let status = replay_to(alloc, Some(table), file, BATCH, &mut out, &mut faults);
+    let status = replay_to(
+        alloc,
+        Some(table),
+        file,
+        Opening::Removed,
+        &mut out,
+        &mut faults,
+    );
     assert_eq!(rt; status, 3);
     assert_eq!(rt; faults.as_slice(), b"mds_city: cannot read -\n".as_slice());
     Ok(())
@@ -138,7 +113,14 @@ fn output_that_fails(rt: HostRuntime) -> Result<(), Fail> {
             reader: Some(b"[]".as_slice()),
         };
         let table: Option<Source<'_, &[u8]>> = None;
-        let status = replay_to(alloc, table, source, BATCH, &mut out, &mut faults);
+        let status = replay_to(
+            alloc,
+            table,
+            source,
+            Opening::Removed,
+            &mut out,
+            &mut faults,
+        );
         assert_eq!(rt; status, 3);
         assert_eq!(rt; faults.as_slice(), b"mds_city: output\n".as_slice());
     }

@@ -1,12 +1,10 @@
 //! Each command, carried out again where a growth is refused (by `tests/refused-growths`).
-use super::tests::{
-    BATCH, FIVE_EVENT_LINES, FIVE_EVENTS, FIVE_LINES, LINES, ONE_ROW, TWO_TABLES, TWO_TABLES_LINES,
-    file,
-};
-use super::{ReplayOptions, replay_to, table_to};
+use super::tests::{FIVE_EVENTS, FIVE_LINES, ONE_ROW, TWO_TABLES, TWO_TABLES_LINES, file};
+use super::{replay_to, table_to};
 use crate::debug::tests::{FIRST, PROVIDER, SCRIPT, SCRIPT_LINES, TWO_EVENTS};
 use crate::debug::{Named, debug_to};
 use crate::source::Source;
+use mds_trace::Opening;
 use std::alloc::Global;
 use std::io;
 use std::io::{ErrorKind, Write};
@@ -42,8 +40,7 @@ fn is_refused(came: Came) -> bool {
     came.0 == 4 && came.2
 }
 
-/// The replay of the five events, in a file of this text.
-fn replayed(alloc: Global, options: ReplayOptions, text: &str) -> Came {
+fn replayed(alloc: Global) -> Came {
     let mut out = Expects {
         rest: FIVE_LINES.as_bytes(),
     };
@@ -54,8 +51,8 @@ fn replayed(alloc: Global, options: ReplayOptions, text: &str) -> Came {
     let status = replay_to(
         alloc,
         table,
-        file("F", text),
-        options,
+        file("F", FIVE_EVENTS),
+        Opening::Removed,
         &mut out,
         &mut faults,
     );
@@ -74,26 +71,14 @@ fn tabled(alloc: Global, text: &str, lines: &str) -> Came {
     (status, out.rest.is_empty(), faults.rest.is_empty())
 }
 
-/// The same, made again where a growth was refused.
-fn replayed_again(alloc: Global, options: ReplayOptions, text: &str) -> Came {
-    let first = replayed(alloc, options, text);
-    if is_refused(first) {
-        replayed(alloc, options, text)
-    } else {
-        first
-    }
-}
-
 #[test]
 fn replay_succeeds_after_a_refused_growth(rt: HostRuntime) -> Result<(), Fail> {
-    let came = replayed_again(rt.alloc(), BATCH, FIVE_EVENTS);
-    assert_eq!(rt; came, (1, true, false));
-    Ok(())
-}
-
-#[test]
-fn replay_of_lines_succeeds_after_a_refused_growth(rt: HostRuntime) -> Result<(), Fail> {
-    let came = replayed_again(rt.alloc(), LINES, FIVE_EVENT_LINES);
+    let first = replayed(rt.alloc());
+    let came = if is_refused(first) {
+        replayed(rt.alloc())
+    } else {
+        first
+    };
     assert_eq!(rt; came, (1, true, false));
     Ok(())
 }

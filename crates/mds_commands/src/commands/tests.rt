@@ -1,9 +1,8 @@
 //! The worked cases, from bytes to bytes, and what no clause says: that each call can succeed.
-use super::{ReplayOptions, replay_to, table_to};
-use crate::source::{Form, Source};
+use super::{replay_to, table_to};
+use crate::source::Source;
 use mds_trace::Opening;
 use std::alloc::Global;
-use std::test::Fail;
 
 /// The five-event run, and the lines that it prints.
 pub const FIVE_EVENTS: &str = r#"[
@@ -14,15 +13,6 @@ pub const FIVE_EVENTS: &str = r#"[
 {"provider_id":"00000000-0000-4000-8000-000000000001","device_id":"00000000-0000-4000-8000-00000000000a","event_id":"00000000-0000-4000-8000-0000000000e4","vehicle_state":"available","event_types":["trip_end"],"timestamp":1999}
 ]"#;
 
-/// The same events, each on a line, with an empty line between.
-pub const FIVE_EVENT_LINES: &str =
-    r#"{"provider_id":"00000000-0000-4000-8000-000000000001","device_id":"00000000-0000-4000-8000-00000000000a","event_id":"00000000-0000-4000-8000-0000000000e1","vehicle_state":"available","event_types":["provider_drop_off"],"timestamp":1000}
-{"provider_id":"00000000-0000-4000-8000-000000000001","device_id":"00000000-0000-4000-8000-00000000000a","event_id":"00000000-0000-4000-8000-0000000000e2","vehicle_state":"on_trip","event_types":["trip_start"],"timestamp":2000}
-
-{"provider_id":"00000000-0000-4000-8000-000000000001","device_id":"00000000-0000-4000-8000-00000000000b","event_id":"00000000-0000-4000-8000-0000000000e1","vehicle_state":"available","event_types":["agency_drop_off"],"timestamp":1500}
-{"provider_id":"00000000-0000-4000-8000-000000000001","device_id":"00000000-0000-4000-8000-00000000000a","event_id":"00000000-0000-4000-8000-0000000000e3","vehicle_state":"non_operational","event_types":["battery_low"],"timestamp":3000}
-{"provider_id":"00000000-0000-4000-8000-000000000001","device_id":"00000000-0000-4000-8000-00000000000a","event_id":"00000000-0000-4000-8000-0000000000e4","vehicle_state":"available","event_types":["trip_end"],"timestamp":1999}"#;
-
 pub const FIVE_LINES: &str = "0 ok available
 1 ok on_trip
 2 ok available
@@ -32,17 +22,6 @@ vehicle 00000000-0000-4000-8000-000000000001 00000000-0000-4000-8000-00000000000
 vehicle 00000000-0000-4000-8000-000000000001 00000000-0000-4000-8000-00000000000b available 1
 accepted 3 refused 2
 ";
-
-/// A replay whose vehicles are registered first, of a batch and of lines.
-pub const BATCH: ReplayOptions = ReplayOptions {
-    opening: Opening::Removed,
-    form: Form::Batch,
-};
-
-pub const LINES: ReplayOptions = ReplayOptions {
-    opening: Opening::Removed,
-    form: Form::Lines,
-};
 
 /// A table of one row.
 pub const ONE_ROW: &str = r#"{"rows":[{"from":"removed","type":"wake","to":"available"}]}"#;
@@ -127,7 +106,7 @@ type Replay = (
 );
 
 /// Whether the replay comes to this.
-fn replays(alloc: Global, options: ReplayOptions, case: &Replay) -> bool {
+fn replays(alloc: Global, case: &Replay) -> bool {
     let (table, text, status, out, faults) = *case;
     let mut printed = Vec::new(alloc);
     let mut told = Vec::new(alloc);
@@ -136,7 +115,7 @@ fn replays(alloc: Global, options: ReplayOptions, case: &Replay) -> bool {
         alloc,
         table,
         file("F", text),
-        options,
+        Opening::Removed,
         &mut printed,
         &mut told,
     );
@@ -174,58 +153,8 @@ fn worked_replays(rt: HostRuntime) {
         ),
     ];
     for case in &cases {
-        assert!(rt; replays(rt.alloc(), BATCH, case), "{case:?}");
+        assert!(rt; replays(rt.alloc(), case), "{case:?}");
     }
-}
-
-#[test]
-fn worked_replays_of_lines(rt: HostRuntime) {
-    let no_objects = "0 fault not_object\n1 fault not_object\naccepted 0 refused 2\n";
-    let cases: [Replay; 8] = [
-        (None, FIVE_EVENT_LINES, 1, FIVE_LINES, ""),
-        (Some(ONE_ROW), FIVE_EVENT_LINES, 1, FIVE_BY_ONE_ROW, ""),
-        (None, "", 0, "accepted 0 refused 0\n", ""),
-        (None, "\n\t\r\n", 0, "accepted 0 refused 0\n", ""),
-        (None, "7\n\n[{}]\r\n", 1, no_objects, ""),
-        (None, "7\n{", 3, "", "mds_city: not a batch: not_json 1\n"),
-        (
-            None,
-            "[\n7\n]\n",
-            3,
-            "",
-            "mds_city: not a batch: not_json 0\n",
-        ),
-        (Some("{"), "{", 3, "", "mds_city: not a table: not_json\n"),
-    ];
-    for case in &cases {
-        assert!(rt; replays(rt.alloc(), LINES, case), "{case:?}");
-    }
-}
-
-/// A text that is repeated so often, and the status, the end of the output and the faults that a replay of its lines comes
-/// to.
-const LONG_LINES: [(&str, usize, u8, &str, &str); 4] = [
-    ("7\n", 10_000, 1, "accepted 0 refused 10000\n", ""),
-    ("7\n", 10_001, 3, "", "mds_city: not a batch: too_many\n"),
-    (" ", 4_194_304, 0, "accepted 0 refused 0\n", ""),
-    (" ", 4_194_305, 3, "", "mds_city: not a batch: too_long\n"),
-];
-
-/// Lines in more pieces than one.
-#[test]
-fn many_lines(rt: HostRuntime) -> Result<(), Fail> {
-    let alloc = rt.alloc();
-    for (text, times, status, end, faults) in LONG_LINES {
-        let lines = text.repeat(alloc, times)?;
-        let mut out = Vec::new(alloc);
-        let mut told = Vec::new(alloc);
-        let table: Option<Source<'_, &[u8]>> = None;
-        let file = file("F", lines.as_str());
-        let code = replay_to(alloc, table, file, LINES, &mut out, &mut told);
-        assert_eq!(rt; (code, told.as_slice()), (status, faults.as_bytes()));
-        assert!(rt; out.ends_with(end.as_bytes()));
-    }
-    Ok(())
 }
 
 /// The text of a table file, and the status, the output and the faults that its print must come to.
