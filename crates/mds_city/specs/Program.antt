@@ -4,7 +4,6 @@ use Rattle.std.specs.Io.KnownBytes.{Keeps}
 use Rattle.mds_replay.specs.declared.report.Opening.{Opening}
 use Rattle.mds_replay.specs.declared.report.Opening.TheVariants.{Removed, Any}
 use Rattle.mds_book.specs.Books.{IsSeatCount}
-use Rattle.mds_replay.specs.WithFault.{IsWorkerCount}
 use Rattle.mds_commands.specs.declared.problem.Problem.TheVariants as problem
 use Rattle.mds_commands.specs.declared.source.Source.{Source}
 use Rattle.mds_commands.specs.declared.status.Status.{Status}
@@ -22,10 +21,9 @@ use Rattle.mds_args.specs.declared.error.WordsErrorKind.TheVariants.{Help, Mista
 use Rattle.mds_args.specs.Error.{HasCause, words_kind}
 use Rattle.mds_args.specs.Words.{IsAskedBy}
 
--- the number of workers, where there are any, is one of seats that a book may have, or one of workers that a replay may have
+-- the number of workers, where there are any, is one of seats that a book may have
 abbrev pub HasWorkers : Command → Type 0
 HasWorkers (Serve port each workers path) = IsSeatCount workers
-HasWorkers (Replay file path any workers) = IsWorkerCount workers
 HasWorkers other = Unit {0}
 
 -- the want of memory was told
@@ -88,7 +86,7 @@ module _ {O F : Type 0} (opens : O → List ℕ → Option F → Type 0) (files 
         (table : Option (Source F)) × IsFileNamed (option_map (λ named. named.now) path) table × CameToServe listens files port file_bytes table workers code out out_new faults faults_new
     Carries (Table path) code out out_new faults faults_new =
         (table : Option (Source F)) × IsFileNamed (option_map (λ named. named.now) path) table × CameToTable file_bytes table code out out_new faults faults_new
-    Carries (Replay file path any workers) code out out_new faults faults_new =
+    Carries (Replay file path any) code out out_new faults faults_new =
         (table : Option (Source F)) × IsFileNamed (option_map (λ named. named.now) path) table × CarriesReplay (opening_if any) file.now table code out out_new faults faults_new
     Carries (Debug file provider device path) code out out_new faults faults_new =
         (table : Option (Source F)) × IsFileNamed (option_map (λ named. named.now) path) table × (events : Source F) × IsFileOf file.now events

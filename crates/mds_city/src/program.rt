@@ -8,9 +8,7 @@ ghost use Rattle.mds_city.specs.Program.{opening_if};
 
 use crate::serve::{Listens, ServeOptions, serve_at};
 use mds_args::{Command, WordsError, WordsErrorKind, parse_words};
-use mds_commands::{
-    Named, Problem, ReplayOptions, Source, Status, debug_to, replay_to, table_to, tell,
-};
+use mds_commands::{Named, Problem, Source, Status, debug_to, replay_to, table_to, tell};
 use mds_io::write_all_of;
 use mds_trace::Opening;
 use std::alloc::Global;
@@ -174,20 +172,14 @@ fn carry_out<
             debug_to(alloc, table, file, named, &mut script, out, faults)
         }
         Command::Table { table } => table_to(alloc, file_if_named(files, table), out, faults),
-        Command::Replay {
-            file,
-            table,
-            any,
-            workers,
-        } => {
+        Command::Replay { file, table, any } => {
             let table = file_if_named(files, table);
             let opening = opening_if(any);
-            let asked = ReplayOptions { opening, workers };
             if is_standard_input(file) {
                 let file = open_file(file, input);
-                return replay_to(rt, alloc, table, file, asked, out, faults);
+                return replay_to(alloc, table, file, opening, out, faults);
             }
-            replay_to(rt, alloc, table, file_of(files, file), asked, out, faults)
+            replay_to(alloc, table, file_of(files, file), opening, out, faults)
         }
     }
 }

@@ -2,7 +2,6 @@
 ghost use Rattle.std.specs.Prelude.{◌≡◌, ◌≢◌, ◌<◌, ◌≤◌, IfOk, IfErr, OnOk};
 ghost use Rattle.std.specs.Io.KnownBytes.{Appends, Keeps};
 ghost use Rattle.mds_replay.specs.declared.report.Report.{Report};
-ghost use Rattle.mds_replay.specs.WithFault.{IsWorkerCount};
 ghost use Rattle.mds_commands.specs.Text.{report_text};
 ghost use Rattle.mds_commands.specs.Command.{HasReport, ExplainsReplay, WentOut, Replayed, Told, Tabled, ExplainsPrint, TableWentOut, TableTold, status_on};
 
@@ -10,44 +9,31 @@ use crate::print::{print_report, print_tables};
 use crate::problem::{Problem, tell};
 use crate::source::{Source, items_in, tables_in};
 use crate::status::Status;
-use mds_gate::OpenGate;
-use mds_trace::{Opening, Report, WithFault, replay, replay_with};
+use mds_trace::{Opening, Report, replay};
 use std::alloc::Global;
 use std::io::{Read, Write};
-use std::thread::Threads;
 
-/// What a replay is asked.
-#[derive(Clone, Copy, Debug, PartialEq, Eq)]
-pub struct ReplayOptions {
-    /// What its vehicles hold at first.
-    pub opening: Opening,
-    /// How many workers share it, 1 to [`mds_trace::MAX_WORKERS`].
-    pub workers: usize,
-}
-
-/// Replays a file of events over the tables of a table file, or where none is given over the profile's, as it is asked, and
-/// prints a line for each item, a line for each vehicle, and the totals. It answers the code of the status
+/// Replays a file of events over the tables of a table file, or where none is given over the profile's, with this opening of
+/// its vehicles, and prints a line for each item, a line for each vehicle, and the totals. It answers the code of the status
 /// that the program ends with: `Done` where each item was accepted, `Refused` where one was not, and else the one of the
 /// problem, which is told to `faults` in one line: `Fault` for a file that can't be read, is no table or no batch, or an
 /// output that fails, `NoMemory` for want of memory.
-pub fn replay_to<P: Threads + Sync, T: Read + Drop, R: Read + Drop, W: Write, E: Write>(
-    rt: &P,
+pub fn replay_to<T: Read + Drop, R: Read + Drop, W: Write, E: Write>(
     alloc: Global,
     table: Option<Source<'_, T>>,
     file: Source<'_, R>,
-    asked: ReplayOptions,
+    opening: Opening,
     out: &mut W,
     faults: &mut E,
 ) -> u8
-    requires { IsWorkerCount asked.workers }
-    ensures ran { result < 2 → Replayed asked.opening T.remaining table.entry R.remaining file.entry
+    ensures ran { result < 2 → Replayed opening T.remaining table.entry R.remaining file.entry
         result
         (W.contents out.old) (W.contents out.new)
         × Keeps (E.contents faults.old) (E.contents faults.new) }
-    ensures told { 2 ≤ result → Told asked.opening T.remaining table.entry R.remaining file.entry result
+    ensures told { 2 ≤ result → Told opening T.remaining table.entry R.remaining file.entry result
         (W.contents out.old) (W.contents out.new) (E.contents faults.old) (E.contents faults.new) }
 {
-    match replay_into(rt, alloc, table, file, asked, out) {
+    match replay_into(alloc, table, file, opening, out) {
         Ok(refused) => status_on(refused).code(),
         Err(problem) => tell(alloc, faults, problem).code(),
     }
@@ -65,54 +51,42 @@ pub(crate) fn status_on(refused: usize) -> Status
 }
 
 /// Replays the file's items over the tables and prints the report; it answers how many items were not accepted.
-fn replay_into<'a, P: Threads + Sync, T: Read + Drop, R: Read + Drop, W: Write>(
-    rt: &P,
+fn replay_into<'a, T: Read + Drop, R: Read + Drop, W: Write>(
     alloc: Global,
     table: Option<Source<'a, T>>,
     file: Source<'a, R>,
-    asked: ReplayOptions,
+    opening: Opening,
     out: &mut W,
 ) -> Result<usize, Problem<'a>>
-    requires { IsWorkerCount asked.workers }
     ensures ok { IfOk result (λ refused. (report : Report)
-        × HasReport asked.opening T.remaining table.entry R.remaining file.entry report
-        × Appends (W.contents out.old) (W.contents out.new) (report_text asked.opening report)
+        × HasReport opening T.remaining table.entry R.remaining file.entry report
+        × Appends (W.contents out.old) (W.contents out.new) (report_text opening report)
         × (refused ≡ report.refused)) }
-    ensures err { IfErr result (λ problem. ExplainsReplay asked.opening T.remaining table.entry
+    ensures err { IfErr result (λ problem. ExplainsReplay opening T.remaining table.entry
         R.remaining file.entry problem
-        × WentOut asked.opening T.remaining table.entry R.remaining file.entry problem
+        × WentOut opening T.remaining table.entry R.remaining file.entry problem
         (W.contents out.old) (W.contents out.new)) }
 {
-    let report = report_on(rt, alloc, table, file, asked)?;
-    print_report(alloc, out, &report, asked.opening)?;
+    let report = report_on(alloc, table, file, opening)?;
+    print_report(alloc, out, &report, opening)?;
     Ok(report.refused)
 }
 
-/// The report of a replay of the file's items over the tables. A single worker needs no thread.
-fn report_on<'a, P: Threads + Sync, T: Read + Drop, R: Read + Drop>(
-    rt: &P,
+/// The report of a replay of the file's items over the tables.
+fn report_on<'a, T: Read + Drop, R: Read + Drop>(
     alloc: Global,
     table: Option<Source<'a, T>>,
     file: Source<'a, R>,
-    asked: ReplayOptions,
+    opening: Opening,
 ) -> Result<Report, Problem<'a>>
-    requires { IsWorkerCount asked.workers }
-    ensures ok { IfOk result (HasReport asked.opening T.remaining table.entry R.remaining file.entry) }
-    ensures err { IfErr result (λ problem. ExplainsReplay asked.opening T.remaining table.entry
+    ensures ok { IfOk result (HasReport opening T.remaining table.entry R.remaining file.entry) }
+    ensures err { IfErr result (λ problem. ExplainsReplay opening T.remaining table.entry
         R.remaining file.entry problem
         × (problem ≢ Problem.Output)) }
 {
     let tables = tables_in(alloc, table)?;
     let items = items_in(alloc, file)?;
-    if asked.workers == 1 {
-        return Ok(replay(alloc, tables, &items, asked.opening)?);
-    }
-    let ReplayOptions { opening, workers } = asked;
-    match replay_with(rt, alloc, &tables, &items, opening, workers, &OpenGate) {
-        Ok(report) => Ok(report),
-        Err(WithFault::Memory) => Err(Problem::Memory),
-        Err(WithFault::BadWorkers) => unreachable!(),
-    }
+    Ok(replay(alloc, tables, &items, opening)?)
 }
 
 /// Prints the tables of a table file, or where none is given the profile's: a line for each row, in row order, and their

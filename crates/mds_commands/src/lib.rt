@@ -14,7 +14,7 @@ mod rows;
 mod source;
 mod status;
 
-pub use commands::{ReplayOptions, replay_to, table_to};
+pub use commands::{replay_to, table_to};
 pub use debug::{Named, debug_to};
 pub use problem::{Problem, tell};
 pub use source::{Source, tables_in};

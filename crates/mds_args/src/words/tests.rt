@@ -7,29 +7,16 @@ use std::test::Fail;
 /// Words, of which the first is the program's name, and the command that they ask for, if they ask for one.
 type Case<'a> = (&'a [&'a str], Option<Command<'a>>);
 
-/// The replay of a file by one worker, whose vehicles are registered first.
+/// The replay of a file, whose vehicles are registered first.
 fn replay<'a>(file: &'a str, table: Option<&'a str>) -> Option<Command<'a>> {
-    replay_by(file, table, 1)
+    let any = false;
+    Some(Command::Replay { file, table, any })
 }
 
-/// The same by so many workers.
-fn replay_by<'a>(file: &'a str, table: Option<&'a str>, workers: usize) -> Option<Command<'a>> {
-    Some(Command::Replay {
-        file,
-        table,
-        any: false,
-        workers,
-    })
-}
-
-/// The replay of a file by one worker, whose vehicles may hold any state.
+/// The replay of a file, whose vehicles may hold any state.
 fn replay_any<'a>(file: &'a str, table: Option<&'a str>) -> Option<Command<'a>> {
-    Some(Command::Replay {
-        file,
-        table,
-        any: true,
-        workers: 1,
-    })
+    let any = true;
+    Some(Command::Replay { file, table, any })
 }
 
 /// The debugger on the vehicle `b` of the provider `a`.
@@ -66,7 +53,7 @@ fn table(table: Option<&str>) -> Option<Command<'_>> {
 #[test]
 fn words_ask_for_commands(rt: HostRuntime) {
     let rows = Some("rows.json");
-    let cases: [Case<'_>; 17] = [
+    let cases: [Case<'_>; 15] = [
         (
             &["mds_city", "serve", "--port", "0", "--each", "0"],
             serve(0, 0, 4, None),
@@ -122,21 +109,6 @@ fn words_ask_for_commands(rt: HostRuntime) {
             &["mds_city", "replay", "--any", "--table", "rows.json", "F"],
             replay_any("F", rows),
         ),
-        (
-            &["mds_city", "replay", "-", "--workers", "4"],
-            replay_by("-", None, 4),
-        ),
-        (
-            &[
-                "mds_city",
-                "replay",
-                "--workers=64",
-                "F",
-                "--table",
-                "rows.json",
-            ],
-            replay_by("F", rows, 64),
-        ),
         (&["mds_city", "debug", "F", "a", "b"], debug("F", None)),
         (
             &["mds_city", "debug", "-", "--table=rows.json", "a", "b"],
@@ -149,7 +121,7 @@ fn words_ask_for_commands(rt: HostRuntime) {
 }
 
 /// Words that ask for no command, or for help.
-const NOTHING: [&[&str]; 23] = [
+const NOTHING: [&[&str]; 20] = [
     &["mds_city", "serve"],
     &["mds_city", "serve", "--port", "0"],
     &["mds_city", "serve", "--each", "0"],
@@ -179,9 +151,6 @@ const NOTHING: [&[&str]; 23] = [
     &["mds_city", "debug", "F", "a"],
     &["mds_city", "debug", "F", "a", "b", "--any"],
     &["mds_city", "replay", "-", "--any=true"],
-    &["mds_city", "replay", "-", "--workers", "0"],
-    &["mds_city", "replay", "-", "--workers", "65"],
-    &["mds_city", "debug", "F", "a", "b", "--workers", "1"],
     &[],
     &["mds_city"],
     &["mds_city", "replay", "--table", "rows.json"],
@@ -241,7 +210,6 @@ Arguments:
 Options:
       --table <FILE>  A table of transitions, or several with times; without it the profile's
       --any           Lets a vehicle hold any state before its first event
-      --workers <N>   How many workers there are [default: 1]
   -h, --help          Print help
 ";
 
@@ -301,5 +269,34 @@ fn mistakes_are_told(rt: HostRuntime) -> Result<(), Fail> {
     let (kind, told) = error_of(rt.alloc(), &["mds_city", "replay"])?;
     assert_eq!(rt; kind, WordsErrorKind::Mistake);
     assert!(rt; told.as_str().starts_with("error: ") && told.as_str().ends_with("\n"));
+    Ok(())
+}
+
+/// The command that words ask for, or why they ask for none.
+fn command_of<'a>(alloc: Global, words: &'a [&'a str]) -> Result<Command<'a>, WordsErrorKind> {
+    parse_words(alloc, words).map_err(|error| error.kind())
+}
+
+/// The same, asked again where a growth is refused.
+fn command_again<'a>(alloc: Global, words: &'a [&'a str]) -> Result<Command<'a>, WordsErrorKind> {
+    match command_of(alloc, words) {
+        Err(WordsErrorKind::Memory) => command_of(alloc, words),
+        other => other,
+    }
+}
+
+/// Words that ask for a command, mistaken ones, and such as ask for help (growths are refused by `tests/refused-growths`).
+#[test]
+fn words_are_read_after_a_refused_growth(rt: HostRuntime) -> Result<(), Fail> {
+    let words = ["mds_city", "serve", "--port", "80", "--each", "9"];
+    let served = serve(80, 9, 4, None).ok_or("a command")?;
+    assert_eq!(rt; command_again(rt.alloc(), &words), Ok(served));
+    let mistake = Err(WordsErrorKind::Mistake);
+    assert_eq!(rt;
+        command_again(rt.alloc(), &["mds_city", "table", "X"]),
+        mistake
+    );
+    let help = Err(WordsErrorKind::Help);
+    assert_eq!(rt; command_again(rt.alloc(), &["mds_city", "--help"]), help);
     Ok(())
 }

@@ -1,7 +1,7 @@
 //! Readers and writers that fail.
-use super::tests::asked_of;
 use super::{replay_to, table_to};
 use crate::source::Source;
+use mds_trace::Opening;
 use std::io;
 use std::io::{ErrorKind, Read, Write};
 use std::test::Fail;
@@ -59,11 +59,10 @@ fn file_that_cannot_be_read(rt: HostRuntime) -> Result<(), Fail> {
         };
         let table: Option<Source<'_, &[u8]>> = None;
         let status = replay_to(
-            &rt,
             alloc,
             table,
             source,
-            asked_of(1),
+            Opening::Removed,
             &mut out,
             &mut faults,
         );
@@ -91,11 +90,10 @@ fn table_that_was_not_opened_comes_first(rt: HostRuntime) -> Result<(), Fail> {
         reader: Some(Breaks { left: 0 }),
     };
     let status = replay_to(
-        &rt,
         alloc,
         Some(table),
         file,
-        asked_of(1),
+        Opening::Removed,
         &mut out,
         &mut faults,
     );
@@ -116,11 +114,10 @@ fn output_that_fails(rt: HostRuntime) -> Result<(), Fail> {
         };
         let table: Option<Source<'_, &[u8]>> = None;
         let status = replay_to(
-            &rt,
             alloc,
             table,
             source,
-            asked_of(1),
+            Opening::Removed,
             &mut out,
             &mut faults,
         );

@@ -1,18 +1,14 @@
 //! Each command, carried out again where a growth is refused (by `tests/refused-growths`).
-ghost use Rattle.mds_replay.specs.WithFault.{IsWorkerCount};
-
-use super::tests::{
-    FIVE_EVENTS, FIVE_LINES, ONE_ROW, TWO_TABLES, TWO_TABLES_LINES, asked_of, file,
-};
+use super::tests::{FIVE_EVENTS, FIVE_LINES, ONE_ROW, TWO_TABLES, TWO_TABLES_LINES, file};
 use super::{replay_to, table_to};
 use crate::debug::tests::{FIRST, PROVIDER, SCRIPT, SCRIPT_LINES, TWO_EVENTS};
 use crate::debug::{Named, debug_to};
 use crate::source::Source;
+use mds_trace::Opening;
 use std::alloc::Global;
 use std::io;
 use std::io::{ErrorKind, Write};
 use std::test::Fail;
-use std::thread::Threads;
 
 /// A writer that takes this text alone, and no memory.
 #[derive(Drop)]
@@ -44,10 +40,7 @@ fn is_refused(came: Came) -> bool {
     came.0 == 4 && came.2
 }
 
-/// The replay of the five events by so many workers.
-fn replayed<P: Threads + Sync>(rt: &P, alloc: Global, workers: usize) -> Came
-    requires { IsWorkerCount workers }
-{
+fn replayed(alloc: Global) -> Came {
     let mut out = Expects {
         rest: FIVE_LINES.as_bytes(),
     };
@@ -56,11 +49,10 @@ fn replayed<P: Threads + Sync>(rt: &P, alloc: Global, workers: usize) -> Came
     };
     let table: Option<Source<'_, &[u8]>> = None;
     let status = replay_to(
-        rt,
         alloc,
         table,
         file("F", FIVE_EVENTS),
-        asked_of(workers),
+        Opening::Removed,
         &mut out,
         &mut faults,
     );
@@ -81,21 +73,9 @@ fn tabled(alloc: Global, text: &str, lines: &str) -> Came {
 
 #[test]
 fn replay_succeeds_after_a_refused_growth(rt: HostRuntime) -> Result<(), Fail> {
-    let first = replayed(&rt, rt.alloc(), 1);
+    let first = replayed(rt.alloc());
     let came = if is_refused(first) {
-        replayed(&rt, rt.alloc(), 1)
-    } else {
-        first
-    };
-    assert_eq!(rt; came, (1, true, false));
-    Ok(())
-}
-
-#[test]
-fn replay_by_workers_succeeds_after_a_refused_growth(rt: HostRuntime) -> Result<(), Fail> {
-    let first = replayed(&rt, rt.alloc(), 4);
-    let came = if is_refused(first) {
-        replayed(&rt, rt.alloc(), 4)
+        replayed(rt.alloc())
     } else {
         first
     };

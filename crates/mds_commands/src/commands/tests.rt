@@ -1,12 +1,8 @@
 //! The worked cases, from bytes to bytes, and what no clause says: that each call can succeed.
-ghost use Rattle.std.specs.Prelude.{◌≡◌};
-ghost use Rattle.mds_replay.specs.WithFault.{IsWorkerCount};
-
-use super::{ReplayOptions, replay_to, table_to};
+use super::{replay_to, table_to};
 use crate::source::Source;
 use mds_trace::Opening;
 use std::alloc::Global;
-use std::thread::Threads;
 
 /// The five-event run, and the lines that it prints.
 pub const FIVE_EVENTS: &str = r#"[
@@ -109,30 +105,17 @@ type Replay = (
     &'static str,
 );
 
-/// What a replay over registered vehicles by so many workers is asked.
-pub fn asked_of(workers: usize) -> ReplayOptions
-    ensures { result.workers ≡ workers }
-{
-    ReplayOptions {
-        opening: Opening::Removed,
-        workers,
-    }
-}
-
-/// Whether the replay by so many workers comes to this.
-fn replays<P: Threads + Sync>(rt: &P, alloc: Global, case: &Replay, workers: usize) -> bool
-    requires { IsWorkerCount workers }
-{
+/// Whether the replay comes to this.
+fn replays(alloc: Global, case: &Replay) -> bool {
     let (table, text, status, out, faults) = *case;
     let mut printed = Vec::new(alloc);
     let mut told = Vec::new(alloc);
     let table = table.map(|rows| file("T", rows));
     let code = replay_to(
-        rt,
         alloc,
         table,
         file("F", text),
-        asked_of(workers),
+        Opening::Removed,
         &mut printed,
         &mut told,
     );
@@ -170,8 +153,7 @@ fn worked_replays(rt: HostRuntime) {
         ),
     ];
     for case in &cases {
-        assert!(rt; replays(&rt, rt.alloc(), case, 1), "{case:?}");
-        assert!(rt; replays(&rt, rt.alloc(), case, 4), "{case:?}");
+        assert!(rt; replays(rt.alloc(), case), "{case:?}");
     }
 }
 

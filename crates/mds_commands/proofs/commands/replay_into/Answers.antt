@@ -18,7 +18,7 @@ unwritten begins table_bytes table file_bytes file write.Device old new front = 
 pub returns-in_err-print_report-clause-err : goal.returns-in_err-print_report-clause-err
 returns-in_err-print_report-clause-err g c =
     passed_on _ _ _ c.from_residual-in_err-print_report.ensures.1
-    (unwritten c.args.asked.opening g.T.Read.remaining c.args.table g.R.Read.remaining c.args.file c.in_err-print_report.field-0.0
+    (unwritten c.args.opening g.T.Read.remaining c.args.table g.R.Read.remaining c.args.file c.in_err-print_report.field-0.0
     (g.W.Write.contents c.args.out.now) (g.W.Write.contents c.print_report.new.writer)
     (c.in_ok-report.report, c.in_ok-report.ensures.ok, c.in_err-print_report.ensures.err))
 

@@ -34,7 +34,7 @@ returns-in-Err-clause-told g c _ =
         Memory,
         c.code-in-Err.ensures ∙ ap code_of told.0,
         tt,
-        out_before c.args.asked.opening g.T.Read.remaining c.args.table g.R.Read.remaining c.args.file c.in-Err.problem
+        out_before c.args.opening g.T.Read.remaining c.args.table g.R.Read.remaining c.args.file c.in-Err.problem
             (g.W.Write.contents c.args.out.now) (g.W.Write.contents c.replay_into.new.out) failed.1,
         told.1,
       )
