@@ -2,3 +2,4 @@
 pub mod ErrorLemmas
 pub mod LineLemmas
 pub mod FeedLemmas
+pub mod LineLaws

@@ -40,6 +40,10 @@ hold_item lines line items item filled is few held = record {
   few = omega (arith, few, length-append items (item ∷ []));
 }
 
+-- lines and one more, joined
+pub feeds_with : (lines : List (List ℕ)) (line : List ℕ) → with_feeds (lines ++ line ∷ []) ≡ with_feeds lines ++ (line ++ 10 ∷ [])
+feeds_with lines line = flat_map-append (λ l. l ++ 10 ∷ []) lines (line ∷ []) ∙ ap (λ last. with_feeds lines ++ last) (append-nil (line ++ 10 ∷ []))
+
 -- ---- bytes that are split into lines
 
 module _ (bytes : List ℕ) (ended count : ℕ) where
@@ -70,7 +74,7 @@ module _ (bytes : List ℕ) (ended count : ℕ) where
   -- the lines with one more, joined
   feeds_push : (lines : List (List ℕ)) (rest : List ℕ) → IsSplit bytes ended count lines rest → with_feeds (lines ++ rest ∷ []) ≡ bytes ++ 10 ∷ []
   feeds_push lines rest split =
-      flat_map-append (λ line. line ++ 10 ∷ []) lines (rest ∷ []) ∙ ap (λ last. with_feeds lines ++ last) (append-nil (rest ++ 10 ∷ [])) ∙ sym (append_assoc (with_feeds lines) rest (10 ∷ [])) ∙ ap (λ all. all ++ 10 ∷ []) (sym split.begins.joined)
+      feeds_with lines rest ∙ sym (append_assoc (with_feeds lines) rest (10 ∷ [])) ∙ ap (λ all. all ++ 10 ∷ []) (sym split.begins.joined)
 
   -- a line feed ends the last line
   pub read_feed : (items : List EventItem) (place number : ℕ) → place ≡ length bytes + 1 → number ≡ count + 1 → AreTaken bytes ended count items → AreRead (bytes ++ 10 ∷ []) place number items

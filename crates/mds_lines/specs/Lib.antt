@@ -3,3 +3,4 @@ pub mod Stream
 pub mod Reading
 pub mod Fed
 pub mod LineFault
+pub mod Laws
