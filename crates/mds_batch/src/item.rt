@@ -66,7 +66,7 @@ pub enum EventItem {
 
 /// An item of a batch: it asks for a request, or something is wrong with it.
 pub trait BatchItem {
-    ghost use Rattle.std.specs.Prelude.{◌≡◌, Option};
+    ghost use Rattle.std.specs.Prelude.{◌≡◌, Option, Some, None, cond};
     ghost use Rattle.mds_core.specs.declared.request.Request.{Request as Asked};
     ghost use Rattle.mds_batch.specs.declared.item.ItemFault.{ItemFault as Wrong};
 
@@ -76,9 +76,10 @@ pub trait BatchItem {
     /// What is wrong with an item, if anything is.
     ghost wrong: { Self → Option Wrong };
 
-    /// The request that the item asks for, or `None` where something is wrong with it.
-    fn request(&self) -> Option<Request>
-        ensures { result ≡ asked self.now };
+    /// Makes the request that the item asks for, in the place of another one, and answers whether it asks for one: it
+    /// doesn't where something is wrong with it. Of an event only what it has of its own is copied.
+    fn ask(&self, request: &mut Request) -> bool
+        ensures { asked self.now ≡ cond result (Some request.new) None };
 
     /// What is wrong with the item, or `None` where it asks for a request.
     fn fault(&self) -> Option<ItemFault>
@@ -92,10 +93,13 @@ impl BatchItem for VehicleItem {
 
     ghost wrong = { vehicle_fault };
 
-    fn request(&self) -> Option<Request> {
+    fn ask(&self, request: &mut Request) -> bool {
         match self {
-            VehicleItem::Vehicle(key) => Some(Request::Register(*key)),
-            VehicleItem::Fault(_) => None,
+            VehicleItem::Vehicle(key) => {
+                *request = Request::Register(*key);
+                true
+            }
+            VehicleItem::Fault(_) => false,
         }
     }
 
@@ -114,11 +118,15 @@ impl BatchItem for EventItem {
 
     ghost wrong = { event_fault };
 
-    fn request(&self) -> Option<Request> {
-        match self {
-            EventItem::Event(event) => Some(Request::Report(*event)),
-            EventItem::Fault(_) => None,
+    fn ask(&self, request: &mut Request) -> bool {
+        let EventItem::Event(event) = self else {
+            return false;
+        };
+        match request {
+            Request::Report(before) => before.assign_from(event),
+            _ => *request = Request::Report(*event),
         }
+        true
     }
 
     fn fault(&self) -> Option<ItemFault> {

@@ -19,6 +19,7 @@ use std::error::Error;
 use std::fmt;
 use std::hash::RandomState;
 use std::marker::Model;
+use std::slice::from_ref;
 use std::sync::ledger::{Blank, Share};
 use std::sync::{Mutex, Wait};
 
@@ -276,11 +277,12 @@ impl<L: ShardLedger, M: ShardLedger> Book<L, M> {
             step_in(rt, &self.second, &mut seat.second, request)?
         };
         if seat.keeps_all || is_done(&reply) {
-            seat.notes.push(Note {
+            let note = Note {
                 shard,
                 request: *request,
                 reply,
-            })?;
+            };
+            seat.notes.extend_from_slice(from_ref(&note))?;
         }
         Ok(reply)
     }

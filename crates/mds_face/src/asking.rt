@@ -6,10 +6,12 @@ ghost use Rattle.mds_face.specs.Asking.{IsTurn, IsLastTurn};
 
 use crate::Desk;
 use mds_batch::BatchItem;
-use mds_core::Reply;
+use mds_core::{Key, Reply, Request};
 use std::alloc::{AllocError, Global};
+use uuid::Uuid;
 
 /// Puts the request of an item that isn't at fault to the desk, and its reply behind the others, for which there is room.
+/// The request is made in the place of the one before.
 ///
 /// # Errors
 ///
@@ -17,6 +19,7 @@ use std::alloc::{AllocError, Global};
 fn ask_one<D: Desk, I: BatchItem>(
     desk: &mut D,
     item: &I,
+    request: &mut Request,
     replies: &mut Vec<Reply>,
 ) -> Result<(), AllocError>
     requires room { vec_len replies.old < vec_capacity replies.old }
@@ -27,10 +30,10 @@ fn ask_one<D: Desk, I: BatchItem>(
     ensures capacity { vec_capacity replies.old ≤ vec_capacity replies.new }
     ensures len { vec_len replies.new ≤ vec_len replies.old + 1 }
 {
-    let Some(request) = item.request() else {
+    if !item.ask(request) {
         return Ok(());
-    };
-    let Ok(reply) = desk.call(&request) else {
+    }
+    let Ok(reply) = desk.call(request) else {
         return Err(AllocError);
     };
     let pushed = replies.push(reply);
@@ -54,8 +57,12 @@ pub(crate) fn ask_all<D: Desk, I: BatchItem>(
     ensures unchanged { OnErr result (desk.new ≡ desk.old) }
 {
     let mut replies = Vec::with_capacity(alloc, items.len())?;
+    let mut request = Request::Look(Key {
+        provider: Uuid::nil(),
+        device: Uuid::nil(),
+    });
     for item in items {
-        let Ok(()) = ask_one(desk, item, &mut replies) else {
+        let Ok(()) = ask_one(desk, item, &mut request, &mut replies) else {
             return Ok(replies);
         };
     }
