@@ -5,3 +5,5 @@ pub mod Walk
 pub mod Session
 pub mod SessionFault
 pub mod SessionLaws
+pub mod Feeding
+pub mod LineReport

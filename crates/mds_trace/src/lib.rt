@@ -4,6 +4,7 @@
 #![tactic(auto)]
 
 pub mod laws;
+mod line_replay;
 mod session;
 mod session_events;
 mod session_fault;
@@ -12,6 +13,8 @@ mod session_tests;
 #[cfg(test)]
 mod timed_tests;
 
+pub use line_replay::LineReplay;
+pub use mds_lines::LineFault;
 pub use mds_replay::{
     MAX_WORKERS, Opening, Report, VehicleEnd, Verdict, WithFault, replay, replay_with,
 };

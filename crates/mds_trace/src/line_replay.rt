@@ -1,0 +1,98 @@
+//! The replay of a stream's lines, which are fed in pieces.
+ghost use Rattle.std.specs.Prelude.{◌≡◌, ◌++◌, [], Some, None, IfOk, IfErr, OnOk, Err};
+ghost use Rattle.mds_lines.specs.declared.fault.LineFault.{LineFault as Fault};
+ghost use Rattle.mds_lines.specs.Stream.{HasLineFault, IsFaultyWith};
+ghost use Rattle.mds_trace.specs.LineReport.{IsLineReport};
+
+use crate::{Opening, Report, replay};
+use mds_lines::{LineFault, LineReader};
+use mds_table::Tables;
+use std::alloc::Global;
+use std::marker::Model;
+
+/// A replay of a stream of lines, one item a line, which are fed in pieces: however the stream is cut, it comes to the
+/// replay of the items of its lines, or to the stream's first fault.
+///
+/// It keeps the bytes that it was fed and the items of their lines up to the first fault, and replays them where the
+/// stream ends.
+#[derive(Drop)]
+pub struct LineReplay {
+    tables: Tables,
+    opening: Opening,
+    lines: LineReader,
+}
+
+impl Model for LineReplay {
+    ghost use Rattle.mds_trace.specs.Feeding.{Feeding};
+
+    ghost Value = { Feeding };
+
+    ghost view = { λ replay. record {
+      tables = replay.tables;
+      opening = replay.opening;
+      stream = replay.lines;
+    } };
+}
+
+impl LineReplay {
+    /// A replay over these tables, with this opening of its vehicles, of a stream of which nothing has come. It takes no
+    /// memory.
+    pub fn open(alloc: Global, tables: Tables, opening: Opening) -> LineReplay
+        ensures { result ≡ record {
+          tables = tables;
+          opening = opening;
+          stream = record { bytes = []; fault = None };
+        } }
+    {
+        LineReplay {
+            tables,
+            opening,
+            lines: LineReader::open(alloc),
+        }
+    }
+
+    /// Takes in the next bytes of the stream, and reads the lines that end in them.
+    ///
+    /// # Errors
+    ///
+    /// The first fault of the stream, as far as it has come: every stream that begins so has it.
+    /// [`LineFault::Memory`] comes as soon as a growth is refused, and then says nothing of the stream. Each later call
+    /// answers the same fault.
+    pub fn feed(&mut self, piece: &[u8]) -> Result<(), LineFault>
+        ensures fed { OnOk result (self.new ≡ record self.old {
+          stream = record { bytes = self.old.stream.bytes ++ piece.now; fault = None };
+        }) }
+        ensures whole { OnOk result (self.old.stream.fault ≡ None) }
+        ensures fault { IfErr result (IsFaultyWith (self.old.stream.bytes ++ piece.now)) }
+        ensures kept { IfErr result (λ fault. self.new.stream.fault ≡ Some fault) }
+        ensures again { (fault : Fault) → self.old.stream.fault ≡ Some fault
+            → (result ≡ Err fault) × (self.new ≡ self.old) }
+        ensures tables { self.new.tables ≡ self.old.tables }
+        ensures opening { self.new.opening ≡ self.old.opening }
+    {
+        self.lines.feed(piece)
+    }
+
+    /// The replay of the items of the stream's lines: the stream ends here.
+    ///
+    /// # Errors
+    ///
+    /// The first fault of the stream, the one that [`LineReplay::feed`] answered if it did; [`LineFault::Memory`] also
+    /// where there is no memory for the replay.
+    pub fn finish(self) -> Result<Report, LineFault>
+        ensures report { IfOk result (IsLineReport self.opening self.tables self.stream.bytes) }
+        ensures whole { OnOk result (self.stream.fault ≡ None) }
+        ensures fault { IfErr result (HasLineFault self.stream.bytes) }
+        ensures again { (fault : Fault) → self.stream.fault ≡ Some fault → result ≡ Err fault }
+    {
+        let items = self.lines.finish()?;
+        let alloc = *items.allocator();
+        match replay(alloc, self.tables, &items, self.opening) {
+            Ok(report) => Ok(report),
+            Err(_) => Err(LineFault::Memory),
+        }
+    }
+}
+
+#[cfg(test)]
+mod tests;
