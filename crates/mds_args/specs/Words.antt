@@ -15,9 +15,9 @@ word_rule name = record (new_rule name) { required = true }
 abbrev pub table_rule : Rule
 table_rule = record (new_rule (codes "table")) { long = Some (codes "table"); value_names = 1 }
 
--- the flag `--any`
-abbrev pub any_rule : Rule
-any_rule = record (new_rule (codes "any")) { long = Some (codes "any"); action = Some SetTrue }
+-- a flag of this name
+abbrev pub flag_rule : Text → Rule
+flag_rule name = record (new_rule name) { long = Some name; action = Some SetTrue }
 
 -- an option of this name, which takes a number of this range
 abbrev pub number_rule : Text → ℕ → ℕ → Rule
@@ -37,18 +37,20 @@ max_each = 1000000
 abbrev pub max_workers : ℕ
 max_workers = 64
 
--- the option `--workers`, which is 4 where it isn't given
-abbrev pub workers_rule : Rule
-workers_rule = record (number_rule (codes "workers") 1 max_workers) { defaults = codes "4" ∷ [] }
+-- the option `--workers`, which is this number where it isn't given
+abbrev pub workers_rule : Text → Rule
+workers_rule number = record (number_rule (codes "workers") 1 max_workers) { defaults = number ∷ [] }
 
 -- the command `serve`, with its numbers and the option
 abbrev pub serve_app : App
 serve_app =
-    with_rule (with_rule (with_rule (with_rule (new_app (codes "serve")) (needed_number_rule (codes "port") max_port)) (needed_number_rule (codes "each") max_each)) workers_rule) table_rule
+    with_rule (with_rule (with_rule (with_rule (new_app (codes "serve")) (needed_number_rule (codes "port") max_port)) (needed_number_rule (codes "each") max_each)) (workers_rule (codes "4"))) table_rule
 
--- the command `replay`, with its file, the option and the flag
+-- the command `replay`, with its file, the table's option, the flags and the number of workers
 abbrev pub replay_app : App
-replay_app = with_rule (with_rule (with_rule (new_app (codes "replay")) (word_rule (codes "FILE"))) table_rule) any_rule
+replay_app =
+    with_rule (with_rule (with_rule (with_rule (with_rule (new_app (codes "replay")) (word_rule (codes "FILE"))) table_rule)
+    (flag_rule (codes "any"))) (flag_rule (codes "lines"))) (workers_rule (codes "1"))
 
 -- the command `debug`, with its file, its vehicle's provider and device, and the option
 abbrev pub debug_app : App
@@ -70,7 +72,7 @@ program_app = with_subcommand (with_subcommand (with_subcommand (with_subcommand
 -- the name of a command
 abbrev pub name_of : Command → Text
 name_of (Serve port each workers table) = codes "serve"
-name_of (Replay file table any) = codes "replay"
+name_of (Replay file table any lines workers) = codes "replay"
 name_of (Debug file provider device table) = codes "debug"
 name_of (Table table) = codes "table"
 
@@ -89,14 +91,19 @@ LacksNumber values =
     HasNoNumber 0 max_port (first_of (codes "port") values) ⊎ HasNoNumber 0 max_each (first_of (codes "each") values)
     ⊎ HasNoNumber 1 max_workers (first_of (codes "workers") values)
 
+-- the file is missing, or the number of workers is missing or out of its range
+abbrev pub LacksFileOrWorkers : List Row → Type 0
+LacksFileOrWorkers values = (first_of (codes "FILE") values ≡ None) ⊎ HasNoNumber 1 max_workers (first_of (codes "workers") values)
+
 -- the values that were found are those of this command; it has no table where none was given, and a flag that is set is true
 abbrev pub HasValues : List Row → Command → Type 0
 HasValues values (Serve port each workers table) =
     IsNumber 0 max_port (first_of (codes "port") values) port × IsNumber 0 max_each (first_of (codes "each") values) each
     × IsNumber 1 max_workers (first_of (codes "workers") values) workers × (first_of (codes "table") values ≡ option_map (λ path. path.now) table)
-HasValues values (Replay file table any) =
+HasValues values (Replay file table any lines workers) =
     (first_of (codes "FILE") values ≡ Some file.now) × (first_of (codes "table") values ≡ option_map (λ path. path.now) table)
-    × (IsTrue any ↔ (first_of (codes "any") values ≡ Some (codes "true")))
+    × (IsTrue any ↔ (first_of (codes "any") values ≡ Some (codes "true"))) × (IsTrue lines ↔ (first_of (codes "lines") values ≡ Some (codes "true")))
+    × IsNumber 1 max_workers (first_of (codes "workers") values) workers
 HasValues values (Debug file provider device table) =
     (first_of (codes "FILE") values ≡ Some file.now) × (first_of (codes "PROVIDER") values ≡ Some provider.now)
     × (first_of (codes "DEVICE") values ≡ Some device.now) × (first_of (codes "table") values ≡ option_map (λ path. path.now) table)

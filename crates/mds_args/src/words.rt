@@ -5,8 +5,8 @@ ghost use Rattle.clap.specs.Words.{app_of, fault_of, first_of, found_of, kind_of
 ghost use Rattle.clap.specs.Words.{subcommand_of, subcommand_rows_of, takes, with_subcommand};
 ghost use Rattle.mds_args.specs.Error.{HasCause, IsCause, words_kind};
 ghost use Rattle.mds_args.specs.Words.{Asks, AsksNothing, IsAskedBy, AreTaken};
-ghost use Rattle.mds_args.specs.Words.{HasNoNumber, HasValues, IsNumber, LacksNumber, LacksOneOf};
-ghost use Rattle.mds_args.specs.Words.{name_of, any_rule, debug_app, max_each, max_port, max_workers};
+ghost use Rattle.mds_args.specs.Words.{HasNoNumber, HasValues, IsNumber, LacksFileOrWorkers, LacksNumber, LacksOneOf};
+ghost use Rattle.mds_args.specs.Words.{name_of, debug_app, flag_rule, max_each, max_port, max_workers};
 ghost use Rattle.mds_args.specs.Words.{needed_number_rule, number_rule, program_app, replay_app};
 ghost use Rattle.mds_args.specs.Words.{serve_app, table_app, table_rule, word_rule, workers_rule};
 
@@ -40,6 +40,10 @@ pub enum Command<'a> {
         table: Option<&'a str>,
         /// Whether a vehicle may hold any state before its first event.
         any: bool,
+        /// Whether each line of the file is an item; else the file is one batch of them.
+        lines: bool,
+        /// How many workers share the replay of a batch, 1 to 64.
+        workers: usize,
     },
     /// Step through the accepted events of a vehicle.
     Debug {
@@ -125,8 +129,8 @@ const MAX_PORT: u64 = 65_535;
 /// at its end.
 const MAX_EACH: u64 = 1_000_000;
 
-/// The most workers: each takes a seat of the book, which has at most `mds_book::MAX_SEATS` of them.
-/// It may not be greater than that: the program's proof then fails.
+/// The most workers. Each of a server takes a seat of the book, which has at most `mds_book::MAX_SEATS` of them, and a
+/// replay has at most `mds_replay::MAX_WORKERS`. It may not be greater than these: the program's proof then fails.
 const MAX_WORKERS: u64 = 64;
 
 /// The command `serve` with these values, or `None` where one of its numbers is missing or out of its range.
@@ -137,13 +141,22 @@ fn serve_of<'a>(values: &ArgMatches<'a>) -> Option<Command<'a>>
 {
     let port = number_of(values, "port", 0, MAX_PORT)?;
     let each = number_of(values, "each", 0, MAX_EACH)?;
-    let workers = number_of(values, "workers", 1, MAX_WORKERS)?;
+    let workers = workers_of(values)?;
     Some(Command::Serve {
         port: port as u16,
         each: each as usize,
-        workers: workers as usize,
+        workers,
         table: values.get_str("table"),
     })
+}
+
+/// The number of workers, or `None` where it is missing or out of its range.
+fn workers_of(values: &ArgMatches<'_>) -> Option<usize>
+    ensures { MatchOption result
+        (HasNoNumber 1 max_workers (first_of (codes "workers") (rows_of (found_of values.now))))
+        (IsNumber 1 max_workers (first_of (codes "workers") (rows_of (found_of values.now)))) }
+{
+    Some(number_of(values, "workers", 1, MAX_WORKERS)? as usize)
 }
 
 /// The number that the value of this name is, or `None` where there is no value or it is no number of this range.
@@ -168,17 +181,20 @@ fn number_in(text: &str, least: u64, most: u64) -> Option<u64>
     }
 }
 
-/// The command `replay` with these values, or `None` where the file is missing.
+/// The command `replay` with these values, or `None` where the file or the number of workers is missing.
 fn replay_of<'a>(values: &ArgMatches<'a>) -> Option<Command<'a>>
-    ensures { MatchOption result (first_of (codes "FILE") (rows_of (found_of values.now)) ≡ None)
+    ensures { MatchOption result (LacksFileOrWorkers (rows_of (found_of values.now)))
         (λ command. (name_of command ≡ codes "replay")
         × HasValues (rows_of (found_of values.now)) command) }
 {
     let file = values.get_str("FILE")?;
+    let workers = workers_of(values)?;
     Some(Command::Replay {
         file,
         table: values.get_str("table"),
         any: is_set(values, "any"),
+        lines: is_set(values, "lines"),
+        workers,
     })
 }
 
@@ -259,7 +275,7 @@ fn with_serve<'a>(alloc: Global, form: clap::Command<'a>) -> Result<clap::Comman
         "How many connections each worker answers",
     );
     let with_each = with_port.arg(each)?;
-    let with_workers = with_each.arg(workers_option(alloc))?;
+    let with_workers = with_each.arg(workers_option(alloc, "4"))?;
     let serve = with_workers.arg(table_option(alloc))?;
     form.subcommand(serve)
 }
@@ -284,9 +300,9 @@ fn needed_number<'a>(alloc: Global, name: &'a str, most: u64, help: &'a str) -> 
     number_option(alloc, name, 0, most, help).required(true)
 }
 
-/// The option `--workers`, which is 4 where it isn't given.
-fn workers_option<'a>(alloc: Global) -> Arg<'a>
-    ensures rule { rule_of result ≡ workers_rule }
+/// The option `--workers`, which is this number where it isn't given.
+fn workers_option<'a>(alloc: Global, default: &'a str) -> Arg<'a>
+    ensures rule { rule_of result ≡ workers_rule default.entry.now }
     ensures local { result.global ≡ false }
 {
     number_option(
@@ -296,7 +312,7 @@ fn workers_option<'a>(alloc: Global) -> Arg<'a>
         MAX_WORKERS,
         "How many workers there are",
     )
-    .default_value("4")
+    .default_value(default)
 }
 
 /// Tells `form` of the command `replay`. It fails only for want of memory.
@@ -308,7 +324,15 @@ fn with_replay<'a>(alloc: Global, form: clap::Command<'a>) -> Result<clap::Comma
     let file = word(alloc, "FILE", "The file of events; - is standard input");
     let with_file = bare.arg(file)?;
     let with_table = with_file.arg(table_option(alloc))?;
-    let replay = with_table.arg(any_option(alloc))?;
+    let any = flag(
+        alloc,
+        "any",
+        "Lets a vehicle hold any state before its first event",
+    );
+    let with_any = with_table.arg(any)?;
+    let lines = flag(alloc, "lines", "Takes each line of the file as an item");
+    let with_lines = with_any.arg(lines)?;
+    let replay = with_lines.arg(workers_option(alloc, "1"))?;
     form.subcommand(replay)
 }
 
@@ -327,15 +351,15 @@ fn with_debug<'a>(alloc: Global, form: clap::Command<'a>) -> Result<clap::Comman
     form.subcommand(debug)
 }
 
-/// The flag `--any`.
-fn any_option<'a>(alloc: Global) -> Arg<'a>
-    ensures rule { rule_of result ≡ any_rule }
+/// A flag, which takes no value.
+fn flag<'a>(alloc: Global, name: &'a str, help: &'a str) -> Arg<'a>
+    ensures rule { rule_of result ≡ flag_rule name.entry.now }
     ensures local { result.global ≡ false }
 {
-    Arg::new(alloc, "any")
-        .long("any")
+    Arg::new(alloc, name)
+        .long(name)
         .action(ArgAction::SetTrue)
-        .help("Lets a vehicle hold any state before its first event")
+        .help(help)
 }
 
 /// A word that must be given.

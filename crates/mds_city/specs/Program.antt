@@ -3,7 +3,11 @@ use Rattle.std.specs.Prelude.{◌≡◌, ◌≢◌, ◌⊎◌, ℕ, ◌<◌, ◌
 use Rattle.std.specs.Io.KnownBytes.{Keeps}
 use Rattle.mds_replay.specs.declared.report.Opening.{Opening}
 use Rattle.mds_replay.specs.declared.report.Opening.TheVariants.{Removed, Any}
+use Rattle.mds_commands.specs.declared.commands.ReplayOptions.{ReplayOptions}
+use Rattle.mds_commands.specs.declared.source.Form.{Form}
+use Rattle.mds_commands.specs.declared.source.Form.TheVariants.{Batch, Lines}
 use Rattle.mds_book.specs.Books.{IsSeatCount}
+use Rattle.mds_replay.specs.WithFault.{IsWorkerCount}
 use Rattle.mds_commands.specs.declared.problem.Problem.TheVariants as problem
 use Rattle.mds_commands.specs.declared.source.Source.{Source}
 use Rattle.mds_commands.specs.declared.status.Status.{Status}
@@ -21,9 +25,10 @@ use Rattle.mds_args.specs.declared.error.WordsErrorKind.TheVariants.{Help, Mista
 use Rattle.mds_args.specs.Error.{HasCause, words_kind}
 use Rattle.mds_args.specs.Words.{IsAskedBy}
 
--- the number of workers, where there are any, is one of seats that a book may have
+-- the number of workers, where there are any, is one of seats that a book may have, or one of workers that a replay may have
 abbrev pub HasWorkers : Command → Type 0
 HasWorkers (Serve port each workers path) = IsSeatCount workers
+HasWorkers (Replay file path any lines workers) = IsWorkerCount workers
 HasWorkers other = Unit {0}
 
 -- the want of memory was told
@@ -43,12 +48,21 @@ abbrev pub opening_if : Bool → Opening
 opening_if true = Any
 opening_if false = Removed
 
+-- how the file of a replay has its items: by the flag `--lines` one on each line
+abbrev pub form_if : Bool → Form
+form_if true = Lines
+form_if false = Batch
+
+-- what these flags and so many workers ask of a replay
+abbrev pub options_of : Bool → Bool → ℕ → ReplayOptions
+options_of any lines workers = record { opening = opening_if any; form = form_if lines; workers = workers }
+
 -- a replay of a file came to this status, and to these bytes at the output and the fault writer
-abbrev pub CameToReplay : {T R : Type 0} → Opening → (T → Option (List ℕ)) → Option (Source T) → (R → Option (List ℕ)) → Source R
+abbrev pub CameToReplay : {T R : Type 0} → ReplayOptions → (T → Option (List ℕ)) → Option (Source T) → (R → Option (List ℕ)) → Source R
     → ℕ → Option (List ℕ) → Option (List ℕ) → Option (List ℕ) → Option (List ℕ) → Type 0
-CameToReplay begins table_bytes table file_bytes file code out out_new faults faults_new =
-    (code < 2 → Replayed begins table_bytes table file_bytes file code out out_new × Keeps faults faults_new)
-    × (2 ≤ code → Told begins table_bytes table file_bytes file code out out_new faults faults_new)
+CameToReplay options table_bytes table file_bytes file code out out_new faults faults_new =
+    (code < 2 → Replayed options table_bytes table file_bytes file code out out_new × Keeps faults faults_new)
+    × (2 ≤ code → Told options table_bytes table file_bytes file code out out_new faults faults_new)
 
 -- a print of a table likewise
 abbrev pub CameToTable : {T : Type 0} → (T → Option (List ℕ)) → Option (Source T)
@@ -73,12 +87,12 @@ module _ {O F : Type 0} (opens : O → List ℕ → Option F → Type 0) (files 
   -- standard input: the bytes that are known of each, and standard input itself
   module _ {L I : Type 0} (listens : O → ℕ → L → ℕ → Type 0) (file_bytes : F → Option (List ℕ)) (input_bytes : I → Option (List ℕ)) (input : I) where
     -- a replay of the file of this path, which is standard input for `-` alone, came to these
-    abbrev pub CarriesReplay : Opening → List ℕ → Option (Source F) → ℕ → Option (List ℕ) → Option (List ℕ) → Option (List ℕ) → Option (List ℕ) → Type 0
-    CarriesReplay begins path table code out out_new faults faults_new =
+    abbrev pub CarriesReplay : ReplayOptions → List ℕ → Option (Source F) → ℕ → Option (List ℕ) → Option (List ℕ) → Option (List ℕ) → Option (List ℕ) → Type 0
+    CarriesReplay options path table code out out_new faults faults_new =
         ((path ≡ codes "-") × (file : Source I) × (file.path.now ≡ path) × (file.reader ≡ Some input)
-        × CameToReplay begins file_bytes table input_bytes file code out out_new faults faults_new)
+        × CameToReplay options file_bytes table input_bytes file code out out_new faults faults_new)
         ⊎ ((path ≢ codes "-") × (file : Source F) × IsFileOf path file
-        × CameToReplay begins file_bytes table file_bytes file code out out_new faults faults_new)
+        × CameToReplay options file_bytes table file_bytes file code out out_new faults faults_new)
 
     -- what a command did: it read the files that it names, and came to these
     abbrev pub Carries : Command → ℕ → Option (List ℕ) → Option (List ℕ) → Option (List ℕ) → Option (List ℕ) → Type 0
@@ -86,8 +100,9 @@ module _ {O F : Type 0} (opens : O → List ℕ → Option F → Type 0) (files 
         (table : Option (Source F)) × IsFileNamed (option_map (λ named. named.now) path) table × CameToServe listens files port file_bytes table workers code out out_new faults faults_new
     Carries (Table path) code out out_new faults faults_new =
         (table : Option (Source F)) × IsFileNamed (option_map (λ named. named.now) path) table × CameToTable file_bytes table code out out_new faults faults_new
-    Carries (Replay file path any) code out out_new faults faults_new =
-        (table : Option (Source F)) × IsFileNamed (option_map (λ named. named.now) path) table × CarriesReplay (opening_if any) file.now table code out out_new faults faults_new
+    Carries (Replay file path any lines workers) code out out_new faults faults_new =
+        (table : Option (Source F)) × IsFileNamed (option_map (λ named. named.now) path) table
+        × CarriesReplay (options_of any lines workers) file.now table code out out_new faults faults_new
     Carries (Debug file provider device path) code out out_new faults faults_new =
         (table : Option (Source F)) × IsFileNamed (option_map (λ named. named.now) path) table × (events : Source F) × IsFileOf file.now events
         × (input_new : Option (List ℕ))

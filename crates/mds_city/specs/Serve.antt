@@ -10,7 +10,7 @@ use Rattle.mds_pool.specs.declared.serving.Stop.{Stop}
 use Rattle.mds_pool.specs.declared.serving.Stop.TheVariants as stop
 use Rattle.mds_commands.specs.declared.source.Source.{Source}
 use Rattle.mds_commands.specs.declared.problem.Problem.{Problem}
-use Rattle.mds_commands.specs.declared.problem.Problem.TheVariants.{CannotRead, NotATable, NotABatch, Socket, Random, Output, Memory}
+use Rattle.mds_commands.specs.declared.problem.Problem.TheVariants.{CannotRead, NotATable, NotABatch, NotLines, Socket, Random, Output, Memory}
 use Rattle.mds_commands.specs.declared.status.Status.TheVariants as status
 use Rattle.mds_commands.specs.Problem.{status_of, Tells}
 use Rattle.mds_commands.specs.Status.{code_of}
@@ -72,6 +72,7 @@ module _ {H L T : Type 0} (listens : H → ℕ → L → ℕ → Type 0) (host :
   StopsBefore (CannotRead path) out out_new = ExplainsTable table_bytes table (CannotRead path) × Keeps out out_new
   StopsBefore (NotATable fault) out out_new = ExplainsTable table_bytes table (NotATable fault) × Keeps out out_new
   StopsBefore (NotABatch fault) out out_new = ⊥
+  StopsBefore (NotLines fault) out out_new = ⊥
   StopsBefore Socket out out_new = (tables : Tables) × HasTablesIn table_bytes table tables × Keeps out out_new
   StopsBefore Random out out_new = (tables : Tables) × HasTablesIn table_bytes table tables × Keeps out out_new
   StopsBefore Output out out_new = PrintsListening out out_new

@@ -4,11 +4,13 @@ ghost use Rattle.std.specs.IoError.{error_kind};
 ghost use Rattle.mds_args.specs.Error.{words_kind};
 ghost use Rattle.mds_commands.specs.Problem.{Tells};
 ghost use Rattle.mds_city.specs.Program.{Carries, Explains, HasWorkers, IsFileNamed, IsFileOf, Runs};
-ghost use Rattle.mds_city.specs.Program.{opening_if};
+ghost use Rattle.mds_city.specs.Program.{form_if, opening_if, options_of};
 
 use crate::serve::{Listens, ServeOptions, serve_at};
 use mds_args::{Command, WordsError, WordsErrorKind, parse_words};
-use mds_commands::{Named, Problem, Source, Status, debug_to, replay_to, table_to, tell};
+use mds_commands::{
+    Form, Named, Problem, ReplayOptions, Source, Status, debug_to, replay_to, table_to, tell,
+};
 use mds_io::write_all_of;
 use mds_trace::Opening;
 use std::alloc::Global;
@@ -172,15 +174,32 @@ fn carry_out<
             debug_to(alloc, table, file, named, &mut script, out, faults)
         }
         Command::Table { table } => table_to(alloc, file_if_named(files, table), out, faults),
-        Command::Replay { file, table, any } => {
+        Command::Replay {
+            file,
+            table,
+            any,
+            lines,
+            workers,
+        } => {
             let table = file_if_named(files, table);
-            let opening = opening_if(any);
+            let options = options_of(any, lines, workers);
             if is_standard_input(file) {
                 let file = open_file(file, input);
-                return replay_to(alloc, table, file, opening, out, faults);
+                return replay_to(rt, alloc, table, file, options, out, faults);
             }
-            replay_to(alloc, table, file_of(files, file), opening, out, faults)
+            replay_to(rt, alloc, table, file_of(files, file), options, out, faults)
         }
+    }
+}
+
+/// What these flags and so many workers ask of a replay.
+fn options_of(any: bool, lines: bool, workers: usize) -> ReplayOptions
+    ensures { result ≡ options_of any lines workers }
+{
+    ReplayOptions {
+        opening: opening_if(any),
+        form: form_if(lines),
+        workers,
     }
 }
 
@@ -189,6 +208,13 @@ fn opening_if(any: bool) -> Opening
     ensures { result ≡ opening_if any }
 {
     if any { Opening::Any } else { Opening::Removed }
+}
+
+/// How the file of a replay has its items: with the flag `--lines` one on each line.
+fn form_if(lines: bool) -> Form
+    ensures { result ≡ form_if lines }
+{
+    if lines { Form::Lines } else { Form::Batch }
 }
 
 /// Whether the file of a replay is standard input.

@@ -1,3 +1,4 @@
 -- Lemmas of this crate.
 pub mod ErrorLemmas
 pub mod PrintLemmas
+pub mod FedLemmas

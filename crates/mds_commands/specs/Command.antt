@@ -6,13 +6,13 @@ use Rattle.mds_batch.specs.declared.item.EventItem.{EventItem}
 use Rattle.mds_replay.specs.declared.report.Report.{Report}
 use Rattle.mds_commands.specs.declared.source.Source.{Source}
 use Rattle.mds_commands.specs.declared.problem.Problem.{Problem}
-use Rattle.mds_commands.specs.declared.problem.Problem.TheVariants.{CannotRead, NotATable, NotABatch, Socket, Random, Output, Memory}
+use Rattle.mds_commands.specs.declared.problem.Problem.TheVariants.{CannotRead, NotATable, NotABatch, NotLines, Socket, Random, Output, Memory}
 use Rattle.mds_commands.specs.declared.status.Status.{Status}
 use Rattle.mds_commands.specs.declared.status.Status.TheVariants.{Done, Refused}
 use Rattle.mds_io.specs.Page.{AppendsFront}
 use Rattle.mds_commands.specs.Status.{code_of}
 use Rattle.mds_commands.specs.Problem.{status_of, Tells}
-use Rattle.mds_replay.specs.declared.report.Opening.{Opening}
+use Rattle.mds_commands.specs.declared.commands.ReplayOptions.{ReplayOptions}
 use Rattle.mds_replay.specs.declared.report.Opening.TheVariants as opening
 use Rattle.mds_replay.specs.Replay.{IsReport}
 use Rattle.mds_replay.specs.Laws.{AreOutcomes}
@@ -23,29 +23,30 @@ use Rattle.mds_commands.specs.Text.{report_text, table_text}
 abbrev pub status_on : ℕ → Status
 status_on refused = if refused == 0 then Done else Refused
 
--- of a replay: what its vehicles hold at first, the known bytes of a table file's reader, the table file if one is given, and
--- the same of the file of events
-module _ {T R : Type 0} (begins : Opening) (table_bytes : T → Option (List ℕ)) (table : Option (Source T)) (file_bytes : R → Option (List ℕ)) (file : Source R) where
+-- of a replay: what is asked for, the known bytes of a table file's reader, the table file if one is given, and the same of the
+-- file of events
+module _ {T R : Type 0} (options : ReplayOptions) (table_bytes : T → Option (List ℕ)) (table : Option (Source T)) (file_bytes : R → Option (List ℕ)) (file : Source R) where
   -- the report of a replay of the file's items over the tables; with registrations before, its verdicts are the outcomes of the
   -- machine's run
   abbrev pub HasReport : Report → Type 0
   HasReport report =
-      (tables : Tables) × (items : List EventItem) × HasTablesIn table_bytes table tables × HasItemsIn file_bytes file items
-      × IsReport begins tables items report × (begins ≡ opening.Removed → AreOutcomes tables items report.lines.items)
+      (tables : Tables) × (items : List EventItem) × HasTablesIn table_bytes table tables × HasItemsIn options.form file_bytes file items
+      × IsReport options.opening tables items report × (options.opening ≡ opening.Removed → AreOutcomes tables items report.lines.items)
 
   -- the report's text went out; the status is 0 where each item was accepted, else 1
   abbrev pub Replayed : ℕ → Option (List ℕ) → Option (List ℕ) → Type 0
-  Replayed status old new = (report : Report) × HasReport report × Appends old new (report_text begins report) × (status ≡ code_of (status_on report.refused))
+  Replayed status old new = (report : Report) × HasReport report × Appends old new (report_text options.opening report) × (status ≡ code_of (status_on report.refused))
 
   -- the tables were had, and then the problem is one of the file of events
   abbrev pub ExplainsEvents : Problem → Type 0
-  ExplainsEvents problem = (tables : Tables) × HasTablesIn table_bytes table tables × ExplainsFile file_bytes file problem
+  ExplainsEvents problem = (tables : Tables) × HasTablesIn table_bytes table tables × ExplainsFile options.form file_bytes file problem
 
   -- the problem's cause lies in the file that it names, if it names one; the table file is looked at first
   abbrev pub ExplainsReplay : Problem → Type 0
   ExplainsReplay (CannotRead path) = ExplainsTable table_bytes table (CannotRead path) ⊎ ExplainsEvents (CannotRead path)
   ExplainsReplay (NotATable fault) = ExplainsTable table_bytes table (NotATable fault)
   ExplainsReplay (NotABatch fault) = ExplainsEvents (NotABatch fault)
+  ExplainsReplay (NotLines fault) = ExplainsEvents (NotLines fault)
   ExplainsReplay Socket = ⊥
   ExplainsReplay Random = ⊥
   ExplainsReplay Output = Unit {0}
@@ -53,13 +54,14 @@ module _ {T R : Type 0} (begins : Opening) (table_bytes : T → Option (List ℕ
 
   -- a front of the report's text went out
   abbrev pub PrintsFront : Option (List ℕ) → Option (List ℕ) → Type 0
-  PrintsFront old new = (report : Report) × HasReport report × AppendsFront old new (report_text begins report)
+  PrintsFront old new = (report : Report) × HasReport report × AppendsFront old new (report_text options.opening report)
 
   -- what went out before a problem: nothing where a file was at fault, a front of the report where the output was
   abbrev pub WentOut : Problem → Option (List ℕ) → Option (List ℕ) → Type 0
   WentOut (CannotRead path) old new = Keeps old new
   WentOut (NotATable fault) old new = Keeps old new
   WentOut (NotABatch fault) old new = Keeps old new
+  WentOut (NotLines fault) old new = Keeps old new
   WentOut Socket old new = ⊥
   WentOut Random old new = ⊥
   WentOut Output old new = PrintsFront old new
@@ -81,6 +83,7 @@ module _ {T : Type 0} (table_bytes : T → Option (List ℕ)) (table : Option (S
   ExplainsPrint (CannotRead path) = ExplainsTable table_bytes table (CannotRead path)
   ExplainsPrint (NotATable fault) = ExplainsTable table_bytes table (NotATable fault)
   ExplainsPrint (NotABatch fault) = ⊥
+  ExplainsPrint (NotLines fault) = ⊥
   ExplainsPrint Socket = ⊥
   ExplainsPrint Random = ⊥
   ExplainsPrint Output = Unit {0}
@@ -91,6 +94,7 @@ module _ {T : Type 0} (table_bytes : T → Option (List ℕ)) (table : Option (S
   TableWentOut (CannotRead path) old new = Keeps old new
   TableWentOut (NotATable fault) old new = Keeps old new
   TableWentOut (NotABatch fault) old new = Keeps old new
+  TableWentOut (NotLines fault) old new = Keeps old new
   TableWentOut Socket old new = ⊥
   TableWentOut Random old new = ⊥
   TableWentOut Output old new = (tables : Tables) × HasTablesIn table_bytes table tables × AppendsFront old new (table_text tables)

@@ -18,10 +18,12 @@ use Rattle.mds_debugger.specs.Printed.{PrintsStart, PrintsScript, PrintsFront}
 use Rattle.mds_debugger.specs.Script.{IsScript}
 use Rattle.mds_debugger.specs.Vehicle.{told_of}
 use Rattle.mds_io.specs.Page.{AppendsFront, with_newline}
+use Rattle.mds_commands.specs.declared.commands.ReplayOptions.{ReplayOptions}
 use Rattle.mds_commands.specs.declared.debug.Named.{Named}
 use Rattle.mds_commands.specs.declared.debug.DebugProblem.{DebugProblem}
 use Rattle.mds_commands.specs.declared.debug.DebugProblem.TheVariants.{BadIdentifier, NotInFile, Other}
 use Rattle.mds_commands.specs.declared.problem.Problem.TheVariants as problem
+use Rattle.mds_commands.specs.declared.source.Form.TheVariants.{Batch}
 use Rattle.mds_commands.specs.declared.source.Source.{Source}
 use Rattle.mds_commands.specs.declared.status.Status.{Status}
 use Rattle.mds_commands.specs.declared.status.Status.TheVariants as status
@@ -89,12 +91,16 @@ abbrev pub DebugsFront : Walk → CountsLine → Option (List ℕ) → Option (L
 DebugsFront walk counts input input_new old new =
     ((start : List ℕ) × PrintsStart walk counts start × AppendsFront old new start) ⊎ DebugsPart walk counts input input_new old new
 
+-- the replay that the debugger makes, by a single worker
+abbrev pub debug_options : ReplayOptions
+debug_options = record { opening = Removed; form = Batch; workers = 1 }
+
 -- of the debugger: the known bytes of a table file's reader, the table file if one is given, the same of the file of events, and
 -- the words that name a vehicle
 module _ {T R : Type 0} (table_bytes : T → Option (List ℕ)) (table : Option (Source T)) (file_bytes : R → Option (List ℕ)) (file : Source R) (named : Named) where
   -- the words name this vehicle, and these are the tables and the items of the files
   abbrev pub HasFiles : Key → Tables → List EventItem → Type 0
-  HasFiles key tables items = IsNamed named key × HasTablesIn table_bytes table tables × HasItemsIn file_bytes file items
+  HasFiles key tables items = IsNamed named key × HasTablesIn table_bytes table tables × HasItemsIn Batch file_bytes file items
 
   -- the session on the vehicle that the words name
   abbrev pub HasSession : Walk → CountsLine → Type 0
@@ -104,7 +110,7 @@ module _ {T R : Type 0} (table_bytes : T → Option (List ℕ)) (table : Option 
   abbrev pub ExplainsDebug : DebugProblem → Type 0
   ExplainsDebug BadIdentifier = (key : Key) → IsNamed named key → ⊥
   ExplainsDebug NotInFile = (key : Key) × (tables : Tables) × (items : List EventItem) × HasFiles key tables items × (told_of key items ≡ 0)
-  ExplainsDebug (Other problem) = ((key : Key) × IsNamed named key) × ExplainsReplay Removed table_bytes table file_bytes file problem
+  ExplainsDebug (Other problem) = ((key : Key) × IsNamed named key) × ExplainsReplay debug_options table_bytes table file_bytes file problem
 
   -- a front of what the debugger prints went out
   abbrev pub DebugPrintsFront : Option (List ℕ) → Option (List ℕ) → Option (List ℕ) → Option (List ℕ) → Type 0

@@ -5,3 +5,4 @@ pub mod Problem
 pub mod Source
 pub mod Command
 pub mod Debug
+pub mod Stream

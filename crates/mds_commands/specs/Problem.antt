@@ -7,11 +7,14 @@ use Rattle.mds_table.specs.declared.tables_fault.TablesFault.TheVariants as tabl
 use Rattle.mds_batch.specs.Batch as batch
 use Rattle.mds_batch.specs.declared.batch.BatchFault.{BatchFault}
 use Rattle.mds_batch.specs.declared.batch.BatchFault.TheVariants as batch_fault
+use Rattle.mds_lines.specs.LineFault as lines
+use Rattle.mds_lines.specs.declared.fault.LineFault.{LineFault}
+use Rattle.mds_lines.specs.declared.fault.LineFault.TheVariants as line_fault
 use Rattle.mds_io.specs.declared.page.PrintError.{PrintError}
 use Rattle.mds_io.specs.declared.page.PrintError.TheVariants as write
 use Rattle.mds_commands.specs.declared.problem.Telling.{Telling}
 use Rattle.mds_commands.specs.declared.problem.Problem.{Problem}
-use Rattle.mds_commands.specs.declared.problem.Problem.TheVariants.{CannotRead, NotATable, NotABatch, Socket, Random, Output, Memory}
+use Rattle.mds_commands.specs.declared.problem.Problem.TheVariants.{CannotRead, NotATable, NotABatch, NotLines, Socket, Random, Output, Memory}
 use Rattle.mds_commands.specs.declared.status.Status.{Status}
 use Rattle.mds_commands.specs.declared.status.Status.TheVariants.{Fault, NoMemory}
 use Rattle.mds_io.specs.Page.{AppendsFront, with_newline}
@@ -21,6 +24,7 @@ abbrev pub problem_text : Problem → List ℕ
 problem_text (CannotRead path) = codes "mds_city: cannot read " ++ path.now
 problem_text (NotATable fault) = codes "mds_city: not a table: " ++ table.tables_fault_text fault
 problem_text (NotABatch fault) = codes "mds_city: not a batch: " ++ batch.fault_text fault
+problem_text (NotLines fault) = codes "mds_city: not a batch: " ++ lines.line_fault_text fault
 problem_text Socket = codes "mds_city: socket"
 problem_text Random = codes "mds_city: random"
 problem_text Output = codes "mds_city: output"
@@ -36,6 +40,11 @@ abbrev pub batch_problem : BatchFault → Problem
 batch_problem batch_fault.Memory = Memory
 batch_problem fault = NotABatch fault
 
+-- the problem where the lines of a file of items have this fault
+abbrev pub line_problem : LineFault → Problem
+line_problem line_fault.Memory = Memory
+line_problem fault = NotLines fault
+
 -- the problem where a text could not be written
 abbrev pub written_problem : PrintError → Problem
 written_problem write.Memory = Memory
@@ -46,6 +55,7 @@ abbrev pub status_of : Problem → Status
 status_of (CannotRead path) = Fault
 status_of (NotATable fault) = Fault
 status_of (NotABatch fault) = Fault
+status_of (NotLines fault) = Fault
 status_of Socket = Fault
 status_of Random = Fault
 status_of Output = Fault

@@ -11,11 +11,16 @@ use Rattle.mds_batch.specs.declared.batch.BatchFault.TheVariants as batch
 use Rattle.mds_batch.specs.declared.item.EventItem.{EventItem}
 use Rattle.mds_batch.specs.Items.{IsEventItem}
 use Rattle.mds_batch.specs.Batch.{HasItems, HasFault as HasBatchFault}
+use Rattle.mds_lines.specs.declared.fault.LineFault.{LineFault}
+use Rattle.mds_lines.specs.declared.fault.LineFault.TheVariants as line
+use Rattle.mds_lines.specs.Stream.{HasLineItems, HasLineFault}
+use Rattle.mds_commands.specs.declared.source.Form.{Form}
+use Rattle.mds_commands.specs.declared.source.Form.TheVariants.{Batch, Lines}
 use Rattle.mds_commands.specs.declared.source.Source.{Source}
 use Rattle.mds_commands.specs.declared.problem.Problem.{Problem}
-use Rattle.mds_commands.specs.declared.problem.Problem.TheVariants.{CannotRead, NotATable, NotABatch, Socket, Random, Output, Memory}
+use Rattle.mds_commands.specs.declared.problem.Problem.TheVariants.{CannotRead, NotATable, NotABatch, NotLines, Socket, Random, Output, Memory}
 use Rattle.mds_io.specs.Read.{HasFront}
-use Rattle.mds_commands.specs.Problem.{table_problem, batch_problem}
+use Rattle.mds_commands.specs.Problem.{table_problem, batch_problem, line_problem}
 
 -- how many bytes of a file are read at most: one more than are taken, so that a longer file is seen to be too long
 abbrev pub max_read : ℕ
@@ -36,6 +41,7 @@ IsReadProblem source (CannotRead path) = path.now ≡ source.path.now
 IsReadProblem source Memory = IsOpen source
 IsReadProblem source (NotATable fault) = ⊥
 IsReadProblem source (NotABatch fault) = ⊥
+IsReadProblem source (NotLines fault) = ⊥
 IsReadProblem source Socket = ⊥
 IsReadProblem source Random = ⊥
 IsReadProblem source Output = ⊥
@@ -48,6 +54,10 @@ IsTableProblem bytes problem = (fault : TablesFault) × HasTablesFault bytes fau
 abbrev pub IsBatchProblem : List ℕ → Problem → Type 0
 IsBatchProblem bytes problem = (fault : BatchFault) × HasBatchFault bytes fault × (problem ≡ batch_problem fault)
 
+-- the problem is what is wrong with the lines of a file of events
+abbrev pub IsLineProblem : List ℕ → Problem → Type 0
+IsLineProblem bytes problem = (fault : LineFault) × HasLineFault bytes fault × (problem ≡ line_problem fault)
+
 -- the tables are those of the table file
 abbrev pub HasTablesOf : {R : Type 0} → (R → Option (List ℕ)) → Source R → Tables → Type 0
 HasTablesOf remaining source tables = (bytes : List ℕ) × HasBytes remaining source bytes × HasTables bytes tables
@@ -59,6 +69,7 @@ ExplainsTableFile remaining source (NotATable fault) = (fault ≢ tables.Memory)
 ExplainsTableFile remaining source (CannotRead path) = path.now ≡ source.path.now
 ExplainsTableFile remaining source Memory = IsOpen source
 ExplainsTableFile remaining source (NotABatch fault) = ⊥
+ExplainsTableFile remaining source (NotLines fault) = ⊥
 ExplainsTableFile remaining source Socket = ⊥
 ExplainsTableFile remaining source Random = ⊥
 ExplainsTableFile remaining source Output = ⊥
@@ -73,17 +84,25 @@ abbrev pub ExplainsTable : {R : Type 0} → (R → Option (List ℕ)) → Option
 ExplainsTable remaining None problem = problem ≡ Memory
 ExplainsTable remaining (Some source) problem = ExplainsTableFile remaining source problem
 
--- the items are those of the file
-abbrev pub HasItemsIn : {R : Type 0} → (R → Option (List ℕ)) → Source R → List EventItem → Type 0
-HasItemsIn remaining source items = (bytes : List ℕ) × HasBytes remaining source bytes × HasItems IsEventItem bytes items
+-- the items of bytes in this form: those that a batch lists, or those of their lines
+abbrev pub AreItemsIn : Form → List ℕ → List EventItem → Type 0
+AreItemsIn Batch bytes items = HasItems IsEventItem bytes items
+AreItemsIn Lines bytes items = HasLineItems bytes items
 
--- why there are no items: the file has this fault, its path is told as one that can't be read, or it was opened and there was no
--- memory
-abbrev pub ExplainsFile : {R : Type 0} → (R → Option (List ℕ)) → Source R → Problem → Type 0
-ExplainsFile remaining source (NotABatch fault) = (fault ≢ batch.Memory) × (bytes : List ℕ) × HasBytes remaining source bytes × HasBatchFault bytes fault
-ExplainsFile remaining source (CannotRead path) = path.now ≡ source.path.now
-ExplainsFile remaining source Memory = IsOpen source
-ExplainsFile remaining source (NotATable fault) = ⊥
-ExplainsFile remaining source Socket = ⊥
-ExplainsFile remaining source Random = ⊥
-ExplainsFile remaining source Output = ⊥
+-- the items are those of the file, which is in this form
+abbrev pub HasItemsIn : {R : Type 0} → Form → (R → Option (List ℕ)) → Source R → List EventItem → Type 0
+HasItemsIn form remaining source items = (bytes : List ℕ) × HasBytes remaining source bytes × AreItemsIn form bytes items
+
+-- why there are no items: the file has this fault of its form, its path is told as one that can't be read, or it was opened and
+-- there was no memory
+abbrev pub ExplainsFile : {R : Type 0} → Form → (R → Option (List ℕ)) → Source R → Problem → Type 0
+ExplainsFile form remaining source (NotABatch fault) =
+    (form ≡ Batch) × (fault ≢ batch.Memory) × (bytes : List ℕ) × HasBytes remaining source bytes × HasBatchFault bytes fault
+ExplainsFile form remaining source (NotLines fault) =
+    (form ≡ Lines) × (fault ≢ line.Memory) × (bytes : List ℕ) × HasBytes remaining source bytes × HasLineFault bytes fault
+ExplainsFile form remaining source (CannotRead path) = path.now ≡ source.path.now
+ExplainsFile form remaining source Memory = IsOpen source
+ExplainsFile form remaining source (NotATable fault) = ⊥
+ExplainsFile form remaining source Socket = ⊥
+ExplainsFile form remaining source Random = ⊥
+ExplainsFile form remaining source Output = ⊥

@@ -2,38 +2,60 @@
 ghost use Rattle.std.specs.Prelude.{◌≡◌, ◌≢◌, ◌<◌, ◌≤◌, IfOk, IfErr, OnOk};
 ghost use Rattle.std.specs.Io.KnownBytes.{Appends, Keeps};
 ghost use Rattle.mds_replay.specs.declared.report.Report.{Report};
+ghost use Rattle.mds_replay.specs.Laws.{AreOutcomes};
+ghost use Rattle.mds_replay.specs.Replay.{IsReport};
+ghost use Rattle.mds_replay.specs.WithFault.{IsWorkerCount};
 ghost use Rattle.mds_commands.specs.Text.{report_text};
 ghost use Rattle.mds_commands.specs.Command.{HasReport, ExplainsReplay, WentOut, Replayed, Told, Tabled, ExplainsPrint, TableWentOut, TableTold, status_on};
 
 use crate::print::{print_report, print_tables};
 use crate::problem::{Problem, tell};
-use crate::source::{Source, items_in, tables_in};
+use crate::source::{Form, Source, items_in, tables_in};
 use crate::status::Status;
-use mds_trace::{Opening, Report, replay};
+use crate::stream::report_of_lines;
+use mds_batch::EventItem;
+use mds_gate::OpenGate;
+use mds_table::Tables;
+use mds_trace::{Opening, Report, WithFault, replay, replay_with};
 use std::alloc::Global;
 use std::io::{Read, Write};
+use std::thread::Threads;
 
-/// Replays a file of events over the tables of a table file, or where none is given over the profile's, with this opening of
-/// its vehicles, and prints a line for each item, a line for each vehicle, and the totals. It answers the code of the status
-/// that the program ends with: `Done` where each item was accepted, `Refused` where one was not, and else the one of the
-/// problem, which is told to `faults` in one line: `Fault` for a file that can't be read, is no table or no batch, or an
-/// output that fails, `NoMemory` for want of memory.
-pub fn replay_to<T: Read + Drop, R: Read + Drop, W: Write, E: Write>(
+/// What is asked of a replay.
+#[derive(Clone, Copy, Debug, PartialEq, Eq, Hash)]
+pub struct ReplayOptions {
+    /// What the vehicles hold at first.
+    pub opening: Opening,
+    /// How the file has its items.
+    pub form: Form,
+    /// How many workers share the replay of a batch, 1 to [`mds_trace::MAX_WORKERS`]. Lines are replayed as they are read, by
+    /// a single one.
+    pub workers: usize,
+}
+
+/// Replays a file of events over the tables of a table file, or where none is given over the profile's, as the options say.
+/// It prints a line for each item, a line for each vehicle, and the totals. It answers the code of the status that the
+/// program ends with: `Done` where each item was accepted, `Refused` where one was not, and else the one of the problem,
+/// which is told to `faults` in one line: `Fault` for a file that can't be read, is no table, no batch or no lines of items,
+/// or an output that fails, `NoMemory` for want of memory.
+pub fn replay_to<P: Threads + Sync, T: Read + Drop, R: Read + Drop, W: Write, E: Write>(
+    rt: &P,
     alloc: Global,
     table: Option<Source<'_, T>>,
     file: Source<'_, R>,
-    opening: Opening,
+    options: ReplayOptions,
     out: &mut W,
     faults: &mut E,
 ) -> u8
-    ensures ran { result < 2 → Replayed opening T.remaining table.entry R.remaining file.entry
+    requires { IsWorkerCount options.workers }
+    ensures ran { result < 2 → Replayed options T.remaining table.entry R.remaining file.entry
         result
         (W.contents out.old) (W.contents out.new)
         × Keeps (E.contents faults.old) (E.contents faults.new) }
-    ensures told { 2 ≤ result → Told opening T.remaining table.entry R.remaining file.entry result
+    ensures told { 2 ≤ result → Told options T.remaining table.entry R.remaining file.entry result
         (W.contents out.old) (W.contents out.new) (E.contents faults.old) (E.contents faults.new) }
 {
-    match replay_into(alloc, table, file, opening, out) {
+    match replay_into(rt, alloc, table, file, options, out) {
         Ok(refused) => status_on(refused).code(),
         Err(problem) => tell(alloc, faults, problem).code(),
     }
@@ -51,42 +73,84 @@ pub(crate) fn status_on(refused: usize) -> Status
 }
 
 /// Replays the file's items over the tables and prints the report; it answers how many items were not accepted.
-fn replay_into<'a, T: Read + Drop, R: Read + Drop, W: Write>(
+fn replay_into<'a, P: Threads + Sync, T: Read + Drop, R: Read + Drop, W: Write>(
+    rt: &P,
     alloc: Global,
     table: Option<Source<'a, T>>,
     file: Source<'a, R>,
-    opening: Opening,
+    options: ReplayOptions,
     out: &mut W,
 ) -> Result<usize, Problem<'a>>
+    requires { IsWorkerCount options.workers }
     ensures ok { IfOk result (λ refused. (report : Report)
-        × HasReport opening T.remaining table.entry R.remaining file.entry report
-        × Appends (W.contents out.old) (W.contents out.new) (report_text opening report)
+        × HasReport options T.remaining table.entry R.remaining file.entry report
+        × Appends (W.contents out.old) (W.contents out.new) (report_text options.opening report)
         × (refused ≡ report.refused)) }
-    ensures err { IfErr result (λ problem. ExplainsReplay opening T.remaining table.entry
+    ensures err { IfErr result (λ problem. ExplainsReplay options T.remaining table.entry
         R.remaining file.entry problem
-        × WentOut opening T.remaining table.entry R.remaining file.entry problem
+        × WentOut options T.remaining table.entry R.remaining file.entry problem
         (W.contents out.old) (W.contents out.new)) }
 {
-    let report = report_on(alloc, table, file, opening)?;
-    print_report(alloc, out, &report, opening)?;
+    let report = report_on(rt, alloc, table, file, options)?;
+    print_report(alloc, out, &report, options.opening)?;
     Ok(report.refused)
 }
 
 /// The report of a replay of the file's items over the tables.
-fn report_on<'a, T: Read + Drop, R: Read + Drop>(
+fn report_on<'a, P: Threads + Sync, T: Read + Drop, R: Read + Drop>(
+    rt: &P,
     alloc: Global,
     table: Option<Source<'a, T>>,
     file: Source<'a, R>,
-    opening: Opening,
+    options: ReplayOptions,
 ) -> Result<Report, Problem<'a>>
-    ensures ok { IfOk result (HasReport opening T.remaining table.entry R.remaining file.entry) }
-    ensures err { IfErr result (λ problem. ExplainsReplay opening T.remaining table.entry
+    requires { IsWorkerCount options.workers }
+    ensures ok { IfOk result (HasReport options T.remaining table.entry R.remaining file.entry) }
+    ensures err { IfErr result (λ problem. ExplainsReplay options T.remaining table.entry
         R.remaining file.entry problem
         × (problem ≢ Problem.Output)) }
 {
     let tables = tables_in(alloc, table)?;
-    let items = items_in(alloc, file)?;
-    Ok(replay(alloc, tables, &items, opening)?)
+    match options.form {
+        Form::Batch => {
+            let items = items_in(alloc, file)?;
+            report_of_items(rt, alloc, tables, &items, options)
+        }
+        Form::Lines => report_of_lines(alloc, tables, file, options.opening),
+    }
+}
+
+/// The report of a replay of these items by as many workers as the options say. A single one needs no thread.
+fn report_of_items<'a, P: Threads + Sync>(
+    rt: &P,
+    alloc: Global,
+    tables: Tables,
+    items: &[EventItem],
+    options: ReplayOptions,
+) -> Result<Report, Problem<'a>>
+    requires { IsWorkerCount options.workers }
+    ensures report { IfOk result (IsReport options.opening tables items.now) }
+    ensures runs { IfOk result (λ report.
+        options.opening ≡ Opening.Removed → AreOutcomes tables items.now report.lines.items) }
+    ensures err { IfErr result (λ problem. problem ≡ Problem.Memory) }
+{
+    let opening = options.opening;
+    if options.workers == 1 {
+        return Ok(replay(alloc, tables, items, opening)?);
+    }
+    match replay_with(
+        rt,
+        alloc,
+        &tables,
+        items,
+        opening,
+        options.workers,
+        &OpenGate,
+    ) {
+        Ok(report) => Ok(report),
+        Err(WithFault::Memory) => Err(Problem::Memory),
+        Err(WithFault::BadWorkers) => unreachable!(),
+    }
 }
 
 /// Prints the tables of a table file, or where none is given the profile's: a line for each row, in row order, and their

@@ -13,9 +13,10 @@ mod problem;
 mod rows;
 mod source;
 mod status;
+mod stream;
 
-pub use commands::{replay_to, table_to};
+pub use commands::{ReplayOptions, replay_to, table_to};
 pub use debug::{Named, debug_to};
 pub use problem::{Problem, tell};
-pub use source::{Source, tables_in};
+pub use source::{Form, Source, tables_in};
 pub use status::Status;

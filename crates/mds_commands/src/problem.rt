@@ -6,6 +6,7 @@ use crate::status::Status;
 use mds_batch::BatchFault;
 use mds_io::{PrintError, WriteError, write_all_of};
 use mds_table::TablesFault;
+use mds_trace::LineFault;
 use std::alloc::{AllocError, Global};
 use std::fmt;
 use std::fmt::Write as _;
@@ -20,6 +21,8 @@ pub enum Problem<'a> {
     NotATable(TablesFault),
     /// The file of items is no batch.
     NotABatch(BatchFault),
+    /// The lines of the file of items are no items.
+    NotLines(LineFault),
     /// A port can't be had, or no further connection of it.
     Socket,
     /// The system gives no random numbers to hash by.
@@ -40,6 +43,7 @@ impl Problem<'_> {
             Problem::CannotRead(_)
             | Problem::NotATable(_)
             | Problem::NotABatch(_)
+            | Problem::NotLines(_)
             | Problem::Socket
             | Problem::Random
             | Problem::Output => Status::Fault,
@@ -85,6 +89,20 @@ impl From<BatchFault> for Problem<'_> {
     }
 }
 
+/// What the lines of a file of items have wrong; `CannotRead` is never made of it.
+impl From<LineFault> for Problem<'_> {
+    ghost use Rattle.mds_commands.specs.Problem.{line_problem};
+
+    ghost from_gives = { λ fault problem. problem ≡ line_problem fault };
+
+    fn from(fault: LineFault) -> Self {
+        match fault {
+            LineFault::Memory => Problem::Memory,
+            fault => Problem::NotLines(fault),
+        }
+    }
+}
+
 impl From<PrintError> for Problem<'_> {
     ghost use Rattle.mds_commands.specs.Problem.{written_problem};
 
@@ -106,6 +124,7 @@ impl fmt::Display for Problem<'_> {
             Problem::CannotRead(path) => write!(f, "mds_city: cannot read {path}"),
             Problem::NotATable(fault) => write!(f, "mds_city: not a table: {fault}"),
             Problem::NotABatch(fault) => write!(f, "mds_city: not a batch: {fault}"),
+            Problem::NotLines(fault) => write!(f, "mds_city: not a batch: {fault}"),
             Problem::Socket => write!(f, "mds_city: socket"),
             Problem::Random => write!(f, "mds_city: random"),
             Problem::Output => write!(f, "mds_city: output"),

@@ -13,7 +13,16 @@ use std::alloc::Global;
 use std::io::Read;
 
 /// How many bytes of a file are read at most: one more than are taken, so that a longer file is seen to be too long.
-const MAX_READ: usize = MAX_BYTES + 1;
+pub(crate) const MAX_READ: usize = MAX_BYTES + 1;
+
+/// How a file has its items.
+#[derive(Clone, Copy, Debug, PartialEq, Eq, Hash)]
+pub enum Form {
+    /// It is a batch: one text of JSON, which lists them.
+    Batch,
+    /// Each of its lines that isn't blank is one.
+    Lines,
+}
 
 /// A file that a command reads.
 #[derive(Drop)]
@@ -85,19 +94,19 @@ fn tables_of_bytes<'a>(alloc: Global, bytes: &[u8]) -> Result<Tables, Problem<'a
     Ok(Tables::from_json(alloc, bytes)?)
 }
 
-/// The items of a file of events.
+/// The items of a batch in a file.
 pub fn items_in<'a, R: Read + Drop>(
     alloc: Global,
     source: Source<'a, R>,
 ) -> Result<Vec<EventItem>, Problem<'a>>
-    ensures ok { IfOk result (λ items. HasItemsIn R.remaining source.entry items.items) }
-    ensures err { IfErr result (ExplainsFile R.remaining source.entry) }
+    ensures ok { IfOk result (λ items. HasItemsIn Form.Batch R.remaining source.entry items.items) }
+    ensures err { IfErr result (ExplainsFile Form.Batch R.remaining source.entry) }
 {
     let bytes = bytes_in(alloc, source)?;
     items_of_bytes(alloc, &bytes)
 }
 
-/// The items that the bytes of a file of events are. What is wrong with them is never told as a fault of what gave them.
+/// The items of a batch of these bytes. What is wrong with them is never told as a fault of what gave them.
 fn items_of_bytes<'a>(alloc: Global, bytes: &[u8]) -> Result<Vec<EventItem>, Problem<'a>>
     ensures items { IfOk result (λ items. HasItems IsEventItem bytes.now items.items) }
     ensures fault { IfErr result (IsBatchProblem bytes.now) }

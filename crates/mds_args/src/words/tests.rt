@@ -7,16 +7,41 @@ use std::test::Fail;
 /// Words, of which the first is the program's name, and the command that they ask for, if they ask for one.
 type Case<'a> = (&'a [&'a str], Option<Command<'a>>);
 
-/// The replay of a file, whose vehicles are registered first.
+/// The replay of a batch by one worker, whose vehicles are registered first.
 fn replay<'a>(file: &'a str, table: Option<&'a str>) -> Option<Command<'a>> {
-    let any = false;
-    Some(Command::Replay { file, table, any })
+    replay_with(file, table, false, false)
 }
 
-/// The replay of a file, whose vehicles may hold any state.
+/// The same, by vehicles that may hold any state.
 fn replay_any<'a>(file: &'a str, table: Option<&'a str>) -> Option<Command<'a>> {
-    let any = true;
-    Some(Command::Replay { file, table, any })
+    replay_with(file, table, true, false)
+}
+
+/// The replay of a batch by so many workers.
+fn replay_by<'a>(file: &'a str, table: Option<&'a str>, workers: usize) -> Option<Command<'a>> {
+    Some(Command::Replay {
+        file,
+        table,
+        any: false,
+        lines: false,
+        workers,
+    })
+}
+
+/// A replay by one worker with these flags.
+fn replay_with<'a>(
+    file: &'a str,
+    table: Option<&'a str>,
+    any: bool,
+    lines: bool,
+) -> Option<Command<'a>> {
+    Some(Command::Replay {
+        file,
+        table,
+        any,
+        lines,
+        workers: 1,
+    })
 }
 
 /// The debugger on the vehicle `b` of the provider `a`.
@@ -53,7 +78,7 @@ fn table(table: Option<&str>) -> Option<Command<'_>> {
 #[test]
 fn words_ask_for_commands(rt: HostRuntime) {
     let rows = Some("rows.json");
-    let cases: [Case<'_>; 15] = [
+    let cases: [Case<'_>; 19] = [
         (
             &["mds_city", "serve", "--port", "0", "--each", "0"],
             serve(0, 0, 4, None),
@@ -109,6 +134,29 @@ fn words_ask_for_commands(rt: HostRuntime) {
             &["mds_city", "replay", "--any", "--table", "rows.json", "F"],
             replay_any("F", rows),
         ),
+        (
+            &["mds_city", "replay", "-", "--workers", "4"],
+            replay_by("-", None, 4),
+        ),
+        (
+            &[
+                "mds_city",
+                "replay",
+                "--workers=64",
+                "F",
+                "--table",
+                "rows.json",
+            ],
+            replay_by("F", rows, 64),
+        ),
+        (
+            &["mds_city", "replay", "--lines", "-"],
+            replay_with("-", None, false, true),
+        ),
+        (
+            &["mds_city", "replay", "F", "--lines", "--any"],
+            replay_with("F", None, true, true),
+        ),
         (&["mds_city", "debug", "F", "a", "b"], debug("F", None)),
         (
             &["mds_city", "debug", "-", "--table=rows.json", "a", "b"],
@@ -121,7 +169,7 @@ fn words_ask_for_commands(rt: HostRuntime) {
 }
 
 /// Words that ask for no command, or for help.
-const NOTHING: [&[&str]; 20] = [
+const NOTHING: [&[&str]; 26] = [
     &["mds_city", "serve"],
     &["mds_city", "serve", "--port", "0"],
     &["mds_city", "serve", "--each", "0"],
@@ -150,7 +198,13 @@ const NOTHING: [&[&str]; 20] = [
     ],
     &["mds_city", "debug", "F", "a"],
     &["mds_city", "debug", "F", "a", "b", "--any"],
+    &["mds_city", "debug", "F", "a", "b", "--lines"],
     &["mds_city", "replay", "-", "--any=true"],
+    &["mds_city", "replay", "-", "--workers", "0"],
+    &["mds_city", "replay", "-", "--workers", "65"],
+    &["mds_city", "replay", "-", "--lines", "1"],
+    &["mds_city", "replay", "--lines", "--lines", "-"],
+    &["mds_city", "debug", "F", "a", "b", "--workers", "1"],
     &[],
     &["mds_city"],
     &["mds_city", "replay", "--table", "rows.json"],
@@ -210,6 +264,8 @@ Arguments:
 Options:
       --table <FILE>  A table of transitions, or several with times; without it the profile's
       --any           Lets a vehicle hold any state before its first event
+      --lines         Takes each line of the file as an item
+      --workers <N>   How many workers there are [default: 1]
   -h, --help          Print help
 ";
 

@@ -16,6 +16,12 @@ const EVENTS: &str = r#"[
 {"provider_id":"00000000-0000-4000-8000-000000000001","device_id":"00000000-0000-4000-8000-00000000000a","event_id":"00000000-0000-4000-8000-0000000000e2","vehicle_state":"available","event_types":["provider_drop_off"],"timestamp":999}
 ]"#;
 
+/// The same events, one on each line.
+const EVENT_LINES: &str =
+    r#"{"provider_id":"00000000-0000-4000-8000-000000000001","device_id":"00000000-0000-4000-8000-00000000000a","event_id":"00000000-0000-4000-8000-0000000000e1","vehicle_state":"available","event_types":["provider_drop_off"],"timestamp":1000}
+{"provider_id":"00000000-0000-4000-8000-000000000001","device_id":"00000000-0000-4000-8000-00000000000a","event_id":"00000000-0000-4000-8000-0000000000e2","vehicle_state":"available","event_types":["provider_drop_off"],"timestamp":999}
+"#;
+
 const LINES: &str = "0 ok available
 1 refused late 1000
 vehicle 00000000-0000-4000-8000-000000000001 00000000-0000-4000-8000-00000000000a available 1
@@ -33,7 +39,7 @@ vehicle 00000000-0000-4000-8000-000000000001 00000000-0000-4000-8000-00000000000
 accepted 0 refused 2
 ";
 
-/// A folder with the two events, the table of one row, and that table once more in a file named `-`.
+/// A folder with the two events, in a batch and on lines, the table of one row, and that table once more in a file named `-`.
 #[derive(Clone, Copy)]
 struct Folder;
 
@@ -43,6 +49,7 @@ impl Opens for Folder {
     fn open(&self, path: &str) -> Option<&'static [u8]> {
         match path {
             "events" => Some(EVENTS.as_bytes()),
+            "lines" => Some(EVENT_LINES.as_bytes()),
             "rows" | "-" => Some(ONE_ROW.as_bytes()),
             _ => None,
         }
@@ -129,7 +136,7 @@ const NO_TABLE: &str = "mds_city: not a table: not_rows\n";
 const SOCKET: &str = "mds_city: socket\n";
 
 /// What comes of the files and ports that words name.
-const FILES: [Case<'static>; 14] = [
+const FILES: [Case<'static>; 17] = [
     (
         &["mds_city", "serve", "--port", "0", "--each", "0"],
         0,
@@ -180,6 +187,19 @@ const FILES: [Case<'static>; 14] = [
         1,
         LINES_BY_ONE_ROW,
         "",
+    ),
+    (&["mds_city", "replay", "--lines", "lines"], 1, LINES, ""),
+    (
+        &["mds_city", "replay", "--lines", "events"],
+        3,
+        "",
+        "mds_city: not a batch: not_json 0\n",
+    ),
+    (
+        &["mds_city", "replay", "lines"],
+        3,
+        "",
+        "mds_city: not a batch: not_json\n",
     ),
     (&["mds_city", "replay", "none"], 3, "", CANNOT_READ),
     (

@@ -1,14 +1,19 @@
 //! Each command, carried out again where a growth is refused (by `tests/refused-growths`).
-use super::tests::{FIVE_EVENTS, FIVE_LINES, ONE_ROW, TWO_TABLES, TWO_TABLES_LINES, file};
-use super::{replay_to, table_to};
+ghost use Rattle.mds_replay.specs.WithFault.{IsWorkerCount};
+
+use super::tests::{
+    FIVE_EVENT_LINES, FIVE_EVENTS, FIVE_LINES, ONE_ROW, TWO_TABLES, TWO_TABLES_LINES, asked, file,
+};
+use super::{ReplayOptions, replay_to, table_to};
 use crate::debug::tests::{FIRST, PROVIDER, SCRIPT, SCRIPT_LINES, TWO_EVENTS};
 use crate::debug::{Named, debug_to};
-use crate::source::Source;
-use mds_trace::Opening;
+use crate::problem::Problem;
+use crate::source::{Form, Source, tables_in};
 use std::alloc::Global;
 use std::io;
 use std::io::{ErrorKind, Write};
 use std::test::Fail;
+use std::thread::Threads;
 
 /// A writer that takes this text alone, and no memory.
 #[derive(Drop)]
@@ -40,7 +45,10 @@ fn is_refused(came: Came) -> bool {
     came.0 == 4 && came.2
 }
 
-fn replayed(alloc: Global) -> Came {
+/// The replay of the five events, in a file of this text.
+fn replayed<P: Threads + Sync>(rt: &P, alloc: Global, options: ReplayOptions, text: &str) -> Came
+    requires { IsWorkerCount options.workers }
+{
     let mut out = Expects {
         rest: FIVE_LINES.as_bytes(),
     };
@@ -49,10 +57,11 @@ fn replayed(alloc: Global) -> Came {
     };
     let table: Option<Source<'_, &[u8]>> = None;
     let status = replay_to(
+        rt,
         alloc,
         table,
-        file("F", FIVE_EVENTS),
-        Opening::Removed,
+        file("F", text),
+        options,
         &mut out,
         &mut faults,
     );
@@ -71,14 +80,40 @@ fn tabled(alloc: Global, text: &str, lines: &str) -> Came {
     (status, out.rest.is_empty(), faults.rest.is_empty())
 }
 
-#[test]
-fn replay_succeeds_after_a_refused_growth(rt: HostRuntime) -> Result<(), Fail> {
-    let first = replayed(rt.alloc());
-    let came = if is_refused(first) {
-        replayed(rt.alloc())
+/// The same, made again where a growth was refused.
+fn replayed_again<P: Threads + Sync>(
+    rt: &P,
+    alloc: Global,
+    options: ReplayOptions,
+    text: &str,
+) -> Came
+    requires { IsWorkerCount options.workers }
+{
+    let first = replayed(rt, alloc, options, text);
+    if is_refused(first) {
+        replayed(rt, alloc, options, text)
     } else {
         first
-    };
+    }
+}
+
+#[test]
+fn replay_succeeds_after_a_refused_growth(rt: HostRuntime) -> Result<(), Fail> {
+    let came = replayed_again(&rt, rt.alloc(), asked(Form::Batch, 1), FIVE_EVENTS);
+    assert_eq!(rt; came, (1, true, false));
+    Ok(())
+}
+
+#[test]
+fn replay_by_workers_succeeds_after_a_refused_growth(rt: HostRuntime) -> Result<(), Fail> {
+    let came = replayed_again(&rt, rt.alloc(), asked(Form::Batch, 4), FIVE_EVENTS);
+    assert_eq!(rt; came, (1, true, false));
+    Ok(())
+}
+
+#[test]
+fn replay_of_lines_succeeds_after_a_refused_growth(rt: HostRuntime) -> Result<(), Fail> {
+    let came = replayed_again(&rt, rt.alloc(), asked(Form::Lines, 1), FIVE_EVENT_LINES);
     assert_eq!(rt; came, (1, true, false));
     Ok(())
 }
@@ -143,4 +178,22 @@ fn debug_succeeds_after_a_refused_growth(rt: HostRuntime) -> Result<(), Fail> {
     };
     assert_eq!(rt; came, (0, true, false));
     Ok(())
+}
+
+/// How many tables there are in a table file, or where none is given, asked for again where a growth is refused.
+fn table_count(alloc: Global, text: Option<&str>) -> Option<usize> {
+    let tables = match tables_in(alloc, text.map(|text| file("T", text))) {
+        Err(Problem::Memory) => tables_in(alloc, text.map(|text| file("T", text))),
+        tables => tables,
+    };
+    Some(tables.ok()?.len())
+}
+
+#[test]
+fn tables_are_had_after_a_refused_growth(rt: HostRuntime) {
+    let counts = (
+        table_count(rt.alloc(), None),
+        table_count(rt.alloc(), Some(TWO_TABLES)),
+    );
+    assert_eq!(rt; counts, (Some(1), Some(2)));
 }

@@ -1,7 +1,7 @@
 use Rattle.std.proofs.Common.{◌∙◌, ℕ, List, Option, inl, inr, ap}
 use Rattle.mds_commands.specs.declared.source.Source.{Source}
 use Rattle.mds_commands.specs.declared.problem.Problem.{Problem}
-use Rattle.mds_commands.specs.declared.problem.Problem.TheVariants.{CannotRead, NotATable, NotABatch, Socket, Random, Output, Memory}
+use Rattle.mds_commands.specs.declared.problem.Problem.TheVariants.{CannotRead, NotATable, NotABatch, NotLines, Socket, Random, Output, Memory}
 use Rattle.mds_city.specs.Serve.{StopsBefore}
 use Rattle.mds_commands.specs.Status.{code_of}
 use Rattle.mds_city.proofs.serve.serve_at.Goals as goal
@@ -13,6 +13,7 @@ module _ {H L T : Type 0} (listens : H → ℕ → L → ℕ → Type 0) (host :
   out_before (CannotRead path) old new stops = inl stops.1
   out_before (NotATable fault) old new stops = inl stops.1
   out_before (NotABatch fault) old new stops = absurd stops
+  out_before (NotLines fault) old new stops = absurd stops
   out_before Socket old new stops = inl stops.2
   out_before Random old new stops = inl stops.2
   out_before Output old new stops = inr stops

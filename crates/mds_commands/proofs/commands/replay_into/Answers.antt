@@ -1,7 +1,10 @@
-use Rattle.std.proofs.Common.{ℕ, List, Option, inr, refl}
+use Rattle.std.proofs.Common.{◌≢◌, ℕ, List, Option, inl, inr, refl}
+use Rattle.std.proofs.KnownBytes.{Keeps-refl}
 use Rattle.mds_io.specs.declared.page.PrintError.{PrintError}
 use Rattle.mds_io.specs.declared.page.PrintError.TheVariants as write
-use Rattle.mds_replay.specs.declared.report.Opening.{Opening}
+use Rattle.mds_commands.specs.declared.commands.ReplayOptions.{ReplayOptions}
+use Rattle.mds_commands.specs.declared.problem.Problem.{Problem}
+use Rattle.mds_commands.specs.declared.problem.Problem.TheVariants.{CannotRead, NotATable, NotABatch, NotLines, Socket, Random, Output, Memory}
 use Rattle.mds_commands.specs.declared.source.Source.{Source}
 use Rattle.mds_commands.specs.Problem.{written_problem}
 use Rattle.mds_commands.specs.Command.{ExplainsReplay, PrintsFront, WentOut}
@@ -9,16 +12,35 @@ use Rattle.mds_commands.proofs.ErrorLemmas.{passed_on}
 use Rattle.mds_commands.proofs.commands.replay_into.Goals as goal
 
 -- a report that could not be written is explained, and a front of it went out
-unwritten : {T R : Type 0} (begins : Opening) (table_bytes : T → Option (List ℕ)) (table : Option (Source T)) (file_bytes : R → Option (List ℕ)) (file : Source R)
-    (fault : PrintError) (old new : Option (List ℕ)) → PrintsFront begins table_bytes table file_bytes file old new
-    → ExplainsReplay begins table_bytes table file_bytes file (written_problem fault) × WentOut begins table_bytes table file_bytes file (written_problem fault) old new
-unwritten begins table_bytes table file_bytes file write.Memory old new front = (tt, inr front)
-unwritten begins table_bytes table file_bytes file write.Device old new front = (tt, front)
+unwritten : {T R : Type 0} (options : ReplayOptions) (table_bytes : T → Option (List ℕ)) (table : Option (Source T)) (file_bytes : R → Option (List ℕ)) (file : Source R)
+    (fault : PrintError) (old new : Option (List ℕ)) → PrintsFront options table_bytes table file_bytes file old new
+    → ExplainsReplay options table_bytes table file_bytes file (written_problem fault) × WentOut options table_bytes table file_bytes file (written_problem fault) old new
+unwritten options table_bytes table file_bytes file write.Memory old new front = (tt, inr front)
+unwritten options table_bytes table file_bytes file write.Device old new front = (tt, front)
+
+-- before a report is printed nothing went out
+unsaid : {T R : Type 0} (options : ReplayOptions) (table_bytes : T → Option (List ℕ)) (table : Option (Source T)) (file_bytes : R → Option (List ℕ)) (file : Source R)
+    (problem : Problem) (old : Option (List ℕ)) → ExplainsReplay options table_bytes table file_bytes file problem → problem ≢ Output
+    → WentOut options table_bytes table file_bytes file problem old old
+unsaid options table_bytes table file_bytes file (CannotRead path) old why other = Keeps-refl old
+unsaid options table_bytes table file_bytes file (NotATable fault) old why other = Keeps-refl old
+unsaid options table_bytes table file_bytes file (NotABatch fault) old why other = Keeps-refl old
+unsaid options table_bytes table file_bytes file (NotLines fault) old why other = Keeps-refl old
+unsaid options table_bytes table file_bytes file Socket old why other = absurd why
+unsaid options table_bytes table file_bytes file Random old why other = absurd why
+unsaid options table_bytes table file_bytes file Output old why other = absurd (other refl)
+unsaid options table_bytes table file_bytes file Memory old why other = inl (Keeps-refl old)
+
+pub returns-in_err-report-clause-err : goal.returns-in_err-report-clause-err
+returns-in_err-report-clause-err g c =
+    let why = c.in_err-report.ensures.err in
+    passed_on _ _ _ c.from_residual.ensures.1
+    (why.0, unsaid c.args.options g.T.Read.remaining c.args.table g.R.Read.remaining c.args.file c.in_err-report.field-0.0 (g.W.Write.contents c.args.out.now) why.0 why.1)
 
 pub returns-in_err-print_report-clause-err : goal.returns-in_err-print_report-clause-err
 returns-in_err-print_report-clause-err g c =
     passed_on _ _ _ c.from_residual-in_err-print_report.ensures.1
-    (unwritten c.args.opening g.T.Read.remaining c.args.table g.R.Read.remaining c.args.file c.in_err-print_report.field-0.0
+    (unwritten c.args.options g.T.Read.remaining c.args.table g.R.Read.remaining c.args.file c.in_err-print_report.field-0.0
     (g.W.Write.contents c.args.out.now) (g.W.Write.contents c.print_report.new.writer)
     (c.in_ok-report.report, c.in_ok-report.ensures.ok, c.in_err-print_report.ensures.err))
 

@@ -1,7 +1,7 @@
 use Rattle.std.proofs.Common.{ℕ, List, Option, inl, inr, ap, ◌∙◌}
 use Rattle.mds_commands.specs.declared.source.Source.{Source}
 use Rattle.mds_commands.specs.declared.problem.Problem.{Problem}
-use Rattle.mds_commands.specs.declared.problem.Problem.TheVariants.{CannotRead, NotATable, NotABatch, Socket, Random, Output, Memory}
+use Rattle.mds_commands.specs.declared.problem.Problem.TheVariants.{CannotRead, NotATable, NotABatch, NotLines, Socket, Random, Output, Memory}
 use Rattle.mds_commands.specs.Command.{TableWentOut}
 use Rattle.mds_commands.specs.Status.{code_of}
 use Rattle.mds_commands.proofs.commands.table_to.Goals as goal
@@ -12,6 +12,7 @@ out_before : {T : Type 0} (table_bytes : T → Option (List ℕ)) (table : Optio
 out_before table_bytes table (CannotRead path) old new out = inl out
 out_before table_bytes table (NotATable fault) old new out = inl out
 out_before table_bytes table (NotABatch fault) old new out = inl out
+out_before table_bytes table (NotLines fault) old new out = inl out
 out_before table_bytes table Socket old new out = absurd out
 out_before table_bytes table Random old new out = absurd out
 out_before table_bytes table Output old new out = inr out

@@ -3,7 +3,7 @@ use Rattle.std.proofs.KnownBytes.{Keeps-refl}
 use Rattle.mds_commands.specs.declared.debug.Named.{Named}
 use Rattle.mds_commands.specs.declared.debug.DebugProblem.{DebugProblem}
 use Rattle.mds_commands.specs.declared.debug.DebugProblem.TheVariants.{BadIdentifier, NotInFile, Other}
-use Rattle.mds_commands.specs.declared.problem.Problem.TheVariants.{CannotRead, NotATable, NotABatch, Socket, Random, Output, Memory}
+use Rattle.mds_commands.specs.declared.problem.Problem.TheVariants.{CannotRead, NotATable, NotABatch, NotLines, Socket, Random, Output, Memory}
 use Rattle.mds_commands.specs.declared.source.Source.{Source}
 use Rattle.mds_commands.specs.Command.{status_on}
 use Rattle.mds_commands.specs.Debug.{DebugWentOut, ExplainsDebug, IsOther}
@@ -20,6 +20,7 @@ module _ {T R : Type 0} (table_bytes : T → Option (List ℕ)) (table : Option 
   out_before (Other (CannotRead path)) input input_new old new other out = inl out.1
   out_before (Other (NotATable fault)) input input_new old new other out = inl out.1
   out_before (Other (NotABatch fault)) input input_new old new other out = inl out.1
+  out_before (Other (NotLines fault)) input input_new old new other out = inl out.1
   out_before (Other Socket) input input_new old new other out = inl out.1
   out_before (Other Random) input input_new old new other out = inl out.1
   out_before (Other Output) input input_new old new other out = inr out
