@@ -2,8 +2,10 @@
 mod table_files;
 mod tables;
 
+use crate::json::{self, TextFault, value_of};
 use crate::mask::{Mask, bit_of, has};
-use crate::{NameFault, Row, State, Table, TableFault, TypeName};
+use crate::{NameFault, Row, State, Table, TableFault, Tables, TypeName};
+use serde_json::Value;
 use std::alloc::{AllocError, Global};
 use std::test::Fail;
 
@@ -179,5 +181,53 @@ fn call_succeeds_after_a_refused_growth(rt: HostRuntime) -> Result<(), Fail> {
         (begins_with_drop_off(&rows, &table), counts),
         (true, (74, 5))
     );
+    Ok(())
+}
+
+/// The state that a text of JSON names in its member, which is read again where a growth is refused.
+fn state_in_text(alloc: Global, text: &[u8]) -> Option<State> {
+    let read = match value_of(alloc, text) {
+        Err(TextFault::Memory) => value_of(alloc, text),
+        read => read,
+    };
+    let value = read.ok()?;
+    json::state_of(value.get("state")?)
+}
+
+/// A text, read again where a growth is refused (by `tests/refused-growths`).
+#[test]
+fn a_text_is_read_after_a_refused_growth(rt: HostRuntime) {
+    let state = state_in_text(rt.alloc(), br#"{"state":"on_trip"}"#);
+    assert_eq!(rt; state, Some(State::OnTrip));
+}
+
+/// A growth of a size of its own: `tests/refused-growths` refuses each one between two of these.
+#[inline(never)]
+fn fence(alloc: Global) -> Result<Vec<u8>, AllocError> {
+    Vec::with_capacity(alloc, 12_347)
+}
+
+/// What the calls that take no memory tell of a list of tables, the first of which lets removed vehicles go by this type.
+fn told(list: Vec<(u64, Table)>, value: &Value) -> Option<([usize; 2], [Option<u64>; 2], bool)> {
+    let tables = Tables::new(list).ok()?;
+    let kind = json::type_name_of(value)?.copy();
+    let (start, table) = tables.entry(0)?;
+    let masks = tables.at(7).masks(&kind);
+    let goes = table.has_row(State::Removed, &kind, State::Available)
+        && has(masks[0], State::Available)
+        && state_of(kind.as_str()).is_none();
+    let numbers = [tables.len(), table.row_count()];
+    Some((numbers, [json::time_of(value), Some(start)], goes))
+}
+
+#[test]
+fn tables_are_told_of_with_every_growth_refused(rt: HostRuntime) -> Result<(), Fail> {
+    let mut list = Vec::new(rt.alloc());
+    list.push((0, Table::profile(rt.alloc())?))?;
+    let value = value_of(rt.alloc(), br#""provider_drop_off""#)?;
+    let _begun = fence(rt.alloc());
+    let found = told(list, &value);
+    let _ended = fence(rt.alloc());
+    assert_eq!(rt; found, Some(([1, 74], [None, Some(0)], true)));
     Ok(())
 }

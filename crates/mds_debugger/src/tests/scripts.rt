@@ -1,10 +1,10 @@
 //! Scripts: how they are read, and what their lines say.
 ghost use Rattle.std.specs.Prelude.{◌≡◌, IfOk};
 
-use crate::{MAX_SCRIPT, Move, ScriptCommand, ScriptEnd, read_script, script_of};
+use crate::{MAX_SCRIPT, Move, ScriptBytes, ScriptCommand, ScriptEnd, read_script, script_of};
 use mds_io::MAX_CALLS;
 use mds_table::State;
-use std::alloc::Global;
+use std::alloc::{AllocError, Global};
 use std::io::{self, Error, ErrorKind, Read};
 use std::test::Fail;
 
@@ -161,5 +161,37 @@ fn the_longest_script_has_a_line_a_byte(rt: HostRuntime) -> Result<(), Fail> {
     };
     let script = read_script(rt.alloc(), &mut reader)?;
     assert_eq!(rt; script_of(rt.alloc(), &script.bytes)?.len(), MAX_SCRIPT);
+    Ok(())
+}
+
+/// What is read of a script, of a new reader where a growth is refused.
+fn read_again(alloc: Global, text: &[u8]) -> Result<ScriptBytes, AllocError> {
+    let (mut first, mut second) = (text, text);
+    match read_script(alloc, &mut first) {
+        Ok(script) => Ok(script),
+        Err(_) => read_script(alloc, &mut second),
+    }
+}
+
+/// What its lines say, asked again where a growth is refused.
+fn said_again(alloc: Global, bytes: &[u8]) -> Result<Vec<Said>, AllocError> {
+    match script_of(alloc, bytes) {
+        Ok(said) => Ok(said),
+        Err(_) => script_of(alloc, bytes),
+    }
+}
+
+/// Each call, made again where its growth is refused (by `tests/refused-growths`).
+#[test]
+fn a_script_is_read_after_a_refused_growth(rt: HostRuntime) -> Result<(), Fail> {
+    let script = read_again(rt.alloc(), b"step\n\nback\nnext\nchain\nquit")?;
+    let said = said_again(rt.alloc(), &script.bytes)?;
+    assert_eq!(rt;
+        (script.end, said.as_slice()),
+        (
+            ScriptEnd::Whole,
+            [STEP, None, BACK, NEXT, CHAIN, QUIT].as_slice()
+        )
+    );
     Ok(())
 }

@@ -15,14 +15,14 @@ use uuid::Uuid;
 const PROVIDER: &str = "00000000-0000-4000-8000-000000000001";
 
 /// Two vehicles.
-const A: &str = "00000000-0000-4000-8000-00000000000a";
+pub const A: &str = "00000000-0000-4000-8000-00000000000a";
 
 const B: &str = "00000000-0000-4000-8000-00000000000b";
 
 /// Identifiers of events.
-const E1: &str = "00000000-0000-4000-8000-0000000000e1";
+pub const E1: &str = "00000000-0000-4000-8000-0000000000e1";
 
-const E2: &str = "00000000-0000-4000-8000-0000000000e2";
+pub const E2: &str = "00000000-0000-4000-8000-0000000000e2";
 
 const E3: &str = "00000000-0000-4000-8000-0000000000e3";
 
@@ -37,7 +37,7 @@ struct Told<'a> {
 }
 
 /// A vehicle of the provider.
-fn key_of(device: &str) -> Result<Key, Fail> {
+pub fn key_of(device: &str) -> Result<Key, Fail> {
     Ok(Key {
         provider: Uuid::parse_str(PROVIDER)?,
         device: Uuid::parse_str(device)?,
