@@ -5,12 +5,14 @@ from cases.commands import commands, examples, orders, paths, spaced_paths, wron
 from cases.debugging import faults, long_sessions, scripts, starts_before_its_script
 from cases.depot import depots
 from cases.helps import help_asked_for
+from cases.lines import line_files
 from cases.pictures import PICTURED
 from cases.replays import replays
 from cases.serve import outputs_of_serve, ports, tables_of_serve, words_of_serve
 from cases.streams import memory, output_that_ends_midway, streams
 from cases.tables import table_files
 from cases.timed import changing_tables, tables_files
+from cases.workers import workers
 
 SUBJECTS = [
     examples,
@@ -27,6 +29,8 @@ SUBJECTS = [
     batches,
     items,
     replays,
+    line_files,
+    workers,
     scripts,
     long_sessions,
     faults,

@@ -58,6 +58,8 @@ def commands():
         yield replayed(EVENTS, ["ok available"], [(A, "available", 1, "removed")], words=words, files=files)
 
 
+NO_COUNTS = ["0", "65", "-1", "x", "", "1.0", "99999999999999999999"]
+"""What is no number of workers."""
 WRONG = [
     [],
     [""],
@@ -92,14 +94,23 @@ WRONG = [
     ["replay", "events.json", "--all"],
     ["replay", "events.json", "--any", "--any"],
     ["replay", "events.json", "--any=yes"],
+    ["replay", "events.json", "--lines", "--lines"],
+    ["replay", "events.json", "--lines=yes"],
     ["table", "--any"],
-    ["replay", "events.json", "--lines"],
-    ["replay", "events.json", "--workers", "4"],
+    ["table", "--lines"],
+    *[["replay", "events.json", "--workers", count] for count in NO_COUNTS],
+    ["replay", "events.json", "--workers"],
+    ["replay", "--workers", "events.json"],
+    ["replay", "--workers=2", "events.json", "--workers", "2"],
+    ["replay", "--lines", "events.json", "--workers", "65"],
+    ["table", "--workers", "1"],
+    ["debug", "--workers", "1", "events.json", P, A],
     ["debug"],
     ["debug", "events.json"],
     ["debug", "events.json", P],
     ["debug", "events.json", P, A, "more"],
     ["debug", "events.json", P, A, "--any"],
+    ["debug", "events.json", P, A, "--lines"],
     ["debug", "events.json", P, A, "--table"],
 ]
 NO_TEXTS = [

@@ -37,6 +37,8 @@ Arguments:
 Options:
       --table <FILE>  A table of transitions, or several with times; without it the profile's
       --any           Lets a vehicle hold any state before its first event
+      --lines         Takes each line of the file as an item
+      --workers <N>   How many workers there are [default: 1]
   -h, --help          Print help
 """
 DEBUG = """Steps through the accepted events of a vehicle, as standard input says

@@ -18,7 +18,9 @@ UNKNOWN = [
     b"run flying", b"run Available", b"run available ", b"run\tavailable", b"next\x00", b"st\xc3\xa9p",
     b"chain chain", b"help",
 ]  # fmt: skip
-MISTAKES = [b"--lots", b"-x", b"--any", b"--table", b"extra", b"--port", b"7"]
+MISTAKES = [b"--lots", b"-x", b"--any", b"--lines", b"--table", b"extra", b"--port", b"7"]
+COUNTS = [b"1", b"2", b"2", b"3", b"4", b"7", b"64", b"+5", b"008", b"0", b"65", b"-1", b"x", b"", b"99999999999999999999"]
+"""How many workers share a replay, and what is no such number."""
 NO_TEXTS = [b"\xff", b"ev\xe9nements", b"\xed\xa0\x80"]
 
 
@@ -43,10 +45,10 @@ class Commands:
         except TableFault:
             return Tables.one()
 
-    def batch_file(self, tables, anywhere=False, may_be_input=False):
-        """A batch in a file or, where it may be, as standard input; answers its path and the vehicles that are in it."""
+    def batch_file(self, tables, anywhere=False, may_be_input=False, lines=False):
+        """A batch, or lines, in a file or, where it may be, as standard input; answers its path and the vehicles in it."""
         events = Events(self.chance, self.writer, Guide(tables), begins_anywhere=anywhere)
-        text, path = events.batch(), self.chance.choice(PATHS)
+        text, path = events.lines() if lines else events.batch(), self.chance.choice(PATHS)
         if may_be_input and (path == b"-" or self.chance.often(0.3)):
             path, self.given = b"-", text
         elif self.chance.often(0.98):
@@ -60,11 +62,14 @@ class Commands:
         return self.case(b"table", [])
 
     def replay(self):
-        anywhere = self.chance.often(0.4)
+        anywhere, lines = self.chance.often(0.4), self.chance.often(0.3)
         tables = self.table_file()
-        if anywhere:
-            self.words.insert(self.chance.choice((0, len(self.words))), b"--any")
-        path, _ = self.batch_file(tables, anywhere, may_be_input=True)
+        for flag in [b"--any"] * anywhere + [b"--lines"] * lines:
+            self.words.insert(self.chance.choice((0, len(self.words))), flag)
+        if self.chance.often(0.3):
+            at = self.chance.choice((0, len(self.words)))
+            self.words[at:at] = [b"--workers", self.chance.choice(COUNTS)]
+        path, _ = self.batch_file(tables, anywhere, may_be_input=True, lines=lines != self.chance.often(0.05))
         return self.case(b"replay", [path])
 
     def debug(self):

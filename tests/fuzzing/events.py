@@ -20,6 +20,8 @@ NAMES = [
     "", "Trip", "trip-end", "trip end", "tr\u00efp", "trip\u0000", "a" * 33, "a" * 100, " trip_end", "trip_end\n", "\u00df",
 ]
 """Names that no type has."""
+BLANKS = ["", "", " ", "\t", "\r", " \t\r ", "  "]
+"""Lines that hold no item."""
 STRANGE = ["never_heard_of", "a", "_", "0", "z" * 32, "0_9"]
 """Types of few tables or none."""
 NO_STATES = ["Available", "available ", "", "unknown", "parked", "avail", "availablex", "REMOVED", "non-operational"]
@@ -230,6 +232,25 @@ class Events:
         if not fault_of(item, EVENT[:2]):
             self.guide.vehicles.setdefault(key_of(item), Vehicle())
         return text
+
+    def line(self):
+        """A line that is an item, most often; else a blank one, or one that is none."""
+        kind, text = self.chance.random(), self.item()
+        if kind < 0.1:
+            return self.chance.choice(BLANKS)
+        return self.chance.choice(NO_VALUES) if kind < 0.11 else text if kind < 0.13 else text.replace("\n", " ")
+
+    def lines(self, most=30):
+        """The bytes of a file with an item on each line, now and then of one with a fault."""
+        chance = self.chance
+        lines = [self.line() for _ in range(chance.choice((0, 1, 2, 4, chance.randint(5, most))))]
+        if chance.often(0.02):
+            lines += ["0"] * (MAX_ITEMS - chance.choice((0, 0, len(lines))))
+        end = chance.choice(("\n", "\n", "\r\n"))
+        text = end.join(lines) + chance.choice((end, ""))
+        if chance.often(0.015):
+            return padded(text, MAX_BYTES + chance.choice((0, 1))).encode()
+        return chance.spoilt(text.encode()) if chance.often(0.04) else text.encode()
 
     def batch(self, item=None, most=30):
         """The bytes of a batch of items, now and then of one that is no batch."""

@@ -75,7 +75,7 @@ def listed(text):
 
 MEMBERS = [f"{fault} {name}" for name in EVENT for fault in ("missing_param", "bad_param")]
 ITEM_FAULTS = ["not_object", *[fault for fault in MEMBERS if fault != "missing_param location_e7"]]
-BATCH = listed("too_long, not_json, not_list, too_many")
+BATCH = listed("too_long, not_json, not_json N, not_list, too_many")
 TABLE = listed("too_long, not_json, not_rows, bad_row N, too_many_rows, too_many_types, empty")
 TIMED = listed("no_tables, too_many_tables, bad_entry N, first_not_zero, not_rising N, table N bad_row N, table N empty")
 ERRORS = """400 bad_head, 501 transfer_encoding, 404 not_found, 405 method_not_allowed, 411 length_required, 400 bad_length,

@@ -93,6 +93,8 @@ PLANTED = [
     Error("faulty items aren't refused", "replays", "len(self.verdicts) - self.accepted()", NOT_FAULTY),
     Error("vehicles are in another order", "replays", "in self.vehicles.items()]", "in sorted(self.vehicles.items())]"),
     Error("debug counts refusals of all vehicles", "replays", 'if verdict.get("key") == key]', 'if "key" in verdict]'),
+    Error("a line of spaces is an item", "items", 'if not line.strip(b" \\t\\r"):', "if not line:"),
+    Error("lines are counted from 1", "items", 'f"not_json {number}"', 'f"not_json {number + 1}"'),
     Error("any opening is told as from nowhere", "replays", "self.openings.get(key, STATES)", "self.openings.get(key, [])"),
     Error("a script has 1048575 bytes", "commands", "MOST_SCRIPT = 1048576", "MOST_SCRIPT = 1048575"),
     Error(

@@ -1,15 +1,17 @@
 """The commands `replay`, `debug` and `table`, after docs/formats.md: status and outputs for words, files and input."""
 
+import re
 from dataclasses import dataclass, field
 
 from harness.case import NOT_TEXT, SOME, cannot_read, not_a_batch, not_a_table
-from model.items import BatchFault, identifier_in, items_of
+from model.items import BatchFault, identifier_in, items_of, line_items_of
 from model.replays import Replay, debugged
 from model.tables import TableFault, Tables, tables_of
 
 MOST_SCRIPT = 1048576
+MOST_WORKERS = 64
 OPERANDS = {"replay": 1, "debug": 3, "table": 0}
-FLAGS = {"replay": ["--any"], "debug": [], "table": []}
+FLAGS = {"replay": ["--any", "--lines"], "debug": [], "table": []}
 MISTAKE = (2, b"", SOME)
 
 
@@ -25,6 +27,7 @@ class Words:
     operands: list = field(default_factory=list)
     flags: list = field(default_factory=list)
     table: str = None
+    workers: str = None
 
 
 def parsed(words):
@@ -37,6 +40,10 @@ def parsed(words):
             found.table = next(rest, None)
             if found.table is None or is_option(found.table):
                 return None
+        elif word == "--workers" and found.command == "replay" and found.workers is None:
+            found.workers = next(rest, "")
+            if not is_count(found.workers):
+                return None
         elif word in FLAGS[found.command] and word not in found.flags:
             found.flags.append(word)
         elif is_option(word):
@@ -44,6 +51,11 @@ def parsed(words):
         else:
             found.operands.append(word)
     return found if len(found.operands) == OPERANDS[found.command] else None
+
+
+def is_count(text):
+    """Whether a replay may have so many workers, which change nothing of it."""
+    return re.fullmatch(r"\+?[0-9]+", text) is not None and 1 <= int(text) <= MOST_WORKERS
 
 
 def is_option(word):
@@ -70,9 +82,9 @@ class Run:
         except TableFault as fault:
             raise Problem(3, not_a_table(fault)) from None
 
-    def items(self, path):
+    def items(self, path, lines=False):
         try:
-            return items_of(self.read(path))
+            return (line_items_of if lines else items_of)(self.read(path))
         except BatchFault as fault:
             raise Problem(3, not_a_batch(fault)) from None
 
@@ -83,7 +95,7 @@ class Run:
         tables, [path] = self.tables(words), words.operands
         if path == "-":
             self.files = {**self.files, "-": self.given}
-        replay = Replay(tables, self.items(path), "--any" in words.flags)
+        replay = Replay(tables, self.items(path, "--lines" in words.flags), "--any" in words.flags)
         return int(replay.accepted() < len(replay.verdicts)), replay.printed()
 
     def debug(self, words):

@@ -36,6 +36,24 @@ def items_of(text):
     return items
 
 
+def line_items_of(stream):
+    """The items of the lines of these bytes, as values of JSON, or the first fault. Blank lines hold none."""
+    items, lines = [], stream[:MAX_BYTES].split(b"\n")
+    for number, line in enumerate(lines):
+        if len(stream) > MAX_BYTES and number == len(lines) - 1:
+            raise BatchFault("too_long")
+        if not line.strip(b" \t\r"):
+            continue
+        try:
+            value = value_of(line)
+        except NotJson:
+            raise BatchFault(f"not_json {number}") from None
+        if len(items) == MAX_ITEMS:
+            raise BatchFault("too_many")
+        items.append(value)
+    return items
+
+
 def identifier_in(text):
     """The identifier that a text is, hyphenated and in lower case, or None."""
     if not isinstance(text, str) or not IDENTIFIER.fullmatch(text):

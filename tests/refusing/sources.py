@@ -13,6 +13,7 @@ BLOCK = re.compile(r"^(pub trait|impl)\b([^{;]*?)\{$(.*?)^\}", re.M | re.S)
 FUNCTION = re.compile(r"^(?P<indent> *)(?P<public>pub )?fn (?P<name>\w+)", re.M)
 RESULT = re.compile(r"\s*->(.*?)(?=\b(?:requires|ensures|where|decreases)\b|[{;]\s*$)", re.M | re.S)
 TEST = re.compile(r"#\[test\]\s*fn (\w+)")
+TEST_MODULE = re.compile(r"#\[cfg\(test\)\]\s*(?:pub(?:\(crate\))? )?mod (\w+);")
 
 
 @dataclass
@@ -21,16 +22,19 @@ class Crate:
 
     name: str
     texts: dict
-    """Those of its library; a test is in `tests`."""
+    """Those of its library; those of the modules that are built for its tests alone, and of the modules in these, are in
+    `tests`."""
     tests: dict
 
 
 def crate_of(folder):
+    source = folder / "src"
+    read = {path.relative_to(source): COMMENT.sub("", path.read_text()) for path in sorted(source.rglob("*.rt"))}
+    modules = {name for text in read.values() for name in TEST_MODULE.findall(text)}
     texts, tests = {}, {}
-    for path in sorted((folder / "src").rglob("*.rt")):
-        inner = path.relative_to(folder / "src")
-        whose = tests if "tests" in inner.parts or inner.stem.endswith("tests") else texts
-        whose[str(inner)] = COMMENT.sub("", path.read_text())
+    for path, text in read.items():
+        whose = tests if modules.intersection(path.with_suffix("").parts) else texts
+        whose[str(path)] = text
     return Crate(folder.name, texts, tests)
 
 
@@ -115,18 +119,28 @@ def all_functions(crate):
     return [it for text in crate.texts.values() for it in functions_of(text)]
 
 
+def named_functions(crate):
+    """The public functions of a crate's files: each as `crate::call`, what it gives, and whether callers can name it."""
+    names, modules = exported(crate)
+    for path, text in crate.texts.items():
+        for owner, name, result in functions_of(text):
+            whole = [part for part in (crate.name, modules.get(path), owner, name) if part]
+            yield "::".join(whole), result, path in modules or (owner or name) in names
+
+
+def every_call(found):
+    """Each call of these crates, those too that only the crate itself can make, as the program's."""
+    return [call for crate in found.values() for call, _, _ in named_functions(crate)]
+
+
 def calls(found):
     """Each public call of these crates whose result can tell of a refused growth, as `crate::call`."""
     own = {name: telling(crate) for name, crate in found.items()}
     handed_on = set().union(*(own[name] & exported(crate)[0] for name, crate in found.items()))
     for crate in found.values():
-        names, modules = exported(crate)
-        for path, text in crate.texts.items():
-            for owner, name, result in functions_of(text):
-                whole = [part for part in (crate.name, modules.get(path), owner, name) if part]
-                is_public = path in modules or (owner or name) in names
-                if is_public and has(fault_of(result), own[crate.name] | handed_on):
-                    yield "::".join(whole)
+        for call, result, is_public in named_functions(crate):
+            if is_public and has(fault_of(result), own[crate.name] | handed_on):
+                yield call
 
 
 def tests_of(crate):

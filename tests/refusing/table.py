@@ -1,7 +1,9 @@
-"""Each public call of a crate that can find no memory, by the test that refuses its growths one by one.
+"""Each public call of a crate that can find no memory, by the test that refuses its growths one by one; and the calls that take
+none, by the test that refuses every growth meanwhile.
 
-The tests have `after_a_refused_growth` in their names: each makes its calls again where a growth is refused, and passes whichever
-growth that is. A call is named as its callers name it."""
+The tests of the first have `after_a_refused_growth` in their names: each makes its calls again where a growth is refused, and
+passes whichever growth that is. Those of the others have `with_every_growth_refused` in theirs: each makes its calls between two
+growths of a size of their own. A call is named as its callers name it."""
 
 TESTED = {
     ("mds_table", "call_succeeds_after_a_refused_growth"): [
@@ -11,6 +13,7 @@ TESTED = {
         "Table::copy",
     ],
     ("mds_table", "tables_after_a_refused_growth"): ["Tables::one", "Tables::from_json", "Tables::copy"],
+    ("mds_table", "a_text_is_read_after_a_refused_growth"): ["json::value_of"],
     ("mds_steps", "least_chain_succeeds_after_a_refused_growth"): ["least_chain"],
     ("mds_core", "call_succeeds_after_a_refused_growth"): ["Fleet::step", "Fleet::events", "run"],
     ("mds_shard", "step_succeeds_after_a_refused_growth"): ["Shard::step", "Shard::events"],
@@ -28,6 +31,11 @@ TESTED = {
     ("mds_replay", "replay_succeeds_after_a_refused_growth"): ["replay"],
     ("mds_replay", "replay_with_succeeds_after_a_refused_growth"): ["replay_with"],
     ("mds_trace", "session_succeeds_after_a_refused_growth"): ["Session::open", "Session::chain"],
+    ("mds_trace", "lines_are_replayed_after_a_refused_growth"): ["LineReplay::feed", "LineReplay::finish"],
+    ("mds_debugger", "a_script_is_read_after_a_refused_growth"): ["read_script", "script_of"],
+    ("mds_debugger", "a_start_is_printed_after_a_refused_growth"): ["vehicle_events", "print_start"],
+    ("mds_debugger", "a_walk_is_printed_after_a_refused_growth"): ["print_walk"],
+    ("mds_commands", "tables_are_had_after_a_refused_growth"): ["tables_in"],
     ("mds_request", "call_succeeds_after_a_refused_growth"): ["Face::open", "plan_of", "HeadStatus::plan"],
     ("mds_response", "answer_is_whole_after_a_refused_growth"): ["bytes_of"],
     ("mds_face", "calls_stand_after_a_refused_growth"): ["serve_one"],
@@ -38,19 +46,37 @@ TESTED = {
 WITHOUT = ["mds_table::Tables::new", "mds_io::flush_page"]
 """Calls that take no memory, though their fault is a type that could tell of a lack: that of calls beside them."""
 UNTESTED = [
-    "mds_table::json::value_of",
     "mds_book::Slot::step",
-    "mds_debugger::read_script",
-    "mds_debugger::script_of",
-    "mds_debugger::vehicle_events",
-    "mds_debugger::print_start",
-    "mds_debugger::print_walk",
+    "mds_face::read_plan",
     "mds_face::Desk::call",
     "mds_face::Desk::events",
     "mds_face::Desk::rows",
-    "mds_face::read_plan",
     "mds_pool::serve",
     "mds_pool::serve_and_settle",
-    "mds_commands::tables_in",
 ]
 """Calls whose growths are refused in no such test yet: only in the runs of the whole program, or by way of calls above them."""
+
+QUIET = {
+    ("mds_table", "tables_are_told_of_with_every_growth_refused"): [
+        "State::code",
+        "State::name",
+        "State::of_name",
+        "TypeName::new",
+        "TypeName::as_str",
+        "TypeName::copy",
+        "Table::has_row",
+        "Table::masks",
+        "Table::row_count",
+        "Tables::new",
+        "Tables::at",
+        "Tables::len",
+        "Tables::entry",
+        "json::state_of",
+        "json::type_name_of",
+        "json::time_of",
+        "mask::bit_of",
+        "mask::has",
+    ],
+}
+"""A crate and its test, and the calls of the crate that it makes without memory: all of them, or those that are refused, look at
+something, or say that there is no memory."""

@@ -6,7 +6,10 @@ Each server ends by settling: it says how many requests it accepted, and that wh
 import os
 import random
 import threading
+import time
+from concurrent.futures import ProcessPoolExecutor
 from dataclasses import dataclass, field
+from itertools import repeat
 
 from cases.replays import identifier
 from harness.building import Refusal, built
@@ -15,12 +18,14 @@ from model.http import error
 from serving.growths import FIXED, out_of_memory
 from serving.http import done
 from serving.server import NotListening, Server
-from serving.together import Fronts, Sharing, some_event, value_of
+from serving.together import Fronts, Result, Sharing, some_event, value_of
 from serving.wire import ask, get, post
 
 SCHEDULES = [(2, 4, 30), (8, 8, 15), (64, 32, 5)]
 """Workers, clients, and requests of each client: as many vehicles would be no contention."""
 SEEDS = 4
+AT_ONCE, EPOCH = 4, 100
+"""How many schedules of many run side by side, and after how many it is printed what they came to."""
 LACKS = 8
 """How many seeds there are for each number of workers where growths are refused."""
 MOST_GROWTH, MOST_LACK = 12000, 40
@@ -42,21 +47,40 @@ def shuffled(seed, env=None):
 
 
 def one_schedule(program, workers, clients, requests, seed):
-    """What is wrong with clients that share one vehicle, in the order of this seed, and with how the server settles."""
+    """What clients did that share one vehicle, in the order of this seed, and what is wrong with it and with how the server
+    settles."""
     each = OneVehicle.connections(clients, requests) // workers + 1
     with Server(program, each, workers=workers, env=shuffled(seed)) as server:
         result = OneVehicle(seed, clients).run(server.port, requests)
         server.count(result.connections, result.success)
-        yield from result.complaints
-        yield from server.end()
+        result.complaints += server.end()
+    return result
 
 
 def on_one_vehicle(program):
     """Clients that report one vehicle, over 2, 8 and 64 workers, in the orders of some seeds."""
     for workers, clients, requests in SCHEDULES:
         for seed in range(1, SEEDS + 1):
-            for complaint in one_schedule(program, workers, clients, requests, seed):
+            for complaint in one_schedule(program, workers, clients, requests, seed).complaints:
                 yield f"{workers} workers, seed {seed}: {complaint}"
+
+
+def scheduled(program, seed):
+    """The schedule of a seed, over 2, 8 or 64 workers by turns."""
+    return one_schedule(program, *SCHEDULES[seed % len(SCHEDULES)], seed)
+
+
+def by_many_seeds(program, count):
+    """The same by so many seeds, a few of them side by side; prints what they came to."""
+    start, whole = time.monotonic(), Result()
+    with ProcessPoolExecutor(AT_ONCE) as pool:
+        for seed, result in enumerate(pool.map(scheduled, repeat(program), range(1, count + 1)), 1):
+            whole.add(result)
+            for complaint in result.complaints:
+                yield f"seed {seed}: {complaint}"
+            if seed % EPOCH == 0 or seed == count:
+                seconds, made = time.monotonic() - start, f"{whole.connections} connections, {whole.success} items accepted"
+                print(f"{seconds:.0f} s: {seed} schedules, {made}", flush=True)
 
 
 @dataclass
