@@ -1,22 +1,24 @@
 //! What the commands do, over any readers and writers.
-ghost use Rattle.std.specs.Prelude.{◌≡◌, ◌≢◌, ◌<◌, ◌≤◌, IfOk, IfErr, OnOk};
+ghost use Rattle.std.specs.Prelude.{◌≡◌, ◌≢◌, ◌<◌, ◌≤◌, List, IfOk, IfErr, OnOk};
 ghost use Rattle.std.specs.Io.KnownBytes.{Appends, Keeps};
+ghost use Rattle.mds_batch.specs.declared.item.EventItem.{EventItem as Item};
 ghost use Rattle.mds_replay.specs.declared.report.Report.{Report};
 ghost use Rattle.mds_replay.specs.Laws.{AreOutcomes};
 ghost use Rattle.mds_replay.specs.Replay.{IsReport};
 ghost use Rattle.mds_replay.specs.WithFault.{IsWorkerCount};
+ghost use Rattle.mds_commands.specs.Source.{HasItemsIn, ExplainsFile};
 ghost use Rattle.mds_commands.specs.Text.{report_text};
 ghost use Rattle.mds_commands.specs.Command.{HasReport, ExplainsReplay, WentOut, Replayed, Told, Tabled, ExplainsPrint, TableWentOut, TableTold, status_on};
 
 use crate::print::{print_report, print_tables};
 use crate::problem::{Problem, tell};
-use crate::source::{Form, Source, items_in, tables_in};
+use crate::source::{Form, Source, each_item_in, items_in, tables_in};
 use crate::status::Status;
 use crate::stream::report_of_lines;
 use mds_batch::EventItem;
 use mds_gate::OpenGate;
 use mds_table::Tables;
-use mds_trace::{Opening, Report, WithFault, replay, replay_with};
+use mds_trace::{Opening, Replayer, Report, WithFault, replay_with};
 use std::alloc::Global;
 use std::io::{Read, Write};
 use std::thread::Threads;
@@ -111,16 +113,36 @@ fn report_on<'a, P: Threads + Sync, T: Read + Drop, R: Read + Drop>(
         × (problem ≢ Problem.Output)) }
 {
     let tables = tables_in(alloc, table)?;
+    let opening = options.opening;
     match options.form {
+        Form::Lines => report_of_lines(alloc, tables, file, opening),
+        Form::Batch if options.workers == 1 => report_of_batch(alloc, tables, file, opening),
         Form::Batch => {
             let items = items_in(alloc, file)?;
             report_of_items(rt, alloc, tables, &items, options)
         }
-        Form::Lines => report_of_lines(alloc, tables, file, options.opening),
     }
 }
 
-/// The report of a replay of these items by as many workers as the options say. A single one needs no thread.
+/// The report of a replay of a batch, whose items are replayed as they are read: none is kept.
+fn report_of_batch<'a, R: Read + Drop>(
+    alloc: Global,
+    tables: Tables,
+    file: Source<'a, R>,
+    opening: Opening,
+) -> Result<Report, Problem<'a>>
+    ensures ok { IfOk result (λ report. (items : List Item)
+        × HasItemsIn Form.Batch R.remaining file.entry items
+        × IsReport opening tables items report
+        × (opening ≡ Opening.Removed → AreOutcomes tables items report.lines.items)) }
+    ensures err { IfErr result (ExplainsFile Form.Batch R.remaining file.entry) }
+{
+    let mut replayer = Replayer::open(alloc, tables, opening);
+    each_item_in(alloc, file, &mut replayer)?;
+    Ok(replayer.finish()?)
+}
+
+/// The report of a replay of these items by several workers.
 fn report_of_items<'a, P: Threads + Sync>(
     rt: &P,
     alloc: Global,
@@ -135,9 +157,6 @@ fn report_of_items<'a, P: Threads + Sync>(
     ensures err { IfErr result (λ problem. problem ≡ Problem.Memory) }
 {
     let opening = options.opening;
-    if options.workers == 1 {
-        return Ok(replay(alloc, tables, items, opening)?);
-    }
     match replay_with(
         rt,
         alloc,

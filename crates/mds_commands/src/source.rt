@@ -1,12 +1,13 @@
 //! Files that a command reads.
-ghost use Rattle.std.specs.Prelude.{IfOk, IfErr};
+ghost use Rattle.std.specs.Prelude.{[], List, IfOk, IfErr, OnOk};
 ghost use Rattle.mds_table.specs.TimedFile.{HasTables};
+ghost use Rattle.mds_batch.specs.declared.item.EventItem.{EventItem as Item};
 ghost use Rattle.mds_batch.specs.Items.{IsEventItem};
 ghost use Rattle.mds_batch.specs.Batch.{HasItems};
 ghost use Rattle.mds_commands.specs.Source.{HasBytes, IsReadProblem, IsTableProblem, HasTablesOf, HasTablesIn, ExplainsTableFile, ExplainsTable, IsBatchProblem, HasItemsIn, ExplainsFile};
 
 use crate::problem::Problem;
-use mds_batch::{EventItem, read_events};
+use mds_batch::{EventItem, TakesItems, each_event};
 use mds_io::{ReadError, read_front};
 use mds_table::{MAX_BYTES, Table, Tables};
 use std::alloc::Global;
@@ -102,14 +103,39 @@ pub fn items_in<'a, R: Read + Drop>(
     ensures ok { IfOk result (λ items. HasItemsIn Form.Batch R.remaining source.entry items.items) }
     ensures err { IfErr result (ExplainsFile Form.Batch R.remaining source.entry) }
 {
-    let bytes = bytes_in(alloc, source)?;
-    items_of_bytes(alloc, &bytes)
+    let mut items = Vec::new(alloc);
+    each_item_in(alloc, source, &mut items)?;
+    Ok(items)
 }
 
-/// The items of a batch of these bytes. What is wrong with them is never told as a fault of what gave them.
-fn items_of_bytes<'a>(alloc: Global, bytes: &[u8]) -> Result<Vec<EventItem>, Problem<'a>>
-    ensures items { IfOk result (λ items. HasItems IsEventItem bytes.now items.items) }
+/// Hands the items of a batch in a file to a taker, one by one. Where the file has a fault, the taker has taken some of the
+/// items before it.
+pub(crate) fn each_item_in<'a, R: Read + Drop, T: TakesItems<Item = EventItem>>(
+    alloc: Global,
+    source: Source<'a, R>,
+    taker: &mut T,
+) -> Result<(), Problem<'a>>
+    requires { T.took taker.old [] taker.old }
+    ensures ok { OnOk result ((items : List Item)
+        × HasItemsIn Form.Batch R.remaining source.entry items
+        × T.took taker.old items taker.new) }
+    ensures err { IfErr result (ExplainsFile Form.Batch R.remaining source.entry) }
+{
+    let bytes = bytes_in(alloc, source)?;
+    each_item_of_bytes(alloc, &bytes, taker)
+}
+
+/// Hands the items of a batch of these bytes to a taker. What is wrong with them is never told as a fault of what gave
+/// them.
+fn each_item_of_bytes<'a, T: TakesItems<Item = EventItem>>(
+    alloc: Global,
+    bytes: &[u8],
+    taker: &mut T,
+) -> Result<(), Problem<'a>>
+    requires { T.took taker.old [] taker.old }
+    ensures items { OnOk result ((items : List Item) × HasItems IsEventItem bytes.now items
+        × T.took taker.old items taker.new) }
     ensures fault { IfErr result (IsBatchProblem bytes.now) }
 {
-    Ok(read_events(alloc, bytes)?)
+    Ok(each_event(alloc, bytes, taker)?)
 }

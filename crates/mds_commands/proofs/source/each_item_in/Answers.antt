@@ -8,7 +8,7 @@ use Rattle.mds_commands.specs.declared.source.Source.{Source}
 use Rattle.mds_commands.specs.declared.problem.Problem.{Problem}
 use Rattle.mds_commands.specs.Problem.{batch_problem}
 use Rattle.mds_commands.specs.Source.{ExplainsFile, IsBatchProblem, HasBytes}
-use Rattle.mds_commands.proofs.source.items_in.Goals as goal
+use Rattle.mds_commands.proofs.source.each_item_in.Goals as goal
 
 -- a fault of the file's bytes explains the problem that is made of it
 explained : {R : Type 0} (remaining : R → Option (List ℕ)) (source : Source R) (bytes : List ℕ) (fault : BatchFault) → HasBytes remaining source bytes
@@ -25,6 +25,6 @@ of_bytes remaining source bytes problem has is =
 pub returns-clause-err : goal.returns-clause-err
 returns-clause-err g c =
     let bytes = c.in_ok-bytes.bytes.items in
-    IfErr-weaker c.items_of_bytes.result (IsBatchProblem bytes) (ExplainsFile Batch g.R.Read.remaining c.args.source)
+    IfErr-weaker c.each_item_of_bytes.result (IsBatchProblem bytes) (ExplainsFile Batch g.R.Read.remaining c.args.source)
     (λ problem is. of_bytes g.R.Read.remaining c.args.source bytes problem c.in_ok-bytes.ensures.ok is)
-    (rw c.deref.ensures.value at c.items_of_bytes.ensures.fault)
+    (rw c.deref.ensures.value at c.each_item_of_bytes.ensures.fault)
