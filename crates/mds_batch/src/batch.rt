@@ -1,12 +1,14 @@
 //! Batches, read into items.
-ghost use Rattle.std.specs.Prelude.{◌≡◌, ◌≤◌, length, map, Some, option_map, IfOk, IfErr, IsUtf8};
+ghost use Rattle.std.specs.Prelude.{◌≡◌, ◌≤◌, List, [], length, map, Some, option_map, IfOk, IfErr, OnOk, IsUtf8};
 ghost use Rattle.serde_json.specs.View.{view};
 ghost use Rattle.mds_table.specs.Json.{max_bytes};
 ghost use Rattle.mds_batch.specs.Items.{IsVehicleItem, IsEventItem};
+ghost use Rattle.mds_batch.specs.declared.item.EventItem.{EventItem as Item};
 ghost use Rattle.mds_batch.specs.Batch.{max_items, listed, AreItemsOf, HasItems, IsListFault, HasFault, HasItemFault, fault_text};
 
 use crate::event::EventFields;
 use crate::list::{ItemFields, ItemList};
+use crate::taker::TakesItems;
 use crate::tokens::{ReadFault, read_text};
 use crate::vehicle::VehicleFields;
 use crate::{EventItem, VehicleItem};
@@ -90,17 +92,55 @@ pub fn read_events(alloc: Global, bytes: &[u8]) -> Result<Vec<EventItem>, BatchF
     read_batch::<EventFields>(alloc, bytes)
 }
 
+/// Hands the events that a text of JSON lists to a taker, item by item, in their order, as [`read_events`] has them.
+///
+/// # Errors
+///
+/// As those of [`read_events`]; [`BatchFault::Memory`] comes where the taker finds no memory, too. The taker then took
+/// some of the items that come before the fault.
+pub fn each_event<T: TakesItems<Item = EventItem>>(
+    alloc: Global,
+    bytes: &[u8],
+    taker: &mut T,
+) -> Result<(), BatchFault>
+    requires { T.took taker.old [] taker.old }
+    ensures items { OnOk result ((items : List Item) × HasItems IsEventItem bytes.now items
+        × T.took taker.old items taker.new) }
+    ensures fault { IfErr result (HasFault bytes.now) }
+{
+    each_item::<EventFields, T>(alloc, bytes, taker)
+}
+
 /// The items that a text of JSON lists, each read by these fields.
 fn read_batch<F: ItemFields + Drop>(alloc: Global, bytes: &[u8]) -> Result<Vec<F::Item>, BatchFault>
     ensures items { IfOk result (λ items. HasItems F.is_item bytes.now items.items) }
     ensures fault { IfErr result (HasFault bytes.now) }
 {
+    let mut items = Vec::new(alloc);
+    each_item::<F, Vec<F::Item>>(alloc, bytes, &mut items)?;
+    Ok(items)
+}
+
+/// Hands the items that a text of JSON lists to a taker, each read by these fields.
+fn each_item<F: ItemFields + Drop, T: TakesItems<Item = F::Item>>(
+    alloc: Global,
+    bytes: &[u8],
+    taker: &mut T,
+) -> Result<(), BatchFault>
+    requires { T.took taker.old [] taker.old }
+    ensures items { OnOk result ((items : List F.Item) × HasItems F.is_item bytes.now items
+        × T.took taker.old items taker.new) }
+    ensures fault { IfErr result (HasFault bytes.now) }
+{
     let text = text_of(bytes)?;
-    let mut list = ItemList::<F>::new(alloc);
-    if !read_text(alloc, text, &mut list)? {
+    let mut list = ItemList::<F>::new();
+    if !read_text(alloc, text, &mut list, taker)? {
         return Err(BatchFault::NotList);
     }
-    list.into_items().ok_or(BatchFault::TooMany)
+    if list.is_too_long() {
+        return Err(BatchFault::TooMany);
+    }
+    Ok(())
 }
 
 /// The text that bytes are, if they are few enough.

@@ -17,13 +17,15 @@ mod member;
 mod number;
 mod reader;
 mod slot;
+mod taker;
 #[cfg(test)]
 mod tests;
 mod tokens;
 mod types;
 mod vehicle;
 
-pub use batch::{BatchFault, MAX_ITEMS, read_events, read_vehicles};
+pub use batch::{BatchFault, MAX_ITEMS, each_event, read_events, read_vehicles};
 pub use item::{BatchItem, EventItem, ItemFault, VehicleItem};
 pub use member::Member;
 pub use reader::{ItemReader, read_item};
+pub use taker::TakesItems;

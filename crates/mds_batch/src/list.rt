@@ -1,15 +1,17 @@
 //! The items of a batch, read from a text's tokens.
-ghost use Rattle.std.specs.Prelude.{◌≡◌, ◌∷◌, ◌++◌, [], true, false, Some, None, IfOk, IfSome, IfNone, OnOk, Err};
+ghost use Rattle.std.specs.Prelude.{◌≡◌, ◌∷◌, ◌++◌, ◌<◌, [], List, false, Some, None, IfOk, OnOk, Err};
 ghost use Rattle.serde_json.specs.Data.{Data};
 ghost use Rattle.mds_batch.specs.Reading.{value_at};
+ghost use Rattle.mds_batch.specs.Batch.{max_items};
 ghost use Rattle.mds_batch.specs.Listed.{HoldsItems, IsListOf};
 ghost use Rattle.mds_batch.specs.declared.tokens.ReadFault.TheVariants.{NotJson as not_json};
 
 use crate::MAX_ITEMS;
+use crate::taker::TakesItems;
 use crate::tokens::{
     Fields, Head, ReadFault, Sequence, Tokens, begin, pass, pass_items, read_items, read_members,
 };
-use std::alloc::{AllocError, Global};
+use std::alloc::AllocError;
 
 /// What the members of an item of a batch fill.
 pub(crate) trait ItemFields: Fields {
@@ -67,86 +69,104 @@ pub(crate) fn read_item<F: ItemFields>(
     Ok(())
 }
 
-/// The items of a batch. Each is made in one place, and copied from there behind the others.
+/// The items of a batch that were read. Each is made in one place, and handed from there to a taker.
 #[derive(Drop)]
 pub(crate) struct ItemList<F: ItemFields + Drop> {
     fields: F,
     item: F::Item,
-    items: Vec<F::Item>,
+    count: usize,
     is_too_long: bool,
 }
 
 impl<F: ItemFields + Drop> ItemList<F> {
     /// No items so far.
-    pub(crate) fn new(alloc: Global) -> ItemList<F>
-        ensures { HoldsItems F.is_item [] result.items.items result.is_too_long }
+    pub(crate) fn new() -> ItemList<F>
+        ensures none { result.count ≡ 0 }
+        ensures short { result.is_too_long ≡ false }
     {
         ItemList {
             fields: F::new(),
             item: F::no_object(),
-            items: Vec::new(alloc),
+            count: 0,
             is_too_long: false,
         }
     }
 
-    /// Reads what the next value lists, into a list without items: the items of a list, or an object alone. Answers
-    /// whether it is one of both.
-    pub(crate) fn read(&mut self, tokens: &mut Tokens<'_>, depth: usize) -> Result<bool, ReadFault>
-        requires { HoldsItems F.is_item [] self.old.items.items self.old.is_too_long }
+    /// Reads what the next value lists, into a list without items, and hands the items to a taker: the items of a list,
+    /// or an object alone. Answers whether it is one of both.
+    pub(crate) fn read<T: TakesItems<Item = F::Item>>(
+        &mut self,
+        taker: &mut T,
+        tokens: &mut Tokens<'_>,
+        depth: usize,
+    ) -> Result<bool, ReadFault>
+        requires none { self.old.count ≡ 0 }
+        requires short { self.old.is_too_long ≡ false }
+        requires took { T.took taker.old [] taker.old }
         ensures list { IfOk result (λ is_list. (value : Data)
             × (value_at depth tokens.old ≡ Some (value, tokens.new))
-            × IsListOf F.is_item value self.new.items.items self.new.is_too_long is_list) }
+            × IsListOf F.is_item (λ items. T.took taker.old items taker.new)
+            value self.new.count self.new.is_too_long is_list) }
         ensures fault { result ≡ Err not_json → value_at depth tokens.old ≡ None }
     {
         match begin(tokens, depth)? {
             Head::Array => {
-                read_items(self, tokens, depth - 1)?;
+                read_items(self, taker, tokens, depth - 1)?;
                 Ok(true)
             }
             Head::Object => {
                 self.fields.clear();
                 read_members(&mut self.fields, tokens, depth - 1)?;
                 self.fields.fill(&mut self.item);
-                self.push()?;
+                self.hand_on(taker)?;
                 Ok(true)
             }
             _ => Ok(false),
         }
     }
 
-    /// Adds the item that was made last.
-    fn push(&mut self) -> Result<(), AllocError>
-        ensures pushed { OnOk result (self.new.items.items ≡ self.old.items.items ++ self.old.item ∷ []) }
-        ensures same { OnOk result (self.new.is_too_long ≡ self.old.is_too_long) }
+    /// Hands the item that was made last to the taker.
+    fn hand_on<T: TakesItems<Item = F::Item>>(&mut self, taker: &mut T) -> Result<(), AllocError>
+        requires { self.old.count < max_items }
+        ensures { OnOk result ((before : T) (values : List Data) (value : Data)
+            → HoldsItems F.is_item (λ items. T.took before items taker.old)
+            values self.old.count self.old.is_too_long
+            → F.is_item value self.old.item
+            → HoldsItems F.is_item (λ items. T.took before items taker.new)
+            (values ++ value ∷ []) self.new.count self.new.is_too_long) }
     {
-        Ok(self.items.push(self.item)?)
+        taker.take(&self.item)?;
+        self.count += 1;
+        Ok(())
     }
 
-    /// The items, or `None` where there were more than [`MAX_ITEMS`].
-    pub(crate) fn into_items(self) -> Option<Vec<F::Item>>
-        ensures items { IfSome result (λ items. (items ≡ self.items) × (self.is_too_long ≡ false)) }
-        ensures none { IfNone result (self.is_too_long ≡ true) }
+    /// Whether there were more than [`MAX_ITEMS`].
+    pub(crate) fn is_too_long(&self) -> bool
+        ensures { result ≡ self.now.is_too_long }
     {
-        if self.is_too_long {
-            return None;
-        }
-        Some(self.items)
+        self.is_too_long
     }
 }
 
-impl<F: ItemFields + Drop> Sequence for ItemList<F> {
+impl<F: ItemFields + Drop, T: TakesItems<Item = F::Item>> Sequence<T> for ItemList<F> {
     ghost use Rattle.mds_batch.specs.Listed.{HoldsItems};
 
-    ghost holds = { λ values list. HoldsItems F.is_item values list.items.items list.is_too_long };
+    ghost holds = { λ before values list taker.
+        HoldsItems F.is_item (λ items. T.took before items taker) values list.count list.is_too_long };
 
-    fn take(&mut self, tokens: &mut Tokens<'_>, depth: usize) -> Result<(), ReadFault> {
-        if self.items.len() == MAX_ITEMS {
+    fn take(
+        &mut self,
+        taker: &mut T,
+        tokens: &mut Tokens<'_>,
+        depth: usize,
+    ) -> Result<(), ReadFault> {
+        if self.count >= MAX_ITEMS {
             pass(tokens, depth)?;
             self.is_too_long = true;
             return Ok(());
         }
         read_item(&mut self.fields, &mut self.item, tokens, depth)?;
-        self.push()?;
+        self.hand_on(taker)?;
         Ok(())
     }
 }

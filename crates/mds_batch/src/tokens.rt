@@ -1,7 +1,7 @@
 //! The tokens of a text of JSON, as the kit's `json` hands them out, read into values as `serde_json` reads them.
-ghost use Rattle.std.specs.Prelude.{◌≡◌, [], Some, None, IfOk, IfErr, OnOk, Err};
+ghost use Rattle.std.specs.Prelude.{◌≡◌, [], false, Some, None, IfOk, IfErr, OnOk, Err};
 ghost use Rattle.serde_json.specs.Read.{read};
-ghost use Rattle.mds_batch.specs.Listed.{HoldsItems, IsListOf};
+ghost use Rattle.mds_batch.specs.Listed.{IsListOf};
 ghost use Rattle.serde_json.specs.Data.{Data, Items, Members, no_members};
 ghost use Rattle.mds_table.specs.Json.{items_in};
 ghost use Rattle.mds_batch.specs.Reading.{value_at, items_at, members_at, IsHeadOf, HasBegun};
@@ -9,6 +9,7 @@ ghost use Rattle.mds_batch.specs.declared.tokens.ReadFault.TheVariants.{NotJson 
 
 use crate::list::{ItemFields, ItemList, read_item};
 use crate::number::number_of;
+use crate::taker::TakesItems;
 use json::{Invalid, Reader, Scratch, Token};
 use serde_json::Number;
 use std::alloc::{AllocError, Global};
@@ -164,55 +165,68 @@ pub(crate) fn read_members<F: Fields>(
     Ok(())
 }
 
-/// What the items of a list fill, one by one.
-pub(crate) trait Sequence {
+/// What the items of a list fill, one by one, where a taker may be handed what they are.
+pub(crate) trait Sequence<T> {
     ghost use Rattle.std.specs.Prelude.{◌≡◌, ◌∷◌, ◌++◌, [], List, Some, None, OnOk, Err};
     ghost use Rattle.serde_json.specs.Data.{Data};
     ghost use Rattle.mds_batch.specs.Reading.{value_at};
     ghost use Rattle.mds_batch.specs.declared.tokens.ReadFault.TheVariants.{NotJson as not_json};
 
-    /// These are the items that filled it.
-    ghost holds: { List Data → Self → Type 0 };
+    /// These are the items that filled it; the second taker is what they made of the first one.
+    ghost holds: { T → List Data → Self → T → Type 0 };
 
     /// Takes in the item that is next.
-    fn take(&mut self, tokens: &mut Tokens<'_>, depth: usize) -> Result<(), ReadFault>
+    fn take(
+        &mut self,
+        taker: &mut T,
+        tokens: &mut Tokens<'_>,
+        depth: usize,
+    ) -> Result<(), ReadFault>
         ensures taken { OnOk result ((value : Data)
             × (value_at depth tokens.old ≡ Some (value, tokens.new))
-            × ((found : List Data) → holds found self.old → holds (found ++ value ∷ []) self.new)) }
+            × ((before : T) (found : List Data) → holds before found self.old taker.old
+            → holds before (found ++ value ∷ []) self.new taker.new)) }
         ensures fault { result ≡ Err not_json → value_at depth tokens.old ≡ None };
 }
 
 /// Reads the items of a list, and the bracket that closes it.
-pub(crate) fn read_items<S: Sequence>(
+pub(crate) fn read_items<T, S: Sequence<T>>(
     sequence: &mut S,
+    taker: &mut T,
     tokens: &mut Tokens<'_>,
     depth: usize,
 ) -> Result<(), ReadFault>
-    requires { S.holds [] sequence.old }
+    requires { S.holds taker.old [] sequence.old taker.old }
     ensures items { OnOk result ((items : Items)
-        × (items_at depth tokens.old ≡ Some (items, tokens.new)) × S.holds (items_in items) sequence.new) }
+        × (items_at depth tokens.old ≡ Some (items, tokens.new))
+        × S.holds taker.old (items_in items) sequence.new taker.new) }
     ensures fault { result ≡ Err not_json → items_at depth tokens.old ≡ None }
 {
     while !tokens.take_end_array() {
-        sequence.take(tokens, depth)?;
+        sequence.take(taker, tokens, depth)?;
     }
     Ok(())
 }
 
-/// Reads what a whole text lists, into a list without items. Answers whether it is a list or an object.
-pub(crate) fn read_text<F: ItemFields + Drop>(
+/// Reads what a whole text lists, into a list without items, and hands the items to a taker. Answers whether it is a
+/// list or an object.
+pub(crate) fn read_text<F: ItemFields + Drop, T: TakesItems<Item = F::Item>>(
     alloc: Global,
     text: &str,
     list: &mut ItemList<F>,
+    taker: &mut T,
 ) -> Result<bool, ReadFault>
-    requires { HoldsItems F.is_item [] list.old.items.items list.old.is_too_long }
+    requires none { list.old.count ≡ 0 }
+    requires short { list.old.is_too_long ≡ false }
+    requires took { T.took taker.old [] taker.old }
     ensures list { IfOk result (λ is_list. (value : Data) × (read text.now ≡ Some value)
-        × IsListOf F.is_item value list.new.items.items list.new.is_too_long is_list) }
+        × IsListOf F.is_item (λ items. T.took taker.old items taker.new)
+        value list.new.count list.new.is_too_long is_list) }
     ensures fault { result ≡ Err not_json → read text.now ≡ None }
 {
     let mut scratch = Scratch::new(alloc);
     let mut tokens = Reader::new(text, &mut scratch)?;
-    let is_list = list.read(&mut tokens, MAX_DEPTH)?;
+    let is_list = list.read(taker, &mut tokens, MAX_DEPTH)?;
     if tokens.next().is_some() {
         return Err(ReadFault::NotJson);
     }

@@ -54,12 +54,18 @@ impl TypeList {
     }
 }
 
-impl Sequence for TypeList {
+/// It keeps the names itself, and hands nothing on.
+impl Sequence<()> for TypeList {
     ghost use Rattle.mds_batch.specs.Filled.{HoldsTypes};
 
-    ghost holds = { HoldsTypes };
+    ghost holds = { λ _ items types _. HoldsTypes items types };
 
-    fn take(&mut self, tokens: &mut Tokens<'_>, depth: usize) -> Result<(), ReadFault> {
+    fn take(
+        &mut self,
+        _taker: &mut (),
+        tokens: &mut Tokens<'_>,
+        depth: usize,
+    ) -> Result<(), ReadFault> {
         match read_type_name(tokens, depth)? {
             Some(name) if self.is_whole && self.names.len() < MAX_EVENT_TYPES => {
                 self.names.push(name);
@@ -83,7 +89,7 @@ pub(crate) fn read_types(
     match begin(tokens, depth)? {
         Head::Array => {
             types.clear();
-            read_items(types, tokens, depth - 1)?;
+            read_items(types, &mut (), tokens, depth - 1)?;
             Ok(types.are_few().then_some(()))
         }
         Head::Object => {
