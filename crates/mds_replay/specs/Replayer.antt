@@ -1,5 +1,5 @@
 -- What contracts see of a replay that takes its items one by one.
-use Rattle.std.specs.Prelude.{ℕ, List}
+use Rattle.std.specs.Prelude.{◌≡◌, ℕ, List}
 use Rattle.mds_table.specs.Tables.{Tables}
 use Rattle.mds_core.specs.declared.key.Key.{Key}
 use Rattle.mds_batch.specs.declared.item.EventItem.{EventItem}
@@ -20,3 +20,9 @@ pub record Replaying : Type 0 where
 -- these are the items that a replayer took: its verdicts are those on them, and it keeps what a replay of them keeps
 abbrev pub Took : List EventItem → Replaying → Type 0
 Took items replayer = IsReplayed replayer.opening replayer.tables items replayer.lines replayer.vehicles replayer.names
+
+-- since it was as before, a replayer took these items; its tables and its opening stay
+pub record TookSince (before : Replaying) (items : List EventItem) (now : Replaying) : Type 0 where
+  pub tables : now.tables ≡ before.tables
+  pub opening : now.opening ≡ before.opening
+  pub took : Took items now

@@ -12,7 +12,7 @@ use crate::judge::{AcceptedNames, Vehicles, judge_item};
 use crate::replayer::{ends_of, report_of};
 use crate::{Opening, Report, Verdict};
 use indexmap::{IndexMap, IndexSet};
-use mds_batch::EventItem;
+use mds_batch::{EventItem, TakesItems};
 use mds_table::Tables;
 use std::alloc::{AllocError, Global};
 use std::marker::Model;
@@ -101,5 +101,18 @@ impl Replayer {
         let alloc = *self.lines.allocator();
         let vehicles = ends_of(alloc, &self.vehicles)?;
         Ok(report_of(self.lines, vehicles))
+    }
+}
+
+/// It judges each item.
+impl TakesItems for Replayer {
+    ghost use Rattle.mds_replay.specs.Replayer.{TookSince};
+
+    type Item = EventItem;
+
+    ghost took = { TookSince };
+
+    fn take(&mut self, item: &EventItem) -> Result<(), AllocError> {
+        self.take(item)
     }
 }
