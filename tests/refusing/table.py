@@ -18,6 +18,7 @@ TESTED = {
     ("mds_core", "call_succeeds_after_a_refused_growth"): ["Fleet::step", "Fleet::events", "run"],
     ("mds_shard", "step_succeeds_after_a_refused_growth"): ["Shard::step", "Shard::events"],
     ("mds_book", "calls_succeed_after_a_refused_growth"): ["Book::open", "Book::call", "Book::vehicle_events"],
+    ("mds_book", "slot_steps_after_a_refused_growth"): ["Slot::step"],
     ("mds_io", "calls_succeed_after_a_refused_growth"): [
         "read_front",
         "read_up_to",
@@ -46,7 +47,6 @@ TESTED = {
 WITHOUT = ["mds_table::Tables::new", "mds_io::flush_page"]
 """Calls that take no memory, though their fault is a type that could tell of a lack: that of calls beside them."""
 UNTESTED = [
-    "mds_book::Slot::step",
     "mds_face::read_plan",
     "mds_face::Desk::call",
     "mds_face::Desk::events",
