@@ -18,6 +18,7 @@ TESTED = {
     ("mds_core", "call_succeeds_after_a_refused_growth"): ["Fleet::step", "Fleet::events", "run"],
     ("mds_shard", "step_succeeds_after_a_refused_growth"): ["Shard::step", "Shard::events"],
     ("mds_book", "calls_succeed_after_a_refused_growth"): ["Book::open", "Book::call", "Book::vehicle_events"],
+    ("mds_book", "slot_steps_after_a_refused_growth"): ["Slot::step"],
     ("mds_io", "calls_succeed_after_a_refused_growth"): [
         "read_front",
         "read_up_to",
@@ -42,6 +43,8 @@ TESTED = {
     ("mds_request", "call_succeeds_after_a_refused_growth"): ["Face::open", "plan_of", "HeadStatus::plan"],
     ("mds_response", "answer_is_whole_after_a_refused_growth"): ["bytes_of"],
     ("mds_face", "calls_stand_after_a_refused_growth"): ["serve_one"],
+    ("mds_face", "a_batch_is_read_after_a_refused_growth"): ["read_plan"],
+    ("mds_face", "a_seat_answers_after_a_refused_growth"): ["Desk::call", "Desk::events", "Desk::rows"],
     ("mds_args", "words_are_read_after_a_refused_growth"): ["parse_words"],
 }
 """A crate and its test, and the calls of the crate that it makes."""
@@ -49,15 +52,10 @@ TESTED = {
 WITHOUT = ["mds_table::Tables::new", "mds_io::flush_page"]
 """Calls that take no memory, though their fault is a type that could tell of a lack: that of calls beside them."""
 UNTESTED = [
-    "mds_book::Slot::step",
-    "mds_face::read_plan",
-    "mds_face::Desk::call",
-    "mds_face::Desk::events",
-    "mds_face::Desk::rows",
     "mds_pool::serve",
     "mds_pool::serve_and_settle",
 ]
-"""Calls whose growths are refused in no such test yet: only in the runs of the whole program, or by way of calls above them."""
+"""Calls whose growths are refused in no such test yet: `tests/clients` refuses those of the built server, one by one."""
 
 QUIET = {
     ("mds_table", "tables_are_told_of_with_every_growth_refused"): [

@@ -1,15 +1,19 @@
 //! Each call that takes memory, made again where its growth is refused (by `tests/refused-growths`).
-ghost use Rattle.std.specs.Prelude.{◌≡◌};
+ghost use Rattle.std.specs.Prelude.{◌≡◌, ◌<◌};
+ghost use Rattle.mds_core.specs.History.{key_of};
+ghost use Rattle.mds_book.specs.Shards.{shard_of as number_of};
 
 use super::{A, E1, hashers, key, profile, settled};
-use crate::{Book, Keep, Seat, ShardLedger};
-use mds_core::{Event, Request};
+use crate::slot::shard_of;
+use crate::{Book, Keep, Seat, ShardLedger, Slot};
+use mds_core::{Event, Outcome, Reply, Request};
 use mds_table::{State, Tables, TypeName};
 use std::alloc::{AllocError, Global};
+use std::hash::RandomState;
 use std::marker::Brand;
 use std::random::RandomSource;
 use std::sync::Wait;
-use std::sync::ledger::Blank;
+use std::sync::ledger::{Blank, Share};
 use std::test::Fail;
 use uuid::Uuid;
 
@@ -144,5 +148,90 @@ fn open_again<R: Wait + RandomSource>(
 #[test]
 fn calls_succeed_after_a_refused_growth(rt: HostRuntime) -> Result<(), Fail> {
     assert_eq!(rt; open_again(&rt, rt.alloc())?, Some(((1, true), 2)));
+    Ok(())
+}
+
+/// The reply of a slot to a request about a vehicle of its shard, and whether a refused growth left the slot as it was.
+fn step<L: ShardLedger>(
+    slot: &mut Slot<L, 0>,
+    share: &mut Share<L>,
+    request: &Request,
+) -> Result<(Reply, bool), AllocError>
+    requires part { 0 < share.old.parts }
+    requires number { number_of (key_of request.now) ≡ 0 }
+    ensures parts { share.new.parts ≡ share.old.parts }
+{
+    let about = request.key();
+    let before = (slot.shard().len(), slot.shard().standing(about));
+    if let Ok(reply) = slot.step(share, request) {
+        return Ok((reply, true));
+    }
+    let after = (slot.shard().len(), slot.shard().standing(about));
+    Ok((slot.step(share, request)?, after == before))
+}
+
+/// What becomes in a slot of two requests, or nothing where one is about a vehicle of the other shard.
+fn two_steps<L: ShardLedger>(
+    slot: &mut Slot<L, 0>,
+    share: &mut Share<L>,
+    requests: [Request; 2],
+) -> Result<Option<[(Reply, bool); 2]>, AllocError>
+    requires { 0 < share.old.parts }
+{
+    let [first, second] = requests;
+    if shard_of(first.key()) != 0 || shard_of(second.key()) != 0 {
+        return Ok(None);
+    }
+    let replied = step(slot, share, &first)?;
+    Ok(Some([replied, step(slot, share, &second)?]))
+}
+
+/// The same in a new slot of shard 0.
+fn in_a_slot<L: ShardLedger>(
+    alloc: Global,
+    tables: Tables,
+    requests: [Request; 2],
+    blank: Blank,
+    hasher: RandomState,
+) -> Result<Option<[(Reply, bool); 2]>, AllocError>
+    requires blank { (blank.name ≡ L.name) × (blank.parts ≡ L.parts) × (blank.parts ≡ 1) }
+    requires tables { tables ≡ L.tables }
+{
+    let (mut slot, mut share) = Slot::<L, 0>::open(alloc, tables, blank, hasher);
+    two_steps(&mut slot, &mut share, requests)
+}
+
+/// The same with a ledger of its own.
+fn slot_steps(
+    alloc: Global,
+    tables: Tables,
+    requests: [Request; 2],
+    hasher: RandomState,
+) -> Result<Option<[(Reply, bool); 2]>, AllocError> {
+    in_a_slot::<Brand>(alloc, tables, requests, Blank::new(1), hasher)
+}
+
+/// What becomes in a slot of a registration of A and of its first event.
+fn registered_in_a_slot<R: RandomSource>(
+    rt: &R,
+    alloc: Global,
+) -> Result<Option<[(Reply, bool); 2]>, Fail> {
+    let requests = [Request::Register(key(A)?), report()?];
+    let tables = profile_again(alloc)?;
+    Ok(slot_steps(alloc, tables, requests, RandomState::new(rt)?)?)
+}
+
+/// A reply that accepts, as the request behind this many.
+fn done(place: usize) -> Reply {
+    Reply {
+        place,
+        outcome: Outcome::Done,
+    }
+}
+
+#[test]
+fn slot_steps_after_a_refused_growth(rt: HostRuntime) -> Result<(), Fail> {
+    let steps = registered_in_a_slot(&rt, rt.alloc())?;
+    assert_eq!(rt; steps, Some([(done(0), true), (done(1), true)]));
     Ok(())
 }

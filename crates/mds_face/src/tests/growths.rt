@@ -1,11 +1,14 @@
 //! Connections that find no memory.
+mod desks;
+
 ghost use Rattle.std.specs.Prelude.{◌≡◌, IfSome};
 
 use super::cases::{ONE_FAULTY_OF_THREE, fleet};
 use super::tables::two_tables;
 use super::{Client, Sent, answer_text, answered, bytes_sent};
-use crate::{Desk, Face, ServeFault, Served, memory_bytes, serve_one};
+use crate::{Desk, Face, Plan, ServeFault, Served, memory_bytes, read_plan, serve_one};
 use mds_core::{Event, Fleet, Key, Reply, Request};
+use mds_io::ReadError;
 use mds_table::{Row, State, Table, Tables};
 use std::alloc::{AllocError, Global};
 use std::io::{self, Write};
@@ -272,5 +275,30 @@ fn tables_are_told_after_a_refused_growth(rt: HostRuntime) -> Result<(), Fail> {
     }
     assert_eq!(rt; first, (Err(ServeFault::Memory { sent: 74 }), 74, 0));
     assert_eq!(rt; told(alloc, &face, &mut fleet, bytes), whole);
+    Ok(())
+}
+
+/// What a client asks for that sends these bytes, and then what another one does where there was no memory to read it.
+fn plan_read(alloc: Global, face: &Face, bytes: &[u8]) -> Result<Plan, ReadError> {
+    match read_plan(alloc, face, &mut Client::new(bytes, 16)) {
+        Err(ReadError::Memory) => read_plan(alloc, face, &mut Client::new(bytes, 16)),
+        read => read,
+    }
+}
+
+/// How many events a plan reports, faulty items among them.
+fn reported(plan: Plan) -> Option<usize> {
+    match plan {
+        Plan::Events(items) => Some(items.len()),
+        _ => None,
+    }
+}
+
+/// A batch, read again where a growth is refused (by `tests/refused-growths`).
+#[test]
+fn a_batch_is_read_after_a_refused_growth(rt: HostRuntime) -> Result<(), Fail> {
+    let face = routes(rt.alloc())?;
+    let plan = plan_read(rt.alloc(), &face, THREE)?;
+    assert_eq!(rt; reported(plan), Some(3));
     Ok(())
 }
