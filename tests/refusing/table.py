@@ -30,6 +30,7 @@ TESTED = {
     ("mds_lines", "a_stream_is_read_after_a_refused_growth"): ["LineReader::feed", "LineReader::finish"],
     ("mds_replay", "replay_succeeds_after_a_refused_growth"): ["replay"],
     ("mds_replay", "replay_with_succeeds_after_a_refused_growth"): ["replay_with"],
+    ("mds_replay", "items_are_taken_after_a_refused_growth"): ["Replayer::take", "Replayer::finish"],
     ("mds_trace", "session_succeeds_after_a_refused_growth"): ["Session::open", "Session::chain"],
     ("mds_trace", "lines_are_replayed_after_a_refused_growth"): ["LineReplay::feed", "LineReplay::finish"],
     ("mds_debugger", "a_script_is_read_after_a_refused_growth"): ["read_script", "script_of"],

@@ -1,5 +1,5 @@
 //! The verdict on an item, by what is kept of the vehicles.
-ghost use Rattle.std.specs.Prelude.{◌≡◌, ◌<◌, ◌++◌, ◌∷◌, [], ℕ, List, length, IfOk};
+ghost use Rattle.std.specs.Prelude.{◌≡◌, ◌<◌, ◌++◌, ◌∷◌, [], ℕ, List, length, IfOk, OnErr};
 ghost use Rattle.mds_table.specs.Tables.{Tables};
 ghost use Rattle.mds_core.specs.declared.key.Key.{Key as Vehicle};
 ghost use Rattle.mds_core.specs.Reported.{Reported};
@@ -26,7 +26,7 @@ pub type Vehicles = IndexMap<Key, Followed>;
 /// The names of the accepted events: the vehicle and the identifier of each.
 pub type AcceptedNames = IndexSet<(Key, Uuid)>;
 
-/// The verdict on an item, with which what is kept of its vehicle goes on.
+/// The verdict on an item, with which what is kept of its vehicle goes on. Without memory what is kept stays as it was.
 pub fn judge_item(
     tables: &Tables,
     opening: Opening,
@@ -34,11 +34,13 @@ pub fn judge_item(
     names: &mut AcceptedNames,
     item: &EventItem,
 ) -> Result<Verdict, AllocError>
-    ensures { IfOk result (λ line. (items : List Item) (lines : List Line)
+    ensures judged { IfOk result (λ line. (items : List Item) (lines : List Line)
         → IsReplayed opening tables.now items lines vehicles.old.entries names.old.keys
         → length items < usize.MAX
         → IsReplayed opening tables.now (items ++ item.now ∷ []) (lines ++ line ∷ [])
         vehicles.new.entries names.new.keys) }
+    ensures kept { OnErr result
+        ((vehicles.new.entries ≡ vehicles.old.entries) × (names.new.keys ≡ names.old.keys)) }
 {
     match item {
         EventItem::Event(event) => judge_event(tables, opening, vehicles, names, event),
@@ -54,21 +56,25 @@ fn judge_event(
     names: &mut AcceptedNames,
     event: &Event,
 ) -> Result<Verdict, AllocError>
-    ensures { IfOk result (λ line. (mentioned : List Vehicle) (accepted : List Reported)
+    ensures judged { IfOk result (λ line. (mentioned : List Vehicle) (accepted : List Reported)
         → AreFollowed opening tables.now mentioned accepted vehicles.old.entries names.old.keys
         → length accepted < usize.MAX
         → IsVerdictOn opening tables.now (prior_of event.now.key accepted) event.now line
         × AreFollowed opening tables.now (insert_key same_key mentioned event.now.key)
         (accepted ++ accepted_by (item.Event event.now) line)
         vehicles.new.entries names.new.keys) }
+    ensures kept { OnErr result
+        ((vehicles.new.entries ≡ vehicles.old.entries) × (names.new.keys ≡ names.old.keys)) }
 {
     let name = (*event.key(), event.id());
     let vehicle = vehicle_at(vehicles, event.key(), opening);
     let (line, followed) = vehicle.judge(tables, event, names.contains(&name));
+    // With room for the name first, nothing is kept of an event for which there is no memory.
+    names.reserve(1)?;
+    vehicles.insert(*event.key(), followed)?;
     if line.accepts() {
         names.insert(name)?;
     }
-    vehicles.insert(*event.key(), followed)?;
     Ok(line)
 }
 

@@ -12,6 +12,7 @@ mod collect;
 mod followed;
 mod judge;
 pub mod laws;
+mod one_by_one;
 mod part;
 mod replayer;
 mod report;
@@ -19,6 +20,7 @@ mod report;
 mod timed_tests;
 mod workers;
 
+pub use one_by_one::Replayer;
 pub use replayer::replay;
 pub use report::{Opening, Report, VehicleEnd, Verdict};
 pub use workers::{MAX_WORKERS, WithFault, replay_with};

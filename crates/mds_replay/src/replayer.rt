@@ -6,17 +6,16 @@ ghost use Rattle.mds_batch.specs.declared.item.EventItem.{EventItem as Item};
 ghost use Rattle.mds_replay.specs.declared.report.Opening.{Opening as Openings};
 ghost use Rattle.mds_replay.specs.Verdict.{accepts};
 ghost use Rattle.mds_replay.specs.Items.{events_of, vehicles_of};
-ghost use Rattle.mds_replay.specs.Replay.{accepted_of, prior_of, AreVerdicts, IsEnd, IsReport};
+ghost use Rattle.mds_replay.specs.Replay.{accepted_of, AreVerdicts, IsEnd, IsReport};
 ghost use Rattle.mds_replay.specs.Laws.{AreOutcomes};
-ghost use Rattle.mds_replay.specs.Followed.{AreEntries, IsFollowed, end_at};
+ghost use Rattle.mds_replay.specs.Followed.{end_at};
 
 #[cfg(test)]
 mod tests;
 
 use crate::followed::Followed;
-use crate::judge::{Vehicles, judge_item};
-use crate::{Opening, Report, VehicleEnd, Verdict};
-use indexmap::{IndexMap, IndexSet};
+use crate::judge::Vehicles;
+use crate::{Opening, Replayer, Report, VehicleEnd, Verdict};
 use mds_batch::EventItem;
 use mds_core::Key;
 use mds_table::Tables;
@@ -43,9 +42,11 @@ pub fn replay(
     ensures runs { IfOk result (λ report.
         opening ≡ Opening.Removed → AreOutcomes tables items.now report.lines.items) }
 {
-    let (lines, vehicles) = judge_all(alloc, &tables, items, opening)?;
-    let vehicles = ends_of(alloc, &vehicles)?;
-    Ok(report_of(lines, vehicles))
+    let mut replayer = Replayer::open(alloc, tables, opening);
+    for item in items {
+        replayer.take(item)?;
+    }
+    replayer.finish()
 }
 
 /// The report of these verdicts and ends.
@@ -67,31 +68,6 @@ pub fn report_of(lines: Vec<Verdict>, vehicles: Vec<VehicleEnd>) -> Report
     }
 }
 
-/// A verdict on each item, and what is kept of the vehicles in the end.
-fn judge_all(
-    alloc: Global,
-    tables: &Tables,
-    items: &[EventItem],
-    opening: Opening,
-) -> Result<(Vec<Verdict>, Vehicles), AllocError>
-    ensures verdicts { IfOk result (λ judged.
-        AreVerdicts opening tables.now items.now judged.0.items) }
-    ensures vehicles { IfOk result (λ judged. AreEntries
-        (λ key vehicle.
-        IsFollowed opening tables.now key
-        (prior_of key (accepted_of items.now judged.0.items)) vehicle)
-        (vehicles_of (events_of items.now)) judged.1.entries) }
-{
-    let mut vehicles = IndexMap::new(alloc);
-    let mut names = IndexSet::new(alloc);
-    let mut lines = Vec::with_capacity(alloc, items.len())?;
-    for item in items {
-        let line = judge_item(tables, opening, &mut vehicles, &mut names, item)?;
-        lines.push(line)?;
-    }
-    Ok((lines, vehicles))
-}
-
 /// How many of the verdicts accept.
 fn count_accepted(lines: &[Verdict]) -> usize
     ensures { result ≡ count_by accepts lines.now }
@@ -100,7 +76,7 @@ fn count_accepted(lines: &[Verdict]) -> usize
 }
 
 /// Where the vehicles end.
-fn ends_of(alloc: Global, vehicles: &Vehicles) -> Result<Vec<VehicleEnd>, AllocError>
+pub fn ends_of(alloc: Global, vehicles: &Vehicles) -> Result<Vec<VehicleEnd>, AllocError>
     ensures { IfOk result (λ ends. ends.items ≡ map end_at vehicles.now.entries) }
 {
     vehicles.iter().map(end_of).collect(alloc)

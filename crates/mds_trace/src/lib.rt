@@ -16,7 +16,7 @@ mod timed_tests;
 pub use line_replay::LineReplay;
 pub use mds_lines::LineFault;
 pub use mds_replay::{
-    MAX_WORKERS, Opening, Report, VehicleEnd, Verdict, WithFault, replay, replay_with,
+    MAX_WORKERS, Opening, Replayer, Report, VehicleEnd, Verdict, WithFault, replay, replay_with,
 };
 pub use session::{Halt, Place, Session};
 pub use session_fault::SessionFault;

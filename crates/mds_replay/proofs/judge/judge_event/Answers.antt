@@ -1,19 +1,27 @@
-use Rattle.std.proofs.Common.{◌≡◌, ◌<◌, ◌++◌, length, map, sym, ◌∙◌, ap, subst, arith}
+use Rattle.std.proofs.Common.{◌≡◌, ◌<◌, ◌++◌, ℕ, List, length, map, sym, ◌∙◌, ap, subst, arith}
 use Rattle.std.below.core.specs.declared.int.usize.TheConstants.{MAX}
 use Rattle.std.specs.List.{list_any}
 use Rattle.indexmap.specs.IndexMap.{insert_entry}
 use Rattle.indexmap.specs.IndexSet.{insert_key}
+use Rattle.mds_core.specs.declared.key.Key.{Key as Vehicle}
+use Rattle.mds_core.specs.Reported.{Reported}
 use Rattle.mds_core.specs.History.{same_key, has_event}
 use Rattle.mds_batch.specs.declared.item.EventItem.TheVariants.{Event}
-use Rattle.mds_replay.specs.Replay.{accepted_by, prior_of, as_requests}
+use Rattle.mds_replay.specs.Replay.{accepted_by, prior_of, as_requests, IsVerdictOn}
 use Rattle.mds_replay.specs.Followed.{name_of, IsFollowed, AreFollowed}
 use Rattle.mds_replay.proofs.Verdicts.{prior_few}
 use Rattle.mds_replay.proofs.Keeping.{same_name, repeated_is, names_more, names_stay, next_followed}
 use Rattle.mds_replay.proofs.judge.judge_event.Goals as goal
-use Rattle.mds_replay.proofs.judge.judge_event.Goals.{then-accepts+in_ok-insert, else-accepts}
+use Rattle.mds_replay.proofs.judge.judge_event.Goals.{In_ok-insert}
 
-pub returns : goal.returns
-returns c = λ mentioned accepted are few.
+-- the verdict, and what is kept with these names of accepted events
+judged : (c : In_ok-insert) (mentioned : List Vehicle) (accepted : List Reported) (now : List (Vehicle × List ℕ))
+    → AreFollowed c.args.opening c.args.tables.now mentioned accepted c.args.vehicles.now.entries c.args.names.now.keys → length accepted < MAX
+    → (IsVerdictOn c.args.opening c.args.tables.now (prior_of c.args.event.now.key accepted) c.args.event.now c.judge-line.result.0
+    → now ≡ map name_of (accepted ++ accepted_by (Event c.args.event.now) c.judge-line.result.0))
+    → IsVerdictOn c.args.opening c.args.tables.now (prior_of c.args.event.now.key accepted) c.args.event.now c.judge-line.result.0
+    × AreFollowed c.args.opening c.args.tables.now (insert_key same_key mentioned c.args.event.now.key) (accepted ++ accepted_by (Event c.args.event.now) c.judge-line.result.0) c.insert.new.self.entries now
+judged c mentioned accepted now are few named =
     let opening = c.args.opening in
     let tables = c.args.tables.now in
     let event = c.args.event.now in
@@ -30,19 +38,27 @@ returns c = λ mentioned accepted are few.
     let verdict = c.judge-line.ensures.verdict opening prior vehicle repeated in
     let fewer : length prior < MAX = omega (arith, prior_few event.key accepted, few) in
     let followed = c.judge-line.ensures.followed opening prior vehicle fewer in
-    let entries : c.insert-2.new.self.entries ≡ insert_entry same_key c.args.vehicles.now.entries event.key c.judge-line.result.1 =
-    c.in_ok-insert-2.ensures.entries ∙ ap (λ key. insert_entry same_key c.args.vehicles.now.entries key c.judge-line.result.1) c.key-3.ensures in
-    let now : c.if-accepts.names.keys ≡ map name_of (accepted ++ accepted_by (Event event) line) =
-    elim c.if-accepts.branch [
-      | then-accepts+in_ok-insert w ↦
-          ap (λ set. set.keys) w.names-is
-          ∙ w.in_ok-insert.ensures.keys
-          ∙ ap (λ key. insert_key same_name names (key, c.id.result)) c.key.ensures
-          ∙ ap (λ id. insert_key same_name names (event.key, id)) c.id.ensures
-          ∙ names_more opening tables accepted event line names are.named verdict (sym w.if-accepts.ensures)
-      | else-accepts w ↦ ap (λ set. set.keys) w.names-is ∙ names_stay accepted event line names are.named (sym w.if-accepts.ensures)
-    ] in (
+    let entries : c.insert.new.self.entries ≡ insert_entry same_key c.args.vehicles.now.entries event.key c.judge-line.result.1 =
+    c.in_ok-insert.ensures.entries ∙ ap (λ key. insert_entry same_key c.args.vehicles.now.entries key c.judge-line.result.1) c.key-3.ensures in (
       verdict,
-      subst (λ all. AreFollowed opening tables (insert_key same_key mentioned event.key) (accepted ++ accepted_by (Event event) line) all c.if-accepts.names.keys) (sym entries)
-          (next_followed opening tables mentioned accepted c.args.vehicles.now.entries names c.if-accepts.names.keys event line c.judge-line.result.1 are followed now),
+      subst (λ all. AreFollowed opening tables (insert_key same_key mentioned event.key) (accepted ++ accepted_by (Event event) line) all now) (sym entries)
+          (next_followed opening tables mentioned accepted c.args.vehicles.now.entries names now event line c.judge-line.result.1 are followed (named verdict)),
     )
+
+pub returns-in_ok-insert-2-clause-judged : goal.returns-in_ok-insert-2-clause-judged
+returns-in_ok-insert-2-clause-judged c = λ mentioned accepted are few.
+    let event = c.args.event.now in
+    let names = c.args.names.now.keys in
+    judged (goal.at.returns-in_ok-insert-2-clause-judged c).In_ok-insert mentioned accepted _ are few
+    (λ verdict.
+    c.in_ok-insert-2.ensures.keys
+    ∙ ap (λ all. insert_key same_name all (c.key.result.now, c.id.result)) c.in_ok-reserve.ensures.keys
+    ∙ ap (λ key. insert_key same_name names (key, c.id.result)) c.key.ensures
+    ∙ ap (λ id. insert_key same_name names (event.key, id)) c.id.ensures
+    ∙ names_more c.args.opening c.args.tables.now accepted event c.judge-line.result.0 names are.named verdict (sym c.if-accepts.ensures))
+
+pub returns-else-accepts-clause-judged : goal.returns-else-accepts-clause-judged
+returns-else-accepts-clause-judged c = λ mentioned accepted are few.
+    judged (goal.at.returns-else-accepts-clause-judged c).In_ok-insert mentioned accepted _ are few
+    (λ verdict.
+    c.in_ok-reserve.ensures.keys ∙ names_stay accepted c.args.event.now c.judge-line.result.0 c.args.names.now.keys are.named (sym c.if-accepts.ensures))

@@ -10,18 +10,18 @@ use Rattle.mds_replay.proofs.Verdicts.{accepted_few}
 use Rattle.mds_replay.proofs.Replaying.{event_replayed, fault_replayed}
 use Rattle.mds_replay.proofs.judge.judge_item.Goals as goal
 
-pub returns-in-Event : goal.returns-in-Event
-returns-in-Event c = IfOk-weaker c.judge_event.result _ _
+pub returns-in-Event-clause-judged : goal.returns-in-Event-clause-judged
+returns-in-Event-clause-judged c = IfOk-weaker c.judge_event.result _ _
     (λ line judged items lines so_far few.
     let within : length (accepted_of items lines) < MAX = omega (arith, accepted_few items lines, few) in
     let told = judged (vehicles_of (events_of items)) (accepted_of items lines) so_far.vehicles within in
     let Is : EventItem → Type 0 = λ item.
     IsReplayed c.args.opening c.args.tables.now (items ++ item ∷ []) (lines ++ line ∷ []) c.judge_event.new.vehicles.entries c.judge_event.new.names.keys in
     subst Is (sym c.in-Event.is) (event_replayed c.args.opening c.args.tables.now items lines _ _ so_far c.in-Event.event line _ _ told.0 told.1))
-    c.judge_event.ensures
+    c.judge_event.ensures.judged
 
-pub returns-in-Fault : goal.returns-in-Fault
-returns-in-Fault c = λ items lines so_far few.
+pub returns-in-Fault-clause-judged : goal.returns-in-Fault-clause-judged
+returns-in-Fault-clause-judged c = λ items lines so_far few.
     let Is : EventItem → Type 0 = λ item.
     IsReplayed c.args.opening c.args.tables.now (items ++ item ∷ []) (lines ++ Fault c.in-Fault.fault ∷ []) c.args.vehicles.now.entries c.args.names.now.keys in
     subst Is (sym c.in-Fault.is) (fault_replayed c.args.opening c.args.tables.now items lines _ _ so_far c.in-Fault.fault)

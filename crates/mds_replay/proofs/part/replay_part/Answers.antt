@@ -32,7 +32,7 @@ loop-index-preserved c =
           rw (w.told-is, w.in_ok-push.ensures.items, w.vehicles-is, w.names-is)
           (subst Told so_far
           (share_own c.args.opening c.args.tables.now workers worker before told c.loop-index.vehicles.entries c.loop-index.names.keys share item line entries names (sym c.is_own.ensures ∙ w.if-is_own.true)
-          (w.in_ok-verdict.ensures (map (as_seen workers worker) before) share.lines share.replayed few)))
+          (w.in_ok-verdict.ensures.judged (map (as_seen workers worker) before) share.lines share.replayed few)))
       | else-is_own w ↦
           rw (w.told-is, w.vehicles-is, w.names-is)
           (share_other c.args.opening c.args.tables.now workers worker before told c.loop-index.vehicles.entries c.loop-index.names.keys share item (sym c.is_own.ensures ∙ w.if-is_own.false))
