@@ -12,7 +12,7 @@ use crate::judge::{AcceptedNames, Vehicles, judge_item};
 use crate::replayer::{ends_of, report_of};
 use crate::{Opening, Report, Verdict};
 use indexmap::{IndexMap, IndexSet};
-use mds_batch::EventItem;
+use mds_batch::{EventItem, TakesItems};
 use mds_table::Tables;
 use std::alloc::{AllocError, Global};
 use std::marker::Model;
@@ -101,5 +101,16 @@ impl Replayer {
         let alloc = *self.lines.allocator();
         let vehicles = ends_of(alloc, &self.vehicles)?;
         Ok(report_of(self.lines, vehicles))
+    }
+}
+
+/// It judges each item as it comes.
+impl TakesItems for Replayer {
+    type Item = EventItem;
+
+    ghost took = { λ before items now. (now.tables ≡ before.tables) × (now.opening ≡ before.opening) × Took items now };
+
+    fn take(&mut self, item: &EventItem) -> Result<(), AllocError> {
+        Replayer::take(self, item)
     }
 }
