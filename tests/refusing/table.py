@@ -26,6 +26,8 @@ TESTED = {
         "end_page",
     ],
     ("mds_batch", "call_succeeds_after_a_refused_growth"): ["read_vehicles", "read_events"],
+    ("mds_batch", "events_are_handed_on_after_a_refused_growth"): ["each_event"],
+    ("mds_batch", "an_item_is_taken_after_a_refused_growth"): ["TakesItems::take"],
     ("mds_batch", "an_item_is_read_after_a_refused_growth"): ["read_item", "ItemReader::read"],
     ("mds_lines", "a_stream_is_read_after_a_refused_growth"): ["LineReader::feed", "LineReader::finish"],
     ("mds_replay", "replay_succeeds_after_a_refused_growth"): ["replay"],

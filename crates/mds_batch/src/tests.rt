@@ -4,6 +4,7 @@ mod events;
 mod items;
 mod members;
 mod seeded;
+mod takers;
 mod texts;
 mod values;
 
