@@ -29,19 +29,20 @@ impl ItemReader {
         }
     }
 
-    /// The item that a whole text is: the event that it reports, or what is wrong with it. A list is no object.
+    /// The item that a whole text is: the event that it reports, or what is wrong with it. A list is no object. It lies in
+    /// the reader until the next text is read.
     ///
     /// # Errors
     ///
     /// [`BatchFault::TooLong`], else [`BatchFault::NotJson`]; [`BatchFault::Memory`] comes as soon as a growth is
     /// refused, and then says nothing of the bytes. The reader can be used again.
-    pub fn read(&mut self, bytes: &[u8]) -> Result<EventItem, BatchFault>
-        ensures item { IfOk result (IsItemText IsEventItem bytes.now) }
+    pub fn read(&mut self, bytes: &[u8]) -> Result<&EventItem, BatchFault>
+        ensures item { IfOk result (λ item. IsItemText IsEventItem bytes.now item.now) }
         ensures fault { IfErr result (HasItemFault bytes.now) }
     {
         let text = text_of(bytes)?;
         read_whole(text, &mut self.scratch, &mut self.fields, &mut self.item)?;
-        Ok(self.item)
+        Ok(&self.item)
     }
 }
 
@@ -54,5 +55,6 @@ pub fn read_item(alloc: Global, bytes: &[u8]) -> Result<EventItem, BatchFault>
     ensures item { IfOk result (IsItemText IsEventItem bytes.now) }
     ensures fault { IfErr result (HasItemFault bytes.now) }
 {
-    ItemReader::new(alloc).read(bytes)
+    let mut reader = ItemReader::new(alloc);
+    Ok(*reader.read(bytes)?)
 }

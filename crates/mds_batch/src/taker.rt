@@ -3,7 +3,7 @@ use std::alloc::AllocError;
 
 /// What takes the items of a batch, item by item, as they are read.
 pub trait TakesItems {
-    ghost use Rattle.std.specs.Prelude.{◌∷◌, ◌++◌, ◌<◌, [], List, length, OnOk};
+    ghost use Rattle.std.specs.Prelude.{◌∷◌, ◌++◌, ◌<◌, [], List, length, OnOk, OnErr};
     ghost use Rattle.mds_batch.specs.Batch.{max_items};
 
     /// The items that it takes.
@@ -16,11 +16,13 @@ pub trait TakesItems {
     ///
     /// # Errors
     ///
-    /// [`AllocError`] where there is no memory for it.
+    /// [`AllocError`] where there is no memory for it. It has then taken the items before it, and no other.
     fn take(&mut self, item: &Self::Item) -> Result<(), AllocError>
-        ensures { OnOk result ((before : Self) (items : List Self.Item)
+        ensures taken { OnOk result ((before : Self) (items : List Self.Item)
             → took before items self.old → length items < max_items
-            → took before (items ++ item.now ∷ []) self.new) };
+            → took before (items ++ item.now ∷ []) self.new) }
+        ensures kept { OnErr result ((before : Self) (items : List Self.Item)
+            → took before items self.old → took before items self.new) };
 }
 
 /// It takes each item behind those that it has.

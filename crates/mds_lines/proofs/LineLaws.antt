@@ -12,7 +12,7 @@ use Rattle.mds_batch.specs.Batch.{max_items}
 use Rattle.mds_batch.proofs.ItemLaws.{one_event_item}
 use Rattle.mds_lines.specs.declared.fault.LineFault.{LineFault}
 use Rattle.mds_lines.specs.declared.fault.LineFault.TheVariants.{Memory, TooLong, NotJson, TooMany}
-use Rattle.mds_lines.specs.Stream.{with_feeds, HasNoFeed, is_blank, item_lines, IsItemLine, HoldItems, BeginsWith, HasLineItems, IsFirstLine, HasLineAt, HasLineFault}
+use Rattle.mds_lines.specs.Stream.{with_feeds, HasNoFeed, is_blank, item_lines, IsItemLine, HoldItems, BeginsWith, HasEndedItems, HasLineItems, IsFirstLine, HasLineAt, HasLineFault}
 use Rattle.mds_lines.proofs.LineLemmas.{feeds_with}
 use Rattle.mds_lines.specs.Laws.{StreamsHaveOneListOfItems, StreamsWithItemsHaveNoFault, StreamsHaveOneFault}
 
@@ -226,19 +226,34 @@ module _ (stream : List ℕ) (at : ℕ) (items : List EventItem) (line : List �
   not_too_long : HasTextFault line text.NotJson ⊎ (length items ≡ max_items) → HasLineFault stream TooLong → ⊥
   not_too_long wrong long =
       let inner = ends_within long.0 in
-      let lines : List (List ℕ) = long.1.0 in
-      let rest : List ℕ = long.1.1 in
-      let is : has.before ++ line ∷ all_lines inner.0 ≡ lines ++ rest ∷ [] = sym inner.1 ∙ whole_stream (take max_bytes stream) lines rest long.1.3 long.1.4 in
+      let lines : List (List ℕ) = long.1.1.0 in
+      let rest : List ℕ = long.1.1.1 in
+      let is : has.before ++ line ∷ all_lines inner.0 ≡ lines ++ rest ∷ [] = sym inner.1 ∙ whole_stream (take max_bytes stream) lines rest long.1.1.2 long.1.1.3 in
       let less : length has.before < length lines =
       omega (arith, some_line inner.0, ap length is, length-append has.before (line ∷ all_lines inner.0), length-append lines (rest ∷ [])) in
       let found = front_of has.before lines line rest (all_lines inner.0) [] is less in
-      stopped has.before line found.0 long.1.2 (stops_with wrong) (subst (λ all. HoldItems all long.1.2) found.1 long.1.5)
+      stopped has.before line found.0 long.1.0 (stops_with wrong) (subst (λ all. HoldItems all long.1.0) found.1 long.1.1.5)
 
 -- ---- laws
 
 -- the items of a stream are those of all its lines
 items_of_stream : (stream : List ℕ) (items : List EventItem) → HasLineItems stream items → HoldItems (all_lines stream) items
 items_of_stream stream items has = subst (λ lines. HoldItems lines items) (sym (whole_stream stream has.0 has.1 has.2 has.3)) has.5
+
+-- lines and one more have one front
+one_front : (lines others : List (List ℕ)) (rest other : List ℕ) → lines ++ rest ∷ [] ≡ others ++ other ∷ [] → lines ≡ others
+one_front [] [] rest other is = refl
+one_front [] (b ∷ others) rest other is = absurd (omega (arith, ap length is, length-append others (other ∷ [])))
+one_front (a ∷ lines) [] rest other is = absurd (omega (arith, ap length is, length-append lines (rest ∷ [])))
+one_front (a ∷ lines) (b ∷ others) rest other is =
+    let behind : lines ++ rest ∷ [] ≡ others ++ other ∷ [] = cc in
+    let same = one_front lines others rest other behind in cc
+
+-- the lines that have ended have one list of items
+pub one_ended_list : (bytes : List ℕ) (items others : List EventItem) → HasEndedItems bytes items → HasEndedItems bytes others → items ≡ others
+one_ended_list bytes items others is are =
+    let fronts = one_front is.0 are.0 is.1 are.1 (sym (whole_stream bytes is.0 is.1 is.2 is.3) ∙ whole_stream bytes are.0 are.1 are.2 are.3) in
+    one_list (item_lines are.0) items others (subst (λ lines. AllZip IsItemLine (item_lines lines) items) fronts is.5.each) are.5.each
 
 -- a stream with items stops nowhere
 never_stops : (stream : List ℕ) (items : List EventItem) (at : ℕ) (line : List ℕ) → HasLineItems stream items → StopsAt stream at line → ⊥

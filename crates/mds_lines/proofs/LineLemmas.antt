@@ -57,8 +57,8 @@ module _ (bytes : List ℕ) (ended count : ℕ) where
   ended_within lines rest split = omega (arith, split.ended_at, ap length split.begins.joined, length-append (with_feeds lines) rest)
 
   -- another byte than a line feed belongs to the last line
-  pub read_other : (items : List EventItem) (byte : ℕ) → byte ≢ 10 → AreRead bytes ended count items → AreRead (bytes ++ byte ∷ []) ended count items
-  read_other items byte other read =
+  pub read_other : (taken : ℕ) (items : List EventItem) (byte : ℕ) → byte ≢ 10 → AreRead bytes ended count taken items → AreRead (bytes ++ byte ∷ []) ended count taken items
+  read_other taken items byte other read =
       let split = read.2 in (
         read.0,
         read.1 ++ byte ∷ [],
@@ -69,6 +69,7 @@ module _ (bytes : List ℕ) (ended count : ℕ) where
           counted = split.counted;
         },
         read.3,
+        read.4,
       )
 
   -- the lines with one more, joined
@@ -77,19 +78,20 @@ module _ (bytes : List ℕ) (ended count : ℕ) where
       feeds_with lines rest ∙ sym (append_assoc (with_feeds lines) rest (10 ∷ [])) ∙ ap (λ all. all ++ 10 ∷ []) (sym split.begins.joined)
 
   -- a line feed ends the last line
-  pub read_feed : (items : List EventItem) (place number : ℕ) → place ≡ length bytes + 1 → number ≡ count + 1 → AreTaken bytes ended count items → AreRead (bytes ++ 10 ∷ []) place number items
-  read_feed items place number at is taken =
-      let split = taken.2 in
-      let feeds = feeds_push taken.0 taken.1 split in (
-        taken.0 ++ taken.1 ∷ [],
+  pub read_feed : (taken : ℕ) (items : List EventItem) (place number : ℕ) → place ≡ length bytes + 1 → number ≡ count + 1 → AreTaken bytes ended count taken items → AreRead (bytes ++ 10 ∷ []) place number taken items
+  read_feed taken items place number at is are =
+      let split = are.2 in
+      let feeds = feeds_push are.0 are.1 split in (
+        are.0 ++ are.1 ∷ [],
         [],
         record {
-          begins = record { joined = sym feeds ∙ sym (append-nil (with_feeds (taken.0 ++ taken.1 ∷ []))); whole = All-push HasNoFeed taken.0 taken.1 split.begins.whole split.unended };
+          begins = record { joined = sym feeds ∙ sym (append-nil (with_feeds (are.0 ++ are.1 ∷ []))); whole = All-push HasNoFeed are.0 are.1 split.begins.whole split.unended };
           unended = All-nil (λ b. b ≢ 10);
           ended_at = omega (arith, at, ap length feeds, length-append bytes (10 ∷ []));
-          counted = omega (arith, is, split.counted, length-append taken.0 (taken.1 ∷ []));
+          counted = omega (arith, is, split.counted, length-append are.0 (are.1 ∷ []));
         },
-        taken.3,
+        are.3,
+        are.4,
       )
 
   -- the number of lines is no greater than that of bytes
@@ -126,10 +128,11 @@ module _ (bytes : List ℕ) (ended count : ℕ) where
   }
 
   -- what is wrong with the last line is the first fault of each stream in which it is whole
-  pub faulty_at_end : (lines : List (List ℕ)) (rest : List ℕ) (items : List EventItem) (fault : LineFault) → IsSplit bytes ended count lines rest → HoldItems lines items → IsFaultOfLine count rest items fault → IsFaultyAtEnd bytes fault
-  faulty_at_end lines rest items Memory split held wrong = λ stream next whole. tt
-  faulty_at_end lines rest items TooLong split held wrong = absurd wrong
-  faulty_at_end lines rest items (NotJson at) split held wrong = λ stream next whole.
+  pub faulty_at_end : (lines : List (List ℕ)) (rest : List ℕ) (taken : ℕ) (items : List EventItem) (fault : LineFault) → IsSplit bytes ended count lines rest → HoldItems lines items → taken ≡ length items
+      → IsFaultOfLine count rest taken fault → IsFaultyAtEnd bytes fault
+  faulty_at_end lines rest taken items Memory split held many wrong = λ stream next whole. tt
+  faulty_at_end lines rest taken items TooLong split held many wrong = absurd wrong
+  faulty_at_end lines rest taken items (NotJson at) split held many wrong = λ stream next whole.
       (items, rest, subst (λ number. HasLineAt stream number items rest) (sym wrong.0) (line_at lines rest items stream next split held wrong.1 whole.within whole.ends), wrong.2)
-  faulty_at_end lines rest items TooMany split held wrong = λ stream next whole.
-      (count, items, rest, line_at lines rest items stream next split held wrong.0 whole.within whole.ends, wrong.1, wrong.2)
+  faulty_at_end lines rest taken items TooMany split held many wrong = λ stream next whole.
+      (count, items, rest, line_at lines rest items stream next split held wrong.0 whole.within whole.ends, wrong.1, sym many ∙ wrong.2)

@@ -15,20 +15,26 @@ pub record IsSplit (bytes : List ℕ) (ended count : ℕ) (lines : List (List �
   pub ended_at : ended ≡ length (with_feeds lines)
   pub counted : count ≡ length lines
 
--- the items of the lines that have ended
-abbrev pub AreRead : List ℕ → ℕ → ℕ → List EventItem → Type 0
-AreRead bytes ended count items = (lines : List (List ℕ)) × (rest : List ℕ) × IsSplit bytes ended count lines rest × HoldItems lines items
+-- the items of the lines that have ended, so many
+abbrev pub AreRead : List ℕ → ℕ → ℕ → ℕ → List EventItem → Type 0
+AreRead bytes ended count taken items =
+    (lines : List (List ℕ)) × (rest : List ℕ) × IsSplit bytes ended count lines rest × HoldItems lines items × (taken ≡ length items)
 
--- the items of the lines that have ended and of the one that the bytes end with
-abbrev pub AreTaken : List ℕ → ℕ → ℕ → List EventItem → Type 0
-AreTaken bytes ended count items = (lines : List (List ℕ)) × (rest : List ℕ) × IsSplit bytes ended count lines rest × HoldItems (lines ++ rest ∷ []) items
+-- the items of the lines that have ended and of the one that the bytes end with, so many
+abbrev pub AreTaken : List ℕ → ℕ → ℕ → ℕ → List EventItem → Type 0
+AreTaken bytes ended count taken items =
+    (lines : List (List ℕ)) × (rest : List ℕ) × IsSplit bytes ended count lines rest × HoldItems (lines ++ rest ∷ []) items × (taken ≡ length items)
 
--- what is wrong with the line of this number, behind lines that hold these items
-abbrev pub IsFaultOfLine : ℕ → List ℕ → List EventItem → LineFault → Type 0
-IsFaultOfLine number line items Memory = Unit {0}
-IsFaultOfLine number line items TooLong = ⊥
-IsFaultOfLine number line items (NotJson at) = (at ≡ number) × (is_blank line ≡ false) × HasTextFault line text.NotJson
-IsFaultOfLine number line items TooMany = (is_blank line ≡ false) × ((item : EventItem) × IsItemLine line item) × (length items ≡ max_items)
+-- a taker that had taken these items has taken all these now
+abbrev pub TakesOn : {T : Type 0} → (T → List EventItem → T → Type 0) → List EventItem → T → List EventItem → T → Type 0
+TakesOn {T = T} took items old all new = (before : T) → took before items old → took before all new
+
+-- what is wrong with the line of this number, behind lines that hold so many items
+abbrev pub IsFaultOfLine : ℕ → List ℕ → ℕ → LineFault → Type 0
+IsFaultOfLine number line taken Memory = Unit {0}
+IsFaultOfLine number line taken TooLong = ⊥
+IsFaultOfLine number line taken (NotJson at) = (at ≡ number) × (is_blank line ≡ false) × HasTextFault line text.NotJson
+IsFaultOfLine number line taken TooMany = (is_blank line ≡ false) × ((item : EventItem) × IsItemLine line item) × (taken ≡ max_items)
 
 -- the line that the bytes end with is whole in this stream: by a line feed, or as the last one
 pub record EndsLine (bytes stream next : List ℕ) : Type 0 where
@@ -40,6 +46,6 @@ abbrev pub IsFaultyAtEnd : List ℕ → LineFault → Type 0
 IsFaultyAtEnd bytes fault = (stream next : List ℕ) → EndsLine bytes stream next → HasLineFault stream fault
 
 -- without a fault the lines of all bytes are read, and else every stream that begins with them has the fault
-abbrev pub IsKept : Option LineFault → List ℕ → ℕ → ℕ → List EventItem → Type 0
-IsKept None bytes ended count items = AreRead bytes ended count items × (length bytes ≤ max_bytes)
-IsKept (Some fault) bytes ended count items = IsFaultyWith bytes fault
+abbrev pub IsKept : Option LineFault → List ℕ → ℕ → ℕ → ℕ → Type 0
+IsKept None bytes ended count taken = ((items : List EventItem) × AreRead bytes ended count taken items) × (length bytes ≤ max_bytes)
+IsKept (Some fault) bytes ended count taken = IsFaultyWith bytes fault

@@ -43,6 +43,12 @@ pub record BeginsWith (stream : List ℕ) (lines : List (List ℕ)) (rest : List
   pub joined : stream ≡ with_feeds lines ++ rest
   pub whole : All HasNoFeed lines
 
+-- the items of the lines that have ended in some bytes: what is behind the last line feed isn't looked at
+abbrev pub HasEndedItems : List ℕ → List EventItem → Type 0
+HasEndedItems bytes items =
+    (lines : List (List ℕ)) × (rest : List ℕ) × BeginsWith bytes lines rest × HasNoFeed rest
+    × (length bytes ≤ max_bytes) × HoldItems lines items
+
 -- the items of a stream's lines, of which the last may end without a line feed
 abbrev pub HasLineItems : List ℕ → List EventItem → Type 0
 HasLineItems stream items =
@@ -69,9 +75,7 @@ pub record HasLineAt (stream : List ℕ) (at : ℕ) (items : List EventItem) (li
 -- many items. Want of memory says nothing of the stream
 abbrev pub HasLineFault : List ℕ → LineFault → Type 0
 HasLineFault stream Memory = Unit {0}
-HasLineFault stream TooLong =
-    (max_bytes < length stream) × ((lines : List (List ℕ)) × (rest : List ℕ) × (items : List EventItem)
-    × BeginsWith (take max_bytes stream) lines rest × HasNoFeed rest × HoldItems lines items)
+HasLineFault stream TooLong = (max_bytes < length stream) × ((items : List EventItem) × HasEndedItems (take max_bytes stream) items)
 HasLineFault stream (NotJson at) =
     (items : List EventItem) × (line : List ℕ) × HasLineAt stream at items line × HasTextFault line text.NotJson
 HasLineFault stream TooMany =

@@ -1,6 +1,6 @@
 //! What no clause says: values from outside, and that each call can succeed.
 use crate::{LineFault, LineReader};
-use mds_batch::{BatchItem, EventItem, ItemFault, Member, read_item};
+use mds_batch::{BatchItem, EventItem, ItemFault, Member, TakesItems, read_item};
 use std::alloc::{AllocError, Global};
 use std::process::Abort;
 use std::test::Fail;
@@ -50,37 +50,36 @@ const NO_PROVIDER: ItemFault = ItemFault::Missing(Member::ProviderId);
 
 /// The items of a stream that is fed in pieces of this length, or its first fault, which later calls answer too.
 fn in_pieces(alloc: Global, stream: &[u8], len: usize) -> Result<Vec<EventItem>, LineFault> {
+    let mut items = Vec::new(alloc);
     let mut reader = LineReader::open(alloc);
     let mut first = Ok(());
     for piece in stream.chunks(len.max(1)) {
-        let fed = reader.feed(piece);
+        let fed = reader.feed(piece, &mut items);
         if first.is_ok() {
             first = fed;
         } else if fed != first {
             return Err(LineFault::Memory);
         }
     }
-    let items = reader.finish();
-    match first {
-        Ok(()) => items,
-        Err(fault) => match items {
-            Err(other) if other == fault => Err(fault),
-            _ => Err(LineFault::Memory),
-        },
+    let ended = reader.finish(&mut items);
+    if first.is_err() && ended != first {
+        return Err(LineFault::Memory);
     }
+    ended.map(|()| items)
 }
 
 /// The same of a stream that is cut in two.
 fn cut_at(alloc: Global, stream: &[u8], at: usize) -> Result<Vec<EventItem>, LineFault> {
+    let mut items = Vec::new(alloc);
     let mut reader = LineReader::open(alloc);
     let (front, rest) = stream.split_at(at.min(stream.len()));
-    let fed = reader.feed(front).is_ok() && reader.feed(rest).is_ok();
-    let again = reader.feed(b"");
-    let items = reader.finish();
+    let fed = reader.feed(front, &mut items).is_ok() && reader.feed(rest, &mut items).is_ok();
+    let again = reader.feed(b"", &mut items);
+    let ended = reader.finish(&mut items);
     if fed != again.is_ok() {
         return Err(LineFault::Memory);
     }
-    items
+    ended.map(|()| items)
 }
 
 /// Why no item is an event, of each item in turn.
@@ -227,12 +226,14 @@ fn most_bytes(rt: HostRuntime) -> Result<(), Fail> {
 
 /// How many items a stream of so many lines has, with these bytes behind them.
 fn count(alloc: Global, lines: usize, end: &str) -> Result<usize, LineFault> {
+    let mut items = Vec::new(alloc);
     let mut reader = LineReader::open(alloc);
     for _ in 0..lines {
-        reader.feed(b"7\n")?;
+        reader.feed(b"7\n", &mut items)?;
     }
-    reader.feed(end.as_bytes())?;
-    Ok(reader.finish()?.len())
+    reader.feed(end.as_bytes(), &mut items)?;
+    reader.finish(&mut items)?;
+    Ok(items.len())
 }
 
 #[test]
@@ -269,11 +270,13 @@ fn texts_of_faults(rt: HostRuntime) -> Result<(), Fail> {
 
 /// How many items the events of two pieces are.
 fn two_pieces(alloc: Global) -> Result<usize, LineFault> {
+    let mut items = Vec::new(alloc);
     let mut reader = LineReader::open(alloc);
-    reader.feed(EVENT.as_bytes())?;
-    reader.feed(b"\n7\n")?;
-    reader.feed(EVENT.as_bytes())?;
-    Ok(reader.finish()?.len())
+    for piece in [EVENT.as_bytes(), b"\n7\n", EVENT.as_bytes()] {
+        reader.feed(piece, &mut items)?;
+    }
+    reader.finish(&mut items)?;
+    Ok(items.len())
 }
 
 /// A stream, fed again from its beginning where a growth is refused (by `tests/refused-growths`).
@@ -290,16 +293,64 @@ fn a_stream_is_read_after_a_refused_growth(rt: HostRuntime) {
 /// Want of memory is kept, as any fault is (growths are refused by `tests/refused-growths`).
 #[test]
 fn memory_is_kept_after_a_refused_growth(rt: HostRuntime) {
+    let mut items = Vec::new(rt.alloc());
     let mut reader = LineReader::open(rt.alloc());
     let fed = [
-        reader.feed(b"7\n7\n"),
-        reader.feed(b"7"),
-        reader.feed(b"\n"),
+        reader.feed(b"7\n7\n", &mut items),
+        reader.feed(b"7", &mut items),
+        reader.feed(b"\n", &mut items),
     ];
-    let ended = reader.finish().map(|items| items.len());
+    let ended = reader.finish(&mut items).map(|()| items.len());
     let kept = match fed {
         [Ok(()), Ok(()), Ok(())] => ended == Ok(3) || ended == Err(LineFault::Memory),
         [_, _, last] => last == Err(LineFault::Memory) && ended == Err(LineFault::Memory),
     };
     assert!(rt; kept);
+}
+
+/// What takes items up to a number, and has no memory for another one.
+#[derive(Drop)]
+struct UpTo {
+    items: Vec<EventItem>,
+    most: usize,
+}
+
+impl TakesItems for UpTo {
+    ghost use Rattle.std.specs.Prelude.{◌≡◌, ◌++◌};
+
+    type Item = EventItem;
+
+    ghost took = { λ before items now. now.items.items ≡ before.items.items ++ items };
+
+    fn take(&mut self, item: &EventItem) -> Result<(), AllocError> {
+        if self.items.len() == self.most {
+            return Err(AllocError);
+        }
+        Ok(self.items.push(*item)?)
+    }
+}
+
+/// A taker's want of memory is the stream's fault, and is kept; the items before it were taken, and none behind it.
+#[test]
+fn a_taker_has_no_memory(rt: HostRuntime) -> Result<(), Fail> {
+    let alloc = rt.alloc();
+    let memory = Err(LineFault::Memory);
+    for most in 0..3 {
+        let items = Vec::new(alloc);
+        let mut taker = UpTo { items, most };
+        let mut reader = LineReader::open(alloc);
+        let fed = reader.feed(b"7\n\n{}\n7", &mut taker);
+        assert_eq!(rt; (most, fed.is_ok()), (most, most == 2));
+        taker.most = 9;
+        let again = reader.feed(b"\n7\n", &mut taker);
+        let ended = reader.finish(&mut taker);
+        if most < 2 {
+            assert_eq!(rt; (fed, again, ended), (memory, memory, memory));
+        }
+        let found = faults(alloc, taker.items.as_slice())?;
+        let expected = [NO_OBJECT, NO_PROVIDER, NO_OBJECT, NO_OBJECT];
+        let taken = if most < 2 { most } else { 4 };
+        assert_eq!(rt; found.as_slice(), &expected[..taken]);
+    }
+    Ok(())
 }

@@ -22,7 +22,5 @@ abbrev pub Took : List EventItem → Replaying → Type 0
 Took items replayer = IsReplayed replayer.opening replayer.tables items replayer.lines replayer.vehicles replayer.names
 
 -- since it was as before, a replayer took these items; its tables and its opening stay
-pub record TookSince (before : Replaying) (items : List EventItem) (now : Replaying) : Type 0 where
-  pub tables : now.tables ≡ before.tables
-  pub opening : now.opening ≡ before.opening
-  pub took : Took items now
+abbrev pub TookSince : Replaying → List EventItem → Replaying → Type 0
+TookSince before items now = (now.tables ≡ before.tables) × (now.opening ≡ before.opening) × Took items now

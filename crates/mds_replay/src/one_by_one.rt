@@ -104,7 +104,7 @@ impl Replayer {
     }
 }
 
-/// It judges each item.
+/// It judges each item as it comes.
 impl TakesItems for Replayer {
     ghost use Rattle.mds_replay.specs.Replayer.{TookSince};
 

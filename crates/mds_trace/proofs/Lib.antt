@@ -3,3 +3,4 @@ pub mod SessionLemmas
 pub mod Passed
 pub mod Lawful
 pub mod Accepted
+pub mod FeedingLemmas

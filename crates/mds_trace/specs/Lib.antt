@@ -7,3 +7,4 @@ pub mod SessionFault
 pub mod SessionLaws
 pub mod Feeding
 pub mod LineReport
+pub mod LinesTaken

@@ -4,7 +4,7 @@ ghost use Rattle.mds_lines.specs.declared.fault.LineFault.{LineFault as Fault};
 ghost use Rattle.mds_lines.specs.Stream.{HasLineFault, IsFaultyWith};
 ghost use Rattle.mds_trace.specs.LineReport.{IsLineReport};
 
-use crate::{Opening, Report, replay};
+use crate::{Opening, Replayer, Report};
 use mds_lines::{LineFault, LineReader};
 use mds_table::Tables;
 use std::alloc::Global;
@@ -13,25 +13,26 @@ use std::marker::Model;
 /// A replay of a stream of lines, one item a line, which are fed in pieces: however the stream is cut, it comes to the
 /// replay of the items of its lines, or to the stream's first fault.
 ///
-/// It keeps the bytes that it was fed and the items of their lines up to the first fault, and replays them where the
-/// stream ends.
+/// It keeps the bytes that it was fed, and no item: each line's item is replayed as the line ends.
 #[derive(Drop)]
 pub struct LineReplay {
-    tables: Tables,
-    opening: Opening,
+    replayer: Replayer,
     lines: LineReader,
 }
 
 impl Model for LineReplay {
     ghost use Rattle.mds_trace.specs.Feeding.{Feeding};
+    ghost use Rattle.mds_trace.specs.LinesTaken.{AreReplayed};
 
     ghost Value = { Feeding };
 
     ghost view = { λ replay. record {
-      tables = replay.tables;
-      opening = replay.opening;
+      tables = replay.replayer.tables;
+      opening = replay.replayer.opening;
       stream = replay.lines;
     } };
+
+    ghost invariant = { λ replay. AreReplayed replay.lines.fault replay.lines.bytes replay.replayer };
 }
 
 impl LineReplay {
@@ -45,13 +46,12 @@ impl LineReplay {
         } }
     {
         LineReplay {
-            tables,
-            opening,
+            replayer: Replayer::open(alloc, tables, opening),
             lines: LineReader::open(alloc),
         }
     }
 
-    /// Takes in the next bytes of the stream, and reads the lines that end in them.
+    /// Takes in the next bytes of the stream, and replays the lines that end in them.
     ///
     /// # Errors
     ///
@@ -70,7 +70,7 @@ impl LineReplay {
         ensures tables { self.new.tables ≡ self.old.tables }
         ensures opening { self.new.opening ≡ self.old.opening }
     {
-        self.lines.feed(piece)
+        self.lines.feed(piece, &mut self.replayer)
     }
 
     /// The replay of the items of the stream's lines: the stream ends here.
@@ -85,9 +85,9 @@ impl LineReplay {
         ensures fault { IfErr result (HasLineFault self.stream.bytes) }
         ensures again { (fault : Fault) → self.stream.fault ≡ Some fault → result ≡ Err fault }
     {
-        let items = self.lines.finish()?;
-        let alloc = *items.allocator();
-        match replay(alloc, self.tables, &items, self.opening) {
+        let mut replayer = self.replayer;
+        self.lines.finish(&mut replayer)?;
+        match replayer.finish() {
             Ok(report) => Ok(report),
             Err(_) => Err(LineFault::Memory),
         }

@@ -1,6 +1,10 @@
-use Rattle.std.proofs.Common.{take}
-use Rattle.mds_lines.specs.Reading.{AreRead}
+use Rattle.std.proofs.Common.{List, take}
+use Rattle.mds_batch.specs.declared.item.EventItem.{EventItem}
+use Rattle.mds_lines.specs.Reading.{AreRead, TakesOn}
 use Rattle.mds_lines.proofs.lines.Lines.read.Given as goal
 
 abbrev pub invariant-loop-at : goal.invariant-loop-at
-invariant-loop-at l = AreRead (take l.at l.bytes) l.self.ended l.self.count l.self.items.items
+invariant-loop-at g l =
+    (items : List EventItem) → AreRead (take l.from l.bytes) l.initial.self.ended l.initial.self.count l.initial.self.taken items
+    → (all : List EventItem) × TakesOn g.T.TakesItems.took items l.initial.taker all l.taker
+    × AreRead (take l.at l.bytes) l.self.ended l.self.count l.self.taken all
