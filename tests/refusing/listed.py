@@ -3,7 +3,7 @@
 import re
 
 from refusing.sources import calls, crates, every_call, tests_of
-from refusing.table import QUIET, TESTED, UNTESTED, WITHOUT
+from refusing.table import QUIET, TESTED, WITHOUT
 
 AGAIN = "after_a_refused_growth"
 """Part of the names of tests that pass whichever growth is refused."""
@@ -25,7 +25,7 @@ def unlisted():
     """What is wrong with the table, in words."""
     found = crates()
     there, listed, quiet = set(calls(found)), by_call(TESTED), by_call(QUIET)
-    known = {*listed, *WITHOUT, *UNTESTED}
+    known = {*listed, *WITHOUT}
     for call in sorted(there - known):
         yield f"{call} can find no memory, and no test in tests/refusing/table.py refuses its growths"
     for call in sorted(known - there):

@@ -45,17 +45,14 @@ TESTED = {
     ("mds_face", "calls_stand_after_a_refused_growth"): ["serve_one"],
     ("mds_face", "a_batch_is_read_after_a_refused_growth"): ["read_plan"],
     ("mds_face", "a_seat_answers_after_a_refused_growth"): ["Desk::call", "Desk::events", "Desk::rows"],
+    ("mds_pool", "workers_serve_after_a_refused_growth"): ["serve"],
+    ("mds_pool", "a_book_is_settled_after_a_refused_growth"): ["serve_and_settle"],
     ("mds_args", "words_are_read_after_a_refused_growth"): ["parse_words"],
 }
 """A crate and its test, and the calls of the crate that it makes."""
 
 WITHOUT = ["mds_table::Tables::new", "mds_io::flush_page"]
 """Calls that take no memory, though their fault is a type that could tell of a lack: that of calls beside them."""
-UNTESTED = [
-    "mds_pool::serve",
-    "mds_pool::serve_and_settle",
-]
-"""Calls whose growths are refused in no such test yet: `tests/clients` refuses those of the built server, one by one."""
 
 QUIET = {
     ("mds_table", "tables_are_told_of_with_every_growth_refused"): [
