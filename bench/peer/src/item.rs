@@ -33,7 +33,7 @@ pub enum Fault {
     Bad(&'static str),
 }
 
-const MAX_TYPES: usize = 16;
+const MAX_TYPES: usize = 64;
 const MAX_NAME: usize = 32;
 const MAX_TIME: u64 = (1 << 53) - 1;
 const MAX_LAT: i64 = 900_000_000;

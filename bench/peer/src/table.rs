@@ -14,9 +14,14 @@ pub enum State {
     Elsewhere,
     NonContactable,
     Missing,
+    InDepot,
 }
 
-const STATES: [State; 8] = [Removed, Available, NonOperational, Reserved, OnTrip, Elsewhere, NonContactable, Missing];
+const STATES: [State; 9] =
+    [Removed, Available, NonOperational, Reserved, OnTrip, Elsewhere, NonContactable, Missing, InDepot];
+
+/// A set of states, of which each has a bit.
+type States = u16;
 
 impl State {
     pub fn name(self) -> &'static str {
@@ -29,6 +34,7 @@ impl State {
             Elsewhere => "elsewhere",
             NonContactable => "non_contactable",
             Missing => "missing",
+            InDepot => "in_depot",
         }
     }
 
@@ -36,8 +42,8 @@ impl State {
         STATES.into_iter().find(|state| state.name() == name)
     }
 
-    /// The set of this state alone: a set has a bit for each state.
-    fn bit(self) -> u8 {
+    /// The set of this state alone.
+    fn bit(self) -> States {
         1 << self as u8
     }
 }
@@ -87,7 +93,7 @@ pub struct Kind(u8);
 pub struct Table {
     names: Vec<&'static str>,
     /// Of each type, the set of states to which it leads from each state.
-    next: Vec<[u8; 8]>,
+    next: Vec<[States; STATES.len()]>,
     kinds: HashMap<&'static str, Kind>,
 }
 
@@ -98,7 +104,7 @@ impl Table {
             if table.names.last() != Some(name) {
                 table.kinds.insert(name, Kind(table.names.len() as u8));
                 table.names.push(name);
-                table.next.push([0; 8]);
+                table.next.push([0; STATES.len()]);
             }
             let to = after.iter().fold(0, |set, state| set | state.bit());
             let next = table.next.last_mut().expect("a type was added");
@@ -115,7 +121,7 @@ impl Table {
         self.names[usize::from(kind.0)]
     }
 
-    fn next(&self, kind: Kind, set: u8) -> u8 {
+    fn next(&self, kind: Kind, set: States) -> States {
         let next = &self.next[usize::from(kind.0)];
         STATES.into_iter().filter(|state| set & state.bit() != 0).fold(0, |to, state| to | next[state as usize])
     }
