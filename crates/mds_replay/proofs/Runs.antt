@@ -25,7 +25,7 @@ use Rattle.mds_replay.specs.declared.report.Opening.TheVariants.{Removed}
 use Rattle.mds_replay.specs.declared.report.Verdict.{Verdict}
 use Rattle.mds_replay.specs.declared.report.Verdict.TheVariants.{Accepted, Refused, NoOpening, Fault}
 use Rattle.mds_replay.specs.Items.{events_of}
-use Rattle.mds_replay.specs.Replay.{accepted_by, prior_of, as_requests, IsOutcome, AreVerdicts}
+use Rattle.mds_replay.specs.Replay.{accepted_by, accepted_of, prior_of, as_requests, IsOutcome, AreVerdicts}
 use Rattle.mds_replay.specs.Laws.{outcome_told, outcome_of_report, outcomes_of_reports, AreOutcomes}
 use Rattle.mds_replay.proofs.Turns.{InTurn, in_turn}
 use Rattle.mds_replay.proofs.Following.{requests-push}
@@ -34,6 +34,11 @@ use Rattle.mds_replay.proofs.Verdicts.{prior_same, prior_other}
 -- the outcome that a judged event tells
 abbrev told_of : List (Reported × Verdict) → List Outcome
 told_of judged = filter_map (λ one. outcome_told one.1) judged
+
+-- and the events that they accept
+abbrev accepted_in : List (Reported × Verdict) → List Reported
+accepted_in [] = []
+accepted_in (one ∷ judged) = accepted_by (Event one.0) one.1 ++ accepted_in judged
 
 module _ (tables : Tables) where
   -- the same over the events alone
@@ -46,22 +51,24 @@ module _ (tables : Tables) where
   abbrev AreJudged : List Reported → List EventItem → List Verdict → Type 0
   AreJudged accepted items lines =
       (judged : List (Reported × Verdict)) × EventsInTurn accepted judged × (map (λ one. one.0) judged ≡ events_of items) × (told_of judged ≡ filter_map outcome_told lines)
+      × (accepted_in judged ≡ accepted_of items lines)
 
   without_faults : (accepted : List Reported) (items : List EventItem) (lines : List Verdict) → InTurn Removed tables accepted items lines → AreJudged accepted items lines
-  without_faults accepted [] [] are = ([], tt, refl, refl)
+  without_faults accepted [] [] are = ([], tt, refl, refl, refl)
   without_faults accepted [] (line ∷ lines) are = absurd are
   without_faults accepted (item ∷ items) [] are = absurd are
   without_faults accepted (Event event ∷ items) (Accepted state ∷ lines) are =
       let rest = without_faults (accepted ++ event ∷ []) items lines are.1 in
-      ((event, Accepted state) ∷ rest.0, (are.0, rest.1), ap (λ events. event ∷ events) rest.2, ap (λ told. Done ∷ told) rest.3)
+      let add : List Reported → List Reported = λ events. event ∷ events in
+      ((event, Accepted state) ∷ rest.0, (are.0, rest.1), ap add rest.2, ap (λ told. Done ∷ told) rest.3, ap add rest.4)
   without_faults accepted (Event event ∷ items) (Refused refusal ∷ lines) are =
       let rest = without_faults (accepted ++ []) items lines are.1 in
-      ((event, Refused refusal) ∷ rest.0, (are.0, rest.1), ap (λ events. event ∷ events) rest.2, ap (λ told. RefusedBy refusal ∷ told) rest.3)
+      ((event, Refused refusal) ∷ rest.0, (are.0, rest.1), ap (λ events. event ∷ events) rest.2, ap (λ told. RefusedBy refusal ∷ told) rest.3, rest.4)
   without_faults accepted (Event event ∷ items) (NoOpening at ∷ lines) are = absurd are.0
   without_faults accepted (Event event ∷ items) (Fault fault ∷ lines) are = absurd are.0
   without_faults accepted (Faulty fault ∷ items) (line ∷ lines) are =
       let rest = without_faults accepted items lines (subst (λ events. InTurn Removed tables events items lines) (append-nil accepted) are.1) in
-      (rest.0, rest.1, rest.2, rest.3 ∙ sym (ap (λ one. filter_map outcome_told (one ∷ lines)) are.0))
+      (rest.0, rest.1, rest.2, rest.3 ∙ sym (ap (λ one. filter_map outcome_told (one ∷ lines)) are.0), rest.4)
 
 -- nothing is known of a vehicle, which wasn't registered
 record IsNew (before : List Request) (accepted : List Reported) (history : List Request) (key : Key) : Type 0 where
@@ -163,10 +170,11 @@ known_at before accepted history key fits registered = elim (fits key) [
 not_empty : (accepted : List Reported) (history : List Request) (key : Key) → IsKnown accepted history key → requests_of history key ≢ []
 not_empty accepted history key known nothing = let none : as_requests key (prior_of key accepted) ≡ [] = sym known ∙ nothing in cc
 
-module _ (tables : Tables) where
-  -- a run from a history, whose reports have these outcomes
+module _ (tables : Tables) (all : List Request) (events : List Reported) where
+  -- a run from a history, whose reports have these outcomes; it keeps these events, of those that all requests register
   abbrev Goes : List Request → List Request → List Outcome → Type 0
-  Goes history requests wanted = (replies : List Reply) × (new : List Request) × IsRun tables history requests replies new × (outcomes_of_reports requests replies ≡ wanted)
+  Goes history requests wanted =
+      (replies : List Reply) × (new : List Request) × IsRun tables history requests replies new × (outcomes_of_reports requests replies ≡ wanted) × Fits all events new
 
   abbrev reply_of : List Request → Outcome → Reply
   reply_of history outcome = record { place = length history; outcome = outcome }
@@ -176,16 +184,16 @@ module _ (tables : Tables) where
       → outcome_of_report request (reply_of history outcome) ≡ None → Gives tables (requests_of history (key_of request)) request outcome
       → Goes (next history request outcome) rest wanted → Goes history (request ∷ rest) wanted
   silent history (Register key) outcome rest wanted quiet gives goes =
-      (reply_of history outcome ∷ goes.0, goes.1, (record { place = refl; outcome = gives }, goes.2), goes.3)
+      (reply_of history outcome ∷ goes.0, goes.1, (record { place = refl; outcome = gives }, goes.2), goes.3, goes.4)
   silent history (Look key) outcome rest wanted quiet gives goes =
-      (reply_of history outcome ∷ goes.0, goes.1, (record { place = refl; outcome = gives }, goes.2), goes.3)
+      (reply_of history outcome ∷ goes.0, goes.1, (record { place = refl; outcome = gives }, goes.2), goes.3, goes.4)
   silent history (Report event) outcome rest wanted quiet gives goes = cc
 
   -- and with a report
   reported : (history : List Request) (event : Reported) (outcome : Outcome) (rest : List Request) (wanted : List Outcome) → Gives tables (requests_of history event.key) (Report event) outcome
       → Goes (next history (Report event) outcome) rest wanted → Goes history (Report event ∷ rest) (outcome ∷ wanted)
   reported history event outcome rest wanted gives goes =
-      (reply_of history outcome ∷ goes.0, goes.1, (record { place = refl; outcome = gives }, goes.2), ap (λ all. outcome ∷ all) goes.3)
+      (reply_of history outcome ∷ goes.0, goes.1, (record { place = refl; outcome = gives }, goes.2), ap (λ later. outcome ∷ later) goes.3, goes.4)
 
   -- what is given after a registration and the accepted events is given after the history
   given : (before : List Request) (accepted : List Reported) (history : List Request) (told event : Reported) (outcome : Outcome) → told ≡ event
@@ -196,49 +204,59 @@ module _ (tables : Tables) where
       (subst (λ e. Gives tables (as_requests e.key (prior_of e.key accepted)) (Report e) outcome) is gives)
 
   runs_on : (requests before : List Request) (accepted : List Reported) (history : List Request) (judged : List (Reported × Verdict)) → Fits before accepted history
-      → EventsInTurn tables accepted judged → reports requests ≡ map (λ one. one.0) judged → AreRegistered before requests → Goes history requests (told_of judged)
-  runs_on [] before accepted history [] fits turn same first = ([], history, refl, refl)
-  runs_on [] before accepted history (one ∷ judged) fits turn same first = absurd (cc)
-  runs_on (Register key ∷ requests) before accepted history judged fits turn same first = elim (fits key) [
+      → EventsInTurn tables accepted judged → reports requests ≡ map (λ one. one.0) judged → AreRegistered before requests
+      → before ++ requests ≡ all → accepted ++ accepted_in judged ≡ events → Goes history requests (told_of judged)
+  runs_on [] before accepted history [] fits turn same first whole kept =
+      let none_left : before ≡ all = sym (append-nil before) ∙ whole in
+      let none_more : accepted ≡ events = sym (append-nil accepted) ∙ kept in
+      ([], history, refl, refl, subst (λ requests. Fits requests events history) none_left (subst (λ reported. Fits before reported history) none_more fits))
+  runs_on [] before accepted history (one ∷ judged) fits turn same first whole kept = absurd (cc)
+  runs_on (Register key ∷ requests) before accepted history judged fits turn same first whole kept = elim (fits key) [
     | inl new ↦ silent history (Register key) Done requests (told_of judged) refl new.own_list
         (runs_on requests (before ++ Register key ∷ []) accepted (history ++ Register key ∷ []) judged (fits_registered before accepted history key fits new) turn same
-        (registered_rest before (Register key) requests first))
+        (registered_rest before (Register key) requests first) (append_assoc before (Register key ∷ []) requests ∙ whole) kept)
     | inr known ↦ silent history (Register key) (RefusedBy AlreadyRegistered) requests (told_of judged) refl (not_empty accepted history key known)
         (runs_on requests (before ++ Register key ∷ []) accepted history judged
         (fits_more before accepted history (Register key) fits (λ other is nothing. let equal : other ≡ key = cc in not_empty accepted history key known (sym (ap (requests_of history) equal) ∙ nothing)))
-        turn same (registered_rest before (Register key) requests first))
+        turn same (registered_rest before (Register key) requests first) (append_assoc before (Register key ∷ []) requests ∙ whole) kept)
   ]
-  runs_on (Look key ∷ requests) before accepted history judged fits turn same first =
+  runs_on (Look key ∷ requests) before accepted history judged fits turn same first whole kept =
       let rest = runs_on requests (before ++ Look key ∷ []) accepted history judged (fits_more before accepted history (Look key) fits (λ other is nothing. cc)) turn same
-      (registered_rest before (Look key) requests first) in
+      (registered_rest before (Look key) requests first) (append_assoc before (Look key ∷ []) requests ∙ whole) kept in
       elim (fits key) [
         | inl new ↦ silent history (Look key) (RefusedBy Unregistered) requests (told_of judged) refl new.own_list rest
         | inr known ↦ silent history (Look key) (Seen (standing_of (requests_of history key))) requests (told_of judged) refl (not_empty accepted history key known, refl) rest
       ]
-  runs_on (Report event ∷ requests) before accepted history [] fits turn same first = absurd (cc)
-  runs_on (Report event ∷ requests) before accepted history ((told, Accepted state) ∷ judged) fits turn same first =
+  runs_on (Report event ∷ requests) before accepted history [] fits turn same first whole kept = absurd (cc)
+  runs_on (Report event ∷ requests) before accepted history ((told, Accepted state) ∷ judged) fits turn same first whole kept =
       let is : told ≡ event = cc in
       let known = known_at before accepted history event.key fits (subst (λ all. Contains all (Register event.key)) (append-nil before) (first zero event refl)) in
       reported history event Done requests (told_of judged) (given before accepted history told event Done is known turn.0.1)
       (runs_on requests (before ++ Report event ∷ []) (accepted ++ event ∷ []) (history ++ Report event ∷ []) judged (fits_accepted before accepted history event fits known)
-      (subst (λ e. EventsInTurn tables (accepted ++ e ∷ []) judged) is turn.1) (cc) (registered_rest before (Report event) requests first))
-  runs_on (Report event ∷ requests) before accepted history ((told, Refused refusal) ∷ judged) fits turn same first =
+      (subst (λ e. EventsInTurn tables (accepted ++ e ∷ []) judged) is turn.1) (cc) (registered_rest before (Report event) requests first)
+      (append_assoc before (Report event ∷ []) requests ∙ whole)
+      (append_assoc accepted (event ∷ []) (accepted_in judged) ∙ ap (λ e. accepted ++ e ∷ accepted_in judged) (sym is) ∙ kept))
+  runs_on (Report event ∷ requests) before accepted history ((told, Refused refusal) ∷ judged) fits turn same first whole kept =
       let is : told ≡ event = cc in
       let known = known_at before accepted history event.key fits (subst (λ all. Contains all (Register event.key)) (append-nil before) (first zero event refl)) in
       reported history event (RefusedBy refusal) requests (told_of judged) (given before accepted history told event (RefusedBy refusal) is known turn.0)
       (runs_on requests (before ++ Report event ∷ []) accepted history judged (fits_more before accepted history (Report event) fits (λ other registers nothing. cc))
-      (subst (λ events. EventsInTurn tables events judged) (append-nil accepted) turn.1) (cc) (registered_rest before (Report event) requests first))
-  runs_on (Report event ∷ requests) before accepted history ((told, NoOpening at) ∷ judged) fits turn same first = absurd turn.0
-  runs_on (Report event ∷ requests) before accepted history ((told, Fault fault) ∷ judged) fits turn same first = absurd turn.0
+      (subst (λ so_far. EventsInTurn tables so_far judged) (append-nil accepted) turn.1) (cc) (registered_rest before (Report event) requests first)
+      (append_assoc before (Report event ∷ []) requests ∙ whole) kept)
+  runs_on (Report event ∷ requests) before accepted history ((told, NoOpening at) ∷ judged) fits turn same first whole kept = absurd turn.0
+  runs_on (Report event ∷ requests) before accepted history ((told, Fault fault) ∷ judged) fits turn same first whole kept = absurd turn.0
 
-  pub replayed_run : (items : List EventItem) (lines : List Verdict) → AreVerdicts Removed tables items lines → AreOutcomes tables items lines
-  replayed_run items lines are requests same first =
-      let judged = without_faults tables [] items lines (in_turn Removed tables [] items lines are.count are.each) in
-      let run = runs_on requests [] [] [] judged.0 (λ key. inl (record { own_list = refl; prior = refl; absent = none_in_empty (Register key) })) judged.1 (same ∙ sym judged.2) first in
-      record {
-        replies = run.0;
-        history = run.1;
-        run = run.2;
-        only = λ others left other. one_run tables [] requests others run.0 left run.1 other run.2;
-        outcomes = run.3 ∙ judged.3;
-      }
+pub replayed_run : (tables : Tables) (items : List EventItem) (lines : List Verdict) → AreVerdicts Removed tables items lines → AreOutcomes tables items lines
+replayed_run tables items lines are requests same first =
+    let judged = without_faults tables [] items lines (in_turn Removed tables [] items lines are.count are.each) in
+    let kept = accepted_in judged.0 in
+    let nothing : Fits [] [] [] = λ key. inl (record { own_list = refl; prior = refl; absent = none_in_empty (Register key) }) in
+    let run = runs_on tables requests kept requests [] [] [] judged.0 nothing judged.1 (same ∙ sym judged.2) first refl refl in
+    record {
+      replies = run.0;
+      history = run.1;
+      run = run.2;
+      only = λ others left other. one_run tables [] requests others run.0 left run.1 other run.2;
+      outcomes = run.3 ∙ judged.3;
+      kept = λ key registered. known_at requests kept run.1 key run.4 registered ∙ ap (λ events. as_requests key (prior_of key events)) judged.4;
+    }

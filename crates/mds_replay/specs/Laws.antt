@@ -2,13 +2,14 @@
 use Rattle.std.specs.Prelude.{◌≡◌, ℕ, List, [], ◌++◌, map, take, slice_get, Contains, Option, Some, None}
 use Rattle.std.specs.List.{filter_map, zip}
 use Rattle.mds_table.specs.Tables.{Tables}
+use Rattle.mds_core.specs.declared.key.Key.{Key}
 use Rattle.mds_core.specs.declared.request.Request.{Request}
 use Rattle.mds_core.specs.declared.request.Request.TheVariants.{Register, Report, Look}
 use Rattle.mds_core.specs.declared.reply.Outcome.{Outcome}
 use Rattle.mds_core.specs.declared.reply.Outcome.TheVariants.{Done, Refused as RefusedBy}
 use Rattle.mds_core.specs.declared.reply.Reply.{Reply}
 use Rattle.mds_core.specs.Reported.{Reported}
-use Rattle.mds_core.specs.History.{reports}
+use Rattle.mds_core.specs.History.{requests_of, reports}
 use Rattle.mds_core.specs.Run.{IsRun}
 use Rattle.mds_batch.specs.declared.item.EventItem.{EventItem}
 use Rattle.mds_replay.specs.declared.report.Opening.{Opening}
@@ -17,7 +18,7 @@ use Rattle.mds_replay.specs.declared.report.Report.{Report as Replayed}
 use Rattle.mds_replay.specs.declared.report.Verdict.{Verdict}
 use Rattle.mds_replay.specs.declared.report.Verdict.TheVariants.{Accepted, Refused, NoOpening, Fault}
 use Rattle.mds_replay.specs.Items.{events_of, vehicles_of}
-use Rattle.mds_replay.specs.Replay.{AreVerdicts, IsReport}
+use Rattle.mds_replay.specs.Replay.{accepted_of, prior_of, as_requests, AreVerdicts, IsReport}
 
 -- the outcome that a verdict tells; of a faulty item there is none
 abbrev pub outcome_told : Verdict → Option Outcome
@@ -40,18 +41,20 @@ outcomes_of_reports requests replies = filter_map (λ one. outcome_of_report one
 abbrev pub AreRegisteredFirst : List Request → Type 0
 AreRegisteredFirst requests = (i : ℕ) (event : Reported) → slice_get requests i ≡ Some (Report event) → Contains (take i requests) (Register event.key)
 
--- the machine has one run of the requests from nothing, and the outcomes of its reports are those that the verdicts tell
-pub record IsRunOf (tables : Tables) (requests : List Request) (lines : List Verdict) : Type 0 where
+-- the machine has one run of the requests from nothing; the outcomes of its reports are those that the verdicts tell, and of
+-- each registered vehicle it keeps its registration and the events that the verdicts accept
+pub record IsRunOf (tables : Tables) (requests : List Request) (items : List EventItem) (lines : List Verdict) : Type 0 where
   pub replies : List Reply
   pub history : List Request
   pub run : IsRun tables [] requests replies history
   pub only : (others : List Reply) (left : List Request) → IsRun tables [] requests others left → (others ≡ replies) × (left ≡ history)
   pub outcomes : outcomes_of_reports requests replies ≡ filter_map outcome_told lines
+  pub kept : (key : Key) → Contains requests (Register key) → requests_of history key ≡ as_requests key (prior_of key (accepted_of items lines))
 
 -- so it is of all requests that report the events of the items, in their order, each behind a registration of its vehicle,
 -- whatever registrations and looks stand between
 abbrev pub AreOutcomes : Tables → List EventItem → List Verdict → Type 0
-AreOutcomes tables items lines = (requests : List Request) → reports requests ≡ events_of items → AreRegisteredFirst requests → IsRunOf tables requests lines
+AreOutcomes tables items lines = (requests : List Request) → reports requests ≡ events_of items → AreRegisteredFirst requests → IsRunOf tables requests items lines
 
 -- the requests for items: a registration of each vehicle that they mention, and then a report of each of their events
 abbrev pub requests_for : List EventItem → List Request

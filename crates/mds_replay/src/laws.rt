@@ -4,7 +4,7 @@ ghost use Rattle.mds_replay.specs.Laws.{ReplaysAreRuns, ReplaysHaveRequests, Rep
 
 /// The verdicts of a replay with [`Opening::Removed`](crate::Opening::Removed) are the outcomes of the machine's run over
 /// any requests that report the same events in the same order, each behind a registration of its vehicle, whatever else
-/// is asked between.
+/// is asked between. Of each registered vehicle that run keeps the registration and the events that the replay accepts.
 #[tactic(auto, using(crate::proofs::Runs::replayed_run))]
 pub fn replays_are_runs()
     ensures { ReplaysAreRuns }
