@@ -2,4 +2,5 @@
 pub mod ErrorLemmas
 pub mod LineLemmas
 pub mod FeedLemmas
+pub mod FeedSearch
 pub mod LineLaws

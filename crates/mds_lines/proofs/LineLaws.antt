@@ -1,5 +1,5 @@
 -- One answer for the lines of a stream.
-use Rattle.std.proofs.Common.{◌≡◌, ◌⊎◌, inl, inr, ℕ, ◌+◌, ◌-◌, ◌<◌, ◌≤◌, Bool, true, false, not, cond, eqb, List, [], ◌∷◌, ◌++◌, length, take, All, Some, refl, sym, ap, subst, ◌∙◌, append_assoc, length-append, arith}
+use Rattle.std.proofs.Common.{◌≡◌, ◌⊎◌, inl, inr, ℕ, ◌+◌, ◌-◌, ◌<◌, ◌≤◌, true, false, not, cond, eqb, List, [], ◌∷◌, ◌++◌, length, take, All, Some, refl, sym, ap, subst, ◌∙◌, append_assoc, length-append, arith}
 use Rattle.std.specs.List.{AllZip}
 use Rattle.std.proofs.lemmas.Bool.{cases_lt, ne_eqb}
 use Rattle.std.proofs.lemmas.List.Elements.{All-head, All-tail, All-push, filter-append}
@@ -10,7 +10,6 @@ use Rattle.mds_batch.specs.declared.item.EventItem.{EventItem}
 use Rattle.mds_batch.specs.Items.{IsEventItem}
 use Rattle.mds_batch.specs.Batch.{max_items}
 use Rattle.mds_batch.proofs.ItemLaws.{one_event_item}
-use Rattle.mds_lines.specs.declared.fault.LineFault.{LineFault}
 use Rattle.mds_lines.specs.declared.fault.LineFault.TheVariants.{Memory, TooLong, NotJson, TooMany}
 use Rattle.mds_lines.specs.Stream.{with_feeds, HasNoFeed, is_blank, item_lines, IsItemLine, HoldItems, BeginsWith, HasEndedItems, HasLineItems, IsFirstLine, HasLineAt, HasLineFault}
 use Rattle.mds_lines.proofs.LineLemmas.{feeds_with}

@@ -2,7 +2,7 @@
 use Rattle.std.proofs.Common.{◌≡◌, ◌≢◌, ◌⊎◌, inl, inr, ℕ, ◌+◌, ◌-◌, ◌<◌, ◌≤◌, Bool, true, false, not, cond, List, [], ◌∷◌, ◌++◌, length, take, drop, refl, sym, ap, subst, ◌∙◌, append_assoc, append-nil, length-append, arith}
 use Rattle.std.specs.List.{AllZip}
 use Rattle.std.proofs.lemmas.List.{take_rest}
-use Rattle.std.proofs.lemmas.List.Elements.{filter-append, All-push, All-nil}
+use Rattle.std.proofs.lemmas.List.Elements.{filter-append, All-append, All-push, All-nil}
 use Rattle.std.proofs.lemmas.Grind.{flat_map-append}
 use Rattle.std.proofs.Math.Seq.{drop-append_seam}
 use Rattle.mds_table.specs.Json.{max_bytes}
@@ -56,15 +56,15 @@ module _ (bytes : List ℕ) (ended count : ℕ) where
   pub ended_within : (lines : List (List ℕ)) (rest : List ℕ) → IsSplit bytes ended count lines rest → ended ≤ length bytes
   ended_within lines rest split = omega (arith, split.ended_at, ap length split.begins.joined, length-append (with_feeds lines) rest)
 
-  -- another byte than a line feed belongs to the last line
-  pub read_other : (taken : ℕ) (items : List EventItem) (byte : ℕ) → byte ≢ 10 → AreRead bytes ended count taken items → AreRead (bytes ++ byte ∷ []) ended count taken items
-  read_other taken items byte other read =
+  -- bytes without a line feed belong to the last line
+  pub read_others : (taken : ℕ) (items : List EventItem) (more : List ℕ) → HasNoFeed more → AreRead bytes ended count taken items → AreRead (bytes ++ more) ended count taken items
+  read_others taken items more none read =
       let split = read.2 in (
         read.0,
-        read.1 ++ byte ∷ [],
+        read.1 ++ more,
         record {
-          begins = record { joined = ap (λ all. all ++ byte ∷ []) split.begins.joined ∙ append_assoc (with_feeds read.0) read.1 (byte ∷ []); whole = split.begins.whole };
-          unended = All-push (λ b. b ≢ 10) read.1 byte split.unended other;
+          begins = record { joined = ap (λ all. all ++ more) split.begins.joined ∙ append_assoc (with_feeds read.0) read.1 more; whole = split.begins.whole };
+          unended = All-append (λ b. b ≢ 10) read.1 more split.unended none;
           ended_at = split.ended_at;
           counted = split.counted;
         },

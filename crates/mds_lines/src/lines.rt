@@ -10,6 +10,7 @@ ghost use Rattle.mds_lines.specs.Reading.{AreRead, AreTaken, TakesOn, IsFaultOfL
 
 use crate::LineFault;
 use mds_batch::{BatchFault, EventItem, ItemReader, MAX_ITEMS, TakesItems};
+use memchr::memchr;
 use std::alloc::Global;
 
 /// The lines that have ended, whose items were handed on, and the reader of the next ones.
@@ -54,17 +55,18 @@ impl Lines {
             × OnOk result (AreRead bytes.now self.new.ended self.new.count self.new.taken all) }
         ensures fault { IfErr result (IsFaultyWith bytes.now) }
     {
-        for at in from..bytes.len() {
-            self.read_byte(&bytes[..at], bytes[at], taker)?;
+        let mut next = from;
+        while let Some(at) = memchr(b'\n', &bytes[next..]) {
+            self.end_line(&bytes[..next + at], taker)?;
+            next += at + 1;
         }
         Ok(())
     }
 
-    /// Reads the byte that comes behind these: a line feed ends the line that they end with.
-    fn read_byte<T: TakesItems<Item = EventItem>>(
+    /// Ends the line that these bytes end with, behind which a line feed comes.
+    fn end_line<T: TakesItems<Item = EventItem>>(
         &mut self,
         bytes: &[u8],
-        byte: u8,
         taker: &mut T,
     ) -> Result<(), LineFault>
         requires short { length bytes.now < max_bytes }
@@ -73,12 +75,9 @@ impl Lines {
         ensures taken { (items : List Item)
             → AreRead bytes.now self.old.ended self.old.count self.old.taken items
             → (all : List Item) × TakesOn T.took items taker.old all taker.new
-            × OnOk result (AreRead (bytes.now ++ byte ∷ []) self.new.ended self.new.count self.new.taken all) }
-        ensures fault { IfErr result (IsFaultyWith (bytes.now ++ byte ∷ [])) }
+            × OnOk result (AreRead (bytes.now ++ 10 ∷ []) self.new.ended self.new.count self.new.taken all) }
+        ensures fault { IfErr result (IsFaultyWith (bytes.now ++ 10 ∷ [])) }
     {
-        if byte != b'\n' {
-            return Ok(());
-        }
         self.take_last(bytes, taker)?;
         self.ended = bytes.len() + 1;
         self.count += 1;

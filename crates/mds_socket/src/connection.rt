@@ -1,6 +1,7 @@
 //! One connection, whose two ends share its stream.
-ghost use Rattle.std.specs.Prelude.{◌≡◌, ◌<◌};
+ghost use Rattle.std.specs.Prelude.{◌≡◌, ◌<◌, ◌++◌, ℕ, List, take, IfOk, OnErr};
 ghost use Rattle.std.specs.Io.{ReadsAtMost, WritesAtMost};
+ghost use Rattle.mds_socket.specs.HeadEnd.{ends_from};
 
 use crate::head::HeadProgress;
 use crate::limits::{Part, Timer};
@@ -134,9 +135,13 @@ impl<C: Clock + Copy> Read for SocketIn<C> {
 }
 
 impl<C: Clock + Copy> SocketIn<C> {
-    /// One read, which waits no longer than there is time for the head, or for the request.
+    /// One read, which waits no longer than there is time for the head, or for the request. The head goes on by the bytes
+    /// that the read gave, and stays as it was where the read failed.
     fn read_in_time(&mut self, buf: &mut [u8]) -> io::Result<usize>
-        ensures { ReadsAtMost result buf.new }
+        ensures count { ReadsAtMost result buf.new }
+        ensures head { IfOk result (λ count. (more : List ℕ)
+            → ends_from self.new.head more ≡ ends_from self.old.head (take count buf.new ++ more)) }
+        ensures kept { OnErr result (self.new.head ≡ self.old.head) }
     {
         let part = if self.head.is_over() {
             Part::Request
