@@ -75,6 +75,21 @@ QUIET = {
         "mask::bit_of",
         "mask::has",
     ],
+    ("mds_steps", "events_are_admitted_with_every_growth_refused"): [
+        "StateSet::empty",
+        "StateSet::all",
+        "StateSet::of",
+        "StateSet::bits",
+        "StateSet::contains",
+        "StateSet::union",
+        "StateSet::is_empty",
+        "StateSet::states",
+        "StateSet::copy",
+        "admit",
+        "stuck_from",
+        "forward",
+        "openings",
+    ],
 }
 """A crate and its test, and the calls of the crate that it makes without memory: all of them, or those that are refused, look at
 something, or say that there is no memory."""

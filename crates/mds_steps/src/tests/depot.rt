@@ -1,10 +1,9 @@
 //! A state that no row of the profile has, and as many types as an event may have.
-use super::{expect_states, type_name};
+use super::{expect_states, pair_of, turns_of, type_of};
 use crate::{NoChain, StateSet, admit, forward, least_chain, openings, stuck_from};
 use mds_table::State::{Available, InDepot, Removed};
-use mds_table::{State, Table, TypeName};
-use std::alloc::Global;
-use std::test::Fail;
+use mds_table::{State, Table, TableFault, TypeName};
+use std::alloc::{AllocError, Global};
 
 /// A table by which vehicles are stored in a depot and go out again.
 pub const DEPOT: &str = r#"{"rows":[
@@ -12,29 +11,26 @@ pub const DEPOT: &str = r#"{"rows":[
 {"from":"available","type":"store","to":"in_depot"},
 {"from":"in_depot","type":"go","to":"available"}]}"#;
 
-/// How often two types stand in an event of the most types.
-const ROUNDS: usize = 32;
+/// How many types an event has at most.
+const MOST: usize = 64;
 
-/// As many types as an event may have, these two by turns.
-fn most_types(alloc: Global, names: [&str; 2]) -> Result<Vec<TypeName>, Fail> {
-    let (first, second) = (type_name(names[0])?, type_name(names[1])?);
-    let mut types = Vec::new(alloc);
-    for _ in 0..ROUNDS {
-        types.push(first)?;
-        types.push(second)?;
-    }
-    Ok(types)
+/// The table of the depot.
+pub fn depot(alloc: Global) -> Result<Table, TableFault> {
+    Table::from_json(alloc, DEPOT.as_bytes())
+}
+
+/// As many types as an event may have: out of the depot and into it, by turns.
+fn round(alloc: Global) -> Result<Vec<TypeName>, AllocError> {
+    turns_of(alloc, pair_of("go", "store"), MOST)
 }
 
 #[test]
-fn into_a_depot_and_out(rt: HostRuntime) -> Result<(), Fail> {
-    let alloc = rt.alloc();
-    let table = Table::from_json(alloc, DEPOT.as_bytes())?;
-    let stored = [type_name("wake")?, type_name("store")?];
-    let round = most_types(alloc, ["go", "store"])?;
-    let twice = [type_name("go")?, type_name("go")?];
+fn into_a_depot_and_out(rt: HostRuntime) -> Result<(), TableFault> {
+    let table = depot(rt.alloc())?;
+    let round = round(rt.alloc())?;
+    let twice = pair_of("go", "go");
     let found = [
-        admit(&table, Removed, &stored, InDepot),
+        admit(&table, Removed, &pair_of("wake", "store"), InDepot),
         admit(&table, InDepot, &round, InDepot),
         admit(&table, InDepot, &twice, Available),
     ];
@@ -44,58 +40,56 @@ fn into_a_depot_and_out(rt: HostRuntime) -> Result<(), Fail> {
 }
 
 #[test]
-fn sets_over_a_depot(rt: HostRuntime) -> Result<(), Fail> {
-    let alloc = rt.alloc();
-    let table = Table::from_json(alloc, DEPOT.as_bytes())?;
-    let stored = [type_name("wake")?, type_name("store")?];
-    let (out, into) = ([type_name("go")?], [type_name("store")?]);
-    let round = most_types(alloc, ["go", "store"])?;
+fn sets_over_a_depot(rt: HostRuntime) -> Result<(), TableFault> {
+    let table = depot(rt.alloc())?;
+    let round = round(rt.alloc())?;
     let held = StateSet::of(InDepot);
-    expect_states(&rt, &forward(&table, &held, &out), &[Available]);
+    let out = forward(&table, &held, &[type_of("go")]);
+    expect_states(&rt, &out, &[Available]);
     expect_states(&rt, &forward(&table, &held, &round), &[InDepot]);
-    expect_states(&rt, &openings(&table, &stored, InDepot), &[Removed]);
     expect_states(&rt, &openings(&table, &round, InDepot), &[InDepot]);
-    expect_states(&rt, &openings(&table, &into, InDepot), &[Available]);
+    let into = openings(&table, &[type_of("store")], InDepot);
+    expect_states(&rt, &into, &[Available]);
+    let stored = openings(&table, &pair_of("wake", "store"), InDepot);
+    expect_states(&rt, &stored, &[Removed]);
     Ok(())
 }
 
 /// The states of a vehicle that goes out of the depot and is stored again, each time.
-fn there_and_back(alloc: Global) -> Result<Vec<State>, Fail> {
+fn there_and_back(alloc: Global) -> Result<Vec<State>, AllocError> {
     let mut states = Vec::new(alloc);
-    for _ in 0..ROUNDS {
-        states.push(InDepot)?;
-        states.push(Available)?;
+    for at in 0..65 {
+        states.push(if at % 2 == 0 { InDepot } else { Available })?;
     }
-    states.push(InDepot)?;
     Ok(states)
 }
 
 #[test]
-fn least_chain_of_the_most_types(rt: HostRuntime) -> Result<(), Fail> {
+fn least_chain_of_the_most_types(rt: HostRuntime) -> Result<(), TableFault> {
     let alloc = rt.alloc();
-    let table = Table::from_json(alloc, DEPOT.as_bytes())?;
-    let round = most_types(alloc, ["go", "store"])?;
-    let chain = least_chain(alloc, &table, InDepot, &round, InDepot)?.ok_or("a chain")?;
-    assert_eq!(rt; (chain.len(), chain), (65, there_and_back(alloc)?));
+    let table = depot(alloc)?;
+    let round = round(alloc)?;
+    let chain = least_chain(alloc, &table, InDepot, &round, InDepot)?;
+    assert_eq!(rt; chain, Some(there_and_back(alloc)?));
     let none = least_chain(alloc, &table, InDepot, &round, Available)?;
     assert_eq!(rt; none, None);
     Ok(())
 }
 
 #[test]
-fn profile_leads_to_no_depot(rt: HostRuntime) -> Result<(), Fail> {
-    let alloc = rt.alloc();
-    let table = Table::profile(alloc)?;
-    let low = [type_name("battery_low")?];
-    let round = most_types(alloc, ["battery_low", "battery_charged"])?;
+fn profile_leads_to_no_depot(rt: HostRuntime) -> Result<(), AllocError> {
+    let table = Table::profile(rt.alloc())?;
+    let [low, charged] = pair_of("battery_low", "battery_charged");
+    let round = turns_of(rt.alloc(), [low, charged], MOST)?;
     let found = [
-        admit(&table, Available, &low, InDepot),
-        admit(&table, InDepot, &low, InDepot),
+        admit(&table, Available, &[low], InDepot),
+        admit(&table, InDepot, &[low], InDepot),
         admit(&table, Available, &round, Available),
     ];
     let expected = [Err(NoChain { at: 1 }), Err(NoChain { at: 0 }), Ok(())];
     assert_eq!(rt; found, expected);
-    expect_states(&rt, &openings(&table, &low, InDepot), &[]);
-    expect_states(&rt, &forward(&table, &StateSet::of(InDepot), &low), &[]);
+    expect_states(&rt, &openings(&table, &[low], InDepot), &[]);
+    let reached = forward(&table, &StateSet::of(InDepot), &[low]);
+    expect_states(&rt, &reached, &[]);
     Ok(())
 }

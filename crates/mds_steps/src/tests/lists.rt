@@ -1,12 +1,11 @@
 //! Sets of states answer as plain lists of states do, which ask the table for each row.
-use super::depot::DEPOT;
+use super::depot::depot;
 use super::expect_states;
 use crate::{NoChain, StateSet, admit};
 use bitflags::Flags;
-use mds_table::{State, Table, TypeName};
+use mds_table::{State, Table, TableFault, TypeName};
 use std::alloc::{AllocError, Global};
 use std::process::Abort;
-use std::test::Fail;
 
 /// The states to which rows of this type lead from one of these states.
 fn next_in_list(
@@ -88,37 +87,49 @@ fn expect_alike_from(
     Ok(())
 }
 
-/// All lists of one or two types of the profile, over all pairs of states: (27 + 27 * 27) * 81 = 61,236 cases.
-#[test]
-fn sets_admit_as_lists_do(rt: HostRuntime) -> Result<(), Fail> {
-    let alloc = rt.alloc();
-    let table = Table::profile(alloc)?;
-    let types = types_of(alloc, &table)?;
-    assert_eq!(rt; types.len(), 27);
+/// Asserts that both ways give one answer for all lists of one or two types of the table, of which there are so many.
+fn expect_alike_over(
+    rt: &impl Abort,
+    alloc: Global,
+    table: &Table,
+    count: usize,
+) -> Result<(), AllocError> {
+    let types = types_of(alloc, table)?;
+    assert_eq!(rt; types.len(), count);
     for first in &types {
-        expect_alike_from(&rt, alloc, &table, first, &types)?;
+        expect_alike_from(rt, alloc, table, first, &types)?;
     }
     Ok(())
+}
+
+/// All lists of one or two types of the profile, over all pairs of states: (27 + 27 * 27) * 81 = 61,236 cases.
+#[test]
+fn sets_admit_as_lists_do(rt: HostRuntime) -> Result<(), AllocError> {
+    let table = Table::profile(rt.alloc())?;
+    expect_alike_over(&rt, rt.alloc(), &table, 27)
 }
 
 /// The same over a table that leads to the ninth state, too: (3 + 3 * 3) * 81 = 972 cases.
 #[test]
-fn sets_admit_as_lists_do_over_a_depot(rt: HostRuntime) -> Result<(), Fail> {
-    let alloc = rt.alloc();
-    let table = Table::from_json(alloc, DEPOT.as_bytes())?;
-    let types = types_of(alloc, &table)?;
-    assert_eq!(rt; types.len(), 3);
-    for first in &types {
-        expect_alike_from(&rt, alloc, &table, first, &types)?;
-    }
+fn sets_admit_as_lists_do_over_a_depot(rt: HostRuntime) -> Result<(), TableFault> {
+    let table = depot(rt.alloc())?;
+    expect_alike_over(&rt, rt.alloc(), &table, 3)?;
     Ok(())
+}
+
+/// The bits of a set, as a number.
+fn bits(set: &StateSet) -> u16 {
+    set.bits().bits()
 }
 
 #[test]
 fn bits_of_sets(rt: HostRuntime) {
-    assert_eq!(rt; StateSet::all().bits().bits(), 511);
-    assert_eq!(rt; StateSet::of(State::OnTrip).bits().bits(), 16);
-    assert_eq!(rt; StateSet::empty().bits().bits(), 0);
+    let found = [
+        bits(&StateSet::all()),
+        bits(&StateSet::of(State::OnTrip)),
+        bits(&StateSet::empty()),
+    ];
+    assert_eq!(rt; found, [511, 16, 0]);
     expect_states(&rt, &StateSet::default(), &[]);
 }
 
@@ -136,9 +147,9 @@ const BITS: [(u16, State); 9] = [
 ];
 
 /// The states whose bits are in the number, in the order of codes.
-fn listed(alloc: Global, number: u16) -> Result<Vec<State>, AllocError> {
+fn listed(alloc: Global, bits: &[(u16, State)], number: u16) -> Result<Vec<State>, AllocError> {
     let mut states = Vec::new(alloc);
-    for (bit, state) in &BITS {
+    for (bit, state) in bits {
         if number & *bit != 0 {
             states.push(*state)?;
         }
@@ -155,20 +166,29 @@ fn set_of(states: &[State]) -> StateSet {
     set
 }
 
+/// How many states are in the set, by asking for each.
+fn held(set: &StateSet) -> usize {
+    State::ALL
+        .iter()
+        .filter(|state| set.contains(**state))
+        .count()
+}
+
+/// Asserts that the set of these states has this number for its bits, and has them alone.
+fn expect_set(rt: &impl Abort, number: u16, states: &[State]) {
+    let set = set_of(states);
+    expect_states(rt, &set, states);
+    let found = (bits(&set), set.is_empty());
+    assert_eq!(rt; found, (number, states.is_empty()));
+    assert_eq!(rt; held(&set), states.len());
+}
+
 /// The empty set, and the 511 others.
 #[test]
-fn sets_are_their_lists(rt: HostRuntime) -> Result<(), Fail> {
+fn sets_are_their_lists(rt: HostRuntime) -> Result<(), AllocError> {
     for number in 0u16..512 {
-        let states = listed(rt.alloc(), number)?;
-        let set = set_of(&states);
-        expect_states(&rt, &set, &states);
-        let found = (set.bits().bits(), set.is_empty());
-        assert_eq!(rt; found, (number, states.is_empty()));
-        let held = State::ALL
-            .iter()
-            .filter(|state| set.contains(**state))
-            .count();
-        assert_eq!(rt; held, states.len());
+        let states = listed(rt.alloc(), &BITS, number)?;
+        expect_set(&rt, number, &states);
     }
     Ok(())
 }
