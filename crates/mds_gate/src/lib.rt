@@ -1,6 +1,9 @@
 //! Where workers can be stopped, one by one.
 #![tactic(auto)]
 
+#[cfg(test)]
+mod tests;
+
 /// What each of many workers passes on its way. A worker enters before a piece of its work and leaves after it; a gate
 /// may make it wait there.
 pub trait Gate {
