@@ -90,6 +90,7 @@ QUIET = {
         "forward",
         "openings",
     ],
+    ("mds_settle", "notes_are_judged_with_every_growth_refused"): ["judge", "judge_lawful", "NoteList::notes"],
     ("mds_gate", "the_open_gate_is_passed_with_every_growth_refused"): ["Gate::enter", "Gate::leave"],
 }
 """A crate and its test, and the calls of the crate that it makes without memory: all of them, or those that are refused, look at

@@ -55,40 +55,52 @@ fn key(device: u64) -> Key {
     }
 }
 
-/// The request that is asked.
-fn request_of(asked: Ask) -> Result<Request, Fail> {
-    Ok(match asked {
-        Ask::Register(device) => Request::Register(key(device)),
+/// The event of one type that is told, or `None` where there is none such.
+fn event_of(key: Key, id: Uuid, kind: &str, state: State, time: u64) -> Option<Event> {
+    let types = [TypeName::new(kind).ok()?];
+    Event::new(key, id, state, &types, time, None).ok()
+}
+
+/// The request that is asked, or `None` where it reports what is no event.
+fn request_of(asked: &Ask) -> Option<Request> {
+    match asked {
+        Ask::Register(device) => Some(Request::Register(key(*device))),
         Ask::Report(device, id, kind, state, time) => {
-            let types = [TypeName::new(kind)?];
-            Request::Report(Event::new(key(device), uuid(id), state, &types, time, None)?)
+            let event = event_of(key(*device), uuid(*id), kind, *state, *time)?;
+            Some(Request::Report(event))
         }
-        Ask::Look(device) => Request::Look(key(device)),
-    })
+        Ask::Look(device) => Some(Request::Look(key(*device))),
+    }
 }
 
 /// The requests that are asked.
 fn requests_of(alloc: Global, asked: &[Ask]) -> Result<Vec<Request>, Fail> {
     let mut requests = Vec::new(alloc);
     for one in asked {
-        requests.push(request_of(*one)?)?;
+        requests.push(request_of(one).ok_or("a request")?)?;
     }
     Ok(requests)
+}
+
+/// The note, or `None` where it is of a report of what is no event.
+fn note_of(noted: &Noted) -> Option<Note> {
+    let (shard, asked, place, outcome) = noted;
+    let reply = Reply {
+        place: *place,
+        outcome: *outcome,
+    };
+    Some(Note {
+        shard: *shard,
+        request: request_of(asked)?,
+        reply,
+    })
 }
 
 /// The notes of one caller.
 fn notes_of(alloc: Global, noted: &[Noted]) -> Result<Vec<Note>, Fail> {
     let mut notes = Vec::new(alloc);
-    for (shard, asked, place, outcome) in noted {
-        let note = Note {
-            shard: *shard,
-            request: request_of(*asked)?,
-            reply: Reply {
-                place: *place,
-                outcome: *outcome,
-            },
-        };
-        notes.push(note)?;
+    for one in noted {
+        notes.push(note_of(one).ok_or("a note")?)?;
     }
     Ok(notes)
 }

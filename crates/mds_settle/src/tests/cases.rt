@@ -1,12 +1,14 @@
 //! Histories of a shard, what its callers noted, and the verdict.
+ghost use Rattle.mds_core.specs.Lawful.{IsLawful};
+
 use super::Ask::{self, Look, Register, Report};
 use super::{A, B, C, E1, E2, Noted, notes_of, profile, requests_of};
-use crate::{Note, judge, judge_lawful};
+use crate::{Note, NoteList, judge, judge_lawful};
 use mds_core::Outcome::{self, Done, Refused, Seen};
-use mds_core::{Refusal, Standing, run};
+use mds_core::{Refusal, Request, Standing, run};
 use mds_table::State::{Available, NonOperational, Removed};
 use mds_table::Tables;
-use std::alloc::Global;
+use std::alloc::{AllocError, Global};
 use std::test::Fail;
 
 /// What a shard holds, what its callers noted, and the verdict.
@@ -329,51 +331,139 @@ fn lists_of(alloc: Global, case: &Case) -> Result<Vec<Vec<Note>>, Fail> {
     Ok(lists)
 }
 
-/// The verdict on a case.
-pub fn verdict(alloc: Global, tables: &Tables, case: &Case) -> Result<Result<(), usize>, Fail> {
+/// The place of the fault in a case, if there is one.
+fn verdict(alloc: Global, tables: &Tables, case: &Case) -> Result<Option<usize>, Fail> {
     let history = requests_of(alloc, case.history)?;
     let lists = lists_of(alloc, case)?;
-    Ok(judge(tables, case.shard, &history, &lists))
+    Ok(judge(tables, case.shard, &history, &lists).err())
 }
 
-/// The verdict on a case whose history is what a machine accepts of it.
-pub fn lawful_verdict(
+/// The same where the history is what a machine accepts of the requests.
+fn after_run(
     alloc: Global,
     tables: &Tables,
-    case: &Case,
-) -> Result<Result<(), usize>, Fail> {
+    shard: usize,
+    requests: &[Request],
+    lists: &[Vec<Note>],
+) -> Result<Option<usize>, AllocError> {
+    let (fleet, _) = run(alloc, tables.copy(alloc)?, requests)?;
+    Ok(judge_lawful(tables, shard, fleet.history(), lists).err())
+}
+
+/// The same of a case whose history is so.
+fn lawful_verdict(alloc: Global, tables: &Tables, case: &Case) -> Result<Option<usize>, Fail> {
     let requests = requests_of(alloc, case.history)?;
     let lists = lists_of(alloc, case)?;
-    let (fleet, _) = run(alloc, tables.copy(alloc)?, &requests)?;
-    Ok(judge_lawful(tables, case.shard, fleet.history(), &lists))
+    Ok(after_run(alloc, tables, case.shard, &requests, &lists)?)
+}
+
+/// The name of the first of these cases that isn't judged as it says, if there is one.
+pub fn misjudged(
+    alloc: Global,
+    tables: &Tables,
+    cases: &[Case],
+) -> Result<Option<&'static str>, Fail> {
+    for case in cases {
+        if verdict(alloc, tables, case)? != case.verdict.err() {
+            return Ok(Some(case.name));
+        }
+    }
+    Ok(None)
+}
+
+/// The same of cases whose histories are lawful: each is judged as known to be so, too.
+pub fn misjudged_lawful(
+    alloc: Global,
+    tables: &Tables,
+    cases: &[Case],
+) -> Result<Option<&'static str>, Fail> {
+    for case in cases {
+        if lawful_verdict(alloc, tables, case)? != case.verdict.err() {
+            return Ok(Some(case.name));
+        }
+    }
+    misjudged(alloc, tables, cases)
+}
+
+/// The same of several lists of such cases.
+fn misjudged_in(
+    alloc: Global,
+    tables: &Tables,
+    lists: &[&[Case]],
+) -> Result<Option<&'static str>, Fail> {
+    for cases in lists {
+        let found = misjudged_lawful(alloc, tables, cases)?;
+        if found.is_some() {
+            return Ok(found);
+        }
+    }
+    Ok(None)
 }
 
 #[test]
 fn lawful_cases(rt: HostRuntime) -> Result<(), Fail> {
     let tables = profile(rt.alloc())?;
-    for cases in LAWFUL {
-        for case in *cases {
-            let found = (
-                verdict(rt.alloc(), &tables, case)?,
-                lawful_verdict(rt.alloc(), &tables, case)?,
-            );
-            assert_eq!(rt;
-                (case.name, found),
-                (case.name, (case.verdict, case.verdict))
-            );
-        }
-    }
+    assert_eq!(rt; misjudged_in(rt.alloc(), &tables, LAWFUL)?, None);
     Ok(())
 }
 
 #[test]
 fn unlawful_cases(rt: HostRuntime) -> Result<(), Fail> {
     let tables = profile(rt.alloc())?;
-    for case in UNLAWFUL {
-        assert_eq!(rt;
-            (case.name, verdict(rt.alloc(), &tables, case)?),
-            (case.name, case.verdict)
-        );
-    }
+    assert_eq!(rt; misjudged(rt.alloc(), &tables, UNLAWFUL)?, None);
+    Ok(())
+}
+
+/// A growth of a size of its own: `tests/refused-growths` refuses each one between two of these.
+#[inline(never)]
+fn fence(alloc: Global) -> Result<Vec<u8>, AllocError> {
+    Vec::with_capacity(alloc, 12_347)
+}
+
+/// The places of the faults in a lawful history, as that of shard 0 and of shard 1, and again where it is known to be lawful;
+/// and how many notes the first caller has.
+fn told<S: NoteList>(
+    tables: &Tables,
+    history: &[Request],
+    lists: &[S],
+) -> ([Option<usize>; 3], Option<usize>)
+    requires { IsLawful tables.now history.now }
+{
+    let places = [
+        judge(tables, 0, history, lists).err(),
+        judge(tables, 1, history, lists).err(),
+        judge_lawful(tables, 0, history, lists).err(),
+    ];
+    let Some(list) = lists.first() else {
+        return (places, None);
+    };
+    (places, Some(list.notes().len()))
+}
+
+/// The same of what a machine accepts of the requests, with each growth refused once it has.
+fn told_between_fences(
+    alloc: Global,
+    tables: &Tables,
+    requests: &[Request],
+    lists: &[Vec<Note>],
+) -> Result<([Option<usize>; 3], Option<usize>), AllocError> {
+    let (fleet, _) = run(alloc, tables.copy(alloc)?, requests)?;
+    let _begun = fence(alloc);
+    let found = told(tables, fleet.history(), lists);
+    let _ended = fence(alloc);
+    Ok(found)
+}
+
+/// The same of the case in which the one entry is noted.
+fn told_of_one_entry(alloc: Global) -> Result<([Option<usize>; 3], Option<usize>), Fail> {
+    let requests = requests_of(alloc, A_ALONE)?;
+    let lists = [notes_of(alloc, &[A_FIRST])?];
+    Ok(told_between_fences(alloc, &profile(alloc)?, &requests, &lists)?)
+}
+
+#[test]
+fn notes_are_judged_with_every_growth_refused(rt: HostRuntime) -> Result<(), Fail> {
+    let found = told_of_one_entry(rt.alloc())?;
+    assert_eq!(rt; found, ([None, Some(0), None], Some(1)));
     Ok(())
 }

@@ -1,14 +1,14 @@
 //! Notes that are judged by tables that change at stated times.
 use super::Ask::{self, Register, Report};
-use super::cases::{A_FIRST, Case, lawful_verdict, verdict};
-use super::{A, C, E1, E2, E3, E4, key, uuid};
+use super::cases::{A_FIRST, Case, misjudged, misjudged_lawful};
+use super::{A, C, E1, E2, E3, E4, event_of, key, uuid};
 use crate::{Note, judge};
 use mds_core::Outcome::{self, Done, Refused};
 use mds_core::Refusal::NoChain;
-use mds_core::{Event, Request, run};
+use mds_core::{Reply, Request, run};
 use mds_table::State::{Available, Removed};
-use mds_table::{MAX_TABLES, Table, Tables, TypeName};
-use std::alloc::Global;
+use mds_table::{MAX_TABLES, Table, Tables};
+use std::alloc::{AllocError, Global};
 use std::test::Fail;
 
 /// A file of two tables: by the first, which is in force until 2000, removed vehicles wake; by the second available ones
@@ -107,28 +107,14 @@ const UNLAWFUL: &[Case] = &[
 #[test]
 fn lawful_cases_around_a_start(rt: HostRuntime) -> Result<(), Fail> {
     let tables = Tables::from_json(rt.alloc(), WAKE_THEN_REST.as_bytes())?;
-    for case in LAWFUL {
-        let found = (
-            verdict(rt.alloc(), &tables, case)?,
-            lawful_verdict(rt.alloc(), &tables, case)?,
-        );
-        assert_eq!(rt;
-            (case.name, found),
-            (case.name, (case.verdict, case.verdict))
-        );
-    }
+    assert_eq!(rt; misjudged_lawful(rt.alloc(), &tables, LAWFUL)?, None);
     Ok(())
 }
 
 #[test]
 fn unlawful_cases_around_a_start(rt: HostRuntime) -> Result<(), Fail> {
     let tables = Tables::from_json(rt.alloc(), WAKE_THEN_REST.as_bytes())?;
-    for case in UNLAWFUL {
-        assert_eq!(rt;
-            (case.name, verdict(rt.alloc(), &tables, case)?),
-            (case.name, case.verdict)
-        );
-    }
+    assert_eq!(rt; misjudged(rt.alloc(), &tables, UNLAWFUL)?, None);
     Ok(())
 }
 
@@ -144,61 +130,94 @@ fn most_tables(alloc: Global) -> Result<Tables, Fail> {
 }
 
 /// The change that the table has which starts at one time, reported by A at another.
-fn report(start: u64, time: u64) -> Result<Request, Fail> {
+fn report(start: u64, time: u64) -> Option<Request> {
     let (kind, state) = if start % 2000 == 0 {
         ("wake", Available)
     } else {
         ("rest", Removed)
     };
-    let types = [TypeName::new(kind)?];
-    Ok(Request::Report(Event::new(key(A), uuid(start), state, &types, time, None)?))
+    Some(Request::Report(event_of(key(A), uuid(start), kind, state, time)?))
 }
 
-/// A registration, and the change of each table: one millisecond before it starts, and when it starts.
+/// Adds the change of the table that starts at this time: one millisecond before that, and then.
+fn add_changes(requests: &mut Vec<Request>, start: u64) -> Result<(), Fail> {
+    requests.push(report(start, start.saturating_sub(1)).ok_or("a report")?)?;
+    requests.push(report(start, start).ok_or("a report")?)?;
+    Ok(())
+}
+
+/// A registration, the change of the first table when it starts, and those of each other table.
 fn changes(alloc: Global) -> Result<Vec<Request>, Fail> {
     let mut requests = Vec::new(alloc);
     requests.push(Request::Register(key(A)))?;
-    requests.push(report(0, 0)?)?;
+    requests.push(report(0, 0).ok_or("a report")?)?;
     for at in 1..64u64 {
-        let start = 1000 * at;
-        requests.push(report(start, start - 1)?)?;
-        requests.push(report(start, start)?)?;
+        add_changes(&mut requests, 1000 * at)?;
     }
     Ok(requests)
 }
 
-/// What a caller notes that makes these calls, one after the other, of a machine over these tables, and its history.
-fn noted(
-    alloc: Global,
-    tables: &Tables,
-    requests: &[Request],
-) -> Result<(Vec<Request>, Vec<Note>), Fail> {
-    let (fleet, replies) = run(alloc, tables.copy(alloc)?, requests)?;
-    let mut history = Vec::new(alloc);
-    for request in fleet.history() {
-        history.push(request.copy())?;
+/// The same requests again.
+fn copies(alloc: Global, requests: &[Request]) -> Result<Vec<Request>, AllocError> {
+    let mut found = Vec::new(alloc);
+    for request in requests {
+        found.push(request.copy())?;
     }
+    Ok(found)
+}
+
+/// What a caller of shard 0 notes of these requests.
+fn noted(alloc: Global, requests: &[Request], replies: &[Reply]) -> Result<Vec<Note>, AllocError> {
     let mut notes = Vec::new(alloc);
     for (request, reply) in requests.iter().zip(replies) {
         notes.push(Note {
             shard: 0,
             request: request.copy(),
-            reply,
+            reply: *reply,
         })?;
     }
-    Ok((history, notes))
+    Ok(notes)
+}
+
+/// The history of a machine over these tables that is asked the requests, one after the other, and what their caller notes.
+fn asked(
+    alloc: Global,
+    tables: &Tables,
+    requests: &[Request],
+) -> Result<(Vec<Request>, Vec<Note>), AllocError> {
+    let (fleet, replies) = run(alloc, tables.copy(alloc)?, requests)?;
+    let notes = noted(alloc, requests, &replies)?;
+    Ok((copies(alloc, fleet.history())?, notes))
+}
+
+/// How many requests a machine over as many tables as there may be accepts of their changes, how many notes it judges, and
+/// the places of the faults by all tables and by the first one alone.
+fn judged_in_turn(alloc: Global) -> Result<(usize, usize, [Option<usize>; 2]), Fail> {
+    let tables = most_tables(alloc)?;
+    let (history, notes) = asked(alloc, &tables, &changes(alloc)?)?;
+    let count = notes.len();
+    let places = places_of(alloc, &tables, &history, notes)?;
+    Ok((history.len(), count, places))
+}
+
+/// The places of the faults in one caller's notes, by these tables and by the first table alone.
+fn places_of(
+    alloc: Global,
+    tables: &Tables,
+    history: &[Request],
+    notes: Vec<Note>,
+) -> Result<[Option<usize>; 2], Fail> {
+    let first = Tables::from_json(alloc, WAKE.as_bytes())?;
+    let lists = [notes];
+    Ok([
+        judge(tables, 0, history, &lists).err(),
+        judge(&first, 0, history, &lists).err(),
+    ])
 }
 
 #[test]
 fn most_tables_in_turn(rt: HostRuntime) -> Result<(), Fail> {
-    let alloc = rt.alloc();
-    let tables = most_tables(alloc)?;
-    let (history, notes) = noted(alloc, &tables, &changes(alloc)?)?;
-    assert_eq!(rt; (history.len(), notes.len()), (65, 128));
-    let lists = [notes];
-    assert_eq!(rt; judge(&tables, 0, &history, &lists), Ok(()));
     // By the first table alone, the second event isn't allowed.
-    let first = Tables::from_json(alloc, WAKE.as_bytes())?;
-    assert_eq!(rt; judge(&first, 0, &history, &lists), Err(2));
+    assert_eq!(rt; judged_in_turn(rt.alloc())?, (65, 128, [None, Some(2)]));
     Ok(())
 }
