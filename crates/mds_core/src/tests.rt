@@ -3,12 +3,12 @@ mod depot;
 mod events;
 mod fleets;
 mod growths;
+mod quiet;
 mod timed;
 
-use crate::{Event, Key, Position, Request};
-use mds_table::{State, TypeName};
-use std::alloc::Global;
-use std::test::Fail;
+use crate::{Event, EventFault, Key, Position, Request};
+use mds_table::{State, TableFault, TablesFault, TypeName};
+use std::alloc::{AllocError, AllocFailed, Global};
 use uuid::Uuid;
 
 /// Two vehicles, by the lower half of their devices' identifiers.
@@ -38,7 +38,7 @@ enum Ask {
 
 /// The identifier with this lower half.
 fn uuid(lower: u64) -> Uuid {
-    Uuid::from_u64_pair(0x0000_0000_0000_4000, lower)
+    Uuid::from_u128(0x0000_0000_0000_4000_0000_0000_0000_0000 | u128::from(lower))
 }
 
 /// The key of a vehicle.
@@ -49,26 +49,105 @@ fn key(device: u64) -> Key {
     }
 }
 
+/// Why there is nothing to compare.
+#[derive(Clone, Copy, Debug)]
+enum Lack {
+    Memory,
+    Event(EventFault),
+    Table(TableFault),
+    Tables(TablesFault),
+}
+
+impl From<AllocError> for Lack {
+    fn from(_error: AllocError) -> Lack {
+        Lack::Memory
+    }
+}
+
+impl<T: Drop> From<AllocFailed<T>> for Lack {
+    fn from(_error: AllocFailed<T>) -> Lack {
+        Lack::Memory
+    }
+}
+
+impl From<EventFault> for Lack {
+    fn from(fault: EventFault) -> Lack {
+        Lack::Event(fault)
+    }
+}
+
+impl From<TableFault> for Lack {
+    fn from(fault: TableFault) -> Lack {
+        Lack::Table(fault)
+    }
+}
+
+impl From<TablesFault> for Lack {
+    fn from(fault: TablesFault) -> Lack {
+        Lack::Tables(fault)
+    }
+}
+
+/// The type of this name: `unspecified` where the text is none, which none here is.
+fn type_of(name: &str) -> TypeName {
+    TypeName::new(name).unwrap_or_default()
+}
+
 /// The types of these names.
-fn types_of(alloc: Global, names: &[&str]) -> Result<Vec<TypeName>, Fail> {
+fn types_of(alloc: Global, names: &[&str]) -> Result<Vec<TypeName>, AllocError> {
     let mut types = Vec::new(alloc);
     for name in names {
-        types.push(TypeName::new(name)?)?;
+        types.push(type_of(name))?;
     }
     Ok(types)
 }
 
-/// The request that is asked.
-fn request_of(alloc: Global, asked: &Ask) -> Result<Request, Fail> {
-    let (device, id, names, state, time, position) = match asked {
-        Ask::Register(device) => return Ok(Request::Register(key(*device))),
-        Ask::Look(device) => return Ok(Request::Look(key(*device))),
-        Ask::Report(device, id, names, state, time) => (device, id, names, state, time, None),
-        Ask::ReportAt(device, id, names, state, time, (lat, lng)) => {
-            (device, id, names, state, time, Position::new(*lat, *lng))
-        }
-    };
+/// So many types, these two by turns.
+fn turns_of(alloc: Global, names: [&str; 2], count: usize) -> Result<Vec<TypeName>, AllocError> {
+    let mut types = Vec::new(alloc);
+    for at in 0..count {
+        types.push(type_of(names[at % 2]))?;
+    }
+    Ok(types)
+}
+
+/// An event of a vehicle without a position.
+fn event(
+    device: u64,
+    id: u64,
+    types: &[TypeName],
+    state: State,
+    time: u64,
+) -> Result<Event, EventFault> {
+    Event::new(key(device), uuid(id), state, types, time, None)
+}
+
+/// A report of an event of a vehicle.
+fn report(
+    alloc: Global,
+    device: u64,
+    id: u64,
+    names: &[&str],
+    state: State,
+    time: u64,
+    position: Option<Position>,
+) -> Result<Request, Lack> {
     let types = types_of(alloc, names)?;
-    let event = Event::new(key(*device), uuid(*id), *state, &types, *time, position)?;
+    let event = Event::new(key(device), uuid(id), state, &types, time, position)?;
     Ok(Request::Report(event))
+}
+
+/// The request that is asked.
+fn request_of(alloc: Global, asked: &Ask) -> Result<Request, Lack> {
+    match asked {
+        Ask::Register(device) => Ok(Request::Register(key(*device))),
+        Ask::Look(device) => Ok(Request::Look(key(*device))),
+        Ask::Report(device, id, names, state, time) => {
+            report(alloc, *device, *id, names, *state, *time, None)
+        }
+        Ask::ReportAt(device, id, names, state, time, (lat, lng)) => {
+            let position = Position::new(*lat, *lng);
+            report(alloc, *device, *id, names, *state, *time, position)
+        }
+    }
 }

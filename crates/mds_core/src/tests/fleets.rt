@@ -1,14 +1,12 @@
 //! The worked cases: requests over the profile, and their replies.
 use super::Ask::{self, Look, Register, Report, ReportAt};
-use super::{A, B, E0, E1, E2, E3, key, request_of, uuid};
+use super::{A, B, E0, E1, E2, E3, Lack, event, key, request_of, turns_of};
 use crate::Outcome::{self, Done, Refused, Seen};
-use crate::{
-    Event, Fleet, MAX_EVENT_TYPES, Position, Refusal, Reply, Request, Standing, answer, run,
-};
+use crate::{Fleet, MAX_EVENT_TYPES, Position, Refusal, Reply, Request, Standing, answer, run};
 use mds_table::State::{Available, NonContactable, NonOperational, OnTrip};
-use mds_table::{Table, Tables, TypeName};
+use mds_table::{Table, Tables};
 use std::alloc::{AllocError, Global};
-use std::test::Fail;
+use std::process::Abort;
 
 /// A request, and its reply: how many were accepted before, and what became of it.
 type Step = (Ask, usize, Outcome);
@@ -167,7 +165,10 @@ const SIX_REQUESTS_IN_A_RUN: &[Step] = &[
     (Look(A), 2, Seen(AVAILABLE)),
 ];
 
-const CASES: &[(&str, &[Step])] = &[
+/// A worked case: its name, and its steps.
+type Case = (&'static str, &'static [Step]);
+
+const CASES: &[Case] = &[
     ("first event", FIRST_EVENT),
     ("trip ends with a low battery", TRIP_ENDS_WITH_A_LOW_BATTERY),
     ("comms back, then trip end", COMMS_BACK_THEN_TRIP_END),
@@ -180,17 +181,25 @@ const CASES: &[(&str, &[Step])] = &[
     ("six requests in a run", SIX_REQUESTS_IN_A_RUN),
 ];
 
-/// The requests of the steps, and their replies.
-fn requests_of(alloc: Global, steps: &[Step]) -> Result<(Vec<Request>, Vec<Reply>), Fail> {
-    let (mut requests, mut replies) = (Vec::new(alloc), Vec::new(alloc));
-    for (asked, place, outcome) in steps {
+/// The requests of the steps.
+fn requests_of(alloc: Global, steps: &[Step]) -> Result<Vec<Request>, Lack> {
+    let mut requests = Vec::new(alloc);
+    for (asked, _, _) in steps {
         requests.push(request_of(alloc, asked)?)?;
+    }
+    Ok(requests)
+}
+
+/// The replies of the steps.
+fn replies_of(alloc: Global, steps: &[Step]) -> Result<Vec<Reply>, AllocError> {
+    let mut replies = Vec::new(alloc);
+    for (_, place, outcome) in steps {
         replies.push(Reply {
             place: *place,
             outcome: *outcome,
         })?;
     }
-    Ok((requests, replies))
+    Ok(replies)
 }
 
 /// The profile's table, in force from 0 on.
@@ -198,52 +207,71 @@ fn profile(alloc: Global) -> Result<Tables, AllocError> {
     Tables::one(alloc, Table::profile(alloc)?)
 }
 
-/// The replies to the steps' requests, each after those of the accepted requests that came before it.
-fn answers(alloc: Global, accepted: &[Request], steps: &[Step]) -> Result<Vec<Reply>, Fail> {
-    let tables = profile(alloc)?;
-    let mut replies = Vec::new(alloc);
-    for (asked, place, _) in steps {
-        let history = accepted.get(..*place).unwrap_or(accepted);
-        replies.push(answer(&tables, history, &request_of(alloc, asked)?))?;
+/// The answers to requests, each after so many of the machine's accepted ones as these replies have before them.
+fn answers(
+    alloc: Global,
+    fleet: &Fleet,
+    requests: &[Request],
+    replies: &[Reply],
+) -> Result<Vec<Reply>, AllocError> {
+    let (accepted, mut answers) = (fleet.history(), Vec::new(alloc));
+    for (request, reply) in requests.iter().zip(replies) {
+        let history = accepted.get(..reply.place).unwrap_or(accepted);
+        answers.push(answer(fleet.tables(), history, request))?;
     }
-    Ok(replies)
+    Ok(answers)
 }
 
-/// The replies of a run, the same one by one, and those that are expected.
-fn replies(alloc: Global, steps: &[Step]) -> Result<(Vec<Reply>, Vec<Reply>, Vec<Reply>), Fail> {
-    let (requests, expected) = requests_of(alloc, steps)?;
-    let (fleet, found) = run(alloc, profile(alloc)?, &requests)?;
-    let answered = answers(alloc, fleet.history(), steps)?;
-    Ok((found, answered, expected))
+/// The replies of a run, and the same one by one.
+fn replies(
+    alloc: Global,
+    requests: &[Request],
+    expected: &[Reply],
+) -> Result<(Vec<Reply>, Vec<Reply>), AllocError> {
+    let (fleet, found) = run(alloc, profile(alloc)?, requests)?;
+    let answered = answers(alloc, &fleet, requests, expected)?;
+    Ok((found, answered))
 }
 
-#[test]
-fn worked_cases(rt: HostRuntime) -> Result<(), Fail> {
-    for (name, steps) in CASES {
-        let (found, answered, expected) = replies(rt.alloc(), steps)?;
-        assert_eq!(rt; (name, &found, &answered), (name, &expected, &expected));
+/// Asserts that the steps' requests have their replies, in a run and one by one.
+fn expect_replies(rt: &impl Abort, alloc: Global, case: &Case) -> Result<(), Lack> {
+    let (name, steps) = *case;
+    let expected = replies_of(alloc, steps)?;
+    let (found, answered) = replies(alloc, &requests_of(alloc, steps)?, &expected)?;
+    assert_eq!(rt; (name, &found, &answered), (name, &expected, &expected));
+    Ok(())
+}
+
+/// The same for each case.
+fn expect_all(rt: &impl Abort, alloc: Global, cases: &[Case]) -> Result<(), Lack> {
+    for case in cases {
+        expect_replies(rt, alloc, case)?;
     }
     Ok(())
 }
 
+#[test]
+fn worked_cases(rt: HostRuntime) -> Result<(), Lack> {
+    expect_all(&rt, rt.alloc(), CASES)
+}
+
 /// An event of as many types as one can have: the battery of A goes low and is charged again, time after time.
-fn most_types(alloc: Global) -> Result<Request, Fail> {
-    let names = ["battery_low", "battery_charged"];
-    let mut types = Vec::new(alloc);
-    for at in 0..MAX_EVENT_TYPES {
-        types.push(TypeName::new(names[at % 2])?)?;
-    }
-    let event = Event::new(key(A), uuid(E1), Available, &types, 2000, None)?;
-    Ok(Request::Report(event))
+fn most_types(alloc: Global) -> Result<Request, Lack> {
+    let types = turns_of(alloc, ["battery_low", "battery_charged"], MAX_EVENT_TYPES)?;
+    Ok(Request::Report(event(A, E1, &types, Available, 2000)?))
+}
+
+/// What becomes of it after the first event.
+fn after_first(alloc: Global) -> Result<Outcome, Lack> {
+    let requests = requests_of(alloc, FIRST_EVENT)?;
+    let history = requests.as_slice().get(..2).unwrap_or(&[]);
+    let reply = answer(&profile(alloc)?, history, &most_types(alloc)?);
+    Ok(reply.outcome)
 }
 
 #[test]
-fn most_types_lead_round(rt: HostRuntime) -> Result<(), Fail> {
-    let (requests, _) = requests_of(rt.alloc(), FIRST_EVENT)?;
-    let tables = profile(rt.alloc())?;
-    let history = requests.as_slice().get(..2).unwrap_or(&[]);
-    let reply = answer(&tables, history, &most_types(rt.alloc())?);
-    assert_eq!(rt; reply.outcome, Done);
+fn most_types_lead_round(rt: HostRuntime) -> Result<(), Lack> {
+    assert_eq!(rt; after_first(rt.alloc())?, Done);
     Ok(())
 }
 
@@ -273,14 +301,14 @@ fn seen(
 }
 
 /// What is seen of A and of nobody.
-fn both_seen(alloc: Global) -> Result<[(Option<Standing>, usize); 2], Fail> {
-    let (requests, _) = requests_of(alloc, WITH_A_POSITION)?;
+fn both_seen(alloc: Global) -> Result<[(Option<Standing>, usize); 2], Lack> {
+    let requests = requests_of(alloc, WITH_A_POSITION)?;
     let (fleet, _) = run(alloc, profile(alloc)?, &requests)?;
     Ok([seen(alloc, &fleet, A)?, seen(alloc, &fleet, B)?])
 }
 
 #[test]
-fn standing_with_a_position(rt: HostRuntime) -> Result<(), Fail> {
+fn standing_with_a_position(rt: HostRuntime) -> Result<(), Lack> {
     let standing = Standing {
         events: 3,
         last: Some(3000),
@@ -292,7 +320,7 @@ fn standing_with_a_position(rt: HostRuntime) -> Result<(), Fail> {
 }
 
 #[test]
-fn fleet_has_the_tables_handed_in(rt: HostRuntime) -> Result<(), Fail> {
+fn fleet_has_the_tables_handed_in(rt: HostRuntime) -> Result<(), AllocError> {
     let fleet = Fleet::open(rt.alloc(), profile(rt.alloc())?);
     assert_eq!(rt;
         (fleet.tables().len(), fleet.tables().at(0).row_count()),

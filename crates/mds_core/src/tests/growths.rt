@@ -1,9 +1,8 @@
 //! Each call that takes memory, made again where its growth is refused (by `tests/refused-growths`).
-use super::{A, E1, key, uuid};
-use crate::{Event, Fleet, Reply, Request, run};
-use mds_table::{State, Table, Tables, TypeName};
+use super::{A, E1, Lack, event, key, type_of};
+use crate::{Event, EventFault, Fleet, Reply, Request, run};
+use mds_table::{State, Table, Tables};
 use std::alloc::{AllocError, Global};
-use std::test::Fail;
 
 /// The profile's table, in force from 0 on.
 fn one_profile(alloc: Global) -> Result<Tables, AllocError> {
@@ -27,45 +26,55 @@ fn step(fleet: &mut Fleet, request: &Request) -> Result<Reply, AllocError> {
 }
 
 /// A registration of A, and its first event.
-fn two_requests() -> Result<[Request; 2], Fail> {
-    let types = [TypeName::new("provider_drop_off")?];
-    let event = Event::new(key(A), uuid(E1), State::Available, &types, 1000, None)?;
+fn two_requests() -> Result<[Request; 2], EventFault> {
+    let types = [type_of("provider_drop_off")];
+    let event = event(A, E1, &types, State::Available, 1000)?;
     Ok([Request::Register(key(A)), Request::Report(event)])
 }
 
 /// A machine that they were put to.
-fn stepped(alloc: Global) -> Result<Fleet, Fail> {
+fn stepped(alloc: Global, requests: &[Request; 2]) -> Result<Fleet, AllocError> {
     let mut fleet = Fleet::open(alloc, profile(alloc)?);
-    let requests = two_requests()?;
     step(&mut fleet, &requests[0])?;
     step(&mut fleet, &requests[1])?;
     Ok(fleet)
 }
 
-/// How many events the machine gives of A.
-fn events(alloc: Global, fleet: &Fleet) -> Result<usize, Fail> {
-    let events = match fleet.events(alloc, &key(A)) {
-        Ok(events) => events,
-        Err(_) => fleet.events(alloc, &key(A))?,
-    };
-    Ok(events.ok_or("not registered")?.len())
+/// The events that the machine gives of A.
+fn events(alloc: Global, fleet: &Fleet) -> Result<Option<Vec<Event>>, AllocError> {
+    match fleet.events(alloc, &key(A)) {
+        Err(_) => fleet.events(alloc, &key(A)),
+        events => events,
+    }
+}
+
+/// How many there are, or `None` where A isn't registered.
+fn event_count(alloc: Global, fleet: &Fleet) -> Result<Option<usize>, AllocError> {
+    match events(alloc, fleet)? {
+        Some(events) => Ok(Some(events.len())),
+        None => Ok(None),
+    }
 }
 
 /// How many replies a run over them has.
-fn replies(alloc: Global) -> Result<usize, Fail> {
-    let requests = two_requests()?;
-    let (_, replies) = match run(alloc, profile(alloc)?, &requests) {
+fn replies(alloc: Global, requests: &[Request; 2]) -> Result<usize, AllocError> {
+    let (_, replies) = match run(alloc, profile(alloc)?, requests) {
         Ok(ran) => ran,
-        Err(_) => run(alloc, profile(alloc)?, &requests)?,
+        Err(_) => run(alloc, profile(alloc)?, requests)?,
     };
     Ok(replies.len())
 }
 
 #[test]
-fn call_succeeds_after_a_refused_growth(rt: HostRuntime) -> Result<(), Fail> {
-    let replies = replies(rt.alloc())?;
-    let fleet = stepped(rt.alloc())?;
-    let found = (replies, fleet.history().len(), events(rt.alloc(), &fleet)?);
-    assert_eq!(rt; found, (2, 2, 1));
+fn call_succeeds_after_a_refused_growth(rt: HostRuntime) -> Result<(), Lack> {
+    let requests = two_requests()?;
+    let replies = replies(rt.alloc(), &requests)?;
+    let fleet = stepped(rt.alloc(), &requests)?;
+    let found = (
+        replies,
+        fleet.history().len(),
+        event_count(rt.alloc(), &fleet)?,
+    );
+    assert_eq!(rt; found, (2, 2, Some(1)));
     Ok(())
 }

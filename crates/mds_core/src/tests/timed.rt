@@ -1,12 +1,12 @@
 //! The machine over tables that change at stated times.
 use super::Ask::{self, Register, Report};
-use super::{A, B, E0, E1, E2, E3, key, request_of};
+use super::{A, B, E0, E1, E2, E3, Lack, event, key, request_of, type_of};
 use crate::Outcome::{self, Done, Refused};
-use crate::{Fleet, Refusal, Request, Standing};
+use crate::{EventFault, Fleet, Refusal, Request, Standing};
 use mds_table::State::{Available, Removed};
-use mds_table::{MAX_TABLES, State, Table, Tables};
-use std::alloc::Global;
-use std::test::Fail;
+use mds_table::{MAX_TABLES, State, Table, TableFault, Tables};
+use std::alloc::{AllocError, Global};
+use std::process::Abort;
 
 /// A third vehicle.
 const C: u64 = 0x8000_0000_0000_000c;
@@ -66,14 +66,24 @@ const ROUND_THE_CHANGE: &[(Ask, usize, Outcome)] = &[
     (Report(B, E0, &["wake"], Available, 1000), 4, Done),
 ];
 
-#[test]
-fn fleet_over_a_table_that_changes(rt: HostRuntime) -> Result<(), Fail> {
-    let tables = Tables::from_json(rt.alloc(), WAKE_THEN_REST.as_bytes())?;
-    let mut fleet = Fleet::open(rt.alloc(), tables);
-    for (asked, place, outcome) in ROUND_THE_CHANGE {
-        let reply = fleet.step(&request_of(rt.alloc(), asked)?)?;
+/// Asserts that requests have these replies, one after the other.
+fn expect_steps(
+    rt: &impl Abort,
+    fleet: &mut Fleet,
+    steps: &[(Ask, usize, Outcome)],
+) -> Result<(), Lack> {
+    for (asked, place, outcome) in steps {
+        let reply = fleet.step(&request_of(fleet.allocator(), asked)?)?;
         assert_eq!(rt; (reply.place, reply.outcome), (*place, *outcome));
     }
+    Ok(())
+}
+
+#[test]
+fn fleet_over_a_table_that_changes(rt: HostRuntime) -> Result<(), Lack> {
+    let tables = Tables::from_json(rt.alloc(), WAKE_THEN_REST.as_bytes())?;
+    let mut fleet = Fleet::open(rt.alloc(), tables);
+    expect_steps(&rt, &mut fleet, ROUND_THE_CHANGE)?;
     let stand = [fleet.standing(&key(A)), fleet.standing(&key(B))];
     let expected = [
         Some(standing(Removed, 2, Some(2000))),
@@ -83,30 +93,41 @@ fn fleet_over_a_table_that_changes(rt: HostRuntime) -> Result<(), Fail> {
     Ok(())
 }
 
+/// Adds a table that starts then.
+fn add(entries: &mut Vec<(u64, Table)>, start: u64, table: Table) -> Result<(), AllocError> {
+    entries.push((start, table))?;
+    Ok(())
+}
+
 /// As many tables as may follow one another, each in force for a second: by turns vehicles wake and rest.
-fn tables_by_turns(alloc: Global) -> Result<Tables, Fail> {
+fn entries_by_turns(alloc: Global) -> Result<Vec<(u64, Table)>, TableFault> {
     let mut entries = Vec::new(alloc);
     for at in 0..MANY {
         let text = if at % 2 == 0 { WAKE } else { REST };
         let table = Table::from_json(alloc, text.as_bytes())?;
-        entries.push((at * 1000, table))?;
+        add(&mut entries, at * 1000, table)?;
     }
-    Ok(Tables::new(entries)?)
+    Ok(entries)
+}
+
+/// The report of a vehicle, so long after the start of a table, that it woke or that it rests, by turns.
+fn turn(device: u64, at: u64, later: u64) -> Result<Request, EventFault> {
+    let (name, state) = if at % 2 == 0 {
+        ("wake", Available)
+    } else {
+        ("rest", Removed)
+    };
+    let time = at.saturating_mul(1000).saturating_add(later);
+    let types = [type_of(name)];
+    Ok(Request::Report(event(device, at, &types, state, time)?))
 }
 
 /// A vehicle is registered, and reports so long after the start of each table: by turns that it woke and that it rests.
 /// Where it stands then.
-fn after_turns(fleet: &mut Fleet, device: u64, later: u64) -> Result<Option<Standing>, Fail> {
-    let alloc = fleet.allocator();
+fn after_turns(fleet: &mut Fleet, device: u64, later: u64) -> Result<Option<Standing>, Lack> {
     fleet.step(&Request::Register(key(device)))?;
     for at in 0..MANY {
-        let (id, time) = (at, (at * 1000).saturating_add(later));
-        let asked = if at % 2 == 0 {
-            Report(device, id, &["wake"], Available, time)
-        } else {
-            Report(device, id, &["rest"], Removed, time)
-        };
-        fleet.step(&request_of(alloc, &asked)?)?;
+        fleet.step(&turn(device, at, later)?)?;
     }
     Ok(fleet.standing(&key(device)))
 }
@@ -114,8 +135,8 @@ fn after_turns(fleet: &mut Fleet, device: u64, later: u64) -> Result<Option<Stan
 /// A's events come exactly as a table starts, B's one millisecond before the next one does, and C's as the next one has.
 /// B's and C's come after later ones of A.
 #[test]
-fn fleet_over_most_tables(rt: HostRuntime) -> Result<(), Fail> {
-    let tables = tables_by_turns(rt.alloc())?;
+fn fleet_over_most_tables(rt: HostRuntime) -> Result<(), Lack> {
+    let tables = Tables::new(entries_by_turns(rt.alloc())?)?;
     assert_eq!(rt; tables.len(), MAX_TABLES);
     let mut fleet = Fleet::open(rt.alloc(), tables);
     let found = [
