@@ -1,6 +1,6 @@
 -- Why words give no command.
-use Rattle.std.specs.Prelude.{◌≡◌, ◌⊎◌, List, []}
-use Rattle.clap.specs.Words.{HasKind, Text, fault_of, kind_of, subcommand_of}
+use Rattle.std.specs.Prelude.{◌≡◌, ◌⊎◌, List, [], Option}
+use Rattle.clap.specs.Words.{HasKind, Row, Text, fault_of, kind_of, subcommand_of}
 use Rattle.clap.specs.declared.error.Error.{Error}
 use Rattle.clap.specs.declared.error.kind.ErrorKind.{ErrorKind}
 use Rattle.clap.specs.declared.error.kind.ErrorKind.TheVariants as kind
@@ -19,6 +19,10 @@ kind_in other = Mistake
 -- the kind of an error of words
 abbrev pub words_kind : WordsError → WordsErrorKind
 words_kind error = kind_in (kind_of error.cause)
+
+-- the error says that these are a command's name and values of no command; or memory was refused
+abbrev pub SaysMissing : Option (Text × List Row) → Error → Type 0
+SaysMissing found error = (kind_of error ≡ kind.OutOfMemory) ⊎ (AsksNothing found × (kind_of error ≡ kind.MissingSubcommand))
 
 -- why these words give no command: `clap` finds such a fault in them, or finds none and they ask for none, which the error
 -- says; or memory was refused

@@ -1,9 +1,10 @@
 -- What the words of the command line ask for.
-use Rattle.std.specs.Prelude.{◌≡◌, ◌⊎◌, ◌↔◌, ℕ, List, [], ◌∷◌, Option, Some, None, true, codes, option_map, IsTrue}
+use Rattle.std.specs.Prelude.{◌≡◌, ◌⊎◌, ◌↔◌, ℕ, List, [], ◌∷◌, Option, Some, None, Result, true, codes, option_map, IfOk, IsTrue}
 use Rattle.std.specs.Str.Parse.{digits_value, without_leading_plus}
 use Rattle.clap.specs.declared.builder.action.ArgAction.TheVariants.{SetTrue}
+use Rattle.clap.specs.declared.builder.command.Command.{Command as Form}
 use Rattle.clap.specs.declared.builder.value_parser.ValueParser.TheVariants.{Unsigned}
-use Rattle.clap.specs.Words.{App, IsUnsignedIn, Row, Rule, Text, fault_of, first_of, new_app, new_rule, takes, with_rule, subcommand_of, with_subcommand}
+use Rattle.clap.specs.Words.{App, IsUnsignedIn, Row, Rule, Text, app_of, fault_of, first_of, new_app, new_rule, takes, with_rule, subcommand_of, with_subcommand}
 use Rattle.mds_args.specs.declared.words.Command.{Command}
 use Rattle.mds_args.specs.declared.words.Command.TheVariants.{Serve, Replay, Debug, Table}
 
@@ -11,17 +12,25 @@ use Rattle.mds_args.specs.declared.words.Command.TheVariants.{Serve, Replay, Deb
 abbrev pub word_rule : Text → Rule
 word_rule name = record (new_rule name) { required = true }
 
--- the option `--table`, which takes one value
+-- an argument that goes by its name behind two hyphens
+abbrev pub long_rule : Text → Rule
+long_rule name = record (new_rule name) { long = Some name }
+
+-- an option of this name, which takes one value
+abbrev pub option_rule : Text → Rule
+option_rule name = record (long_rule name) { value_names = 1 }
+
+-- the option `--table`
 abbrev pub table_rule : Rule
-table_rule = record (new_rule (codes "table")) { long = Some (codes "table"); value_names = 1 }
+table_rule = option_rule (codes "table")
 
 -- a flag of this name
 abbrev pub flag_rule : Text → Rule
-flag_rule name = record (new_rule name) { long = Some name; action = Some SetTrue }
+flag_rule name = record (long_rule name) { action = Some SetTrue }
 
 -- an option of this name, which takes a number of this range
 abbrev pub number_rule : Text → ℕ → ℕ → Rule
-number_rule name least most = record (new_rule name) { long = Some name; value_names = 1; parser = Some (Unsigned least most) }
+number_rule name least most = record (option_rule name) { parser = Some (Unsigned least most) }
 
 -- an option that must be there, which takes a number up to this one
 abbrev pub needed_number_rule : Text → ℕ → Rule
@@ -68,6 +77,10 @@ bare_app = record { top = record (new_app (codes "mds_city")).top { subcommand_r
 -- the program with its commands
 abbrev pub program_app : App
 program_app = with_subcommand (with_subcommand (with_subcommand (with_subcommand bare_app serve_app.top) replay_app.top) debug_app.top) table_app.top
+
+-- where there was memory, `clap` is told of this app
+abbrev pub IsTold : {E : Type 0} → App → Result Form E → Type 0
+IsTold app form = IfOk form (λ told. app_of told ≡ app)
 
 -- the name of a command
 abbrev pub name_of : Command → Text

@@ -1,13 +1,15 @@
 //! The words of the command line, read by `clap`.
 ghost use Rattle.std.specs.Prelude.{◌≡◌, ◌↔◌, ◌<◌, ◌^◌, ◌∷◌, [], None, Some, true, false};
 ghost use Rattle.std.specs.Prelude.{codes, map, IsTrue, IfOk, IfErr, MatchOption};
-ghost use Rattle.clap.specs.Words.{app_of, fault_of, first_of, found_of, kind_of, rows_of, rule_of};
-ghost use Rattle.clap.specs.Words.{subcommand_of, subcommand_rows_of, takes, with_subcommand};
-ghost use Rattle.mds_args.specs.Error.{HasCause, IsCause, words_kind};
+ghost use Rattle.clap.specs.Words.{App, app_of, fault_of, first_of, found_of, kind_of, new_app, new_rule, rows_of};
+ghost use Rattle.clap.specs.Words.{rule_of, subcommand_of, subcommand_rows_of, takes, with_rule};
+ghost use Rattle.clap.specs.Words.{with_subcommand};
+ghost use Rattle.mds_args.specs.Error.{HasCause, IsCause, SaysMissing, words_kind};
 ghost use Rattle.mds_args.specs.Words.{Asks, AsksNothing, IsAskedBy, AreTaken};
-ghost use Rattle.mds_args.specs.Words.{HasNoNumber, HasValues, IsNumber, LacksFileOrWorkers, LacksNumber, LacksOneOf};
-ghost use Rattle.mds_args.specs.Words.{name_of, debug_app, flag_rule, max_each, max_port, max_workers};
-ghost use Rattle.mds_args.specs.Words.{needed_number_rule, number_rule, program_app, replay_app};
+ghost use Rattle.mds_args.specs.Words.{HasNoNumber, HasValues, IsNumber, IsTold};
+ghost use Rattle.mds_args.specs.Words.{LacksFileOrWorkers, LacksNumber, LacksOneOf};
+ghost use Rattle.mds_args.specs.Words.{name_of, debug_app, flag_rule, long_rule, max_each, max_port, max_workers};
+ghost use Rattle.mds_args.specs.Words.{needed_number_rule, number_rule, option_rule, program_app, replay_app};
 ghost use Rattle.mds_args.specs.Words.{serve_app, table_app, table_rule, word_rule, workers_rule};
 
 use crate::error::{WordsError, WordsErrorKind};
@@ -93,9 +95,38 @@ fn command_in<'a, S: AsStr>(alloc: Global, words: &'a [S]) -> Result<Command<'a>
         → (AsksNothing (subcommand_of program_app (map S.text words.entry.now)) → ⊥)
         → kind_of error ≡ ErrorKind.OutOfMemory) }
 {
-    let mut form = program_form(alloc)?;
+    match program_form(alloc) {
+        Ok(mut form) => command_by(&mut form, words),
+        Err(error) => Err(Error::from(error)),
+    }
+}
+
+/// The command that `words` ask for, or why `form`, which is the program's, or this crate finds none in them.
+fn command_by<'a, S: AsStr>(
+    form: &mut clap::Command<'a>,
+    words: &'a [S],
+) -> Result<Command<'a>, Error>
+    requires { app_of form.old ≡ program_app }
+    ensures ok { IfOk result (Asks (subcommand_of program_app (map S.text words.entry.now))) }
+    ensures taken { IfOk result (λ _. fault_of program_app (map S.text words.entry.now) ≡ []) }
+    ensures kind { IfErr result (IsCause (map S.text words.entry.now)) }
+    ensures err { IfErr result (λ error. takes program_app (map S.text words.entry.now) ≡ true
+        → (AsksNothing (subcommand_of program_app (map S.text words.entry.now)) → ⊥)
+        → kind_of error ≡ ErrorKind.OutOfMemory) }
+{
     let matches = form.try_get_matches_from_mut(words)?;
-    match command_of(&matches) {
+    command_or_error(form, &matches)
+}
+
+/// The command of a parse by `form`, or the error that there is none.
+fn command_or_error<'a>(
+    form: &mut clap::Command<'a>,
+    matches: &ArgMatches<'a>,
+) -> Result<Command<'a>, Error>
+    ensures ok { IfOk result (Asks (subcommand_rows_of matches.now)) }
+    ensures err { IfErr result (SaysMissing (subcommand_rows_of matches.now)) }
+{
+    match command_of(matches) {
         Some(command) => Ok(command),
         None => Err(form.error(ErrorKind::MissingSubcommand, "a command is needed")?),
     }
@@ -107,6 +138,14 @@ fn command_of<'a>(matches: &ArgMatches<'a>) -> Option<Command<'a>>
         (Asks (subcommand_rows_of matches.now)) }
 {
     let (name, values) = matches.subcommand()?;
+    command_named(name, values)
+}
+
+/// The command of this name with these values, or `None` where there is none of that name or it lacks a value.
+fn command_named<'a>(name: &str, values: &ArgMatches<'a>) -> Option<Command<'a>>
+    ensures { MatchOption result (AsksNothing (Some (name.now, rows_of (found_of values.now))))
+        (Asks (Some (name.now, rows_of (found_of values.now)))) }
+{
     if name == "serve" {
         return serve_of(values);
     }
@@ -244,40 +283,190 @@ fn table_of<'a>(values: &ArgMatches<'a>) -> Command<'a>
     }
 }
 
-/// What `clap` is told of the program. It fails only for want of memory.
-fn program_form<'a>(alloc: Global) -> Result<clap::Command<'a>, AllocError>
-    ensures { IfOk result (λ form. app_of form ≡ program_app) }
+/// What `clap` is told of a command, where there is memory for it.
+type Form<'a> = Result<clap::Command<'a>, AllocError>;
+
+/// What `clap` is told of the program.
+fn program_form<'a>(alloc: Global) -> Form<'a>
+    ensures { IsTold program_app result }
 {
     let form = clap::Command::new(alloc, "mds_city")
         .about("Keeps the states of shared vehicles")
         .subcommand_required(true);
-    let with_serve = with_serve(alloc, form)?;
-    with_table(alloc, with_debug(alloc, with_replay(alloc, with_serve)?)?)
+    let with_serve = with_command(Ok(form), serve_form(alloc));
+    let with_replay = with_command(with_serve, replay_form(alloc));
+    let with_debug = with_command(with_replay, debug_form(alloc));
+    with_command(with_debug, table_form(alloc))
 }
 
-/// Tells `form` of the command `serve`. It fails only for want of memory.
-fn with_serve<'a>(alloc: Global, form: clap::Command<'a>) -> Result<clap::Command<'a>, AllocError>
-    ensures { IfOk result (λ more.
-        app_of more ≡ with_subcommand (app_of form.entry) serve_app.top) }
+/// Tells `form` of a command.
+fn with_command<'a>(form: Form<'a>, command: Form<'a>) -> Form<'a>
+    ensures { (app sub : App) → IsTold app form.entry → IsTold sub command.entry
+        → sub.top.is_plain ≡ true → IsTold (with_subcommand app sub.top) result }
 {
-    let bare = clap::Command::new(alloc, "serve").about("Serves vehicles over HTTP at 127.0.0.1");
-    let port = needed_number(
+    match form {
+        Ok(form) => add_command(form, command),
+        Err(error) => Err(error),
+    }
+}
+
+/// Tells `form` of a command, where there is one.
+fn add_command<'a>(form: clap::Command<'a>, command: Form<'a>) -> Form<'a>
+    ensures { (sub : App) → IsTold sub command.entry → sub.top.is_plain ≡ true
+        → IsTold (with_subcommand (app_of form.entry) sub.top) result }
+{
+    match command {
+        Ok(command) => form.subcommand(command),
+        Err(error) => Err(error),
+    }
+}
+
+/// What `clap` is told of the command `serve`.
+fn serve_form<'a>(alloc: Global) -> Form<'a>
+    ensures { IsTold serve_app result }
+{
+    let bare = bare_form(alloc, "serve", "Serves vehicles over HTTP at 127.0.0.1");
+    let with_port = with_number(
         alloc,
+        bare,
         "port",
         MAX_PORT,
         "The port's number; 0 is a free one",
     );
-    let with_port = bare.arg(port)?;
-    let each = needed_number(
+    let with_each = with_number(
         alloc,
+        with_port,
         "each",
         MAX_EACH,
         "How many connections each worker answers",
     );
-    let with_each = with_port.arg(each)?;
-    let with_workers = with_each.arg(workers_option(alloc, "4"))?;
-    let serve = with_workers.arg(table_option(alloc))?;
-    form.subcommand(serve)
+    with_table(alloc, with_workers(alloc, with_each, "4"))
+}
+
+/// What `clap` is told of the command `replay`.
+fn replay_form<'a>(alloc: Global) -> Form<'a>
+    ensures { IsTold replay_app result }
+{
+    let bare = bare_form(alloc, "replay", "Replays the events of a file");
+    let with_file = with_word(
+        alloc,
+        bare,
+        "FILE",
+        "The file of events; - is standard input",
+    );
+    let with_any = with_flag(
+        alloc,
+        with_table(alloc, with_file),
+        "any",
+        "Lets a vehicle hold any state before its first event",
+    );
+    let with_lines = with_flag(
+        alloc,
+        with_any,
+        "lines",
+        "Takes each line of the file as an item",
+    );
+    with_workers(alloc, with_lines, "1")
+}
+
+/// What `clap` is told of the command `debug`.
+fn debug_form<'a>(alloc: Global) -> Form<'a>
+    ensures { IsTold debug_app result }
+{
+    let bare = bare_form(
+        alloc,
+        "debug",
+        "Steps through the accepted events of a vehicle, as standard input says",
+    );
+    let with_file = with_word(alloc, bare, "FILE", "The file of events");
+    let with_provider = with_word(alloc, with_file, "PROVIDER", "The provider's identifier");
+    let with_device = with_word(alloc, with_provider, "DEVICE", "The vehicle's identifier");
+    with_table(alloc, with_device)
+}
+
+/// What `clap` is told of the command `table`.
+fn table_form<'a>(alloc: Global) -> Form<'a>
+    ensures { IsTold table_app result }
+{
+    let bare = bare_form(
+        alloc,
+        "table",
+        "Prints the table of transitions, or each of several",
+    );
+    with_table(alloc, bare)
+}
+
+/// What `clap` is told of a command with no arguments yet.
+fn bare_form<'a>(alloc: Global, name: &'a str, about: &'a str) -> Form<'a>
+    ensures { IsTold (new_app name.entry.now) result }
+{
+    Ok(clap::Command::new(alloc, name).about(about))
+}
+
+/// Tells `form` of a word that must be given.
+fn with_word<'a>(alloc: Global, form: Form<'a>, name: &'a str, help: &'a str) -> Form<'a>
+    ensures { (app : App) → IsTold app form.entry
+        → IsTold (with_rule app (word_rule name.entry.now)) result }
+{
+    with_arg(form, argument(alloc, name, help).required(true))
+}
+
+/// Tells `form` of a flag, which takes no value.
+fn with_flag<'a>(alloc: Global, form: Form<'a>, name: &'a str, help: &'a str) -> Form<'a>
+    ensures { (app : App) → IsTold app form.entry
+        → IsTold (with_rule app (flag_rule name.entry.now)) result }
+{
+    with_arg(
+        form,
+        long_argument(alloc, name, help).action(ArgAction::SetTrue),
+    )
+}
+
+/// Tells `form` of an option that must be given, and takes a number up to this one.
+fn with_number<'a>(
+    alloc: Global,
+    form: Form<'a>,
+    name: &'a str,
+    most: u64,
+    help: &'a str,
+) -> Form<'a>
+    ensures { (app : App) → IsTold app form.entry
+        → IsTold (with_rule app (needed_number_rule name.entry.now most)) result }
+{
+    with_arg(
+        form,
+        number_option(alloc, name, 0, most, help).required(true),
+    )
+}
+
+/// Tells `form` of the option `--workers`, which is this number where it isn't given.
+fn with_workers<'a>(alloc: Global, form: Form<'a>, default: &'a str) -> Form<'a>
+    ensures { (app : App) → IsTold app form.entry
+        → IsTold (with_rule app (workers_rule default.entry.now)) result }
+{
+    let help = "How many workers there are";
+    let workers = number_option(alloc, "workers", 1, MAX_WORKERS, help);
+    with_arg(form, workers.default_value(default))
+}
+
+/// Tells `form` of the option `--table`, which takes the path of a file.
+fn with_table<'a>(alloc: Global, form: Form<'a>) -> Form<'a>
+    ensures { (app : App) → IsTold app form.entry → IsTold (with_rule app table_rule) result }
+{
+    let help = "A table of transitions, or several with times; without it the profile's";
+    with_arg(form, option(alloc, "table", "FILE", help))
+}
+
+/// Tells `form` of an argument.
+fn with_arg<'a>(form: Form<'a>, arg: Arg<'a>) -> Form<'a>
+    requires { arg.global ≡ false }
+    ensures { (app : App) → IsTold app form.entry
+        → IsTold (with_rule app (rule_of arg.entry)) result }
+{
+    match form {
+        Ok(form) => form.arg(arg),
+        Err(error) => Err(error),
+    }
 }
 
 /// An option that takes a number of this range.
@@ -285,111 +474,31 @@ fn number_option<'a>(alloc: Global, name: &'a str, least: u64, most: u64, help: 
     ensures rule { rule_of result ≡ number_rule name.entry.now least most }
     ensures local { result.global ≡ false }
 {
-    Arg::new(alloc, name)
-        .long(name)
-        .value_name("N")
-        .value_parser(ValueParser::unsigned(least, most))
-        .help(help)
+    option(alloc, name, "N", help).value_parser(ValueParser::unsigned(least, most))
 }
 
-/// An option that must be given, and takes a number up to this one.
-fn needed_number<'a>(alloc: Global, name: &'a str, most: u64, help: &'a str) -> Arg<'a>
-    ensures rule { rule_of result ≡ needed_number_rule name.entry.now most }
+/// An option that takes a value, which help calls so.
+fn option<'a>(alloc: Global, name: &'a str, value: &'a str, help: &'a str) -> Arg<'a>
+    ensures rule { rule_of result ≡ option_rule name.entry.now }
     ensures local { result.global ≡ false }
 {
-    number_option(alloc, name, 0, most, help).required(true)
+    long_argument(alloc, name, help).value_name(value)
 }
 
-/// The option `--workers`, which is this number where it isn't given.
-fn workers_option<'a>(alloc: Global, default: &'a str) -> Arg<'a>
-    ensures rule { rule_of result ≡ workers_rule default.entry.now }
+/// An argument that goes by its name behind two hyphens.
+fn long_argument<'a>(alloc: Global, name: &'a str, help: &'a str) -> Arg<'a>
+    ensures rule { rule_of result ≡ long_rule name.entry.now }
     ensures local { result.global ≡ false }
 {
-    number_option(
-        alloc,
-        "workers",
-        1,
-        MAX_WORKERS,
-        "How many workers there are",
-    )
-    .default_value(default)
+    argument(alloc, name, help).long(name)
 }
 
-/// Tells `form` of the command `replay`. It fails only for want of memory.
-fn with_replay<'a>(alloc: Global, form: clap::Command<'a>) -> Result<clap::Command<'a>, AllocError>
-    ensures { IfOk result (λ more.
-        app_of more ≡ with_subcommand (app_of form.entry) replay_app.top) }
-{
-    let bare = clap::Command::new(alloc, "replay").about("Replays the events of a file");
-    let file = word(alloc, "FILE", "The file of events; - is standard input");
-    let with_file = bare.arg(file)?;
-    let with_table = with_file.arg(table_option(alloc))?;
-    let any = flag(
-        alloc,
-        "any",
-        "Lets a vehicle hold any state before its first event",
-    );
-    let with_any = with_table.arg(any)?;
-    let lines = flag(alloc, "lines", "Takes each line of the file as an item");
-    let with_lines = with_any.arg(lines)?;
-    let replay = with_lines.arg(workers_option(alloc, "1"))?;
-    form.subcommand(replay)
-}
-
-/// Tells `form` of the command `debug`. It fails only for want of memory.
-fn with_debug<'a>(alloc: Global, form: clap::Command<'a>) -> Result<clap::Command<'a>, AllocError>
-    ensures { IfOk result (λ more.
-        app_of more ≡ with_subcommand (app_of form.entry) debug_app.top) }
-{
-    let bare = clap::Command::new(alloc, "debug").about(
-        "Steps through the accepted events of a vehicle, as standard input says",
-    );
-    let with_file = bare.arg(word(alloc, "FILE", "The file of events"))?;
-    let with_provider = with_file.arg(word(alloc, "PROVIDER", "The provider's identifier"))?;
-    let with_device = with_provider.arg(word(alloc, "DEVICE", "The vehicle's identifier"))?;
-    let debug = with_device.arg(table_option(alloc))?;
-    form.subcommand(debug)
-}
-
-/// A flag, which takes no value.
-fn flag<'a>(alloc: Global, name: &'a str, help: &'a str) -> Arg<'a>
-    ensures rule { rule_of result ≡ flag_rule name.entry.now }
+/// An argument of this name.
+fn argument<'a>(alloc: Global, name: &'a str, help: &'a str) -> Arg<'a>
+    ensures rule { rule_of result ≡ new_rule name.entry.now }
     ensures local { result.global ≡ false }
 {
-    Arg::new(alloc, name)
-        .long(name)
-        .action(ArgAction::SetTrue)
-        .help(help)
-}
-
-/// A word that must be given.
-fn word<'a>(alloc: Global, name: &'a str, help: &'a str) -> Arg<'a>
-    ensures rule { rule_of result ≡ word_rule name.entry.now }
-    ensures local { result.global ≡ false }
-{
-    Arg::new(alloc, name).required(true).help(help)
-}
-
-/// Tells `form` of the command `table`. It fails only for want of memory.
-fn with_table<'a>(alloc: Global, form: clap::Command<'a>) -> Result<clap::Command<'a>, AllocError>
-    ensures { IfOk result (λ more.
-        app_of more ≡ with_subcommand (app_of form.entry) table_app.top) }
-{
-    let table = clap::Command::new(alloc, "table")
-        .about("Prints the table of transitions, or each of several")
-        .arg(table_option(alloc))?;
-    form.subcommand(table)
-}
-
-/// The option `--table`, which takes the path of a file.
-fn table_option<'a>(alloc: Global) -> Arg<'a>
-    ensures rule { rule_of result ≡ table_rule }
-    ensures local { result.global ≡ false }
-{
-    Arg::new(alloc, "table")
-        .long("table")
-        .value_name("FILE")
-        .help("A table of transitions, or several with times; without it the profile's")
+    Arg::new(alloc, name).help(help)
 }
 
 #[cfg(test)]
