@@ -128,6 +128,19 @@ QUIET = {
         "Request::event",
         "Request::copy",
     ],
+    ("mds_batch", "items_are_read_again_with_every_growth_refused"): [
+        "Member::name",
+        "ItemFault::word",
+        "BatchItem::ask",
+        "BatchItem::fault",
+        "ItemReader::new",
+        "ItemReader::read",
+        "TakesItems::take",
+        "read_vehicles",
+        "read_events",
+        "each_event",
+        "read_item",
+    ],
 }
 """A crate and its test, and the calls of the crate that it makes without memory: all of them, or those that are refused, look at
 something, or say that there is no memory."""

@@ -3,6 +3,7 @@ mod by_value;
 mod events;
 mod items;
 mod members;
+mod quiet;
 mod seeded;
 mod takers;
 mod texts;
@@ -10,8 +11,38 @@ mod values;
 
 use crate::{BatchFault, ItemFault, Member, VehicleItem, read_events, read_vehicles};
 use mds_core::Key;
-use std::test::Fail;
+use std::alloc::{AllocError, Global};
 use uuid::Uuid;
+
+/// A growth that is refused to a test is told of as one that is refused to a call.
+impl From<AllocError> for BatchFault {
+    fn from(_refused: AllocError) -> BatchFault {
+        BatchFault::Memory
+    }
+}
+
+/// The identifier that ends with these digits.
+fn uuid(last: u64) -> Uuid {
+    Uuid::from_u64_pair(0x4000, 0x8000_0000_0000_0000 | last)
+}
+
+/// The vehicle of the texts.
+fn key() -> Key {
+    Key {
+        provider: uuid(0x01),
+        device: uuid(0x0a),
+    }
+}
+
+/// How many registrations the text lists.
+fn vehicle_count(alloc: Global, text: &[u8]) -> Result<usize, BatchFault> {
+    Ok(read_vehicles(alloc, text)?.len())
+}
+
+/// How many events the text lists.
+fn event_count(alloc: Global, text: &[u8]) -> Result<usize, BatchFault> {
+    Ok(read_events(alloc, text)?.len())
+}
 
 /// The registration of a vehicle.
 pub const VEHICLE: &str =
@@ -27,32 +58,28 @@ const REGISTRATIONS: &[u8] = br#"[
 null,
 []]"#;
 
-/// The vehicle that they name.
-fn vehicle() -> VehicleItem {
-    VehicleItem::Vehicle(Key {
-        provider: Uuid::from_u128(0x00000000_0000_4000_8000_000000000001),
-        device: Uuid::from_u128(0x00000000_0000_4000_8000_00000000000a),
-    })
-}
-
-#[test]
-fn registrations(rt: HostRuntime) -> Result<(), Fail> {
-    let expected = [
-        vehicle(),
-        vehicle(),
+/// What they are.
+fn registered() -> [VehicleItem; 7] {
+    [
+        VehicleItem::Vehicle(key()),
+        VehicleItem::Vehicle(key()),
         VehicleItem::Fault(ItemFault::Missing(Member::DeviceId)),
         VehicleItem::Fault(ItemFault::Bad(Member::DeviceId)),
         VehicleItem::Fault(ItemFault::Missing(Member::ProviderId)),
         VehicleItem::Fault(ItemFault::NotObject),
         VehicleItem::Fault(ItemFault::NotObject),
-    ];
+    ]
+}
+
+#[test]
+fn registrations(rt: HostRuntime) -> Result<(), BatchFault> {
     let items = read_vehicles(rt.alloc(), REGISTRATIONS)?;
-    assert_eq!(rt; items.as_slice(), expected.as_slice());
+    assert_eq!(rt; items.as_slice(), registered().as_slice());
     Ok(())
 }
 
 #[test]
-fn names_and_texts(rt: HostRuntime) -> Result<(), Fail> {
+fn names_and_texts(rt: HostRuntime) -> Result<(), AllocError> {
     let alloc = rt.alloc();
     let member = Member::LocationE7;
     let (batch, item) = (BatchFault::TooMany, ItemFault::Bad(member));
@@ -72,18 +99,13 @@ const TWO_ITEMS: &[u8] = br#"[
 /// Each call, made again where its growth is refused (by `tests/refused-growths`).
 #[test]
 fn call_succeeds_after_a_refused_growth(rt: HostRuntime) {
-    let alloc = rt.alloc();
-    let vehicles = match read_vehicles(alloc, TWO_ITEMS) {
-        Err(BatchFault::Memory) => read_vehicles(alloc, TWO_ITEMS),
+    let vehicles = match vehicle_count(rt.alloc(), TWO_ITEMS) {
+        Err(BatchFault::Memory) => vehicle_count(rt.alloc(), TWO_ITEMS),
         other => other,
     };
-    let events = match read_events(alloc, TWO_ITEMS) {
-        Err(BatchFault::Memory) => read_events(alloc, TWO_ITEMS),
+    let events = match event_count(rt.alloc(), TWO_ITEMS) {
+        Err(BatchFault::Memory) => event_count(rt.alloc(), TWO_ITEMS),
         other => other,
     };
-    let counts = (
-        vehicles.map(|items| items.len()),
-        events.map(|items| items.len()),
-    );
-    assert_eq!(rt; counts, (Ok(2), Ok(2)));
+    assert_eq!(rt; (vehicles, events), (Ok(2), Ok(2)));
 }

@@ -1,12 +1,12 @@
 //! Events: what is read of their members, or the first fault.
+use super::{key, uuid};
 use crate::ItemFault::{self, Bad, Missing, NotObject};
 use crate::Member::{EventId, EventTypes, LocationE7, ProviderId, Timestamp, VehicleState};
-use crate::{EventItem, read_events};
-use mds_core::{Event, Key, MAX_EVENT_TYPES, Position};
+use crate::{BatchFault, EventItem, read_events};
+use mds_core::{Event, MAX_EVENT_TYPES, Position};
 use mds_table::{State, TypeName};
 use std::alloc::Global;
-use std::test::Fail;
-use uuid::Uuid;
+use std::process::Abort;
 
 /// An event of three types, with a position.
 pub const EVENT: &str = r#"{"provider_id":"00000000-0000-4000-8000-000000000001",
@@ -59,110 +59,143 @@ const FAULTS: [(&str, &str, Option<ItemFault>); 21] = [
     ),
 ];
 
+/// A latitude and a longitude, if there are any.
+pub type Place = Option<(i64, i64)>;
+
 /// Pieces of the event, what stands in their place, and the time and the position that are then read.
-const EVENTS: [(&str, &str, u64, Option<(i64, i64)>); 10] = [
+const EVENTS: [(&str, &str, (u64, Place)); 10] = [
     // times
-    ("1000", "0", 0, BERLIN),
-    ("1000", "9007199254740991", 9007199254740991, BERLIN),
-    ("1000", r#"-1,"timestamp":2000"#, 2000, BERLIN),
-    ("timestamp", r"time\u0073tamp", 1000, BERLIN),
+    ("1000", "0", (0, BERLIN)),
+    ("1000", "9007199254740991", (9007199254740991, BERLIN)),
+    ("1000", r#"-1,"timestamp":2000"#, (2000, BERLIN)),
+    ("timestamp", r"time\u0073tamp", (1000, BERLIN)),
     // positions
     (
         "525200000,\"lng\":134050000",
         "900000000,\"lng\":1800000000",
-        1000,
-        Some((900000000, 1800000000)),
+        (1000, Some((900000000, 1800000000))),
     ),
     (
         "525200000,\"lng\":134050000",
         "-900000000,\"lng\":-1800000000",
-        1000,
-        Some((-900000000, -1800000000)),
+        (1000, Some((-900000000, -1800000000))),
     ),
-    ("\"lat\"", r#""x":1,"lat":5,"lat""#, 1000, BERLIN),
-    ("\"location_e7\":", r#""location_e7":null,"x":"#, 1000, None),
+    ("\"lat\"", r#""x":1,"lat":5,"lat""#, (1000, BERLIN)),
+    (
+        "\"location_e7\":",
+        r#""location_e7":null,"x":"#,
+        (1000, None),
+    ),
     // members that are ignored
-    ("location_e7", "location", 1000, None),
+    ("location_e7", "location", (1000, None)),
     (
         "\"location_e7\"",
         r#""location":{"lat":1.5,"lng":2},"publication_time":1700000000500,"battery_percent":88,"trip_ids":[],"location_e7""#,
-        1000,
-        BERLIN,
+        (1000, BERLIN),
     ),
 ];
 
 /// The position of the event.
-pub const BERLIN: Option<(i64, i64)> = Some((525200000, 134050000));
+pub const BERLIN: Place = Some((525200000, 134050000));
+
+/// The types of the event.
+fn types() -> Option<[TypeName; 3]> {
+    let end = TypeName::new("trip_end").ok()?;
+    let low = TypeName::new("battery_low").ok()?;
+    Some([end.copy(), low, end])
+}
+
+/// The position at this place.
+fn position_at(place: Place) -> Option<Position> {
+    let (lat, lng) = place?;
+    Position::new(lat, lng)
+}
 
 /// The event, at this time and place.
-pub fn event(time: u64, place: Option<(i64, i64)>) -> Result<Event, Fail> {
-    let key = Key {
-        provider: Uuid::from_u128(0x00000000_0000_4000_8000_000000000001),
-        device: Uuid::from_u128(0x00000000_0000_4000_8000_00000000000a),
-    };
-    let id = Uuid::from_u128(0x00000000_0000_4000_8000_0000000000e1);
-    let (end, low) = (TypeName::new("trip_end")?, TypeName::new("battery_low")?);
-    let types = [end.copy(), low, end];
-    let position = match place {
-        Some((lat, lng)) => Position::new(lat, lng),
-        None => None,
-    };
-    Ok(Event::new(key, id, State::OnTrip, &types, time, position)?)
+fn event(time: u64, place: Place) -> Option<Event> {
+    let types = types()?;
+    let position = position_at(place);
+    Event::new(key(), uuid(0xe1), State::OnTrip, &types, time, position).ok()
+}
+
+/// The item that reports the event, at this time and place. No text of these tests has the other one.
+pub fn report(time: u64, place: Place) -> EventItem {
+    match event(time, place) {
+        Some(event) => EventItem::Event(event),
+        None => EventItem::Fault(NotObject),
+    }
 }
 
 /// What is read of the event, with the other text in the piece's place.
-pub fn item_with(alloc: Global, piece: &str, other: &str) -> Result<Option<EventItem>, Fail> {
+pub fn item_with(alloc: Global, piece: &str, other: &str) -> Result<Option<EventItem>, BatchFault> {
     let text = EVENT.replace(alloc, piece, other)?;
     Ok(read_events(alloc, text.as_bytes())?.pop())
 }
 
 /// The fault of the event, with the other text in the piece's place.
-fn fault_with(alloc: Global, piece: &str, other: &str) -> Result<Option<ItemFault>, Fail> {
+fn fault_with(alloc: Global, piece: &str, other: &str) -> Result<Option<ItemFault>, BatchFault> {
     Ok(match item_with(alloc, piece, other)? {
         Some(EventItem::Fault(fault)) => Some(fault),
         _ => None,
     })
 }
 
-#[test]
-fn faults(rt: HostRuntime) -> Result<(), Fail> {
-    for (piece, other, fault) in &FAULTS {
-        let found = fault_with(rt.alloc(), piece, other)?;
+/// Sees that the event has these faults with the other texts in the pieces' places.
+fn see_faults<R: Abort>(
+    rt: &R,
+    alloc: Global,
+    faults: &[(&str, &str, Option<ItemFault>)],
+) -> Result<(), BatchFault> {
+    for (piece, other, fault) in faults {
+        let found = fault_with(alloc, piece, other)?;
         assert_eq!(rt; (other, &found), (other, fault));
     }
     Ok(())
 }
 
+#[test]
+fn faults(rt: HostRuntime) -> Result<(), BatchFault> {
+    see_faults(&rt, rt.alloc(), &FAULTS)
+}
+
 /// The fault of the event with so many types between its first and its last.
-fn fault_with_between(alloc: Global, count: usize) -> Result<Option<ItemFault>, Fail> {
+fn fault_with_between(alloc: Global, count: usize) -> Result<Option<ItemFault>, BatchFault> {
     let types = r#""battery_low","#.repeat(alloc, count)?;
     fault_with(alloc, r#""battery_low","#, types.as_str())
 }
 
 #[test]
-fn most_types(rt: HostRuntime) -> Result<(), Fail> {
+fn most_types(rt: HostRuntime) -> Result<(), BatchFault> {
     let most = fault_with_between(rt.alloc(), MAX_EVENT_TYPES - 2)?;
     let one_too_many = fault_with_between(rt.alloc(), MAX_EVENT_TYPES - 1)?;
     assert_eq!(rt; (most, one_too_many), (None, Some(Bad(EventTypes))));
     Ok(())
 }
 
-#[test]
-fn events(rt: HostRuntime) -> Result<(), Fail> {
-    for (piece, other, time, place) in &EVENTS {
-        let item = item_with(rt.alloc(), piece, other)?;
-        let expected = EventItem::Event(event(*time, *place)?);
-        assert_eq!(rt; (other, item), (other, Some(expected)));
+/// Sees that the event is at these times and places with the other texts in the pieces' places.
+fn see_events<R: Abort>(
+    rt: &R,
+    alloc: Global,
+    events: &[(&str, &str, (u64, Place))],
+) -> Result<(), BatchFault> {
+    for (piece, other, (time, place)) in events {
+        let found = item_with(alloc, piece, other)?;
+        assert_eq!(rt; (other, found), (other, Some(report(*time, *place))));
     }
     Ok(())
 }
 
 #[test]
-fn faulty_items_among_good_ones(rt: HostRuntime) -> Result<(), Fail> {
+fn events(rt: HostRuntime) -> Result<(), BatchFault> {
+    see_events(&rt, rt.alloc(), &EVENTS)
+}
+
+#[test]
+fn faulty_items_among_good_ones(rt: HostRuntime) -> Result<(), BatchFault> {
     let text = format!(in rt.alloc(); "[7,{EVENT},{{\"provider_id\":8}}]")?;
     let expected = [
         EventItem::Fault(NotObject),
-        EventItem::Event(event(1000, BERLIN)?),
+        report(1000, BERLIN),
         EventItem::Fault(Bad(ProviderId)),
     ];
     let items = read_events(rt.alloc(), text.as_bytes())?;

@@ -1,8 +1,8 @@
 //! Texts made of a sequence of numbers, always the same ones, each read by the reader and by way of a value.
 use super::by_value;
-use crate::{BatchFault, BatchItem, EventItem, ItemFault, VehicleItem, read_events, read_vehicles};
+use crate::{BatchFault, BatchItem, EventItem, ItemFault, read_events, read_vehicles};
 use std::alloc::{AllocError, Global};
-use std::test::Fail;
+use std::process::Abort;
 
 /// How many texts are read.
 const TEXTS: usize = 20_000;
@@ -374,25 +374,38 @@ impl Seen {
     }
 }
 
-/// The registrations and the events that a text lists, or why it is no batch.
-type Read = (
-    Result<Vec<VehicleItem>, BatchFault>,
-    Result<Vec<EventItem>, BatchFault>,
-);
-
-fn read(alloc: Global, bytes: &[u8]) -> Read {
-    (read_vehicles(alloc, bytes), read_events(alloc, bytes))
+/// Sees that a text lists the same registrations by way of a value.
+fn see_vehicles<R: Abort>(rt: &R, alloc: Global, bytes: &[u8]) {
+    let found = read_vehicles(alloc, bytes);
+    let expected = by_value::vehicles(alloc, bytes);
+    assert_eq!(rt; (bytes, &found), (bytes, &expected));
 }
 
-fn read_by_value(alloc: Global, bytes: &[u8]) -> Read {
-    (
-        by_value::vehicles(alloc, bytes),
-        by_value::events(alloc, bytes),
-    )
+/// Sees that a text lists the same events by way of a value: these, or why it is no batch.
+fn see_events<R: Abort>(rt: &R, alloc: Global, bytes: &[u8]) -> Result<Vec<EventItem>, BatchFault> {
+    let found = read_events(alloc, bytes);
+    let expected = by_value::events(alloc, bytes);
+    assert_eq!(rt; (bytes, &found), (bytes, &expected));
+    found
+}
+
+/// Sees the next text.
+fn see_next<R: Abort>(
+    rt: &R,
+    alloc: Global,
+    maker: &mut Maker,
+    seen: &mut Seen,
+) -> Result<(), AllocError> {
+    let bytes = maker.next(alloc)?;
+    see_vehicles(rt, alloc, bytes.as_slice());
+    match see_events(rt, alloc, bytes.as_slice()) {
+        Ok(items) => seen.add_items(items.as_slice()),
+        Err(fault) => seen.add_fault(fault),
+    }
 }
 
 #[test]
-fn as_by_value(rt: HostRuntime) -> Result<(), Fail> {
+fn as_by_value(rt: HostRuntime) -> Result<(), AllocError> {
     let alloc = rt.alloc();
     let mut maker = Maker {
         state: 1,
@@ -400,14 +413,7 @@ fn as_by_value(rt: HostRuntime) -> Result<(), Fail> {
     };
     let mut seen = Seen::new(alloc);
     for _ in 0..TEXTS {
-        let bytes = maker.next(alloc)?;
-        let found = read(alloc, bytes.as_slice());
-        let expected = read_by_value(alloc, bytes.as_slice());
-        assert_eq!(rt; (&bytes, &found), (&bytes, &expected));
-        match &found.1 {
-            Ok(items) => seen.add_items(items.as_slice())?,
-            Err(fault) => seen.add_fault(*fault)?,
-        }
+        see_next(&rt, alloc, &mut maker, &mut seen)?;
     }
     assert!(rt; seen.accepted > TEXTS / 2 && seen.refused > TEXTS / 4 && seen.events > TEXTS / 4);
     assert_eq!(rt; (seen.batch_faults.len(), seen.item_faults.len()), (3, 14));

@@ -1,10 +1,14 @@
 //! Whole batches: how many items a text has, or why it is no batch.
-use crate::{BatchFault, read_events, read_vehicles};
+use super::{event_count, vehicle_count};
+use crate::BatchFault;
 use std::alloc::{AllocError, Global};
-use std::test::Fail;
+use std::process::Abort;
+
+/// How many items a text has.
+type Count = Result<usize, BatchFault>;
 
 /// Pieces of a text with how often each stands, and how many items the text has.
-const TEXTS: &[(&[(&str, usize)], Result<usize, BatchFault>)] = &[
+const TEXTS: &[(&[(&str, usize)], Count)] = &[
     // no items, or one
     (&[("[]", 1)], Ok(0)),
     (&[(" [ ] \n", 1)], Ok(0)),
@@ -138,21 +142,27 @@ pub fn text_of(alloc: Global, pieces: &[(&str, usize)]) -> Result<String, AllocE
 }
 
 /// How many vehicles, and how many events, the text lists.
-fn counts(alloc: Global, text: &[u8]) -> [Result<usize, BatchFault>; 2] {
-    [
-        read_vehicles(alloc, text).map(|items| items.len()),
-        read_events(alloc, text).map(|items| items.len()),
-    ]
+fn counts(alloc: Global, text: &[u8]) -> [Count; 2] {
+    [vehicle_count(alloc, text), event_count(alloc, text)]
 }
 
-#[test]
-fn texts(rt: HostRuntime) -> Result<(), Fail> {
-    for (pieces, count) in TEXTS {
-        let text = text_of(rt.alloc(), pieces)?;
-        let found = counts(rt.alloc(), text.as_bytes());
+/// Sees that the texts of these pieces have so many items each.
+fn see_counts<R: Abort>(
+    rt: &R,
+    alloc: Global,
+    texts: &[(&[(&str, usize)], Count)],
+) -> Result<(), AllocError> {
+    for (pieces, count) in texts {
+        let text = text_of(alloc, pieces)?;
+        let found = counts(alloc, text.as_bytes());
         assert_eq!(rt; (pieces, found), (pieces, [*count, *count]));
     }
     Ok(())
+}
+
+#[test]
+fn texts(rt: HostRuntime) -> Result<(), AllocError> {
+    see_counts(&rt, rt.alloc(), TEXTS)
 }
 
 /// How many items a text has with these bytes in its middle.
@@ -160,38 +170,42 @@ fn counts_with(
     alloc: Global,
     halves: &(&[u8], &[u8]),
     bytes: &[u8],
-) -> Result<[Result<usize, BatchFault>; 2], AllocError> {
+) -> Result<[Count; 2], AllocError> {
     let mut text = Vec::from_slice(alloc, halves.0)?;
     text.extend_from_slice(bytes)?;
     text.extend_from_slice(halves.1)?;
     Ok(counts(alloc, text.as_slice()))
 }
 
-#[test]
-fn characters(rt: HostRuntime) -> Result<(), Fail> {
-    for halves in HALVES {
-        for bytes in UTF8 {
-            let found = counts_with(rt.alloc(), halves, bytes)?;
-            assert_eq!(rt; (halves, bytes, found), (halves, bytes, [Ok(1), Ok(1)]));
+/// Sees that each text of these halves has so many items with each of these between.
+fn see_between<R: Abort>(
+    rt: &R,
+    alloc: Global,
+    halves: &[(&[u8], &[u8])],
+    between: &[&[u8]],
+    count: Count,
+) -> Result<(), AllocError> {
+    for halves in halves {
+        for bytes in between {
+            let found = counts_with(alloc, halves, bytes)?;
+            assert_eq!(rt; (halves, bytes, found), (halves, bytes, [count, count]));
         }
     }
     Ok(())
 }
 
 #[test]
-fn no_characters(rt: HostRuntime) -> Result<(), Fail> {
-    let refused = [Err(BatchFault::NotJson), Err(BatchFault::NotJson)];
-    for halves in HALVES {
-        for bytes in NO_UTF8 {
-            let found = counts_with(rt.alloc(), halves, bytes)?;
-            assert_eq!(rt; (halves, bytes, found), (halves, bytes, refused));
-        }
-    }
-    Ok(())
+fn characters(rt: HostRuntime) -> Result<(), AllocError> {
+    see_between(&rt, rt.alloc(), HALVES, UTF8, Ok(1))
 }
 
 #[test]
-fn length_is_looked_at_first(rt: HostRuntime) -> Result<(), Fail> {
+fn no_characters(rt: HostRuntime) -> Result<(), AllocError> {
+    see_between(&rt, rt.alloc(), HALVES, NO_UTF8, Err(BatchFault::NotJson))
+}
+
+#[test]
+fn length_is_looked_at_first(rt: HostRuntime) -> Result<(), AllocError> {
     let alloc = rt.alloc();
     let bytes = vec![in alloc; 0xff; 4194305]?;
     let found = counts(alloc, bytes.as_slice());

@@ -4,18 +4,14 @@ use crate::Member::{
     DeviceId, EventId, EventTypes, LocationE7, ProviderId, Timestamp, VehicleState,
 };
 use crate::{BatchFault, BatchItem, read_events, read_vehicles};
-use std::alloc::Global;
-use std::test::Fail;
+use std::alloc::{AllocError, Global};
+use std::process::Abort;
 
-/// The text before a value and behind it, in how many lists and objects it then lies, and the faults of the one item, read
-/// as a registration and as an event.
-type Place = (
-    &'static str,
-    &'static str,
-    usize,
-    Option<ItemFault>,
-    Option<ItemFault>,
-);
+/// The faults of the one item, read as a registration and as an event.
+type Faults = [Option<ItemFault>; 2];
+
+/// The text before a value and behind it, in how many lists and objects it then lies, and the faults of the one item.
+type Place = ((&'static str, &'static str), usize, Faults);
 
 /// What stands for `%`: the members of a registration.
 const KEY: &str =
@@ -27,90 +23,76 @@ const OTHERS: &str =
 
 const PLACES: &[Place] = &[
     // no object, and an object of which nothing is asked for
-    ("[", "]", 1, Some(NotObject), Some(NotObject)),
+    (("[", "]"), 1, [Some(NotObject), Some(NotObject)]),
     (
-        r#"{"x":"#,
-        "}",
+        (r#"{"x":"#, "}"),
         1,
-        Some(Missing(ProviderId)),
-        Some(Missing(ProviderId)),
+        [Some(Missing(ProviderId)), Some(Missing(ProviderId))],
     ),
     // members that are ignored
-    (r#"{"x":"#, ",%,#}", 1, None, None),
-    (r#"{%,#,"location":"#, "}", 1, None, None),
-    (r#"[{%,"x":[0,{"provider_id":"#, "}],#}]", 4, None, None),
+    ((r#"{"x":"#, ",%,#}"), 1, [None, None]),
+    ((r#"{%,#,"location":"#, "}"), 1, [None, None]),
+    ((r#"[{%,"x":[0,{"provider_id":"#, "}],#}]"), 4, [None, None]),
     // members that are read
     (
-        r#"{"device_id":"#,
-        "}",
+        (r#"{"device_id":"#, "}"),
         1,
-        Some(Missing(ProviderId)),
-        Some(Missing(ProviderId)),
+        [Some(Missing(ProviderId)), Some(Missing(ProviderId))],
     ),
     (
-        r#"{%,#,"provider_id":"#,
-        "}",
+        (r#"{%,#,"provider_id":"#, "}"),
         1,
-        Some(Bad(ProviderId)),
-        Some(Bad(ProviderId)),
+        [Some(Bad(ProviderId)), Some(Bad(ProviderId))],
     ),
     (
-        r#"[{%,#,"device_id":"#,
-        "}]",
+        (r#"[{%,#,"device_id":"#, "}]"),
         2,
-        Some(Bad(DeviceId)),
-        Some(Bad(DeviceId)),
+        [Some(Bad(DeviceId)), Some(Bad(DeviceId))],
     ),
-    (r#"[{%,#,"event_id":"#, "}]", 2, None, Some(Bad(EventId))),
     (
-        r#"{%,#,"vehicle_state":"#,
-        "}",
+        (r#"[{%,#,"event_id":"#, "}]"),
+        2,
+        [None, Some(Bad(EventId))],
+    ),
+    (
+        (r#"{%,#,"vehicle_state":"#, "}"),
         1,
-        None,
-        Some(Bad(VehicleState)),
+        [None, Some(Bad(VehicleState))],
     ),
     (
-        r#"{%,#,"event_types":"#,
-        "}",
+        (r#"{%,#,"event_types":"#, "}"),
         1,
-        None,
-        Some(Bad(EventTypes)),
+        [None, Some(Bad(EventTypes))],
     ),
     (
-        r#"[{%,#,"event_types":["b","#,
-        r#","c"]}]"#,
+        (r#"[{%,#,"event_types":["b","#, r#","c"]}]"#),
         3,
-        None,
-        Some(Bad(EventTypes)),
+        [None, Some(Bad(EventTypes))],
     ),
-    (r#"{%,#,"timestamp":"#, "}", 1, None, Some(Bad(Timestamp))),
     (
-        r#"{%,#,"location_e7":"#,
-        "}",
+        (r#"{%,#,"timestamp":"#, "}"),
         1,
-        None,
-        Some(Bad(LocationE7)),
+        [None, Some(Bad(Timestamp))],
     ),
     (
-        r#"[{%,#,"location_e7":{"lat":"#,
-        r#","lng":0}}]"#,
+        (r#"{%,#,"location_e7":"#, "}"),
+        1,
+        [None, Some(Bad(LocationE7))],
+    ),
+    (
+        (r#"[{%,#,"location_e7":{"lat":"#, r#","lng":0}}]"#),
         3,
-        None,
-        Some(Bad(LocationE7)),
+        [None, Some(Bad(LocationE7))],
     ),
     (
-        r#"{%,#,"location_e7":{"lat":0,"lng":"#,
-        "}}",
+        (r#"{%,#,"location_e7":{"lat":0,"lng":"#, "}}"),
         2,
-        None,
-        Some(Bad(LocationE7)),
+        [None, Some(Bad(LocationE7))],
     ),
     (
-        r#"{%,#,"location_e7":{"lat":0,"x":"#,
-        r#","lng":0}}"#,
+        (r#"{%,#,"location_e7":{"lat":0,"x":"#, r#","lng":0}}"#),
         2,
-        None,
-        None,
+        [None, None],
     ),
 ];
 
@@ -249,83 +231,132 @@ const NO_VALUES: &[&str] = &[
 ];
 
 /// How many items there are, and the fault of the first.
-fn first_of<I: BatchItem + Drop>(
-    items: Result<Vec<I>, BatchFault>,
-) -> Result<(usize, Option<ItemFault>), BatchFault> {
-    let items = items?;
-    let fault = match items.first() {
-        Some(item) => item.fault(),
-        None => None,
-    };
-    Ok((items.len(), fault))
+type First = Result<(usize, Option<ItemFault>), BatchFault>;
+
+/// The fault of the first item.
+fn first_fault<I: BatchItem>(items: &[I]) -> Option<ItemFault> {
+    items.first()?.fault()
+}
+
+fn first_vehicle(alloc: Global, text: &[u8]) -> First {
+    let items = read_vehicles(alloc, text)?;
+    Ok((items.len(), first_fault(items.as_slice())))
+}
+
+fn first_event(alloc: Global, text: &[u8]) -> First {
+    let items = read_events(alloc, text)?;
+    Ok((items.len(), first_fault(items.as_slice())))
+}
+
+/// The text of this value in this place.
+fn text_at(alloc: Global, place: (&str, &str), value: &str) -> Result<String, AllocError> {
+    let (before, behind) = place;
+    let text = format!(in alloc; "{before}{value}{behind}")?;
+    text.replace(alloc, "%", KEY)?.replace(alloc, "#", OTHERS)
 }
 
 /// What is read of the value in this place, as a registration and as an event.
-fn found_at(
+fn found_at(alloc: Global, place: (&str, &str), value: &str) -> Result<[First; 2], AllocError> {
+    let text = text_at(alloc, place, value)?;
+    let (vehicle, event) = (
+        first_vehicle(alloc, text.as_bytes()),
+        first_event(alloc, text.as_bytes()),
+    );
+    Ok([vehicle, event])
+}
+
+/// What is read of any value in a place of these faults.
+fn with_faults(faults: Faults) -> [First; 2] {
+    let [vehicle, event] = faults;
+    [Ok((1, vehicle)), Ok((1, event))]
+}
+
+/// What is read of a value that is none, or lies too deep.
+const REFUSED: [First; 2] = [Err(BatchFault::NotJson), Err(BatchFault::NotJson)];
+
+/// Sees that this is read of each value in this place.
+fn see_values<R: Abort>(
+    rt: &R,
     alloc: Global,
-    place: &Place,
-    value: &str,
-) -> Result<[Result<(usize, Option<ItemFault>), BatchFault>; 2], Fail> {
-    let (before, behind, ..) = place;
-    let text = format!(in alloc; "{before}{value}{behind}")?;
-    let text = text.replace(alloc, "%", KEY)?.replace(alloc, "#", OTHERS)?;
-    Ok([
-        first_of(read_vehicles(alloc, text.as_bytes())),
-        first_of(read_events(alloc, text.as_bytes())),
-    ])
+    place: (&str, &str),
+    values: &[&str],
+    expected: [First; 2],
+) -> Result<(), AllocError> {
+    for value in values {
+        let found = found_at(alloc, place, value)?;
+        assert_eq!(rt; (place, value, found), (place, value, expected));
+    }
+    Ok(())
 }
 
-/// What is read of any value in this place.
-fn faults_at(place: &Place) -> [Result<(usize, Option<ItemFault>), BatchFault>; 2] {
-    let (_, _, _, vehicle, event) = place;
-    [Ok((1, *vehicle)), Ok((1, *event))]
-}
-
-#[test]
-fn values(rt: HostRuntime) -> Result<(), Fail> {
-    for place in PLACES {
-        for value in VALUES {
-            let found = found_at(rt.alloc(), place, value)?;
-            assert_eq!(rt; (place, value, found), (place, value, faults_at(place)));
-        }
+/// Sees that the values are read in each place.
+fn see_read<R: Abort>(
+    rt: &R,
+    alloc: Global,
+    places: &[Place],
+    values: &[&str],
+) -> Result<(), AllocError> {
+    for (place, _, faults) in places {
+        see_values(rt, alloc, *place, values, with_faults(*faults))?;
     }
     Ok(())
 }
 
 #[test]
-fn no_values(rt: HostRuntime) -> Result<(), Fail> {
-    let expected = [Err(BatchFault::NotJson), Err(BatchFault::NotJson)];
-    for place in PLACES {
-        for value in NO_VALUES {
-            let found = found_at(rt.alloc(), place, value)?;
-            assert_eq!(rt; (place, value, found), (place, value, expected));
-        }
+fn values(rt: HostRuntime) -> Result<(), AllocError> {
+    see_read(&rt, rt.alloc(), PLACES, VALUES)
+}
+
+/// Sees that the values are refused in each place.
+fn see_refused<R: Abort>(
+    rt: &R,
+    alloc: Global,
+    places: &[Place],
+    values: &[&str],
+) -> Result<(), AllocError> {
+    for (place, ..) in places {
+        see_values(rt, alloc, *place, values, REFUSED)?;
     }
     Ok(())
+}
+
+#[test]
+fn no_values(rt: HostRuntime) -> Result<(), AllocError> {
+    see_refused(&rt, rt.alloc(), PLACES, NO_VALUES)
 }
 
 /// A list of this many levels, every other one an object.
-fn nested(alloc: Global, levels: usize) -> Result<String, Fail> {
+fn nested(alloc: Global, levels: usize) -> Result<String, AllocError> {
     let open = r#"[{"a":"#.repeat(alloc, levels / 2)?;
     let close = "}]".repeat(alloc, levels / 2)?;
     let middle = if levels % 2 == 0 { "0" } else { "[0]" };
-    Ok(format!(in alloc; "{open}{middle}{close}")?)
+    format!(in alloc; "{open}{middle}{close}")
+}
+
+/// Sees what is read where as many lists and objects lie within one another as may, and one or two more or fewer.
+fn see_deepest<R: Abort>(rt: &R, alloc: Global, place: &Place) -> Result<(), AllocError> {
+    let (place, outer, faults) = *place;
+    for levels in 126_usize..130 {
+        let value = nested(alloc, levels.saturating_sub(outer))?;
+        let expected = if levels <= 127 {
+            with_faults(faults)
+        } else {
+            REFUSED
+        };
+        see_values(rt, alloc, place, &[value.as_str()], expected)?;
+    }
+    Ok(())
+}
+
+/// Sees the same in each place.
+fn see_each_deepest<R: Abort>(rt: &R, alloc: Global, places: &[Place]) -> Result<(), AllocError> {
+    for place in places {
+        see_deepest(rt, alloc, place)?;
+    }
+    Ok(())
 }
 
 #[test]
-fn deepest_values(rt: HostRuntime) -> Result<(), Fail> {
-    let refused = [Err(BatchFault::NotJson), Err(BatchFault::NotJson)];
-    for place in PLACES {
-        for levels in 126_usize..130 {
-            let value = nested(rt.alloc(), levels.saturating_sub(place.2))?;
-            let found = found_at(rt.alloc(), place, value.as_str())?;
-            let expected = if levels <= 127 {
-                faults_at(place)
-            } else {
-                refused
-            };
-            assert_eq!(rt; (place, levels, found), (place, levels, expected));
-        }
-    }
-    Ok(())
+fn deepest_values(rt: HostRuntime) -> Result<(), AllocError> {
+    see_each_deepest(&rt, rt.alloc(), PLACES)
 }
