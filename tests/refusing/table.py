@@ -141,6 +141,12 @@ QUIET = {
         "each_event",
         "read_item",
     ],
+    ("mds_replay", "nothing_is_replayed_with_every_growth_refused"): [
+        "Replayer::open",
+        "Replayer::finish",
+        "Verdict::accepts",
+    ],
+    ("mds_replay", "numbers_are_looked_at_with_every_growth_refused"): ["replay_with"],
 }
 """A crate and its test, and the calls of the crate that it makes without memory: all of them, or those that are refused, look at
 something, or say that there is no memory."""
