@@ -147,6 +147,7 @@ QUIET = {
         "Verdict::accepts",
     ],
     ("mds_replay", "numbers_are_looked_at_with_every_growth_refused"): ["replay_with"],
+    ("mds_args", "kinds_are_told_with_every_growth_refused"): ["WordsError::kind"],
 }
 """A crate and its test, and the calls of the crate that it makes without memory: all of them, or those that are refused, look at
 something, or say that there is no memory."""

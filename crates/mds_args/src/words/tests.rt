@@ -1,175 +1,235 @@
 //! What words ask for.
 use super::{Command, parse_words};
-use crate::WordsErrorKind;
+use crate::{WordsError, WordsErrorKind};
 use std::alloc::{AllocError, Global};
 use std::test::Fail;
 
-/// Words, of which the first is the program's name, and the command that they ask for, if they ask for one.
-type Case<'a> = (&'a [&'a str], Option<Command<'a>>);
-
-/// The replay of a batch by one worker, whose vehicles are registered first.
-fn replay<'a>(file: &'a str, table: Option<&'a str>) -> Option<Command<'a>> {
-    replay_with(file, table, false, false)
-}
-
-/// The same, by vehicles that may hold any state.
-fn replay_any<'a>(file: &'a str, table: Option<&'a str>) -> Option<Command<'a>> {
-    replay_with(file, table, true, false)
-}
-
-/// The replay of a batch by so many workers.
-fn replay_by<'a>(file: &'a str, table: Option<&'a str>, workers: usize) -> Option<Command<'a>> {
-    Some(Command::Replay {
-        file,
-        table,
-        any: false,
-        lines: false,
-        workers,
-    })
-}
-
-/// A replay by one worker with these flags.
-fn replay_with<'a>(
-    file: &'a str,
-    table: Option<&'a str>,
-    any: bool,
-    lines: bool,
-) -> Option<Command<'a>> {
-    Some(Command::Replay {
-        file,
-        table,
-        any,
-        lines,
-        workers: 1,
-    })
-}
-
-/// The debugger on the vehicle `b` of the provider `a`.
-fn debug<'a>(file: &'a str, table: Option<&'a str>) -> Option<Command<'a>> {
-    let (provider, device) = ("a", "b");
-    Some(Command::Debug {
-        file,
-        provider,
-        device,
-        table,
-    })
-}
-
-/// A server at this port, whose workers, so many, answer so many connections each.
-fn serve<'a>(
-    port: u16,
-    each: usize,
-    workers: usize,
-    table: Option<&'a str>,
-) -> Option<Command<'a>> {
-    Some(Command::Serve {
-        port,
-        each,
-        workers,
-        table,
-    })
-}
-
-/// The print of a table.
-fn table(table: Option<&str>) -> Option<Command<'_>> {
-    Some(Command::Table { table })
-}
-
-#[test]
-fn words_ask_for_commands(rt: HostRuntime) {
-    let rows = Some("rows.json");
-    let cases: [Case<'_>; 19] = [
-        (
-            &["mds_city", "serve", "--port", "0", "--each", "0"],
-            serve(0, 0, 4, None),
-        ),
-        (
-            &[
-                "mds_city",
-                "serve",
-                "--workers=1",
-                "--each=1000000",
-                "--port=65535",
-            ],
-            serve(65535, 1_000_000, 1, None),
-        ),
-        (
-            &[
-                "mds_city",
-                "serve",
-                "--port",
-                "80",
-                "--each",
-                "9",
-                "--workers",
-                "64",
-                "--table",
-                "rows.json",
-            ],
-            serve(80, 9, 64, rows),
-        ),
-        (&["mds_city", "replay", "-"], replay("-", None)),
-        (
-            &["mds_city", "replay", "a b/events.json"],
-            replay("a b/events.json", None),
-        ),
-        (
-            &["mds_city", "replay", "-", "--table", "rows.json"],
-            replay("-", rows),
-        ),
-        (
-            &["mds_city", "replay", "--table", "rows.json", "-"],
-            replay("-", rows),
-        ),
-        (&["mds_city", "table"], table(None)),
-        (&["mds_city", "table", "--table", "rows.json"], table(rows)),
-        // A lone hyphen is the option's value, a file of that name.
-        (&["mds_city", "table", "--table", "-"], table(Some("-"))),
-        (
-            &["mds_city", "replay", "--table", "-", "-"],
-            replay("-", Some("-")),
-        ),
-        (&["mds_city", "replay", "-", "--any"], replay_any("-", None)),
-        (
-            &["mds_city", "replay", "--any", "--table", "rows.json", "F"],
-            replay_any("F", rows),
-        ),
-        (
-            &["mds_city", "replay", "-", "--workers", "4"],
-            replay_by("-", None, 4),
-        ),
-        (
-            &[
-                "mds_city",
-                "replay",
-                "--workers=64",
-                "F",
-                "--table",
-                "rows.json",
-            ],
-            replay_by("F", rows, 64),
-        ),
-        (
-            &["mds_city", "replay", "--lines", "-"],
-            replay_with("-", None, false, true),
-        ),
-        (
-            &["mds_city", "replay", "F", "--lines", "--any"],
-            replay_with("F", None, true, true),
-        ),
-        (&["mds_city", "debug", "F", "a", "b"], debug("F", None)),
-        (
-            &["mds_city", "debug", "-", "--table=rows.json", "a", "b"],
-            debug("-", rows),
-        ),
-    ];
-    for (words, command) in &cases {
-        assert_eq!(rt; parse_words(rt.alloc(), words).ok(), *command, "{words:?}");
+/// The command that words ask for, or why they ask for none.
+fn command_of<'a>(alloc: Global, words: &'a [&'a str]) -> Result<Command<'a>, WordsErrorKind> {
+    match parse_words(alloc, words) {
+        Ok(command) => Ok(command),
+        Err(error) => Err(error.kind()),
     }
 }
 
+/// Words, of which the first is the program's name, and the command that they ask for.
+type Case<'a> = (&'a [&'a str], Command<'a>);
+
+const COMMANDS: &[Case<'static>] = &[
+    (
+        &["mds_city", "serve", "--port", "0", "--each", "0"],
+        Command::Serve {
+            port: 0,
+            each: 0,
+            workers: 4,
+            table: None,
+        },
+    ),
+    (
+        &[
+            "mds_city",
+            "serve",
+            "--workers=1",
+            "--each=1000000",
+            "--port=65535",
+        ],
+        Command::Serve {
+            port: 65535,
+            each: 1_000_000,
+            workers: 1,
+            table: None,
+        },
+    ),
+    (
+        &[
+            "mds_city",
+            "serve",
+            "--port",
+            "80",
+            "--each",
+            "9",
+            "--workers",
+            "64",
+            "--table",
+            "rows.json",
+        ],
+        Command::Serve {
+            port: 80,
+            each: 9,
+            workers: 64,
+            table: Some("rows.json"),
+        },
+    ),
+    (
+        &["mds_city", "replay", "-"],
+        Command::Replay {
+            file: "-",
+            table: None,
+            any: false,
+            lines: false,
+            workers: 1,
+        },
+    ),
+    (
+        &["mds_city", "replay", "a b/events.json"],
+        Command::Replay {
+            file: "a b/events.json",
+            table: None,
+            any: false,
+            lines: false,
+            workers: 1,
+        },
+    ),
+    (
+        &["mds_city", "replay", "-", "--table", "rows.json"],
+        Command::Replay {
+            file: "-",
+            table: Some("rows.json"),
+            any: false,
+            lines: false,
+            workers: 1,
+        },
+    ),
+    (
+        &["mds_city", "replay", "--table", "rows.json", "-"],
+        Command::Replay {
+            file: "-",
+            table: Some("rows.json"),
+            any: false,
+            lines: false,
+            workers: 1,
+        },
+    ),
+    (&["mds_city", "table"], Command::Table { table: None }),
+    (
+        &["mds_city", "table", "--table", "rows.json"],
+        Command::Table {
+            table: Some("rows.json"),
+        },
+    ),
+    // A lone hyphen is the option's value, a file of that name.
+    (
+        &["mds_city", "table", "--table", "-"],
+        Command::Table { table: Some("-") },
+    ),
+    (
+        &["mds_city", "replay", "--table", "-", "-"],
+        Command::Replay {
+            file: "-",
+            table: Some("-"),
+            any: false,
+            lines: false,
+            workers: 1,
+        },
+    ),
+    (
+        &["mds_city", "replay", "-", "--any"],
+        Command::Replay {
+            file: "-",
+            table: None,
+            any: true,
+            lines: false,
+            workers: 1,
+        },
+    ),
+    (
+        &["mds_city", "replay", "--any", "--table", "rows.json", "F"],
+        Command::Replay {
+            file: "F",
+            table: Some("rows.json"),
+            any: true,
+            lines: false,
+            workers: 1,
+        },
+    ),
+    (
+        &["mds_city", "replay", "-", "--workers", "4"],
+        Command::Replay {
+            file: "-",
+            table: None,
+            any: false,
+            lines: false,
+            workers: 4,
+        },
+    ),
+    (
+        &[
+            "mds_city",
+            "replay",
+            "--workers=64",
+            "F",
+            "--table",
+            "rows.json",
+        ],
+        Command::Replay {
+            file: "F",
+            table: Some("rows.json"),
+            any: false,
+            lines: false,
+            workers: 64,
+        },
+    ),
+    (
+        &["mds_city", "replay", "--lines", "-"],
+        Command::Replay {
+            file: "-",
+            table: None,
+            any: false,
+            lines: true,
+            workers: 1,
+        },
+    ),
+    (
+        &["mds_city", "replay", "F", "--lines", "--any"],
+        Command::Replay {
+            file: "F",
+            table: None,
+            any: true,
+            lines: true,
+            workers: 1,
+        },
+    ),
+    (
+        &["mds_city", "debug", "F", "a", "b"],
+        Command::Debug {
+            file: "F",
+            provider: "a",
+            device: "b",
+            table: None,
+        },
+    ),
+    (
+        &["mds_city", "debug", "-", "--table=rows.json", "a", "b"],
+        Command::Debug {
+            file: "-",
+            provider: "a",
+            device: "b",
+            table: Some("rows.json"),
+        },
+    ),
+];
+
+/// How many of these words, from the first on, ask for their command.
+fn asked_for(alloc: Global, cases: &[Case<'_>]) -> Result<usize, AllocError> {
+    for place in 0..cases.len() {
+        let (words, command) = &cases[place];
+        match command_of(alloc, words) {
+            Ok(found) if found == *command => {}
+            Err(WordsErrorKind::Memory) => return Err(AllocError),
+            _ => return Ok(place),
+        }
+    }
+    Ok(cases.len())
+}
+
+#[test]
+fn words_ask_for_commands(rt: HostRuntime) -> Result<(), Fail> {
+    assert_eq!(rt; asked_for(rt.alloc(), COMMANDS)?, 19);
+    Ok(())
+}
+
 /// Words that ask for no command, or for help.
-const NOTHING: [&[&str]; 26] = [
+const NOTHING: &[&[&str]] = &[
     &["mds_city", "serve"],
     &["mds_city", "serve", "--port", "0"],
     &["mds_city", "serve", "--each", "0"],
@@ -216,11 +276,22 @@ const NOTHING: [&[&str]; 26] = [
     &["mds_city", "--help"],
 ];
 
-#[test]
-fn words_ask_for_nothing(rt: HostRuntime) {
-    for words in &NOTHING {
-        assert!(rt; parse_words(rt.alloc(), words).is_err(), "{words:?}");
+/// How many of these words, from the first on, ask for no command.
+fn refused(alloc: Global, cases: &[&[&str]]) -> Result<usize, AllocError> {
+    for place in 0..cases.len() {
+        match command_of(alloc, cases[place]) {
+            Err(WordsErrorKind::Memory) => return Err(AllocError),
+            Err(_) => {}
+            Ok(_) => return Ok(place),
+        }
     }
+    Ok(cases.len())
+}
+
+#[test]
+fn words_ask_for_nothing(rt: HostRuntime) -> Result<(), Fail> {
+    assert_eq!(rt; refused(rt.alloc(), NOTHING)?, 26);
+    Ok(())
 }
 
 /// The help on the program.
@@ -294,44 +365,69 @@ Options:
   -h, --help          Print help
 ";
 
+/// Words that ask for help, and the help.
+const HELPS: &[(&[&str], &str)] = &[
+    (&["mds_city", "--help"], HELP),
+    (&["mds_city", "help"], HELP),
+    (&["mds_city", "serve", "--help"], SERVE_HELP),
+    (&["mds_city", "replay", "-h"], REPLAY_HELP),
+    (&["mds_city", "debug", "--help"], DEBUG_HELP),
+    (&["mds_city", "table", "--help"], TABLE_HELP),
+];
+
 /// The kind of the error that these words come to, and its text.
-fn error_of(alloc: Global, words: &[&str]) -> Result<(WordsErrorKind, String), Fail> {
+fn error_of(alloc: Global, words: &[&str]) -> Result<(WordsErrorKind, String), AllocError> {
     match parse_words(alloc, words) {
-        Ok(_) => Err(Fail::from(AllocError)),
+        Ok(_) => Err(AllocError),
         Err(error) => Ok((error.kind(), format!(in alloc; "{error}")?)),
     }
 }
 
+/// How many of these words, from the first on, come to their help.
+fn helped(alloc: Global, cases: &[(&[&str], &str)]) -> Result<usize, AllocError> {
+    for place in 0..cases.len() {
+        let (words, text) = cases[place];
+        let (kind, told) = error_of(alloc, words)?;
+        if kind != WordsErrorKind::Help || told.as_str() != text {
+            return Ok(place);
+        }
+    }
+    Ok(cases.len())
+}
+
 #[test]
 fn help_says_what_there_is(rt: HostRuntime) -> Result<(), Fail> {
-    let cases: [(&[&str], &str); 6] = [
-        (&["mds_city", "--help"], HELP),
-        (&["mds_city", "help"], HELP),
-        (&["mds_city", "serve", "--help"], SERVE_HELP),
-        (&["mds_city", "replay", "-h"], REPLAY_HELP),
-        (&["mds_city", "debug", "--help"], DEBUG_HELP),
-        (&["mds_city", "table", "--help"], TABLE_HELP),
-    ];
-    for (words, text) in cases {
-        let (kind, told) = error_of(rt.alloc(), words)?;
-        assert_eq!(rt; kind, WordsErrorKind::Help);
-        assert_eq!(rt; told.as_str(), text, "{words:?}");
-    }
+    assert_eq!(rt; helped(rt.alloc(), HELPS)?, 6);
     Ok(())
+}
+
+/// Whether the words are mistaken, and a line of its own says so.
+fn is_mistake(alloc: Global, words: &[&str]) -> Result<bool, AllocError> {
+    let (kind, told) = error_of(alloc, words)?;
+    let text = told.as_str();
+    Ok(kind == WordsErrorKind::Mistake && text.starts_with("error: ") && text.ends_with("\n"))
 }
 
 #[test]
 fn mistakes_are_told(rt: HostRuntime) -> Result<(), Fail> {
-    let (kind, told) = error_of(rt.alloc(), &["mds_city", "replay"])?;
-    assert_eq!(rt; kind, WordsErrorKind::Mistake);
-    assert!(rt; told.as_str().starts_with("error: ") && told.as_str().ends_with("\n"));
+    assert!(rt; is_mistake(rt.alloc(), &["mds_city", "replay"])?);
     Ok(())
 }
 
-/// The command that words ask for, or why they ask for none.
-fn command_of<'a>(alloc: Global, words: &'a [&'a str]) -> Result<Command<'a>, WordsErrorKind> {
-    parse_words(alloc, words).map_err(|error| error.kind())
-}
+/// Words that ask for a command, mistaken ones, and such as ask for help, and what they come to.
+const AGAIN: &[(&[&str], Result<Command<'static>, WordsErrorKind>)] = &[
+    (
+        &["mds_city", "serve", "--port", "80", "--each", "9"],
+        Ok(Command::Serve {
+            port: 80,
+            each: 9,
+            workers: 4,
+            table: None,
+        }),
+    ),
+    (&["mds_city", "table", "X"], Err(WordsErrorKind::Mistake)),
+    (&["mds_city", "--help"], Err(WordsErrorKind::Help)),
+];
 
 /// The same, asked again where a growth is refused.
 fn command_again<'a>(alloc: Global, words: &'a [&'a str]) -> Result<Command<'a>, WordsErrorKind> {
@@ -341,18 +437,42 @@ fn command_again<'a>(alloc: Global, words: &'a [&'a str]) -> Result<Command<'a>,
     }
 }
 
-/// Words that ask for a command, mistaken ones, and such as ask for help (growths are refused by `tests/refused-growths`).
+/// How many of these words, from the first on, come to this, asked again where a growth is refused.
+fn came_again(alloc: Global, cases: &[(&[&str], Result<Command<'_>, WordsErrorKind>)]) -> usize {
+    for place in 0..cases.len() {
+        let (words, came) = &cases[place];
+        if command_again(alloc, words) != *came {
+            return place;
+        }
+    }
+    cases.len()
+}
+
+/// Growths are refused by `tests/refused-growths`.
 #[test]
-fn words_are_read_after_a_refused_growth(rt: HostRuntime) -> Result<(), Fail> {
-    let words = ["mds_city", "serve", "--port", "80", "--each", "9"];
-    let served = serve(80, 9, 4, None).ok_or("a command")?;
-    assert_eq!(rt; command_again(rt.alloc(), &words), Ok(served));
-    let mistake = Err(WordsErrorKind::Mistake);
-    assert_eq!(rt;
-        command_again(rt.alloc(), &["mds_city", "table", "X"]),
-        mistake
-    );
-    let help = Err(WordsErrorKind::Help);
-    assert_eq!(rt; command_again(rt.alloc(), &["mds_city", "--help"]), help);
-    Ok(())
+fn words_are_read_after_a_refused_growth(rt: HostRuntime) {
+    assert_eq!(rt; came_again(rt.alloc(), AGAIN), 3);
+}
+
+/// A growth of a size of its own: `tests/refused-growths` refuses each one between two of these.
+#[inline(never)]
+fn fence(alloc: Global) -> Result<Vec<u8>, AllocError> {
+    Vec::with_capacity(alloc, 12_347)
+}
+
+/// The kind of the error that words came to.
+fn kind_in(came: &Result<Command<'_>, WordsError>) -> Option<WordsErrorKind> {
+    match came {
+        Ok(_) => None,
+        Err(error) => Some(error.kind()),
+    }
+}
+
+#[test]
+fn kinds_are_told_with_every_growth_refused(rt: HostRuntime) {
+    let came = parse_words(rt.alloc(), &["mds_city", "table", "X"]);
+    let _begun = fence(rt.alloc());
+    let kind = kind_in(&came);
+    let _ended = fence(rt.alloc());
+    assert_eq!(rt; kind, Some(WordsErrorKind::Mistake));
 }
