@@ -148,6 +148,11 @@ QUIET = {
     ],
     ("mds_replay", "numbers_are_looked_at_with_every_growth_refused"): ["replay_with"],
     ("mds_args", "kinds_are_told_with_every_growth_refused"): ["WordsError::kind"],
+    ("mds_request", "looks_are_planned_with_every_growth_refused"): [
+        "Face::head_status",
+        "HeadStatus::plan",
+        "plan_of",
+    ],
 }
 """A crate and its test, and the calls of the crate that it makes without memory: all of them, or those that are refused, look at
 something, or say that there is no memory."""

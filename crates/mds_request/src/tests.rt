@@ -3,11 +3,13 @@ mod bodies;
 mod faults;
 mod growths;
 mod heads;
+mod quiet;
 mod targets;
 
 use crate::{Face, HttpFault, Plan, plan_of};
 use mds_core::Key;
 use std::alloc::{AllocError, Global};
+use std::process::Abort;
 use uuid::Uuid;
 
 /// A registration, and an item at fault.
@@ -32,6 +34,19 @@ fn fault_of(alloc: Global, face: &Face, request: &[u8]) -> Result<Option<HttpFau
         Plan::Fixed(fault) => Ok(Some(fault)),
         _ => Ok(None),
     }
+}
+
+/// Asserts that a request is answered by this fault.
+fn expect_fault(
+    rt: &impl Abort,
+    alloc: Global,
+    face: &Face,
+    request: &[u8],
+    fault: HttpFault,
+) -> Result<(), AllocError> {
+    let found = fault_of(alloc, face, request)?;
+    assert_eq!(rt; (request, found), (request, Some(fault)));
+    Ok(())
 }
 
 /// The vehicle that the requests name.

@@ -4,12 +4,14 @@ use crate::{Face, HttpFault, Plan, plan_of};
 use mds_batch::{EventItem, ItemFault, Member, VehicleItem};
 use mds_core::{Event, Key};
 use mds_table::{State, TypeName};
-use std::alloc::Global;
-use std::test::Fail;
+use std::alloc::{AllocError, Global};
+use std::process::Abort;
 use uuid::Uuid;
 
-/// Requests by pieces, and how many items each asks for, or why it asks for none.
-const BODIES: [(Pieces, Result<usize, HttpFault>); 12] = [
+/// A request by pieces, and how many items it asks for, or why it asks for none.
+type Body = (Pieces, Result<usize, HttpFault>);
+
+const BODIES: [Body; 12] = [
     // the empty batch
     (
         &[("POST /events HTTP/1.1\r\nContent-Length: 2\r\n\r\n[]", 1)],
@@ -105,25 +107,35 @@ const BODIES: [(Pieces, Result<usize, HttpFault>); 12] = [
     ),
 ];
 
-/// How many items a request asks for, or why it asks for none.
-fn count(alloc: Global, face: &Face, request: &[u8]) -> Result<Result<usize, HttpFault>, Fail> {
-    match plan_of(alloc, face, request)? {
-        Plan::Fixed(fault) => Ok(Err(fault)),
-        Plan::Vehicles(items) => Ok(Ok(items.len())),
-        Plan::Events(items) => Ok(Ok(items.len())),
-        _ => Err("a look")?,
+/// How many items a plan asks for, or why it asks for none; or that it is one of a look.
+fn count_of(plan: &Plan) -> Option<Result<usize, HttpFault>> {
+    match plan {
+        Plan::Fixed(fault) => Some(Err(*fault)),
+        Plan::Vehicles(items) => Some(Ok(items.len())),
+        Plan::Events(items) => Some(Ok(items.len())),
+        Plan::One(_) | Plan::History(_) | Plan::Rows => None,
     }
 }
 
-#[test]
-fn bodies(rt: HostRuntime) -> Result<(), Fail> {
-    let face = Face::open(rt.alloc())?;
-    for (pieces, expected) in BODIES {
-        let request = text_of(rt.alloc(), pieces)?;
-        let found = count(rt.alloc(), &face, request.as_bytes())?;
-        assert_eq!(rt; (pieces, found), (pieces, expected));
+/// Asserts that requests ask for so many items.
+fn expect_counts(
+    rt: &impl Abort,
+    alloc: Global,
+    face: &Face,
+    rows: &[Body],
+) -> Result<(), AllocError> {
+    for (pieces, expected) in rows {
+        let request = text_of(alloc, pieces)?;
+        let plan = plan_of(alloc, face, request.as_bytes())?;
+        assert_eq!(rt; (*pieces, count_of(&plan)), (*pieces, Some(*expected)));
     }
     Ok(())
+}
+
+#[test]
+fn bodies(rt: HostRuntime) -> Result<(), AllocError> {
+    let face = Face::open(rt.alloc())?;
+    expect_counts(&rt, rt.alloc(), &face, &BODIES)
 }
 
 /// An event of vehicle A, an item without a device, and an event of vehicle B.
@@ -140,55 +152,63 @@ Content-Length: 669
 "event_id":"00000000-0000-4000-8000-0000000000e2","vehicle_state":"available",
 "event_types":["provider_drop_off"],"timestamp":1000}]"#;
 
-/// The first event of a vehicle of the provider.
-fn first_event(device: u128, id: u128) -> Result<EventItem, Fail> {
+/// The items of a plan of events; none of another one.
+fn events_of(plan: &Plan) -> &[EventItem] {
+    match plan {
+        Plan::Events(items) => items.as_slice(),
+        _ => &[],
+    }
+}
+
+/// The items of a plan of registrations; none of another one.
+fn vehicles_of(plan: &Plan) -> &[VehicleItem] {
+    match plan {
+        Plan::Vehicles(items) => items.as_slice(),
+        _ => &[],
+    }
+}
+
+/// The first event of a vehicle of the provider; a fault that no item here has, were it none.
+fn first_event(device: u128, id: u128) -> EventItem {
     let key = Key {
-        provider: Uuid::from_u128(0x00000000_0000_4000_8000_000000000001),
+        provider: vehicle().provider,
         device: Uuid::from_u128(device),
     };
-    let types = [TypeName::new("provider_drop_off")?];
-    let event = Event::new(
-        key,
-        Uuid::from_u128(id),
-        State::Available,
-        &types,
-        1000,
-        None,
-    )?;
-    Ok(EventItem::Event(event))
+    let id = Uuid::from_u128(id);
+    let types = [TypeName::new("provider_drop_off").unwrap_or_default()];
+    match Event::new(key, id, State::Available, &types, 1000, None) {
+        Ok(event) => EventItem::Event(event),
+        Err(_) => EventItem::Fault(ItemFault::NotObject),
+    }
 }
 
 #[test]
-fn faulty_item_among_three(rt: HostRuntime) -> Result<(), Fail> {
+fn faulty_item_among_three(rt: HostRuntime) -> Result<(), AllocError> {
     let face = Face::open(rt.alloc())?;
+    let plan = plan_of(rt.alloc(), &face, THREE_ITEMS)?;
     let expected = [
         first_event(
             0x00000000_0000_4000_8000_00000000000a,
             0x00000000_0000_4000_8000_0000000000e1,
-        )?,
+        ),
         EventItem::Fault(ItemFault::Missing(Member::DeviceId)),
         first_event(
             0x00000000_0000_4000_8000_00000000000b,
             0x00000000_0000_4000_8000_0000000000e2,
-        )?,
+        ),
     ];
-    let Plan::Events(items) = plan_of(rt.alloc(), &face, THREE_ITEMS)? else {
-        return Err("no events")?;
-    };
-    assert_eq!(rt; items.as_slice(), expected.as_slice());
+    assert_eq!(rt; events_of(&plan), expected.as_slice());
     Ok(())
 }
 
 #[test]
-fn registration(rt: HostRuntime) -> Result<(), Fail> {
+fn registration(rt: HostRuntime) -> Result<(), AllocError> {
     let face = Face::open(rt.alloc())?;
-    let Plan::Vehicles(items) = plan_of(rt.alloc(), &face, REGISTRATION)? else {
-        return Err("no registrations")?;
-    };
+    let plan = plan_of(rt.alloc(), &face, REGISTRATION)?;
     let expected = [
         VehicleItem::Vehicle(vehicle()),
         VehicleItem::Fault(ItemFault::Missing(Member::ProviderId)),
     ];
-    assert_eq!(rt; items.as_slice(), expected.as_slice());
+    assert_eq!(rt; vehicles_of(&plan), expected.as_slice());
     Ok(())
 }

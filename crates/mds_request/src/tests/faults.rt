@@ -1,7 +1,8 @@
 //! Requests with faults: each alone, and with every later one beside it.
-use super::fault_of;
+use super::expect_fault;
 use crate::{Face, HttpFault};
-use std::test::Fail;
+use std::alloc::{AllocError, Global};
+use std::process::Abort;
 
 /// Requests, and what each is answered by.
 const FAULTS: [(&str, HttpFault); 57] = [
@@ -207,14 +208,23 @@ const FAULTS: [(&str, HttpFault); 57] = [
     ),
 ];
 
-#[test]
-fn faults(rt: HostRuntime) -> Result<(), Fail> {
-    let face = Face::open(rt.alloc())?;
-    for (request, fault) in FAULTS {
-        let found = fault_of(rt.alloc(), &face, request.as_bytes())?;
-        assert_eq!(rt; (request, found), (request, Some(fault)));
+/// Asserts that requests are answered by these faults.
+fn expect_faults(
+    rt: &impl Abort,
+    alloc: Global,
+    face: &Face,
+    rows: &[(&str, HttpFault)],
+) -> Result<(), AllocError> {
+    for (request, fault) in rows {
+        expect_fault(rt, alloc, face, request.as_bytes(), *fault)?;
     }
     Ok(())
+}
+
+#[test]
+fn faults(rt: HostRuntime) -> Result<(), AllocError> {
+    let face = Face::open(rt.alloc())?;
+    expect_faults(&rt, rt.alloc(), &face, &FAULTS)
 }
 
 /// The words for faults.
@@ -235,11 +245,20 @@ const WORDS: [(HttpFault, &str); 11] = [
     (HttpFault::TooMany, "too_many"),
 ];
 
-#[test]
-fn words(rt: HostRuntime) -> Result<(), Fail> {
-    for (fault, word) in WORDS {
-        let text = format!(in rt.alloc(); "{fault}")?;
-        assert_eq!(rt; text.as_str(), word);
+/// Asserts that faults are printed as these words.
+fn expect_words(
+    rt: &impl Abort,
+    alloc: Global,
+    rows: &[(HttpFault, &str)],
+) -> Result<(), AllocError> {
+    for (fault, word) in rows {
+        let text = format!(in alloc; "{fault}")?;
+        assert_eq!(rt; text.as_str(), *word);
     }
     Ok(())
+}
+
+#[test]
+fn words(rt: HostRuntime) -> Result<(), AllocError> {
+    expect_words(&rt, rt.alloc(), &WORDS)
 }

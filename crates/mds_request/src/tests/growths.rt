@@ -2,21 +2,20 @@
 use super::REGISTRATION;
 use crate::{Face, Plan, plan_of};
 use std::alloc::{AllocError, Global};
-use std::test::Fail;
 
 /// The routes.
 fn opened(alloc: Global) -> Result<Face, AllocError> {
     match Face::open(alloc) {
-        Ok(face) => Ok(face),
         Err(_) => Face::open(alloc),
+        face => face,
     }
 }
 
 /// What a request asks for.
 fn plan(alloc: Global, face: &Face, request: &[u8]) -> Result<Plan, AllocError> {
     match plan_of(alloc, face, request) {
-        Ok(plan) => Ok(plan),
         Err(_) => plan_of(alloc, face, request),
+        plan => plan,
     }
 }
 
@@ -24,8 +23,8 @@ fn plan(alloc: Global, face: &Face, request: &[u8]) -> Result<Plan, AllocError> 
 fn plan_by_its_head(alloc: Global, face: &Face, request: &[u8]) -> Result<Plan, AllocError> {
     let status = face.head_status(request);
     match status.plan(alloc, request) {
-        Ok(plan) => Ok(plan),
         Err(_) => status.plan(alloc, request),
+        plan => plan,
     }
 }
 
@@ -38,7 +37,7 @@ fn count_of(plan: Plan) -> Option<usize> {
 }
 
 #[test]
-fn call_succeeds_after_a_refused_growth(rt: HostRuntime) -> Result<(), Fail> {
+fn call_succeeds_after_a_refused_growth(rt: HostRuntime) -> Result<(), AllocError> {
     let face = opened(rt.alloc())?;
     let count = count_of(plan(rt.alloc(), &face, REGISTRATION)?);
     let by_its_head = count_of(plan_by_its_head(rt.alloc(), &face, REGISTRATION)?);

@@ -2,10 +2,13 @@
 use super::{Pieces, text_of};
 use crate::{Aim, Face, HeadStatus};
 use mds_core::Key;
-use std::test::Fail;
+use std::alloc::{AllocError, Global};
+use std::process::Abort;
 
-/// Requests by pieces, and how many bytes of body each has; or that it has no head.
-const HEADS: [(Pieces, Option<usize>); 25] = [
+/// A request by pieces, and how many bytes of body it has; or that it has no head.
+type Head = (Pieces, Option<usize>);
+
+const HEADS: [Head; 25] = [
     // the most bytes
     (
         &[
@@ -143,24 +146,35 @@ const HEADS: [(Pieces, Option<usize>); 25] = [
     ),
 ];
 
-/// How many bytes a body has behind a head that is as long as the request; or that there is no head.
-fn body_of(face: &Face, request: &str) -> Result<Option<usize>, Fail> {
+/// How many bytes a body has behind a head that is as long as the request, or that there is no head; and whether it's another
+/// status than these.
+fn body_of(face: &Face, request: &str) -> (Option<usize>, bool) {
     match face.head_status(request.as_bytes()) {
-        HeadStatus::Complete { start, len, .. } if start == request.len() => Ok(Some(len)),
-        HeadStatus::Partial | HeadStatus::Invalid => Ok(None),
-        _ => Err("another status")?,
+        HeadStatus::Complete { start, len, .. } => (Some(len), start != request.len()),
+        HeadStatus::Partial | HeadStatus::Invalid => (None, false),
+        HeadStatus::Rejected(_) => (None, true),
     }
 }
 
-#[test]
-fn heads(rt: HostRuntime) -> Result<(), Fail> {
-    let face = Face::open(rt.alloc())?;
-    for (pieces, len) in HEADS {
-        let request = text_of(rt.alloc(), pieces)?;
-        let found = body_of(&face, request.as_str())?;
-        assert_eq!(rt; (pieces, found), (pieces, len));
+/// Asserts that requests have bodies of so many bytes.
+fn expect_bodies(
+    rt: &impl Abort,
+    alloc: Global,
+    face: &Face,
+    rows: &[Head],
+) -> Result<(), AllocError> {
+    for (pieces, len) in rows {
+        let request = text_of(alloc, pieces)?;
+        let (found, is_other) = body_of(face, request.as_str());
+        assert_eq!(rt; (*pieces, found, is_other), (*pieces, *len, false));
     }
     Ok(())
+}
+
+#[test]
+fn heads(rt: HostRuntime) -> Result<(), AllocError> {
+    let face = Face::open(rt.alloc())?;
+    expect_bodies(&rt, rt.alloc(), &face, &HEADS)
 }
 
 /// A status without its fault.
@@ -211,11 +225,16 @@ fn outline_of(face: &Face, front: &str) -> Outline {
     }
 }
 
-#[test]
-fn statuses(rt: HostRuntime) -> Result<(), Fail> {
-    let face = Face::open(rt.alloc())?;
-    for (front, expected) in FRONTS {
-        assert_eq!(rt; (front, outline_of(&face, front)), (front, expected));
+/// Asserts that bytes say this of the head.
+fn expect_outlines(rt: &impl Abort, face: &Face, rows: &[(&str, Outline)]) {
+    for (front, expected) in rows {
+        assert_eq!(rt; (*front, outline_of(face, front)), (*front, *expected));
     }
+}
+
+#[test]
+fn statuses(rt: HostRuntime) -> Result<(), AllocError> {
+    let face = Face::open(rt.alloc())?;
+    expect_outlines(&rt, &face, &FRONTS);
     Ok(())
 }

@@ -1,8 +1,9 @@
 //! Targets: routes, what is cut off, and the forms of identifiers.
-use super::{fault_of, vehicle};
+use super::{expect_fault, vehicle};
 use crate::{Aim, Face, HeadStatus, HttpFault};
 use mds_core::Key;
-use std::test::Fail;
+use std::alloc::{AllocError, Global};
+use std::process::Abort;
 
 /// Heads of requests of the table.
 const TABLE: [&[u8]; 5] = [
@@ -37,39 +38,31 @@ fn aim_of(face: &Face, request: &[u8]) -> Option<Aim<Key>> {
     }
 }
 
-#[test]
-fn looks(rt: HostRuntime) -> Result<(), Fail> {
-    let face = Face::open(rt.alloc())?;
-    for request in TABLE {
-        assert_eq!(rt;
-            (request, aim_of(&face, request)),
-            (request, Some(Aim::Rows))
-        );
+/// Asserts that heads are about this.
+fn expect_aim(rt: &impl Abort, face: &Face, requests: &[&[u8]], aim: &Aim<Key>) {
+    for request in requests {
+        assert_eq!(rt; (*request, aim_of(face, request)), (*request, Some(*aim)));
     }
+}
+
+#[test]
+fn looks(rt: HostRuntime) -> Result<(), AllocError> {
+    let face = Face::open(rt.alloc())?;
+    expect_aim(&rt, &face, &TABLE, &Aim::Rows);
     Ok(())
 }
 
 #[test]
-fn looks_at_a_vehicle(rt: HostRuntime) -> Result<(), Fail> {
+fn looks_at_a_vehicle(rt: HostRuntime) -> Result<(), AllocError> {
     let face = Face::open(rt.alloc())?;
-    for request in ONE {
-        assert_eq!(rt;
-            (request, aim_of(&face, request)),
-            (request, Some(Aim::One(vehicle())))
-        );
-    }
+    expect_aim(&rt, &face, &ONE, &Aim::One(vehicle()));
     Ok(())
 }
 
 #[test]
-fn looks_at_events(rt: HostRuntime) -> Result<(), Fail> {
+fn looks_at_events(rt: HostRuntime) -> Result<(), AllocError> {
     let face = Face::open(rt.alloc())?;
-    for request in HISTORY {
-        assert_eq!(rt;
-            (request, aim_of(&face, request)),
-            (request, Some(Aim::History(vehicle())))
-        );
-    }
+    expect_aim(&rt, &face, &HISTORY, &Aim::History(vehicle()));
     Ok(())
 }
 
@@ -134,12 +127,21 @@ const NOWHERE: [(&[u8], HttpFault); 27] = [
     (b"G\xc3\xa4T /table HTTP/1.1\r\n\r\n", HttpFault::BadHead),
 ];
 
-#[test]
-fn nowhere(rt: HostRuntime) -> Result<(), Fail> {
-    let face = Face::open(rt.alloc())?;
-    for (request, fault) in NOWHERE {
-        let found = fault_of(rt.alloc(), &face, request)?;
-        assert_eq!(rt; (request, found), (request, Some(fault)));
+/// Asserts that requests are answered by these faults.
+fn expect_faults(
+    rt: &impl Abort,
+    alloc: Global,
+    face: &Face,
+    rows: &[(&[u8], HttpFault)],
+) -> Result<(), AllocError> {
+    for (request, fault) in rows {
+        expect_fault(rt, alloc, face, request, *fault)?;
     }
     Ok(())
+}
+
+#[test]
+fn nowhere(rt: HostRuntime) -> Result<(), AllocError> {
+    let face = Face::open(rt.alloc())?;
+    expect_faults(&rt, rt.alloc(), &face, &NOWHERE)
 }
