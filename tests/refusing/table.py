@@ -153,6 +153,7 @@ QUIET = {
         "HeadStatus::plan",
         "plan_of",
     ],
+    ("mds_io", "writes_go_out_with_every_growth_refused"): ["write_all_of", "flush_page"],
 }
 """A crate and its test, and the calls of the crate that it makes without memory: all of them, or those that are refused, look at
 something, or say that there is no memory."""

@@ -119,21 +119,35 @@ fn read_to(alloc: Global, bytes: &[u8], has_pauses: bool, last: Last) -> (Option
     }
 }
 
+/// What a reader gives, whether it pauses before each byte, and how it ends; and what becomes of reading it.
+type Reading<'a> = ((&'a [u8], bool, Last), (Option<ReadError>, u32));
+
+const READINGS: &[Reading<'static>] = &[
+    ((b"seven b", true, Last::Zero), (None, 16)),
+    ((b"", false, Last::Zero), (None, 1)),
+    ((b"abc", false, Last::Failure), (Some(ReadError::Device), 4)),
+    ((b"abc", false, Last::Block), (Some(ReadError::Device), 4)),
+    ((b"abc", false, Last::Timeout), (Some(ReadError::Device), 4)),
+    (
+        (b"ab", false, Last::Pause),
+        (Some(ReadError::TooManyTurns), 5_000_000),
+    ),
+];
+
+/// How many of these readings, from the first on, end as they say.
+fn readings_right(alloc: Global, readings: &[Reading<'_>]) -> usize {
+    for place in 0..readings.len() {
+        let ((bytes, has_pauses, last), ended) = readings[place];
+        if read_to(alloc, bytes, has_pauses, last) != ended {
+            return place;
+        }
+    }
+    readings.len()
+}
+
 #[test]
 fn reads_end_as_the_reader_does(rt: HostRuntime) {
-    let device = Some(ReadError::Device);
-    let turns = Some(ReadError::TooManyTurns);
-    let cases = [
-        (b"seven b".as_slice(), true, Last::Zero, (None, 16u32)),
-        (b"", false, Last::Zero, (None, 1)),
-        (b"abc", false, Last::Failure, (device, 4)),
-        (b"abc", false, Last::Block, (device, 4)),
-        (b"abc", false, Last::Timeout, (device, 4)),
-        (b"ab", false, Last::Pause, (turns, 5_000_000)),
-    ];
-    for (bytes, has_pauses, last, ended) in cases {
-        assert_eq!(rt; read_to(rt.alloc(), bytes, has_pauses, last), ended);
-    }
+    assert_eq!(rt; readings_right(rt.alloc(), READINGS), 6);
 }
 
 #[test]
@@ -211,39 +225,59 @@ fn text_of(alloc: Global, length: usize) -> Result<Vec<u8>, AllocError> {
     vec![in alloc; 7u8; length]
 }
 
-fn failed_at(sent: usize) -> Option<WriteError> {
-    let kind = WriteErrorKind::Device;
-    Some(WriteError { sent, kind })
-}
-
 fn out_of_turns_at(sent: usize) -> Option<WriteError> {
     let kind = WriteErrorKind::TooManyTurns;
     Some(WriteError { sent, kind })
 }
 
+/// A writer: how many bytes it takes, whether it pauses before each, and how it ends.
+type Taking = (usize, bool, Last);
+
+/// Bytes, and the writer that takes them; and where writing stops and why if not all go out, and the number of calls.
+type Writing<'a> = ((&'a [u8], Taking), (Option<WriteError>, u32));
+
+const AT_ONE: WriteError = WriteError {
+    sent: 1,
+    kind: WriteErrorKind::Device,
+};
+
+const AT_TWO: WriteError = WriteError {
+    sent: 2,
+    kind: WriteErrorKind::Device,
+};
+
+const OUT_OF_TURNS: WriteError = WriteError {
+    sent: 2,
+    kind: WriteErrorKind::TooManyTurns,
+};
+
+const WRITINGS: &[Writing<'static>] = &[
+    ((b"", (9, true, Last::Zero)), (None, 0)),
+    ((b"abc", (9, true, Last::Zero)), (None, 6)),
+    ((b"abc", (2, false, Last::Zero)), (Some(AT_TWO), 3)),
+    (
+        (b"abc", (2, false, Last::Pause)),
+        (Some(OUT_OF_TURNS), MAX_CALLS),
+    ),
+    ((b"abc", (1, false, Last::Failure)), (Some(AT_ONE), 2)),
+    ((b"abc", (1, false, Last::Block)), (Some(AT_ONE), 2)),
+    ((b"abc", (1, false, Last::Timeout)), (Some(AT_ONE), 2)),
+];
+
+/// How many of these writings, from the first on, end as they say.
+fn writings_right(alloc: Global, writings: &[Writing<'_>]) -> usize {
+    for place in 0..writings.len() {
+        let ((bytes, (room, has_pauses, last)), ended) = writings[place];
+        if written_to(alloc, bytes, room, has_pauses, last) != ended {
+            return place;
+        }
+    }
+    writings.len()
+}
+
 #[test]
 fn writes_end_as_the_writer_does(rt: HostRuntime) {
-    let cases = [
-        (b"".as_slice(), 9usize, true, Last::Zero, (None, 0u32)),
-        (b"abc", 9, true, Last::Zero, (None, 6)),
-        (b"abc", 2, false, Last::Zero, (failed_at(2), 3)),
-        (
-            b"abc",
-            2,
-            false,
-            Last::Pause,
-            (out_of_turns_at(2), MAX_CALLS),
-        ),
-        (b"abc", 1, false, Last::Failure, (failed_at(1), 2)),
-        (b"abc", 1, false, Last::Block, (failed_at(1), 2)),
-        (b"abc", 1, false, Last::Timeout, (failed_at(1), 2)),
-    ];
-    for (bytes, room, has_pauses, last, ended) in cases {
-        assert_eq!(rt;
-            written_to(rt.alloc(), bytes, room, has_pauses, last),
-            ended
-        );
-    }
+    assert_eq!(rt; writings_right(rt.alloc(), WRITINGS), 7);
 }
 
 /// The last call that is allowed may be the one that takes the last byte.
@@ -358,15 +392,20 @@ fn calls_are_few(rt: HostRuntime) -> Result<(), Fail> {
 /// The length of a file that is read, and of two chunks of it and one byte behind them, again from a new reader where a growth
 /// is refused.
 fn length_again(alloc: Global) -> Result<usize, ReadError> {
-    let file = || Gulps {
+    match length_of_file(alloc) {
+        Err(ReadError::Memory) => length_of_file(alloc),
+        other => other,
+    }
+}
+
+/// The length of what is read of a file of two chunks and one byte.
+fn length_of_file(alloc: Global) -> Result<usize, ReadError> {
+    let mut file = Gulps {
         left: 131_073,
         calls: 0,
     };
-    let read = match read_front(alloc, &mut file(), 200_000) {
-        Err(ReadError::Memory) => read_front(alloc, &mut file(), 200_000),
-        other => other,
-    };
-    Ok(read?.len())
+    let bytes = read_front(alloc, &mut file, 200_000)?;
+    Ok(bytes.len())
 }
 
 /// What two kinds of reads give behind three bytes, each made again where its growth is refused, which leaves the bytes as they
@@ -407,5 +446,30 @@ fn calls_succeed_after_a_refused_growth(rt: HostRuntime) -> Result<(), Fail> {
         two_lines(rt.alloc(), &mut out)?;
     }
     assert_eq!(rt; (out.left, out.calls), (7, 1));
+    Ok(())
+}
+
+/// A growth of a size of its own: `tests/refused-growths` refuses each one between two of these.
+#[inline(never)]
+fn fence(alloc: Global) -> Result<Vec<u8>, AllocError> {
+    Vec::with_capacity(alloc, 12_347)
+}
+
+/// Whether three bytes and a page go out, and how many bytes these are in all.
+fn put_out(page: &mut String) -> (bool, usize) {
+    let mut out = Gulps { left: 20, calls: 0 };
+    let wrote = write_all_of(&mut out, b"abc").is_ok();
+    let flushed = flush_page(&mut out, page).is_ok();
+    (wrote && flushed, 20usize.saturating_sub(out.left))
+}
+
+#[test]
+fn writes_go_out_with_every_growth_refused(rt: HostRuntime) -> Result<(), Fail> {
+    let mut page = String::new(rt.alloc());
+    page.push_str("accepted 3\n")?;
+    let _begun = fence(rt.alloc());
+    let out = put_out(&mut page);
+    let _ended = fence(rt.alloc());
+    assert_eq!(rt; out, (true, 14));
     Ok(())
 }
