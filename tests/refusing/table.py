@@ -90,8 +90,6 @@ QUIET = {
         "forward",
         "openings",
     ],
-    ("mds_settle", "notes_are_judged_with_every_growth_refused"): ["judge", "judge_lawful", "NoteList::notes"],
-    ("mds_gate", "the_open_gate_is_passed_with_every_growth_refused"): ["Gate::enter", "Gate::leave"],
     ("mds_core", "events_are_told_of_with_every_growth_refused"): [
         "Event::new",
         "Event::assign",
@@ -128,6 +126,26 @@ QUIET = {
         "Request::event",
         "Request::copy",
     ],
+    ("mds_settle", "notes_are_judged_with_every_growth_refused"): ["judge", "judge_lawful", "NoteList::notes"],
+    ("mds_gate", "the_open_gate_is_passed_with_every_growth_refused"): ["Gate::enter", "Gate::leave"],
+    ("mds_book", "books_are_told_of_with_every_growth_refused"): [
+        "Book::call",
+        "Book::shard_of",
+        "Book::tables",
+        "Book::with_shard",
+        "Seat::accepted",
+        "Seat::notes",
+        "reconcile",
+        "Gathered::history",
+        "Gathered::notes",
+        "Gathered::tables",
+        "Settled::history",
+        "Settled::notes",
+        "Settled::tables",
+        "Settled::accepted",
+    ],
+    ("mds_book", "slots_are_told_of_with_every_growth_refused"): ["Slot::shard", "Slot::step"],
+    ("mds_io", "writes_go_out_with_every_growth_refused"): ["write_all_of", "flush_page"],
     ("mds_batch", "items_are_read_again_with_every_growth_refused"): [
         "Member::name",
         "ItemFault::word",
@@ -147,13 +165,12 @@ QUIET = {
         "Verdict::accepts",
     ],
     ("mds_replay", "numbers_are_looked_at_with_every_growth_refused"): ["replay_with"],
-    ("mds_args", "kinds_are_told_with_every_growth_refused"): ["WordsError::kind"],
     ("mds_request", "looks_are_planned_with_every_growth_refused"): [
         "Face::head_status",
         "HeadStatus::plan",
         "plan_of",
     ],
-    ("mds_io", "writes_go_out_with_every_growth_refused"): ["write_all_of", "flush_page"],
+    ("mds_args", "kinds_are_told_with_every_growth_refused"): ["WordsError::kind"],
 }
 """A crate and its test, and the calls of the crate that it makes without memory: all of them, or those that are refused, look at
 something, or say that there is no memory."""

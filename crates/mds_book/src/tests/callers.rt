@@ -124,18 +124,17 @@ fn turns_of_two_locks<R: Threads + Wait + Clock + RandomSource + Sync>(
 }
 
 /// Registrations of A and of B.
-fn registrations() -> Result<[Request; 2], Fail> {
-    Ok([
-        Request::Register(super::key(A)?),
-        Request::Register(super::key(B)?),
-    ])
+fn registrations() -> [Request; 2] {
+    [
+        Request::Register(super::key(A)),
+        Request::Register(super::key(B)),
+    ]
 }
 
 #[test]
 fn two_locks_at_once(rt: HostRuntime) -> Result<(), Fail> {
-    let alloc = rt.alloc();
-    let requests = registrations()?;
-    let (length, turns) = turns_of_two_locks(&rt, alloc, profile(alloc)?, &requests)?;
+    let tables = profile(rt.alloc())?;
+    let (length, turns) = turns_of_two_locks(&rt, rt.alloc(), tables, &registrations())?;
     assert_eq!(rt; (length, turns < 10_000), (1, true));
     Ok(())
 }
@@ -183,11 +182,23 @@ fn fault_at<R: RandomSource>(
     Ok(open_fault(alloc, profile(alloc)?, seats, hashers(rt)?))
 }
 
+/// The faults of books with so many seats.
+fn faults_at<R: RandomSource>(
+    rt: &R,
+    alloc: Global,
+    seats: [usize; 4],
+) -> Result<[Option<OpenFault>; 4], Fail> {
+    let mut faults = [None; 4];
+    for (count, fault) in seats.iter().zip(faults.iter_mut()) {
+        *fault = fault_at(rt, alloc, *count)?;
+    }
+    Ok(faults)
+}
+
 #[test]
 fn seats_of_a_book(rt: HostRuntime) -> Result<(), Fail> {
     let bad = Some(OpenFault::BadSeats);
-    for (seats, expected) in [(0, bad), (1, None), (64, None), (65, bad)] {
-        assert_eq!(rt; fault_at(&rt, rt.alloc(), seats)?, expected, "{seats}");
-    }
+    let faults = faults_at(&rt, rt.alloc(), [0, 1, 64, 65])?;
+    assert_eq!(rt; faults, [bad, None, None, bad]);
     Ok(())
 }

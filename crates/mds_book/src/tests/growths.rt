@@ -3,11 +3,11 @@ ghost use Rattle.std.specs.Prelude.{◌≡◌, ◌<◌};
 ghost use Rattle.mds_core.specs.History.{key_of};
 ghost use Rattle.mds_book.specs.Shards.{shard_of as number_of};
 
-use super::{A, E1, hashers, key, profile, settled};
+use super::{A, DROP_OFF, E1, event_of, hashers, key, profile, settled, uuid};
 use crate::slot::shard_of;
 use crate::{Book, Keep, Seat, ShardLedger, Slot};
-use mds_core::{Event, Outcome, Reply, Request};
-use mds_table::{State, Tables, TypeName};
+use mds_core::{Outcome, Reply, Request};
+use mds_table::{State, Tables};
 use std::alloc::{AllocError, Global};
 use std::hash::RandomState;
 use std::marker::Brand;
@@ -15,14 +15,11 @@ use std::random::RandomSource;
 use std::sync::Wait;
 use std::sync::ledger::{Blank, Share};
 use std::test::Fail;
-use uuid::Uuid;
 
 /// The first event of A.
-fn report() -> Result<Request, Fail> {
-    let types = [TypeName::new("provider_drop_off")?];
-    let id = Uuid::parse_str(E1)?;
-    let event = Event::new(key(A)?, id, State::Available, &types, 1000, None)?;
-    Ok(Request::Report(event))
+pub fn report() -> Option<Request> {
+    let event = event_of(key(A), uuid(E1), DROP_OFF, State::Available, 1000)?;
+    Some(Request::Report(event))
 }
 
 /// What the seat counted and noted, and the length of the shard's history.
@@ -56,38 +53,50 @@ fn call_twice<L: ShardLedger, M: ShardLedger, R: Wait>(
     rt: &R,
     book: &Book<L, M>,
     seat: &mut Seat<L, M>,
-) -> Result<bool, Fail> {
-    let registered = call(rt, book, seat, &Request::Register(key(A)?))?;
-    let reported = call(rt, book, seat, &report()?)?;
+    event: &Request,
+) -> Result<bool, AllocError> {
+    let registered = call(rt, book, seat, &Request::Register(key(A)))?;
+    let reported = call(rt, book, seat, event)?;
     Ok(registered && reported)
 }
 
-/// How many events A has.
+/// How many events A has, if it is registered.
 fn event_count<L: ShardLedger, M: ShardLedger, R: Wait>(
     rt: &R,
     alloc: Global,
     book: &Book<L, M>,
-) -> Result<usize, Fail> {
-    let about = key(A)?;
+) -> Result<Option<usize>, AllocError> {
+    let about = key(A);
     let events = match book.vehicle_events(rt, alloc, &about) {
         Ok(events) => events,
         Err(AllocError) => book.vehicle_events(rt, alloc, &about)?,
     };
-    Ok(events.ok_or("registered")?.len())
+    Ok(events.map(|events| events.len()))
 }
 
-/// How many events A has in the end, whether each refused call left all as it was, and how many calls were accepted once
-/// the book is settled.
+/// How many events A has in the end, and whether each refused call left all as it was.
+fn called<L: ShardLedger, M: ShardLedger, R: Wait>(
+    rt: &R,
+    alloc: Global,
+    book: &Book<L, M>,
+    seat: &mut Seat<L, M>,
+    event: &Request,
+) -> Result<(Option<usize>, bool), AllocError> {
+    let unchanged = call_twice(rt, book, seat, event)?;
+    Ok((event_count(rt, alloc, book)?, unchanged))
+}
+
+/// The same, and how many calls were accepted once the book is settled.
 fn called_and_settled<L: ShardLedger, M: ShardLedger, R: Wait>(
     rt: &R,
     alloc: Global,
     book: Book<L, M>,
     mut seats: Vec<Seat<L, M>>,
-) -> Result<((usize, bool), u128), Fail> {
+) -> Result<((Option<usize>, bool), u128), Fail> {
+    let event = report().ok_or("a report")?;
     let seat = seats.first_mut().ok_or("a seat")?;
-    let unchanged = call_twice(rt, &book, seat)?;
-    let count = event_count(rt, alloc, &book)?;
-    Ok(((count, unchanged), settled(book, seats)?.accepted()))
+    let found = called(rt, alloc, &book, seat, &event)?;
+    Ok((found, settled(book, seats)?.accepted()))
 }
 
 /// A book that was opened where memory allowed, what came of its calls, and how many were accepted once it is settled.
@@ -97,7 +106,7 @@ fn opened<L: ShardLedger, M: ShardLedger, R: Wait + RandomSource>(
     tables: Tables,
     first: Blank,
     second: Blank,
-) -> Result<Option<((usize, bool), u128)>, Fail>
+) -> Result<Option<((Option<usize>, bool), u128)>, Fail>
     requires first { (first.name ≡ L.name) × (first.parts ≡ L.parts) × (first.parts ≡ 1) }
     requires second { (second.name ≡ M.name) × (second.parts ≡ M.parts) × (second.parts ≡ 1) }
     requires tables { (tables ≡ L.tables) × (tables ≡ M.tables) }
@@ -121,7 +130,7 @@ fn open<R: Wait + RandomSource>(
     rt: &R,
     alloc: Global,
     tables: Tables,
-) -> Result<Option<((usize, bool), u128)>, Fail> {
+) -> Result<Option<((Option<usize>, bool), u128)>, Fail> {
     opened::<Brand, Brand, R>(rt, alloc, tables, Blank::new(1), Blank::new(1))
 }
 
@@ -137,7 +146,7 @@ fn profile_again(alloc: Global) -> Result<Tables, AllocError> {
 fn open_again<R: Wait + RandomSource>(
     rt: &R,
     alloc: Global,
-) -> Result<Option<((usize, bool), u128)>, Fail> {
+) -> Result<Option<((Option<usize>, bool), u128)>, Fail> {
     let found = open(rt, alloc, profile_again(alloc)?)?;
     if found.is_some() {
         return Ok(found);
@@ -147,7 +156,7 @@ fn open_again<R: Wait + RandomSource>(
 
 #[test]
 fn calls_succeed_after_a_refused_growth(rt: HostRuntime) -> Result<(), Fail> {
-    assert_eq!(rt; open_again(&rt, rt.alloc())?, Some(((1, true), 2)));
+    assert_eq!(rt; open_again(&rt, rt.alloc())?, Some(((Some(1), true), 2)));
     Ok(())
 }
 
@@ -216,7 +225,7 @@ fn registered_in_a_slot<R: RandomSource>(
     rt: &R,
     alloc: Global,
 ) -> Result<Option<[(Reply, bool); 2]>, Fail> {
-    let requests = [Request::Register(key(A)?), report()?];
+    let requests = [Request::Register(key(A)), report().ok_or("a report")?];
     let tables = profile_again(alloc)?;
     Ok(slot_steps(alloc, tables, requests, RandomState::new(rt)?)?)
 }

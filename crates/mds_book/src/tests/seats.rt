@@ -75,13 +75,13 @@ fn at(place: usize, outcome: Outcome) -> Reply {
 }
 
 /// What one seat asks first.
-const FIRST: &[Ask<'static>] = &[
+const FIRST: &[Ask] = &[
     Ask::Register(A),
     Ask::Report(A, E1, DROP_OFF, State::Available, 1000),
 ];
 
 /// What another seat asks then.
-const THEN: &[Ask<'static>] = &[
+const THEN: &[Ask] = &[
     Ask::Look(A),
     Ask::Report(A, E1, DROP_OFF, State::Available, 1000),
     Ask::Register(A),

@@ -2,14 +2,14 @@
 ghost use Rattle.std.specs.Prelude.{◌≡◌};
 
 use super::{
-    A, Ask, C, DROP_OFF, E0, E1, available_once, copies, hashers, key, profile, requests_of,
-    settled, starts_of,
+    A, Ask, C, DROP_OFF, E0, E1, available_once, copies, event_of, hashers, key, profile,
+    requests_of, settled, starts_of, uuid,
 };
-use crate::{Book, Keep, Seat, SettleFault, Settled, ShardLedger, reconcile};
+use crate::{Book, Gathered, Keep, Seat, SettleFault, Settled, ShardLedger, reconcile};
 use mds_core::Outcome::{Done, Seen};
-use mds_core::{Event, Outcome, Refusal, Reply, Request};
+use mds_core::{Outcome, Refusal, Reply, Request};
 use mds_settle::Note;
-use mds_table::{State, Tables, TypeName};
+use mds_table::{State, Tables};
 use std::alloc::{AllocError, Global};
 use std::marker::Brand;
 use std::random::RandomSource;
@@ -18,7 +18,6 @@ use std::sync::ledger::Blank;
 use std::test::Fail;
 use std::thread;
 use std::thread::Threads;
-use uuid::Uuid;
 
 /// What the first of two seats asks before the threads begin, and what each asks in its thread.
 #[derive(Clone, Copy)]
@@ -124,8 +123,9 @@ fn noted_outcomes<L: ShardLedger, M: ShardLedger>(
     settled: &Settled<L, M>,
 ) -> Result<Vec<Outcome>, Fail> {
     let mut outcomes = Vec::new(alloc);
-    add_outcomes(&mut outcomes, settled.notes(0).ok_or("a seat")?)?;
-    add_outcomes(&mut outcomes, settled.notes(1).ok_or("another seat")?)?;
+    for seat in 0..2 {
+        add_outcomes(&mut outcomes, settled.notes(seat).ok_or("a seat")?)?;
+    }
     Ok(outcomes)
 }
 
@@ -225,19 +225,24 @@ pub fn told_after<R: Threads + Wait + RandomSource + Sync>(
 }
 
 /// A registration of a vehicle, its first event, and a look.
-fn three_calls<'a>(device: &'a str) -> [Ask<'a>; 3] {
-    [
-        Ask::Register(device),
-        Ask::Report(device, E1, DROP_OFF, State::Available, 1000),
-        Ask::Look(device),
-    ]
-}
+const CALLS_OF_A: &[Ask] = &[
+    Ask::Register(A),
+    Ask::Report(A, E1, DROP_OFF, State::Available, 1000),
+    Ask::Look(A),
+];
+
+/// The same of another vehicle.
+const CALLS_OF_C: &[Ask] = &[
+    Ask::Register(C),
+    Ask::Report(C, E1, DROP_OFF, State::Available, 1000),
+    Ask::Look(C),
+];
 
 /// What each of two seats asks.
 fn three_calls_each(alloc: Global) -> Result<Vec<Vec<Request>>, Fail> {
     let mut each = Vec::new(alloc);
-    each.push(requests_of(alloc, &three_calls(A))?)?;
-    each.push(requests_of(alloc, &three_calls(C))?)?;
+    each.push(requests_of(alloc, CALLS_OF_A)?)?;
+    each.push(requests_of(alloc, CALLS_OF_C)?)?;
     Ok(each)
 }
 
@@ -259,32 +264,31 @@ fn two_seats_two_threads(rt: HostRuntime) -> Result<(), Fail> {
     let found = told_of_two_vehicles(&rt, rt.alloc())?;
     let seen = Seen(available_once());
     let outcomes = [Done, Done, seen, Done, Done, seen];
+    let numbers = (found.accepted, found.first.len(), found.second.len());
     assert_eq!(rt; found.outcomes.as_slice(), outcomes.as_slice());
-    assert_eq!(rt; found.events.as_slice(), [1, 1].as_slice());
     assert_eq!(rt;
-        (found.accepted, found.first.len(), found.second.len()),
-        (4, 4, 0)
+        (found.events.as_slice(), numbers),
+        ([1, 1].as_slice(), (4, 4, 0))
     );
     Ok(())
 }
 
 /// The report of a turn: by turns a low battery and a charged one, each with an identifier of its own and the caller's.
-fn turn_of(caller: u8, turn: u8) -> Result<Request, Fail> {
-    let id = Uuid::from_u128(caller as u128 * 1000 + turn as u128);
-    let (name, state) = if turn % 2 == 0 {
-        ("battery_low", State::NonOperational)
+fn turn_of(caller: u8, turn: u8) -> Option<Request> {
+    let id = uuid(u64::from(caller) * 1000 + u64::from(turn));
+    let (names, state) = if turn % 2 == 0 {
+        (["battery_low"], State::NonOperational)
     } else {
-        ("battery_charged", State::Available)
+        (["battery_charged"], State::Available)
     };
-    let types = [TypeName::new(name)?];
-    Ok(Request::Report(Event::new(key(A)?, id, state, &types, 1000, None)?))
+    Some(Request::Report(event_of(key(A), id, &names, state, 1000)?))
 }
 
 /// A caller's reports of one vehicle by turns.
 fn turns(alloc: Global, caller: u8) -> Result<Vec<Request>, Fail> {
     let mut requests = Vec::new(alloc);
     for turn in 0..200u8 {
-        requests.push(turn_of(caller, turn)?)?;
+        requests.push(turn_of(caller, turn).ok_or("a report")?)?;
     }
     Ok(requests)
 }
@@ -337,6 +341,12 @@ fn alternates_behind_two(history: &[Request]) -> bool {
     alternates(events)
 }
 
+/// What is asked before the turns.
+const BEFORE_TURNS: &[Ask] = &[
+    Ask::Register(A),
+    Ask::Report(A, E0, DROP_OFF, State::Available, 1000),
+];
+
 /// What a settled book tells whose two seats reported one vehicle.
 fn told_of_one_vehicle<R: Threads + Wait + RandomSource + Sync>(
     rt: &R,
@@ -351,19 +361,21 @@ fn told_of_one_vehicle<R: Threads + Wait + RandomSource + Sync>(
     told_after(rt, alloc, profile(alloc)?, asking)
 }
 
-/// What is asked before the turns.
-const BEFORE_TURNS: &[Ask<'static>] = &[
-    Ask::Register(A),
-    Ask::Report(A, E0, DROP_OFF, State::Available, 1000),
-];
+/// How many outcomes there are, whether each accepted call was counted, whether each report was accepted or found no row, and
+/// whether the events alternate.
+fn numbers_of(told: &Told) -> (usize, bool, bool, bool) {
+    (
+        told.outcomes.len(),
+        told.accepted == count_done(&told.outcomes) as u128,
+        told.outcomes.iter().all(is_done_or_stuck),
+        alternates_behind_two(&told.first),
+    )
+}
 
 #[test]
 fn two_threads_on_one_vehicle(rt: HostRuntime) -> Result<(), Fail> {
     let found = told_of_one_vehicle(&rt, rt.alloc())?;
-    let done = count_done(&found.outcomes);
-    assert_eq!(rt; (found.outcomes.len(), found.accepted), (402, done as u128));
-    assert!(rt; found.outcomes.iter().all(is_done_or_stuck));
-    assert!(rt; alternates_behind_two(&found.first));
+    assert_eq!(rt; numbers_of(&found), (402, true, true, true));
     Ok(())
 }
 
@@ -447,7 +459,7 @@ fn three_accepted<R: Wait + RandomSource>(
 }
 
 /// What each of three seats asks.
-const ONE_EACH: &[Ask<'static>] = &[
+const ONE_EACH: &[Ask] = &[
     Ask::Register(A),
     Ask::Report(A, E1, DROP_OFF, State::Available, 1000),
     Ask::Register(super::B),
@@ -467,12 +479,12 @@ fn a_seat_left_out(rt: HostRuntime) -> Result<(), Fail> {
 
 /// What a book tells that isn't settled: the shard and the place, the lengths of its histories and of the notes of its
 /// seats, each with one more that isn't there, and the number of rows of its first table.
-#[derive(Debug, PartialEq, Drop)]
-struct Misfit {
-    at: (usize, usize),
-    histories: [Option<usize>; 3],
-    notes: [Option<usize>; 2],
-    rows: usize,
+#[derive(Clone, Copy, PartialEq)]
+pub struct Misfit {
+    pub at: (usize, usize),
+    pub histories: [Option<usize>; 3],
+    pub notes: [Option<usize>; 2],
+    pub rows: usize,
 }
 
 /// What a book tells whose only seat asked a request, and has a note that isn't true, of the request again, for each
@@ -506,7 +518,7 @@ fn misfit_of<L: ShardLedger, M: ShardLedger, R: Wait + RandomSource>(
 }
 
 /// Asks a request, and notes it again for each shard of these.
-fn ask_and_note<L: ShardLedger, M: ShardLedger, R: Wait>(
+pub fn ask_and_note<L: ShardLedger, M: ShardLedger, R: Wait>(
     rt: &R,
     book: &Book<L, M>,
     seat: &mut Seat<L, M>,
@@ -551,14 +563,32 @@ fn misfit_in<L: ShardLedger, M: ShardLedger>(
     else {
         return Err(Fail::from("not torn"));
     };
-    let history = |shard: usize| gathered.history(shard).map(|history| history.len());
-    let notes = |seat: usize| gathered.notes(seat).map(|notes| notes.len());
-    Ok(Misfit {
-        at: (shard, place),
-        histories: [history(0), history(1), history(2)],
-        notes: [notes(0), notes(1)],
+    Ok(misfit_at((shard, place), &gathered))
+}
+
+/// What it tells of what was gathered.
+pub fn misfit_at<L: ShardLedger, M: ShardLedger>(
+    at: (usize, usize),
+    gathered: &Gathered<L, M>,
+) -> Misfit {
+    Misfit {
+        at,
+        histories: [
+            length_of(gathered.history(0)),
+            length_of(gathered.history(1)),
+            length_of(gathered.history(2)),
+        ],
+        notes: [length_of(gathered.notes(0)), length_of(gathered.notes(1))],
         rows: gathered.tables().at(0).row_count(),
-    })
+    }
+}
+
+/// How long a list is, if it is there.
+pub fn length_of<T>(list: Option<&[T]>) -> Option<usize> {
+    match list {
+        Some(list) => Some(list.len()),
+        None => None,
+    }
 }
 
 /// The same with ledgers of their own.
@@ -580,25 +610,48 @@ fn misfit_after<R: Wait + RandomSource>(
     )
 }
 
+/// The shards of the notes that aren't true, and the least shard and place at which the book isn't settled.
+const MISFITS: &[(&[usize], (usize, usize))] = &[
+    (&[0], (0, 1)),
+    (&[1], (1, 1)),
+    (&[0, 1], (0, 1)),
+    (&[1, 0], (0, 1)),
+];
+
+/// Whether a book with these wrong notes tells so, at this shard and place.
+fn is_misfit<R: Wait + RandomSource>(
+    rt: &R,
+    alloc: Global,
+    wrong: &[usize],
+    at: (usize, usize),
+) -> Result<bool, Fail> {
+    let expected = Misfit {
+        at,
+        histories: [Some(1), Some(0), None],
+        notes: [Some(wrong.len().saturating_add(1)), None],
+        rows: 74,
+    };
+    let request = Request::Register(key(A));
+    let found = misfit_after(rt, alloc, profile(alloc)?, &request, wrong)?;
+    Ok(found == expected)
+}
+
+/// The place of the first of these cases in which a book tells something else, if there is one.
+fn first_other<R: Wait + RandomSource>(
+    rt: &R,
+    alloc: Global,
+    cases: &[(&[usize], (usize, usize))],
+) -> Result<Option<usize>, Fail> {
+    for (place, (wrong, at)) in cases.iter().enumerate() {
+        if !is_misfit(rt, alloc, wrong, *at)? {
+            return Ok(Some(place));
+        }
+    }
+    Ok(None)
+}
+
 #[test]
 fn notes_that_do_not_fit(rt: HostRuntime) -> Result<(), Fail> {
-    let alloc = rt.alloc();
-    let request = Request::Register(key(A)?);
-    let cases: [(&[usize], (usize, usize)); 4] = [
-        (&[0], (0, 1)),
-        (&[1], (1, 1)),
-        (&[0, 1], (0, 1)),
-        (&[1, 0], (0, 1)),
-    ];
-    for (wrong, at) in cases {
-        let expected = Misfit {
-            at,
-            histories: [Some(1), Some(0), None],
-            notes: [Some(1 + wrong.len()), None],
-            rows: 74,
-        };
-        let found = misfit_after(&rt, alloc, profile(alloc)?, &request, wrong)?;
-        assert_eq!(rt; found, expected, "{wrong:?}");
-    }
+    assert_eq!(rt; first_other(&rt, rt.alloc(), MISFITS)?, None);
     Ok(())
 }

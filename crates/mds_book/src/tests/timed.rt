@@ -1,19 +1,18 @@
 //! Tables that change at stated times, through a book.
 use super::Ask::{self, Register, Report};
-use super::cases::{Found, in_both};
+use super::cases::in_both;
 use super::settling::{Asking, Told, told_after};
-use super::{A, B, E1, E2, E3, E4, key, requests_of};
+use super::{A, B, E1, E2, E3, E4, event_of, key, requests_of, uuid};
 use mds_core::Outcome::{self, Done, Refused};
 use mds_core::Refusal::NoChain;
-use mds_core::{Event, Request};
+use mds_core::Request;
 use mds_table::State::{Available, Removed};
-use mds_table::{MAX_TABLES, Table, Tables, TypeName};
+use mds_table::{MAX_TABLES, Table, Tables};
 use std::alloc::{AllocError, Global};
 use std::random::RandomSource;
 use std::sync::Wait;
 use std::test::Fail;
 use std::thread::Threads;
-use uuid::Uuid;
 
 /// A file of two tables: by the first, which is in force until 2000, removed vehicles wake; by the second available ones
 /// rest.
@@ -38,7 +37,7 @@ const STUCK_REMOVED: Outcome = Refused(NoChain {
 });
 
 /// What is asked about A over the two tables: events one millisecond before the second table starts, and when it starts.
-const OF_A: &[Ask<'static>] = &[
+const OF_A: &[Ask] = &[
     Register(A),
     Report(A, E1, &["wake"], Available, 1999),
     Report(A, E2, &["rest"], Removed, 1999),
@@ -47,26 +46,34 @@ const OF_A: &[Ask<'static>] = &[
 ];
 
 /// What is asked about B: an event from before the second table starts.
-const OF_B: &[Ask<'static>] = &[Register(B), Report(B, E1, &["wake"], Available, 1000)];
+const OF_B: &[Ask] = &[Register(B), Report(B, E1, &["wake"], Available, 1000)];
 
 /// What becomes of all that is asked about A, and then of what is asked about B.
 const AROUND_A_START: &[Outcome] = &[Done, Done, STUCK_AVAILABLE, Done, STUCK_REMOVED, Done, Done];
 
-/// What is asked about A and then about B, of a book over the two tables and of a fleet: what comes of it.
-fn both_around_a_start<R: Wait + RandomSource>(rt: &R, alloc: Global) -> Result<[Found; 2], Fail> {
-    let tables = Tables::from_json(alloc, WAKE_THEN_REST.as_bytes())?;
+/// What is asked about A and then about B.
+fn asked_in_turn(alloc: Global) -> Result<Vec<Request>, Fail> {
     let mut requests = requests_of(alloc, OF_A)?;
     for request in requests_of(alloc, OF_B)? {
         requests.push(request)?;
     }
+    Ok(requests)
+}
+
+/// What becomes of that in a book over the two tables, and whether a fleet does the same.
+fn both_around_a_start<R: Wait + RandomSource>(
+    rt: &R,
+    alloc: Global,
+) -> Result<(Vec<Outcome>, bool), Fail> {
+    let tables = Tables::from_json(alloc, WAKE_THEN_REST.as_bytes())?;
+    let requests = asked_in_turn(alloc)?;
     in_both(rt, alloc, tables, &requests)
 }
 
 #[test]
 fn around_a_start(rt: HostRuntime) -> Result<(), Fail> {
-    let [found, expected] = both_around_a_start(&rt, rt.alloc())?;
-    assert_eq!(rt; found, expected);
-    assert_eq!(rt; found.outcomes.as_slice(), AROUND_A_START);
+    let (outcomes, is_same) = both_around_a_start(&rt, rt.alloc())?;
+    assert_eq!(rt; (outcomes.as_slice(), is_same), (AROUND_A_START, true));
     Ok(())
 }
 
@@ -112,15 +119,13 @@ fn most_tables(alloc: Global) -> Result<Tables, Fail> {
 }
 
 /// The change that the table has which starts at one time, where a vehicle reports it at another.
-fn report(device: &str, start: u64, time: u64) -> Result<Request, Fail> {
-    let (kind, state) = if start % 2000 == 0 {
-        ("wake", Available)
+fn report(device: u64, start: u64, time: u64) -> Option<Request> {
+    let (names, state) = if start % 2000 == 0 {
+        (["wake"], Available)
     } else {
-        ("rest", Removed)
+        (["rest"], Removed)
     };
-    let types = [TypeName::new(kind)?];
-    let id = Uuid::from_u128(u128::from(start));
-    Ok(Request::Report(Event::new(key(device)?, id, state, &types, time, None)?))
+    Some(Request::Report(event_of(key(device), uuid(start), &names, state, time)?))
 }
 
 /// What becomes of such a change one millisecond before its table starts.
@@ -132,15 +137,21 @@ fn stuck(start: u64) -> Outcome {
     }
 }
 
+/// Adds such a report.
+fn add(requests: &mut Vec<Request>, device: u64, start: u64, time: u64) -> Result<(), Fail> {
+    requests.push(report(device, start, time).ok_or("a report")?)?;
+    Ok(())
+}
+
 /// What A reports: the change of each table, one millisecond before it starts and when it starts.
 fn changes(alloc: Global) -> Result<Vec<Request>, Fail> {
     let mut requests = Vec::new(alloc);
-    requests.push(Request::Register(key(A)?))?;
-    requests.push(report(A, 0, 0)?)?;
+    requests.push(Request::Register(key(A)))?;
+    add(&mut requests, A, 0, 0)?;
     for at in 1..64u64 {
         let start = 1000 * at;
-        requests.push(report(A, start, start - 1)?)?;
-        requests.push(report(A, start, start)?)?;
+        add(&mut requests, A, start, start - 1)?;
+        add(&mut requests, A, start, start)?;
     }
     Ok(requests)
 }
@@ -148,9 +159,9 @@ fn changes(alloc: Global) -> Result<Vec<Request>, Fail> {
 /// What is asked over all these tables: what A reports, and then changes of B from the midst.
 fn all_asked(alloc: Global) -> Result<Vec<Request>, Fail> {
     let mut requests = changes(alloc)?;
-    requests.push(Request::Register(key(B)?))?;
-    requests.push(report(B, 2000, 2999)?)?;
-    requests.push(report(B, 3000, 2999)?)?;
+    requests.push(Request::Register(key(B)))?;
+    add(&mut requests, B, 2000, 2999)?;
+    add(&mut requests, B, 3000, 2999)?;
     Ok(requests)
 }
 
@@ -167,19 +178,18 @@ fn all_outcomes(alloc: Global) -> Result<Vec<Outcome>, AllocError> {
     Ok(outcomes)
 }
 
-/// What comes of it in a book and in a fleet.
+/// What becomes of it in a book, and whether a fleet does the same.
 fn both_over_most_tables<R: Wait + RandomSource>(
     rt: &R,
     alloc: Global,
-) -> Result<[Found; 2], Fail> {
+) -> Result<(Vec<Outcome>, bool), Fail> {
     let requests = all_asked(alloc)?;
     in_both(rt, alloc, most_tables(alloc)?, &requests)
 }
 
 #[test]
 fn most_tables_in_turn(rt: HostRuntime) -> Result<(), Fail> {
-    let [found, expected] = both_over_most_tables(&rt, rt.alloc())?;
-    assert_eq!(rt; found, expected);
-    assert_eq!(rt; found.outcomes, all_outcomes(rt.alloc())?);
+    let found = both_over_most_tables(&rt, rt.alloc())?;
+    assert_eq!(rt; found, (all_outcomes(rt.alloc())?, true));
     Ok(())
 }
