@@ -170,6 +170,12 @@ QUIET = {
         "HeadStatus::plan",
         "plan_of",
     ],
+    ("mds_response", "lack_is_answered_with_every_growth_refused"): [
+        "status_of",
+        "Found::accepted",
+        "memory_bytes",
+        "bytes_of",
+    ],
     ("mds_args", "kinds_are_told_with_every_growth_refused"): ["WordsError::kind"],
 }
 """A crate and its test, and the calls of the crate that it makes without memory: all of them, or those that are refused, look at

@@ -2,6 +2,7 @@
 mod batches;
 mod faults;
 mod growths;
+mod quiet;
 mod tables;
 mod vehicles;
 
@@ -9,52 +10,83 @@ use crate::{Found, bytes_of};
 use mds_core::{Event, Key, Position};
 use mds_request::Plan;
 use mds_table::{State, TypeName};
-use std::alloc::Global;
-use std::test::Fail;
+use std::alloc::{AllocError, Global};
+use std::process::Abort;
+use std::str::from_utf8;
 use uuid::Uuid;
 
 /// The vehicle with this device.
-fn key(device: u8) -> Key {
+fn key(device: u64) -> Key {
     Key {
-        provider: Uuid::from_u128(0x00000000_0000_4000_8000_000000000001),
+        provider: uuid(0x01),
         device: uuid(device),
     }
 }
 
-/// The identifier that ends with this byte.
-fn uuid(last: u8) -> Uuid {
-    Uuid::from_u128(0x00000000_0000_4000_8000_000000000000 + u128::from(last))
+/// The identifier that ends with these digits.
+fn uuid(last: u64) -> Uuid {
+    Uuid::from_u64_pair(0x4000, 0x8000_0000_0000_0000 | last)
 }
 
 /// The event e1 of vehicle 0a: put on the street at time 1000.
-fn first_event() -> Result<Event, Fail> {
-    let types = [TypeName::new("provider_drop_off")?];
-    Ok(Event::new(key(0x0a), uuid(0xe1), State::Available, &types, 1000, None)?)
+fn first_event() -> Option<Event> {
+    let types = [TypeName::new("provider_drop_off").ok()?];
+    Event::new(key(0x0a), uuid(0xe1), State::Available, &types, 1000, None).ok()
 }
 
 /// The event e2 of that vehicle: two types, at the latest time and a position south west of the origin.
-fn second_event() -> Result<Event, Fail> {
-    let types = [TypeName::new("battery_low")?, TypeName::new("x_1")?];
+fn second_event() -> Option<Event> {
+    let types = [
+        TypeName::new("battery_low").ok()?,
+        TypeName::new("x_1").ok()?,
+    ];
     let position = Position::new(-900_000_000, -1);
-    Ok(Event::new(
+    Event::new(
         key(0x0a),
         uuid(0xe2),
         State::NonOperational,
         &types,
         9_007_199_254_740_991,
         position,
-    )?)
+    )
+    .ok()
 }
 
-/// The text of an answer.
-fn answer(alloc: Global, plan: &Plan, found: &Found) -> Result<String, Fail> {
-    Ok(String::from_utf8(bytes_of(alloc, plan, found)?)?)
+/// The text that the bytes of an answer are; an empty one where they are none.
+fn text_of(bytes: &[u8]) -> &str {
+    from_utf8(bytes).unwrap_or("")
 }
 
-/// The body of an answer.
-fn body_in(text: &str) -> &str {
-    match text.split_once("\r\n\r\n") {
+/// Sees that the whole answer is this text.
+fn see_whole<R: Abort>(
+    rt: &R,
+    alloc: Global,
+    plan: &Plan,
+    found: &Found,
+    expected: &str,
+) -> Result<(), AllocError> {
+    let bytes = bytes_of(alloc, plan, found)?;
+    assert_eq!(rt; text_of(bytes.as_slice()), expected);
+    Ok(())
+}
+
+/// The body of an answer of these bytes.
+fn body_in(bytes: &[u8]) -> &str {
+    match text_of(bytes).split_once("\r\n\r\n") {
         Some((_, body)) => body,
         None => "",
     }
+}
+
+/// Sees that the body of the answer is this text.
+fn see_body<R: Abort>(
+    rt: &R,
+    alloc: Global,
+    plan: &Plan,
+    found: &Found,
+    expected: &str,
+) -> Result<(), AllocError> {
+    let bytes = bytes_of(alloc, plan, found)?;
+    assert_eq!(rt; body_in(bytes.as_slice()), expected);
+    Ok(())
 }

@@ -1,12 +1,12 @@
 //! Answers to a POST.
-use super::{answer, body_in, first_event, key};
+use super::{first_event, key, see_body, see_whole};
 use crate::{Found, status_of};
 use mds_batch::{EventItem, ItemFault, Member, VehicleItem};
 use mds_core::{Outcome, Refusal, Reply};
 use mds_request::Plan;
 use mds_table::State;
-use std::alloc::Global;
-use std::test::Fail;
+use std::alloc::{AllocError, Global};
+use std::process::Abort;
 
 /// What becomes of an item.
 #[derive(Clone, Copy)]
@@ -87,33 +87,45 @@ const BODIES: [(&[Item], &str); 14] = [
     ),
 ];
 
+/// The registration or the fault that an item is.
+fn vehicle_of(item: Item) -> VehicleItem {
+    match item {
+        Item::Faulty(fault) => VehicleItem::Fault(fault),
+        _ => VehicleItem::Vehicle(key(0x0a)),
+    }
+}
+
 /// A POST of as many registrations or faults.
-fn vehicles_of(alloc: Global, items: &[Item]) -> Result<Plan, Fail> {
+fn vehicles_of(alloc: Global, items: &[Item]) -> Result<Plan, AllocError> {
     let mut vehicles = Vec::new(alloc);
     for item in items {
-        vehicles.push(match item {
-            Item::Faulty(fault) => VehicleItem::Fault(*fault),
-            _ => VehicleItem::Vehicle(key(0x0a)),
-        })?;
+        vehicles.push(vehicle_of(*item))?;
     }
     Ok(Plan::Vehicles(vehicles))
 }
 
+/// The event or the fault that an item is.
+fn event_of(item: Item) -> EventItem {
+    if let Item::Faulty(fault) = item {
+        return EventItem::Fault(fault);
+    }
+    match first_event() {
+        Some(event) => EventItem::Event(event),
+        None => EventItem::Fault(ItemFault::NotObject),
+    }
+}
+
 /// A POST of as many events or faults.
-fn events_of(alloc: Global, items: &[Item]) -> Result<Plan, Fail> {
-    let event = first_event()?;
+fn events_of(alloc: Global, items: &[Item]) -> Result<Plan, AllocError> {
     let mut events = Vec::new(alloc);
     for item in items {
-        events.push(match item {
-            Item::Faulty(fault) => EventItem::Fault(*fault),
-            _ => EventItem::Event(event.copy()),
-        })?;
+        events.push(event_of(*item))?;
     }
     Ok(Plan::Events(events))
 }
 
 /// The replies to them.
-fn replies_of(alloc: Global, items: &[Item]) -> Result<Found, Fail> {
+fn replies_of(alloc: Global, items: &[Item]) -> Result<Found, AllocError> {
     let mut replies = Vec::new(alloc);
     for item in items {
         if let Some(outcome) = item.outcome() {
@@ -123,54 +135,86 @@ fn replies_of(alloc: Global, items: &[Item]) -> Result<Found, Fail> {
     Ok(Found::Replies(replies))
 }
 
-#[test]
-fn bodies_of_registrations(rt: HostRuntime) -> Result<(), Fail> {
-    for (items, expected) in &BODIES {
-        let found = replies_of(rt.alloc(), items)?;
-        let text = answer(rt.alloc(), &vehicles_of(rt.alloc(), items)?, &found)?;
-        assert_eq!(rt; body_in(text.as_str()), *expected);
+/// Sees that a POST of as many registrations or faults has this body.
+fn see_vehicles<R: Abort>(
+    rt: &R,
+    alloc: Global,
+    items: &[Item],
+    expected: &str,
+) -> Result<(), AllocError> {
+    let plan = vehicles_of(alloc, items)?;
+    see_body(rt, alloc, &plan, &replies_of(alloc, items)?, expected)
+}
+
+/// Sees that a POST of as many events or faults has this body.
+fn see_events<R: Abort>(
+    rt: &R,
+    alloc: Global,
+    items: &[Item],
+    expected: &str,
+) -> Result<(), AllocError> {
+    let plan = events_of(alloc, items)?;
+    see_body(rt, alloc, &plan, &replies_of(alloc, items)?, expected)
+}
+
+/// Sees these bodies, of registrations or of events.
+fn see_bodies<R: Abort>(
+    rt: &R,
+    alloc: Global,
+    bodies: &[(&[Item], &str)],
+    are_events: bool,
+) -> Result<(), AllocError> {
+    for (items, expected) in bodies {
+        if are_events {
+            see_events(rt, alloc, items, expected)?;
+        } else {
+            see_vehicles(rt, alloc, items, expected)?;
+        }
     }
     Ok(())
 }
 
 #[test]
-fn bodies_of_events(rt: HostRuntime) -> Result<(), Fail> {
-    for (items, expected) in &BODIES {
-        let found = replies_of(rt.alloc(), items)?;
-        let text = answer(rt.alloc(), &events_of(rt.alloc(), items)?, &found)?;
-        assert_eq!(rt; body_in(text.as_str()), *expected);
-    }
-    Ok(())
+fn bodies_of_registrations(rt: HostRuntime) -> Result<(), AllocError> {
+    see_bodies(&rt, rt.alloc(), &BODIES, false)
 }
 
-/// Items, the whole answer, its status, and how many items were accepted.
-const WHOLE: [(&[Item], &str, u16, usize); 2] = [
+#[test]
+fn bodies_of_events(rt: HostRuntime) -> Result<(), AllocError> {
+    see_bodies(&rt, rt.alloc(), &BODIES, true)
+}
+
+/// Items, the whole answer, and its status with how many items were accepted.
+const WHOLE: [(&[Item], &str, (u16, usize)); 2] = [
     (
         &[],
         "HTTP/1.1 200 OK\r\ncontent-type: application/json\r\ncontent-length: 37\r\nconnection: close\r\n\r\n{\"failures\":[],\"success\":0,\"total\":0}",
-        200,
-        0,
+        (200, 0),
     ),
     (
         &[NO_DEVICE, Item::Done, Item::Out],
         "HTTP/1.1 503 Service Unavailable\r\ncontent-type: application/json\r\ncontent-length: 35\r\nconnection: close\r\n\r\n{\"error\":\"out_of_memory\",\"index\":2}",
-        503,
-        1,
+        (503, 1),
     ),
 ];
 
-#[test]
-fn whole_answers(rt: HostRuntime) -> Result<(), Fail> {
-    for (items, expected, status, accepted) in &WHOLE {
-        let plan = events_of(rt.alloc(), items)?;
-        let found = replies_of(rt.alloc(), items)?;
-        let text = answer(rt.alloc(), &plan, &found)?;
-        let told = (
-            text.as_str(),
-            status_of(&plan, &found).as_u16(),
-            found.accepted(),
-        );
-        assert_eq!(rt; told, (*expected, *status, *accepted));
+/// Sees the whole answers, and what is told of them.
+fn see_answers<R: Abort>(
+    rt: &R,
+    alloc: Global,
+    answers: &[(&[Item], &str, (u16, usize))],
+) -> Result<(), AllocError> {
+    for (items, expected, told) in answers {
+        let plan = events_of(alloc, items)?;
+        let found = replies_of(alloc, items)?;
+        see_whole(rt, alloc, &plan, &found, expected)?;
+        let status = status_of(&plan, &found).as_u16();
+        assert_eq!(rt; (status, found.accepted()), *told);
     }
     Ok(())
+}
+
+#[test]
+fn whole_answers(rt: HostRuntime) -> Result<(), AllocError> {
+    see_answers(&rt, rt.alloc(), &WHOLE)
 }

@@ -1,9 +1,10 @@
 //! Answers by a fault alone, whole.
-use super::{answer, key};
+use super::{key, see_whole};
 use crate::{Found, memory_bytes};
 use mds_core::{Outcome, Refusal, Reply};
 use mds_request::{HttpFault, Plan};
-use std::test::Fail;
+use std::alloc::{AllocError, Global};
+use std::process::Abort;
 
 /// Each fault, and the whole answer.
 const ANSWERS: [(HttpFault, &str); 12] = [
@@ -57,13 +58,21 @@ const ANSWERS: [(HttpFault, &str); 12] = [
     ),
 ];
 
-#[test]
-fn faults(rt: HostRuntime) -> Result<(), Fail> {
-    for (fault, expected) in &ANSWERS {
-        let text = answer(rt.alloc(), &Plan::Fixed(*fault), &Found::Nothing)?;
-        assert_eq!(rt; text.as_str(), *expected);
+/// Sees that each fault has this answer.
+fn see_faults<R: Abort>(
+    rt: &R,
+    alloc: Global,
+    answers: &[(HttpFault, &str)],
+) -> Result<(), AllocError> {
+    for (fault, expected) in answers {
+        see_whole(rt, alloc, &Plan::Fixed(*fault), &Found::Nothing, expected)?;
     }
     Ok(())
+}
+
+#[test]
+fn faults(rt: HostRuntime) -> Result<(), AllocError> {
+    see_faults(&rt, rt.alloc(), &ANSWERS)
 }
 
 /// The answer to a GET of a vehicle that isn't registered.
@@ -71,22 +80,24 @@ const UNREGISTERED: &str =
     "HTTP/1.1 404 Not Found\r\ncontent-type: application/json\r\ncontent-length: 24\r\nconnection: close\r\n\r\n{\"error\":\"unregistered\"}";
 
 #[test]
-fn vehicle_that_is_not_registered(rt: HostRuntime) -> Result<(), Fail> {
-    let reply = Reply {
+fn vehicle_that_is_not_registered(rt: HostRuntime) -> Result<(), AllocError> {
+    let look = Found::One(Reply {
         place: 3,
         outcome: Outcome::Refused(Refusal::Unregistered),
-    };
-    let look = answer(rt.alloc(), &Plan::One(key(0x0b)), &Found::One(reply))?;
-    let events = answer(rt.alloc(), &Plan::History(key(0x0b)), &Found::History(None))?;
-    assert_eq!(rt;
-        (look.as_str(), events.as_str()),
-        (UNREGISTERED, UNREGISTERED)
-    );
-    Ok(())
+    });
+    let events = Found::History(None);
+    see_whole(&rt, rt.alloc(), &Plan::One(key(0x0b)), &look, UNREGISTERED)?;
+    see_whole(
+        &rt,
+        rt.alloc(),
+        &Plan::History(key(0x0b)),
+        &events,
+        UNREGISTERED,
+    )
 }
 
 /// The answer where there is no memory for one.
-const NO_MEMORY: &[u8] =
+pub const NO_MEMORY: &[u8] =
     b"HTTP/1.1 503 Service Unavailable\r\ncontent-length: 0\r\nconnection: close\r\n\r\n";
 
 #[test]

@@ -1,44 +1,66 @@
 //! Answers to a GET of the tables.
-use super::{answer, body_in};
-use crate::{Found, status_of};
+use super::body_in;
+use crate::{Found, bytes_of, status_of};
 use mds_request::Plan;
-use mds_table::{Row, Table, Tables};
-use std::alloc::Global;
-use std::test::Fail;
+use mds_table::{Row, Table, TableFault, Tables, TablesFault};
+use std::alloc::{AllocError, Global};
+use std::process::Abort;
 
 /// The starting times of tables and their rows.
-fn listed(alloc: Global, tables: &Tables) -> Result<Vec<(u64, Vec<Row>)>, Fail> {
+fn listed(alloc: Global, tables: &Tables) -> Result<Vec<(u64, Vec<Row>)>, AllocError> {
     let mut list = Vec::new(alloc);
     for at in 0..tables.len() {
-        let (start, table) = tables.entry(at).ok_or("a table")?;
-        list.push((start, table.rows(alloc)?))?;
+        if let Some((start, table)) = tables.entry(at) {
+            list.push((start, table.rows(alloc)?))?;
+        }
     }
     Ok(list)
 }
 
 /// The status and the body of the answer of these tables.
-fn answered(alloc: Global, tables: &Tables) -> Result<(u16, String), Fail> {
+fn answered(alloc: Global, tables: &Tables) -> Result<(u16, String), AllocError> {
     let found = Found::Rows(listed(alloc, tables)?);
-    let text = answer(alloc, &Plan::Rows, &found)?;
-    let status = status_of(&Plan::Rows, &found).as_u16();
-    Ok((status, String::from_str(alloc, body_in(text.as_str()))?))
+    let bytes = bytes_of(alloc, &Plan::Rows, &found)?;
+    let body = String::from_str(alloc, body_in(bytes.as_slice()))?;
+    Ok((status_of(&Plan::Rows, &found).as_u16(), body))
+}
+
+/// Sees that the file of tables stands for these.
+fn see_read<R: Abort>(
+    rt: &R,
+    alloc: Global,
+    file: &str,
+    tables: &Tables,
+) -> Result<(), TablesFault> {
+    let read = Tables::from_json(alloc, file.as_bytes())?;
+    assert_eq!(rt; listed(alloc, &read)?, listed(alloc, tables)?);
+    Ok(())
+}
+
+/// Sees that the file of a table stands for the profile.
+fn see_profile<R: Abort>(rt: &R, alloc: Global, file: &str) -> Result<(), TableFault> {
+    let read = Table::from_json(alloc, file.as_bytes())?;
+    let profile = Table::profile(alloc)?;
+    assert_eq!(rt; read.rows(alloc)?, profile.rows(alloc)?);
+    Ok(())
 }
 
 /// How the body of the profile's table begins.
 const FIRST_ROWS: &str =
     r#"{"rows":[{"from":"removed","to":"available","type":"agency_drop_off"},{"from":"available","to":"removed","type":"agency_pick_up"},"#;
 
-#[test]
-fn one_table(rt: HostRuntime) -> Result<(), Fail> {
-    let alloc = rt.alloc();
-    let tables = Tables::one(alloc, Table::profile(alloc)?)?;
-    let (status, body) = answered(alloc, &tables)?;
+/// Sees that the answer of the profile's table is a file of it.
+fn see_one<R: Abort>(rt: &R, alloc: Global, tables: &Tables) -> Result<(), TablesFault> {
+    let (status, body) = answered(alloc, tables)?;
     assert_eq!(rt; (status, body.starts_with(FIRST_ROWS)), (200, true));
-    let table = Table::from_json(alloc, body.as_bytes())?;
-    assert_eq!(rt; table.rows(alloc)?, Table::profile(alloc)?.rows(alloc)?);
-    let read = Tables::from_json(alloc, body.as_bytes())?;
-    assert_eq!(rt; listed(alloc, &read)?, listed(alloc, &tables)?);
-    Ok(())
+    assert_eq!(rt; see_profile(rt, alloc, body.as_str()), Ok(()));
+    see_read(rt, alloc, body.as_str(), tables)
+}
+
+#[test]
+fn one_table(rt: HostRuntime) -> Result<(), TablesFault> {
+    let profile = Table::profile(rt.alloc())?;
+    see_one(&rt, rt.alloc(), &Tables::one(rt.alloc(), profile)?)
 }
 
 /// Files of tables, and the body of the answer of what they stand for.
@@ -67,15 +89,18 @@ const BODIES: [(&str, &str); 4] = [
     ),
 ];
 
-#[test]
-fn several_tables(rt: HostRuntime) -> Result<(), Fail> {
-    let alloc = rt.alloc();
-    for (file, expected) in &BODIES {
+/// Sees that the answer of each file has this body, and that this is a file of the same tables.
+fn see_files<R: Abort>(rt: &R, alloc: Global, files: &[(&str, &str)]) -> Result<(), TablesFault> {
+    for (file, expected) in files {
         let tables = Tables::from_json(alloc, file.as_bytes())?;
         let (status, body) = answered(alloc, &tables)?;
         assert_eq!(rt; (status, body.as_str()), (200, *expected));
-        let read = Tables::from_json(alloc, body.as_bytes())?;
-        assert_eq!(rt; listed(alloc, &read)?, listed(alloc, &tables)?);
+        see_read(rt, alloc, body.as_str(), &tables)?;
     }
     Ok(())
+}
+
+#[test]
+fn several_tables(rt: HostRuntime) -> Result<(), TablesFault> {
+    see_files(&rt, rt.alloc(), &BODIES)
 }
