@@ -165,6 +165,16 @@ QUIET = {
         "Verdict::accepts",
     ],
     ("mds_replay", "numbers_are_looked_at_with_every_growth_refused"): ["replay_with"],
+    ("mds_trace", "sessions_move_with_every_growth_refused"): [
+        "Session::place",
+        "Session::state",
+        "Session::possible",
+        "Session::step",
+        "Session::back",
+        "Session::next_event",
+        "Session::run_to",
+    ],
+    ("mds_trace", "a_stream_begins_with_every_growth_refused"): ["LineReplay::open", "LineReplay::feed"],
     ("mds_request", "looks_are_planned_with_every_growth_refused"): [
         "Face::head_status",
         "HeadStatus::plan",

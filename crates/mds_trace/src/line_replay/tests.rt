@@ -1,12 +1,11 @@
 //! The worked cases of lines, and that each call can succeed.
-use crate::{LineFault, LineReplay, Opening, Report, Verdict};
-use arrayvec::ArrayVec;
+use crate::session_tests::fence;
+use crate::{LineFault, LineReplay, Opening, Report, VehicleEnd, Verdict};
 use mds_batch::ItemFault;
 use mds_core::Refusal;
 use mds_table::State::{Available, OnTrip, Removed};
 use mds_table::{State, Table, Tables};
 use std::alloc::{AllocError, Global};
-use std::process::Abort;
 use std::test::Fail;
 use uuid::Uuid;
 
@@ -32,32 +31,46 @@ const FIVE_VERDICTS: [Verdict; 5] = [
     Verdict::Refused(Refusal::Late { last: 2000 }),
 ];
 
-/// The last digits of a vehicle's device, the states in which it may have opened, and where it stands: its state and how
-/// many of its events were accepted.
-type End = (
-    u128,
-    ArrayVec<State, { State::COUNT }>,
-    Option<(State, usize)>,
-);
+/// Where a vehicle stands that opened in `removed`: the lowest bits of its device, its state and how many of its events
+/// were accepted.
+#[derive(Clone, Copy)]
+struct End(u64, State, usize);
 
-/// The end of a vehicle that opened in `removed`.
-fn end(device: u128, state: State, events: usize) -> End {
-    let mut openings = ArrayVec::new();
-    openings.push(Removed);
-    (device, openings, Some((state, events)))
+/// Where the vehicles of the five events stand.
+const FIVE_ENDS: [End; 2] = [
+    End(0x8000_0000_0000_000a, OnTrip, 2),
+    End(0x8000_0000_0000_000b, Available, 1),
+];
+
+/// Whether a vehicle stands so.
+fn ends_so(end: &VehicleEnd, told: &End) -> bool {
+    match end.standing {
+        Some(standing) => {
+            end.key.device == Uuid::from_u64_pair(0x4000, told.0)
+                && end.openings.states().as_slice() == [Removed].as_slice()
+                && standing.state == told.1
+                && standing.events == told.2
+        }
+        None => false,
+    }
 }
 
-/// The ends of a report.
-fn ends(alloc: Global, report: &Report) -> Result<Vec<End>, AllocError> {
-    let mut ends = Vec::new(alloc);
-    for end in &report.vehicles {
-        let known = end
-            .standing
-            .map(|standing| (standing.state, standing.events));
-        let device = end.key.device.as_u128() % 256;
-        ends.push((device, end.openings.states(), known))?;
+/// Whether these are the vehicles, and each stands so.
+fn end_so(ends: &[VehicleEnd], told: &[End]) -> bool {
+    for (end, told) in ends.iter().zip(told) {
+        if !ends_so(end, told) {
+            return false;
+        }
     }
-    Ok(ends)
+    ends.len() == told.len()
+}
+
+/// Whether this is the report of the five events.
+fn is_of_five(report: &Report) -> bool {
+    report.lines.as_slice() == FIVE_VERDICTS.as_slice()
+        && end_so(&report.vehicles, &FIVE_ENDS)
+        && report.accepted == 3
+        && report.refused == 2
 }
 
 /// The profile's table, in force from 0 on.
@@ -66,9 +79,17 @@ fn profile(alloc: Global) -> Result<Tables, AllocError> {
 }
 
 /// A replay over the profile of a stream of which nothing has come.
-fn opened(alloc: Global, opening: Opening) -> Result<LineReplay, LineFault> {
-    let tables = profile(alloc).map_err(|_| LineFault::Memory)?;
+fn opened(alloc: Global, opening: Opening) -> Result<LineReplay, AllocError> {
+    let tables = profile(alloc)?;
     Ok(LineReplay::open(alloc, tables, opening))
+}
+
+/// Feeds a stream in pieces of this length, up to its first fault.
+fn feed_all(replay: &mut LineReplay, stream: &[u8], len: usize) -> Result<(), LineFault> {
+    for piece in stream.chunks(len.max(1)) {
+        replay.feed(piece)?;
+    }
+    Ok(())
 }
 
 /// The replay of a stream that is fed in pieces of this length.
@@ -78,118 +99,158 @@ fn in_pieces(
     len: usize,
     opening: Opening,
 ) -> Result<Report, LineFault> {
-    let mut replay = opened(alloc, opening)?;
-    for piece in stream.as_bytes().chunks(len.max(1)) {
-        replay.feed(piece)?;
-    }
+    let Ok(mut replay) = opened(alloc, opening) else {
+        return Err(LineFault::Memory);
+    };
+    feed_all(&mut replay, stream.as_bytes(), len)?;
     replay.finish()
 }
 
-/// Stops the test unless this is the report of the five events.
-fn expect_five(rt: &impl Abort, alloc: Global, report: &Report) -> Result<(), Fail> {
-    let expected = [end(0x0a, OnTrip, 2), end(0x0b, Available, 1)];
-    assert_eq!(rt; report.lines.as_slice(), FIVE_VERDICTS.as_slice());
-    assert_eq!(rt; ends(alloc, report)?.as_slice(), expected.as_slice());
-    assert_eq!(rt; (report.accepted, report.refused), (3, 2));
-    Ok(())
+/// The first of these lengths of pieces in which the five events come to another report.
+fn first_other(
+    alloc: Global,
+    lens: &[usize],
+    opening: Opening,
+) -> Result<Option<usize>, LineFault> {
+    for len in lens {
+        let report = in_pieces(alloc, FIVE_EVENTS, *len, opening)?;
+        if !is_of_five(&report) {
+            return Ok(Some(*len));
+        }
+    }
+    Ok(None)
 }
 
 #[test]
 fn five_events_whole_and_byte_by_byte(rt: HostRuntime) -> Result<(), Fail> {
-    let alloc = rt.alloc();
-    for opening in [Opening::Removed, Opening::Any] {
-        for len in [usize::MAX, 1, 100, 16_384] {
-            let report = in_pieces(alloc, FIVE_EVENTS, len, opening)?;
-            expect_five(&rt, alloc, &report)?;
-        }
-    }
+    let lens = [usize::MAX, 1, 100, 16_384];
+    let removed = first_other(rt.alloc(), &lens, Opening::Removed)?;
+    let any = first_other(rt.alloc(), &lens, Opening::Any)?;
+    assert_eq!(rt; (removed, any), (None, None));
     Ok(())
 }
+
+/// Pieces that are fed, and how each of these calls ends.
+type Fed = (&'static [u8], Result<(), LineFault>);
+
+/// The first of these pieces of which the call ends otherwise.
+fn first_fed_otherwise(replay: &mut LineReplay, fed: &[Fed]) -> Option<usize> {
+    for (at, (piece, ended)) in fed.iter().enumerate() {
+        if replay.feed(piece) != *ended {
+            return Some(at);
+        }
+    }
+    None
+}
+
+/// Pieces of which the second line has a fault.
+const FED: [Fed; 5] = [
+    (b"7\n{", Ok(())),
+    (b"", Ok(())),
+    (b"\n", Err(LineFault::NotJson { line: 1 })),
+    (b"7\n{\n", Err(LineFault::NotJson { line: 1 })),
+    (b"", Err(LineFault::NotJson { line: 1 })),
+];
 
 /// The fault of the second line is answered by every later call.
 #[test]
 fn a_fault_is_answered_again(rt: HostRuntime) -> Result<(), Fail> {
-    let fault = LineFault::NotJson { line: 1 };
     let mut replay = opened(rt.alloc(), Opening::Removed)?;
-    let fed = [
-        replay.feed(b"7\n{"),
-        replay.feed(b""),
-        replay.feed(b"\n"),
-        replay.feed(b"7\n{\n"),
-        replay.feed(b""),
-    ];
-    assert_eq!(rt; fed, [Ok(()), Ok(()), Err(fault), Err(fault), Err(fault)]);
-    let ended = replay.finish().map(|report| report.accepted);
-    assert_eq!(rt; ended, Err(fault));
+    let other = first_fed_otherwise(&mut replay, &FED);
+    let fault = replay.finish().err();
+    assert_eq!(rt;
+        (other, fault),
+        (None, Some(LineFault::NotJson { line: 1 }))
+    );
     Ok(())
 }
 
 /// A line that is no JSON where the stream ends in it.
 #[test]
 fn a_last_line_at_fault(rt: HostRuntime) {
-    let ended = in_pieces(rt.alloc(), "7\n{", 1, Opening::Any).map(|report| report.accepted);
-    assert_eq!(rt; ended, Err(LineFault::NotJson { line: 1 }));
+    let fault = in_pieces(rt.alloc(), "7\n{", 1, Opening::Any).err();
+    assert_eq!(rt; fault, Some(LineFault::NotJson { line: 1 }));
 }
 
-/// Stops the test unless all the items are no objects, and there are this many.
-fn expect_no_objects(rt: &impl Abort, report: &Report, count: usize) {
-    let verdict = Verdict::Fault(ItemFault::NotObject);
-    assert!(rt; report.lines.iter().all(|line| *line == verdict));
-    assert_eq!(rt;
-        (
-            report.lines.len(),
-            report.vehicles.len(),
-            report.accepted,
-            report.refused
-        ),
-        (count, 0, 0, count)
-    );
+/// Whether all the items are no objects, and there are this many.
+fn are_no_objects(report: &Report, count: usize) -> bool {
+    for line in &report.lines {
+        if *line != Verdict::Fault(ItemFault::NotObject) {
+            return false;
+        }
+    }
+    report.lines.len() == count
+        && report.vehicles.is_empty()
+        && report.accepted == 0
+        && report.refused == count
 }
 
 #[test]
 fn no_lines_and_ten_that_are_no_objects(rt: HostRuntime) -> Result<(), Fail> {
-    let alloc = rt.alloc();
-    let report = opened(alloc, Opening::Removed)?.finish()?;
-    expect_no_objects(&rt, &report, 0);
-    let report = in_pieces(alloc, "7\n7\n7\n7\n7\n7\n7\n7\n7\n7", 3, Opening::Any)?;
-    expect_no_objects(&rt, &report, 10);
+    let none = opened(rt.alloc(), Opening::Removed)?.finish()?;
+    let ten = in_pieces(rt.alloc(), "7\n7\n7\n7\n7\n7\n7\n7\n7\n7", 3, Opening::Any)?;
+    assert_eq!(rt;
+        (are_no_objects(&none, 0), are_no_objects(&ten, 10)),
+        (true, true)
+    );
+    Ok(())
+}
+
+/// A replay is opened and takes in no byte (`tests/refused-growths` refuses each growth meanwhile).
+#[test]
+fn a_stream_begins_with_every_growth_refused(rt: HostRuntime) -> Result<(), Fail> {
+    let tables = profile(rt.alloc())?;
+    let _begun = fence(rt.alloc());
+    let mut replay = LineReplay::open(rt.alloc(), tables, Opening::Any);
+    let fed = replay.feed(b"");
+    let _ended = fence(rt.alloc());
+    assert_eq!(rt; fed, Ok(()));
     Ok(())
 }
 
 /// The replay of the five events, begun anew where a growth is refused (by `tests/refused-growths`).
 #[test]
 fn lines_are_replayed_after_a_refused_growth(rt: HostRuntime) -> Result<(), Fail> {
-    let alloc = rt.alloc();
-    let replayed = match in_pieces(alloc, FIVE_EVENTS, 300, Opening::Any) {
-        Err(LineFault::Memory) => in_pieces(alloc, FIVE_EVENTS, 300, Opening::Any),
+    let replayed = match in_pieces(rt.alloc(), FIVE_EVENTS, 300, Opening::Any) {
+        Err(LineFault::Memory) => in_pieces(rt.alloc(), FIVE_EVENTS, 300, Opening::Any),
         other => other,
     };
-    let report = replayed?;
-    assert_eq!(rt; report.lines.as_slice(), FIVE_VERDICTS.as_slice());
-    assert_eq!(rt;
-        (report.vehicles.len(), report.accepted, report.refused),
-        (2, 3, 2)
-    );
+    assert!(rt; is_of_five(&replayed?));
     Ok(())
+}
+
+/// A replay over the profile, opened again where a growth is refused.
+fn opened_again(alloc: Global) -> Result<LineReplay, AllocError> {
+    match opened(alloc, Opening::Any) {
+        Err(_) => opened(alloc, Opening::Any),
+        replay => replay,
+    }
+}
+
+/// Feeds the five events and a last line: whether each call after a fault answers it again, and the last answer.
+fn fed_and_kept(replay: &mut LineReplay) -> (bool, Result<(), LineFault>) {
+    let five = replay.feed(FIVE_EVENTS.as_bytes());
+    let seven = replay.feed(b"7");
+    let last = replay.feed(b"\n");
+    let kept = (five.is_ok() || seven == five) && (seven.is_ok() || last == seven);
+    (kept, last)
+}
+
+/// How many items a stream has, or its fault.
+fn count_of(ended: Result<Report, LineFault>) -> Result<usize, LineFault> {
+    Ok(ended?.lines.len())
 }
 
 /// Want of memory is kept, as any fault is (growths are refused by `tests/refused-growths`).
 #[test]
 fn memory_is_kept_after_a_refused_growth(rt: HostRuntime) -> Result<(), Fail> {
-    let mut replay = match opened(rt.alloc(), Opening::Any) {
-        Err(_) => opened(rt.alloc(), Opening::Any)?,
-        Ok(replay) => replay,
+    let mut replay = opened_again(rt.alloc())?;
+    let (kept, last) = fed_and_kept(&mut replay);
+    let ended = count_of(replay.finish());
+    let told = match last {
+        Ok(()) => ended == Ok(6) || ended == Err(LineFault::Memory),
+        Err(fault) => fault == LineFault::Memory && ended == Err(fault),
     };
-    let fed = [
-        replay.feed(FIVE_EVENTS.as_bytes()),
-        replay.feed(b"7"),
-        replay.feed(b"\n"),
-    ];
-    let ended = replay.finish().map(|report| report.lines.len());
-    let kept = match fed {
-        [Ok(()), Ok(()), Ok(())] => ended == Ok(6) || ended == Err(LineFault::Memory),
-        [_, _, last] => last == Err(LineFault::Memory) && ended == Err(LineFault::Memory),
-    };
-    assert!(rt; kept);
+    assert_eq!(rt; (kept, told), (true, true));
     Ok(())
 }
