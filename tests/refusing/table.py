@@ -126,6 +126,15 @@ QUIET = {
         "Request::event",
         "Request::copy",
     ],
+    ("mds_shard", "shards_are_told_of_with_every_growth_refused"): [
+        "Shard::open",
+        "Shard::step",
+        "Shard::events",
+        "Shard::history",
+        "Shard::standing",
+        "Shard::tables",
+        "Shard::len",
+    ],
     ("mds_settle", "notes_are_judged_with_every_growth_refused"): ["judge", "judge_lawful", "NoteList::notes"],
     ("mds_gate", "the_open_gate_is_passed_with_every_growth_refused"): ["Gate::enter", "Gate::leave"],
     ("mds_book", "books_are_told_of_with_every_growth_refused"): [

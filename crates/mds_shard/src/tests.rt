@@ -3,6 +3,7 @@
 mod cases;
 mod growths;
 mod many;
+mod quiet;
 mod timed;
 
 use crate::Shard;
@@ -13,63 +14,69 @@ use std::hash::RandomState;
 use std::test::Fail;
 use uuid::Uuid;
 
-/// The provider of every vehicle here.
-pub const PROVIDER: &str = "00000000-0000-4000-8000-000000000001";
+/// Two vehicles whose device identifiers are even, by the lower half of these.
+pub const A: u64 = 0x8000_0000_0000_000a;
 
-/// Two vehicles whose device identifiers are even.
-pub const A: &str = "00000000-0000-4000-8000-00000000000a";
+pub const C: u64 = 0x8000_0000_0000_000c;
 
-pub const C: &str = "00000000-0000-4000-8000-00000000000c";
+/// Identifiers of events, by their lower halves.
+pub const E0: u64 = 0x8000_0000_0000_00e0;
 
-/// Identifiers of events.
-pub const E0: &str = "00000000-0000-4000-8000-0000000000e0";
+pub const E1: u64 = 0x8000_0000_0000_00e1;
 
-pub const E1: &str = "00000000-0000-4000-8000-0000000000e1";
+pub const E2: u64 = 0x8000_0000_0000_00e2;
 
-pub const E2: &str = "00000000-0000-4000-8000-0000000000e2";
+pub const E3: u64 = 0x8000_0000_0000_00e3;
 
-pub const E3: &str = "00000000-0000-4000-8000-0000000000e3";
-
-pub const E4: &str = "00000000-0000-4000-8000-0000000000e4";
+pub const E4: u64 = 0x8000_0000_0000_00e4;
 
 pub const DROP_OFF: &[&str] = &["provider_drop_off"];
 
 /// What a test asks; an event is told by its vehicle, identifier, types, state and time.
 #[derive(Clone, Copy)]
-pub enum Ask<'a> {
-    Register(&'a str),
-    Report(&'a str, &'a str, &'a [&'a str], State, u64),
-    Look(&'a str),
+pub enum Ask {
+    Register(u64),
+    Report(u64, u64, &'static [&'static str], State, u64),
+    Look(u64),
+}
+
+/// The identifier with this lower half.
+pub fn uuid(lower: u64) -> Uuid {
+    Uuid::from_u64_pair(0x0000_0000_0000_4000, lower)
 }
 
 /// The key of a vehicle, by its device.
-pub fn key(device: &str) -> Result<Key, Fail> {
-    Ok(Key {
-        provider: Uuid::parse_str(PROVIDER)?,
-        device: Uuid::parse_str(device)?,
-    })
-}
-
-/// The types of these names.
-fn types_of(alloc: Global, names: &[&str]) -> Result<Vec<TypeName>, Fail> {
-    let mut types = Vec::new(alloc);
-    for name in names {
-        types.push(TypeName::new(name)?)?;
+pub fn key(device: u64) -> Key {
+    Key {
+        provider: uuid(0x8000_0000_0000_0001),
+        device: uuid(device),
     }
-    Ok(types)
 }
 
-/// The request that is asked.
-pub fn request_of(alloc: Global, asked: Ask<'_>) -> Result<Request, Fail> {
-    Ok(match asked {
-        Ask::Register(device) => Request::Register(key(device)?),
+/// The event of one type or two that is told, or `None` where there is none such.
+pub fn event_of(key: Key, id: Uuid, names: &[&str], state: State, time: u64) -> Option<Event> {
+    let mut types = [TypeName::default(); 2];
+    for (name, kind) in names.iter().zip(types.iter_mut()) {
+        *kind = TypeName::new(name).ok()?;
+    }
+    Event::new(key, id, state, types.get(..names.len())?, time, None).ok()
+}
+
+/// The first event of A.
+pub fn first_event() -> Option<Event> {
+    event_of(key(A), uuid(E1), DROP_OFF, State::Available, 1000)
+}
+
+/// The request that is asked, or `None` where it reports what is no event.
+pub fn request_of(asked: &Ask) -> Option<Request> {
+    match asked {
+        Ask::Register(device) => Some(Request::Register(key(*device))),
         Ask::Report(device, id, names, state, time) => {
-            let types = types_of(alloc, names)?;
-            let id = Uuid::parse_str(id)?;
-            Request::Report(Event::new(key(device)?, id, state, &types, time, None)?)
+            let event = event_of(key(*device), uuid(*id), names, *state, *time)?;
+            Some(Request::Report(event))
         }
-        Ask::Look(device) => Request::Look(key(device)?),
-    })
+        Ask::Look(device) => Some(Request::Look(key(*device))),
+    }
 }
 
 /// The profile's table, in force from 0 on.
@@ -83,8 +90,8 @@ pub fn opened(alloc: Global, hasher: RandomState) -> Result<Shard, AllocError> {
 }
 
 /// What the shard replies to what is asked.
-fn reply_to(alloc: Global, shard: &mut Shard, asked: Ask<'_>) -> Result<Reply, Fail> {
-    let request = request_of(alloc, asked)?;
+pub fn reply_to(shard: &mut Shard, asked: &Ask) -> Result<Reply, Fail> {
+    let request = request_of(asked).ok_or("a request")?;
     Ok(shard.step(&request)?)
 }
 
@@ -92,12 +99,12 @@ fn reply_to(alloc: Global, shard: &mut Shard, asked: Ask<'_>) -> Result<Reply, F
 pub fn asked_all(
     alloc: Global,
     hasher: RandomState,
-    asked: &[Ask<'_>],
+    asked: &[Ask],
 ) -> Result<(Shard, Vec<Reply>), Fail> {
     let mut shard = opened(alloc, hasher)?;
     let mut replies = Vec::new(alloc);
     for one in asked {
-        replies.push(reply_to(alloc, &mut shard, *one)?)?;
+        replies.push(reply_to(&mut shard, one)?)?;
     }
     Ok((shard, replies))
 }

@@ -1,12 +1,11 @@
 //! Each call that takes memory, made again where its growth is refused (by `tests/refused-growths`).
-use super::{A, E1, key, profile};
+use super::{A, first_event, key, profile};
 use crate::Shard;
-use mds_core::{Event, Outcome, Reply, Request};
-use mds_table::{State, Tables, TypeName};
+use mds_core::{Outcome, Reply, Request};
+use mds_table::Tables;
 use std::alloc::{AllocError, Global};
 use std::hash::RandomState;
 use std::test::Fail;
-use uuid::Uuid;
 
 /// The profile's table, asked for again where its growth is refused.
 fn profile_again(alloc: Global) -> Result<Tables, AllocError> {
@@ -14,14 +13,6 @@ fn profile_again(alloc: Global) -> Result<Tables, AllocError> {
         Ok(tables) => Ok(tables),
         Err(_) => profile(alloc),
     }
-}
-
-/// The first event of A.
-fn report() -> Result<Request, Fail> {
-    let types = [TypeName::new("provider_drop_off")?];
-    let id = Uuid::parse_str(E1)?;
-    let event = Event::new(key(A)?, id, State::Available, &types, 1000, None)?;
-    Ok(Request::Report(event))
 }
 
 /// The reply to a request, and whether a refused growth left the shard as it was.
@@ -44,31 +35,32 @@ fn done(place: usize) -> Reply {
     }
 }
 
-/// What becomes of a registration of A and of its first event.
-fn two_steps(shard: &mut Shard) -> Result<[(Reply, bool); 2], Fail> {
-    let registered = step(shard, &Request::Register(key(A)?))?;
-    Ok([registered, step(shard, &report()?)?])
+/// What becomes of a registration of A and of an event.
+fn two_steps(shard: &mut Shard, event: &Request) -> Result<[(Reply, bool); 2], AllocError> {
+    let registered = step(shard, &Request::Register(key(A)))?;
+    Ok([registered, step(shard, event)?])
 }
 
-/// How many events A has.
-fn event_count(alloc: Global, shard: &Shard) -> Result<usize, Fail> {
-    let about = key(A)?;
+/// How many events A has, if it is registered.
+fn event_count(alloc: Global, shard: &Shard) -> Result<Option<usize>, AllocError> {
+    let about = key(A);
     let events = match shard.events(alloc, &about) {
         Ok(events) => events,
         Err(_) => shard.events(alloc, &about)?,
     };
-    Ok(events.ok_or("registered")?.len())
+    Ok(events.map(|events| events.len()))
 }
 
 #[test]
 fn step_succeeds_after_a_refused_growth(rt: HostRuntime) -> Result<(), Fail> {
-    let mut shard = Shard::open(
-        rt.alloc(),
-        profile_again(rt.alloc())?,
-        RandomState::new(&rt)?,
+    let tables = profile_again(rt.alloc())?;
+    let mut shard = Shard::open(rt.alloc(), tables, RandomState::new(&rt)?);
+    let event = Request::Report(first_event().ok_or("an event")?);
+    let found = two_steps(&mut shard, &event)?;
+    let count = event_count(rt.alloc(), &shard)?;
+    assert_eq!(rt;
+        (found, count),
+        ([(done(0), true), (done(1), true)], Some(1))
     );
-    let found = two_steps(&mut shard)?;
-    assert_eq!(rt; found, [(done(0), true), (done(1), true)]);
-    assert_eq!(rt; event_count(rt.alloc(), &shard)?, 1);
     Ok(())
 }

@@ -1,10 +1,10 @@
 //! A shard of many vehicles against a fleet.
 ghost use Rattle.std.specs.Prelude.{◌<◌};
 
-use super::{PROVIDER, opened, profile};
+use super::{event_of, opened, profile, uuid};
 use crate::Shard;
-use mds_core::{Event, Fleet, Key, Outcome, Refusal, Reply, Request};
-use mds_table::{State, TypeName};
+use mds_core::{Fleet, Key, Outcome, Refusal, Reply, Request};
+use mds_table::State;
 use std::alloc::{AllocError, Global};
 use std::hash::RandomState;
 use std::test::Fail;
@@ -39,11 +39,11 @@ impl Numbers {
 }
 
 /// The key of a vehicle of shard 0, by its number.
-fn key(number: u64) -> Result<Key, Fail> {
-    Ok(Key {
-        provider: Uuid::parse_str(PROVIDER)?,
+fn key(number: u64) -> Key {
+    Key {
+        provider: uuid(0x8000_0000_0000_0001),
         device: Uuid::from_u128(2 * u128::from(number)),
-    })
+    }
 }
 
 /// A type and the state that a vehicle is reported in after it.
@@ -57,29 +57,28 @@ fn change(number: u64) -> (&'static str, State) {
 }
 
 /// A report of a vehicle: one of four identifiers, four times and four changes.
-fn report(numbers: &mut Numbers, key: Key) -> Result<Request, Fail> {
+fn report(numbers: &mut Numbers, key: Key) -> Option<Request> {
     let id = Uuid::from_u128(u128::from(numbers.below(4)));
     let time = 1000 + numbers.below(4);
     let (name, state) = change(numbers.below(4));
-    let types = [TypeName::new(name)?];
-    Ok(Request::Report(Event::new(key, id, state, &types, time, None)?))
+    Some(Request::Report(event_of(key, id, &[name], state, time)?))
 }
 
 /// The request of this number: a bystander's registration, or else one about another vehicle.
-fn nth(numbers: &mut Numbers, number: u64) -> Result<Request, Fail> {
+fn nth(numbers: &mut Numbers, number: u64) -> Option<Request> {
     if number < BYSTANDERS {
-        Ok(Request::Register(key(VEHICLES + number)?))
+        Some(Request::Register(key(VEHICLES + number)))
     } else {
         request(numbers)
     }
 }
 
 /// A registration, a look, or else a report.
-fn request(numbers: &mut Numbers) -> Result<Request, Fail> {
-    let key = key(numbers.below(VEHICLES))?;
+fn request(numbers: &mut Numbers) -> Option<Request> {
+    let key = key(numbers.below(VEHICLES));
     match numbers.below(5) {
-        0 => Ok(Request::Register(key)),
-        1 => Ok(Request::Look(key)),
+        0 => Some(Request::Register(key)),
+        1 => Some(Request::Look(key)),
         _ => report(numbers, key),
     }
 }
@@ -132,7 +131,7 @@ fn after_all(alloc: Global, hasher: RandomState) -> Result<Both, Fail> {
     let mut numbers = Numbers { state: 1 };
     let mut both = Both::open(alloc, hasher)?;
     for number in 0..BYSTANDERS + REQUESTS {
-        both.ask(&nth(&mut numbers, number)?)?;
+        both.ask(&nth(&mut numbers, number).ok_or("a request")?)?;
     }
     Ok(both)
 }
@@ -146,14 +145,14 @@ fn kinds_in(replies: &[Reply]) -> [bool; 7] {
     seen
 }
 
+/// Whether both replied the same, and whether there is a reply of each kind.
+fn compared(both: &Both) -> (bool, [bool; 7]) {
+    (both.found == both.expected, kinds_in(&both.expected))
+}
+
 #[test]
 fn ten_thousand_vehicles_as_a_fleet_has_them(rt: HostRuntime) -> Result<(), Fail> {
-    let Both {
-        found,
-        expected,
-        ..
-    } = after_all(rt.alloc(), RandomState::new(&rt)?)?;
-    assert_eq!(rt; found.as_slice(), expected.as_slice());
-    assert_eq!(rt; kinds_in(&expected), [true; 7]);
+    let both = after_all(rt.alloc(), RandomState::new(&rt)?)?;
+    assert_eq!(rt; compared(&both), (true, [true; 7]));
     Ok(())
 }

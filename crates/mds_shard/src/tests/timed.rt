@@ -1,16 +1,15 @@
 //! Tables that change at stated times, through a shard.
 use super::Ask::{self, Register, Report};
-use super::{A, C, E1, E2, E3, E4, key, request_of};
+use super::{A, C, E1, E2, E3, E4, event_of, key, reply_to, uuid};
 use crate::Shard;
 use mds_core::Outcome::{self, Done, Refused};
 use mds_core::Refusal::NoChain;
-use mds_core::{Event, Request, Standing};
+use mds_core::{Request, Standing};
 use mds_table::State::{self, Available, Removed};
-use mds_table::{MAX_TABLES, Table, Tables, TypeName};
-use std::alloc::Global;
+use mds_table::{MAX_TABLES, Table, Tables};
+use std::alloc::{AllocError, Global};
 use std::hash::RandomState;
 use std::test::Fail;
-use uuid::Uuid;
 
 /// A file of two tables: by the first, which is in force until 2000, removed vehicles wake; by the second available ones
 /// rest.
@@ -36,7 +35,7 @@ const STUCK_REMOVED: Outcome = Refused(NoChain {
 
 /// What is asked of a shard over the two tables, in turn, and what becomes of it: events one millisecond before the second
 /// table starts and when it starts, and then one from before that, of another vehicle.
-const AROUND_A_START: [(Ask<'static>, Outcome); 7] = [
+const AROUND_A_START: &[(Ask, Outcome)] = &[
     (Register(A), Done),
     (Register(C), Done),
     (Report(A, E1, &["wake"], Available, 1999), Done),
@@ -56,19 +55,27 @@ fn standing(state: State, events: usize, last: u64) -> Standing {
     }
 }
 
+/// The place of the first of these whose outcome is another, if there is one.
+fn first_other(shard: &mut Shard, asked: &[(Ask, Outcome)]) -> Result<Option<usize>, Fail> {
+    for (place, (one, outcome)) in asked.iter().enumerate() {
+        if reply_to(shard, one)?.outcome != *outcome {
+            return Ok(Some(place));
+        }
+    }
+    Ok(None)
+}
+
 #[test]
 fn around_a_start(rt: HostRuntime) -> Result<(), Fail> {
     let tables = Tables::from_json(rt.alloc(), WAKE_THEN_REST.as_bytes())?;
     let mut shard = Shard::open(rt.alloc(), tables, RandomState::new(&rt)?);
-    for (asked, outcome) in &AROUND_A_START {
-        let reply = shard.step(&request_of(rt.alloc(), *asked)?)?;
-        assert_eq!(rt; reply.outcome, *outcome);
-    }
-    assert_eq!(rt; shard.standing(&key(A)?), Some(standing(Removed, 2, 2000)));
-    assert_eq!(rt;
-        shard.standing(&key(C)?),
-        Some(standing(Available, 1, 1000))
-    );
+    let other = first_other(&mut shard, AROUND_A_START)?;
+    let standings = [shard.standing(&key(A)), shard.standing(&key(C))];
+    let expected = [
+        Some(standing(Removed, 2, 2000)),
+        Some(standing(Available, 1, 1000)),
+    ];
+    assert_eq!(rt; (other, standings), (None, expected));
     Ok(())
 }
 
@@ -94,28 +101,53 @@ fn change(start: u64) -> (&'static str, State, Outcome) {
 }
 
 /// What becomes of the change of the table that starts at one time, where a vehicle reports it at another.
-fn reported(shard: &mut Shard, device: &str, start: u64, time: u64) -> Result<Outcome, Fail> {
+fn reported(shard: &mut Shard, device: u64, start: u64, time: u64) -> Result<Outcome, Fail> {
     let (kind, state, _) = change(start);
-    let id = Uuid::from_u128(u128::from(start));
-    let event = Event::new(key(device)?, id, state, &[TypeName::new(kind)?], time, None)?;
+    let event = event_of(key(device), uuid(start), &[kind], state, time).ok_or("an event")?;
     Ok(shard.step(&Request::Report(event))?.outcome)
+}
+
+/// Registers A and C.
+fn register_both(shard: &mut Shard) -> Result<(), AllocError> {
+    shard.step(&Request::Register(key(A)))?;
+    shard.step(&Request::Register(key(C)))?;
+    Ok(())
+}
+
+/// Whether A's change of the table that starts then is refused one millisecond before, and done at its start.
+fn starts(shard: &mut Shard, start: u64) -> Result<bool, Fail> {
+    let (_, _, stuck) = change(start);
+    let before = reported(shard, A, start, start.saturating_sub(1))?;
+    Ok(before == stuck && reported(shard, A, start, start)? == Done)
+}
+
+/// When the first of the tables behind the first starts for which that isn't so, if there is one.
+fn first_unstarted(shard: &mut Shard) -> Result<Option<u64>, Fail> {
+    for at in 1..64u64 {
+        if !starts(shard, 1000 * at)? {
+            return Ok(Some(1000 * at));
+        }
+    }
+    Ok(None)
+}
+
+/// What becomes of C's changes of three tables, two of them at the end of the first one's time, and one past all starts.
+fn reported_at_last(shard: &mut Shard) -> Result<[Outcome; 3], Fail> {
+    let first = reported(shard, C, 2000, 2999)?;
+    let second = reported(shard, C, 3000, 2999)?;
+    Ok([first, second, reported(shard, C, 63_000, 70_000)?])
 }
 
 #[test]
 fn most_tables_in_turn(rt: HostRuntime) -> Result<(), Fail> {
     let tables = most_tables(rt.alloc())?;
     let mut shard = Shard::open(rt.alloc(), tables, RandomState::new(&rt)?);
-    shard.step(&Request::Register(key(A)?))?;
-    shard.step(&Request::Register(key(C)?))?;
+    register_both(&mut shard)?;
     assert_eq!(rt; reported(&mut shard, A, 0, 0)?, Done);
-    for at in 1..64u64 {
-        let start = 1000 * at;
-        let (_, _, stuck) = change(start);
-        assert_eq!(rt; reported(&mut shard, A, start, start - 1)?, stuck);
-        assert_eq!(rt; reported(&mut shard, A, start, start)?, Done);
-    }
-    assert_eq!(rt; reported(&mut shard, C, 2000, 2999)?, Done);
-    assert_eq!(rt; reported(&mut shard, C, 3000, 2999)?, STUCK_AVAILABLE);
-    assert_eq!(rt; reported(&mut shard, C, 63_000, 70_000)?, Done);
+    assert_eq!(rt; first_unstarted(&mut shard)?, None);
+    assert_eq!(rt;
+        reported_at_last(&mut shard)?,
+        [Done, STUCK_AVAILABLE, Done]
+    );
     Ok(())
 }
