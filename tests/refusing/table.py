@@ -184,6 +184,7 @@ QUIET = {
         "Session::run_to",
     ],
     ("mds_trace", "a_stream_begins_with_every_growth_refused"): ["LineReplay::open", "LineReplay::feed"],
+    ("mds_debugger", "lines_are_read_with_every_growth_refused"): ["ScriptCommand::of_line", "print_walk"],
     ("mds_request", "looks_are_planned_with_every_growth_refused"): [
         "Face::head_status",
         "HeadStatus::plan",

@@ -50,7 +50,7 @@ const SCRIPTS: [(&[u8], &[Said]); 16] = [
 ];
 
 /// The place of the first of these scripts whose lines don't say what is expected.
-fn first_other(alloc: Global, scripts: &[(&[u8], &[Said])]) -> Result<Option<usize>, Fail> {
+fn first_other(alloc: Global, scripts: &[(&[u8], &[Said])]) -> Result<Option<usize>, AllocError> {
     for (at, (bytes, said)) in scripts.iter().enumerate() {
         if script_of(alloc, bytes)?.as_slice() != *said {
             return Ok(Some(at));
@@ -61,7 +61,8 @@ fn first_other(alloc: Global, scripts: &[(&[u8], &[Said])]) -> Result<Option<usi
 
 #[test]
 fn scripts_are_read_line_by_line(rt: HostRuntime) -> Result<(), Fail> {
-    assert_eq!(rt; first_other(rt.alloc(), &SCRIPTS)?, None);
+    let other = first_other(rt.alloc(), &SCRIPTS)?;
+    assert_eq!(rt; other, None);
     Ok(())
 }
 
@@ -111,56 +112,72 @@ impl Read for Feeds {
     }
 }
 
-/// How many bytes are read of a stream of so many that goes on so, how many are left, the number of calls, and how reading
-/// ended.
-fn read_of(
-    alloc: Global,
-    length: usize,
-    last: Last,
-) -> Result<(usize, usize, u32, ScriptEnd), Fail> {
+/// The length of a stream and how it goes on; how many bytes are read of it, how many are left, the number of calls, and
+/// how reading ends.
+#[derive(Clone, Copy)]
+struct Stream(usize, Last, usize, usize, u32, ScriptEnd);
+
+/// Whether so much is read of a stream.
+fn is_read_so(alloc: Global, stream: &Stream) -> Result<bool, AllocError> {
     let mut reader = Feeds {
         byte: b'\n',
-        left: length,
+        left: stream.0,
         calls: 0,
-        last,
+        last: stream.1,
     };
     let script = read_script(alloc, &mut reader)?;
-    Ok((script.bytes.len(), reader.left, reader.calls, script.end))
+    Ok(
+        script.bytes.len() == stream.2
+            && reader.left == stream.3
+            && reader.calls == stream.4
+            && script.end == stream.5,
+    )
 }
 
-/// Lengths of streams and how they go on; and what is read of them.
-const STREAMS: [(usize, Last, (usize, usize, u32, ScriptEnd)); 7] = [
-    (70_000, Last::End, (70_000, 0, 6, ScriptEnd::Whole)),
-    (70_000, Last::Failure, (70_000, 0, 6, ScriptEnd::Broken)),
-    (0, Last::Failure, (0, 0, 2, ScriptEnd::Broken)),
-    (5, Last::Pause, (5, 0, MAX_CALLS, ScriptEnd::Broken)),
-    (
-        1_048_576,
-        Last::Failure,
-        (1_048_576, 0, 32, ScriptEnd::Whole),
-    ),
-    (1_048_577, Last::End, (1_048_576, 1, 32, ScriptEnd::Whole)),
-    (1_048_575, Last::End, (1_048_575, 0, 34, ScriptEnd::Whole)),
+/// The place of the first of these streams of which something else is read.
+fn first_read_otherwise(alloc: Global, streams: &[Stream]) -> Result<Option<usize>, AllocError> {
+    for (at, stream) in streams.iter().enumerate() {
+        if !is_read_so(alloc, stream)? {
+            return Ok(Some(at));
+        }
+    }
+    Ok(None)
+}
+
+const STREAMS: [Stream; 7] = [
+    Stream(70_000, Last::End, 70_000, 0, 6, ScriptEnd::Whole),
+    Stream(70_000, Last::Failure, 70_000, 0, 6, ScriptEnd::Broken),
+    Stream(0, Last::Failure, 0, 0, 2, ScriptEnd::Broken),
+    Stream(5, Last::Pause, 5, 0, MAX_CALLS, ScriptEnd::Broken),
+    Stream(1_048_576, Last::Failure, 1_048_576, 0, 32, ScriptEnd::Whole),
+    Stream(1_048_577, Last::End, 1_048_576, 1, 32, ScriptEnd::Whole),
+    Stream(1_048_575, Last::End, 1_048_575, 0, 34, ScriptEnd::Whole),
 ];
 
 #[test]
 fn reading_ends_at_the_end_the_limit_or_a_fault(rt: HostRuntime) -> Result<(), Fail> {
-    for (length, last, read) in &STREAMS {
-        assert_eq!(rt; read_of(rt.alloc(), *length, *last)?, *read);
-    }
+    let other = first_read_otherwise(rt.alloc(), &STREAMS)?;
+    assert_eq!(rt; other, None);
     Ok(())
 }
 
-#[test]
-fn the_longest_script_has_a_line_a_byte(rt: HostRuntime) -> Result<(), Fail> {
+/// How many lines are read of line feeds, of which there is one more than a script may have.
+fn line_count(alloc: Global) -> Result<usize, AllocError> {
     let mut reader = Feeds {
         byte: b'\n',
         left: MAX_SCRIPT + 1,
         calls: 0,
         last: Last::End,
     };
-    let script = read_script(rt.alloc(), &mut reader)?;
-    assert_eq!(rt; script_of(rt.alloc(), &script.bytes)?.len(), MAX_SCRIPT);
+    let script = read_script(alloc, &mut reader)?;
+    let said = script_of(alloc, &script.bytes)?;
+    Ok(said.len())
+}
+
+#[test]
+fn the_longest_script_has_a_line_a_byte(rt: HostRuntime) -> Result<(), Fail> {
+    let count = line_count(rt.alloc())?;
+    assert_eq!(rt; count, MAX_SCRIPT);
     Ok(())
 }
 

@@ -1,97 +1,139 @@
 //! Sessions: what scripts print.
-use crate::{CountsLine, print_start, print_walk, script_of, vehicle_events};
+use crate::{CountsLine, Move, ScriptCommand, print_start, print_walk, script_of, vehicle_events};
 use mds_batch::{EventItem, ItemFault};
-use mds_core::{Event, Key, Refusal};
+use mds_core::{Event, EventFault, Key, Refusal};
 use mds_io::PrintError;
 use mds_table::State::{Available, NonContactable, OnTrip, Removed};
 use mds_table::{State, Table, Tables, TypeName};
-use mds_trace::{Session, Verdict};
-use std::alloc::Global;
+use mds_trace::{Session, SessionFault, Verdict};
+use std::alloc::{AllocError, Global};
 use std::io::{self, Error, ErrorKind, Write};
 use std::test::Fail;
 use uuid::Uuid;
 
 /// The provider of every vehicle here.
-const PROVIDER: &str = "00000000-0000-4000-8000-000000000001";
+const PROVIDER: u64 = 0x8000_0000_0000_0001;
 
 /// Two vehicles.
-pub const A: &str = "00000000-0000-4000-8000-00000000000a";
+pub const A: u64 = 0x8000_0000_0000_000a;
 
-const B: &str = "00000000-0000-4000-8000-00000000000b";
+const B: u64 = 0x8000_0000_0000_000b;
 
 /// Identifiers of events.
-pub const E1: &str = "00000000-0000-4000-8000-0000000000e1";
+pub const E1: u64 = 0x8000_0000_0000_00e1;
 
-pub const E2: &str = "00000000-0000-4000-8000-0000000000e2";
+pub const E2: u64 = 0x8000_0000_0000_00e2;
 
-const E3: &str = "00000000-0000-4000-8000-0000000000e3";
+const E3: u64 = 0x8000_0000_0000_00e3;
 
 /// What an event of a test reports.
 #[derive(Clone, Copy)]
-struct Told<'a> {
-    device: &'a str,
-    id: &'a str,
-    types: &'a [&'a str],
-    state: State,
-    time: u64,
+pub struct Told {
+    pub device: u64,
+    pub id: u64,
+    pub types: &'static [&'static str],
+    pub state: State,
+    pub time: u64,
+}
+
+/// The identifier with these lowest bits.
+fn uuid(low: u64) -> Uuid {
+    Uuid::from_u64_pair(0x4000, low)
 }
 
 /// A vehicle of the provider.
-pub fn key_of(device: &str) -> Result<Key, Fail> {
-    Ok(Key {
-        provider: Uuid::parse_str(PROVIDER)?,
-        device: Uuid::parse_str(device)?,
-    })
+pub fn key_of(device: u64) -> Key {
+    Key {
+        provider: uuid(PROVIDER),
+        device: uuid(device),
+    }
 }
 
-/// The event that is told.
-fn event_of(alloc: Global, told: Told<'_>) -> Result<Event, Fail> {
-    let mut types = Vec::new(alloc);
-    for name in told.types {
-        types.push(TypeName::new(name)?)?;
+/// The names of types.
+fn names_of(alloc: Global, texts: &[&str]) -> Result<Vec<TypeName>, AllocError> {
+    let mut names = Vec::new(alloc);
+    for text in texts {
+        names.push(TypeName::new(text).unwrap_or_default())?;
     }
-    let id = Uuid::parse_str(told.id)?;
-    Ok(Event::new(
-        key_of(told.device)?,
-        id,
-        told.state,
-        &types,
-        told.time,
-        None,
-    )?)
+    Ok(names)
+}
+
+/// The event that is told, with these types.
+fn event_of(told: &Told, types: &[TypeName]) -> Result<Event, EventFault> {
+    let key = key_of(told.device);
+    Event::new(key, uuid(told.id), told.state, types, told.time, None)
+}
+
+/// The items of the events that are told.
+pub fn items_of(alloc: Global, told: &[Told]) -> Result<Vec<EventItem>, AllocError> {
+    let mut items = Vec::new(alloc);
+    for one in told {
+        let names = names_of(alloc, one.types)?;
+        if let Ok(event) = event_of(one, &names) {
+            items.push(EventItem::Event(event))?;
+        }
+    }
+    Ok(items)
+}
+
+/// The events that are told.
+fn events_of(alloc: Global, told: &[Told]) -> Result<Vec<Event>, AllocError> {
+    let mut events = Vec::new(alloc);
+    for one in told {
+        let names = names_of(alloc, one.types)?;
+        if let Ok(event) = event_of(one, &names) {
+            events.push(event)?;
+        }
+    }
+    Ok(events)
+}
+
+/// The profile's table, in force from 0 on.
+pub fn profile(alloc: Global) -> Result<Tables, AllocError> {
+    Tables::one(alloc, Table::profile(alloc)?)
 }
 
 /// A session over the events that are told, from removed, by the profile.
-fn session_of(alloc: Global, told: &[Told<'_>]) -> Result<Session, Fail> {
-    let mut events = Vec::new(alloc);
-    for one in told {
-        events.push(event_of(alloc, *one)?)?;
-    }
-    let tables = Tables::one(alloc, Table::profile(alloc)?)?;
-    Ok(Session::open(alloc, tables, Removed, events)?)
+fn session_of(alloc: Global, told: &[Told]) -> Result<Session, SessionFault> {
+    let events = events_of(alloc, told)?;
+    Session::open(alloc, profile(alloc)?, Removed, events)
+}
+
+/// What a session's start prints, and a script.
+fn print(
+    alloc: Global,
+    session: &mut Session,
+    counts: CountsLine,
+    script: &[Option<ScriptCommand>],
+) -> Result<Vec<u8>, PrintError> {
+    let mut out = Vec::new(alloc);
+    print_start(alloc, &mut out, session, counts)?;
+    print_walk(alloc, &mut out, session, script)?;
+    Ok(out)
 }
 
 /// What a script prints of a session over the events that are told, with so many refused.
 fn printed(
     alloc: Global,
-    told: &[Told<'_>],
+    told: &[Told],
     refused: usize,
     script: &[u8],
-) -> Result<Vec<u8>, Fail> {
+) -> Result<Vec<u8>, SessionFault> {
     let mut session = session_of(alloc, told)?;
     let script = script_of(alloc, script)?;
     let counts = CountsLine {
         events: told.len(),
         refused,
     };
-    let mut out = Vec::new(alloc);
-    print_start(alloc, &mut out, &session, counts)?;
-    print_walk(alloc, &mut out, &mut session, &script)?;
-    Ok(out)
+    match print(alloc, &mut session, counts, &script) {
+        Ok(out) => Ok(out),
+        // A list of bytes fails only for want of memory.
+        Err(_) => Err(SessionFault::Memory),
+    }
 }
 
 /// Two events of A: contact is lost, and it comes back as a trip ends.
-const LOST_AND_BACK: [Told<'static>; 2] = [
+const LOST_AND_BACK: [Told; 2] = [
     Told {
         device: A,
         id: E1,
@@ -108,8 +150,11 @@ const LOST_AND_BACK: [Told<'static>; 2] = [
     },
 ];
 
+/// A script, and what it prints behind the first two lines.
+type Case = (&'static [u8], &'static [u8]);
+
 /// Scripts over these events, and what they print behind the first two lines.
-const PRINTED: [(&[u8], &[u8]); 5] = [
+const PRINTED: [Case; 5] = [
     (
         b"next\nstep\nchain\nstep\nstep\nstep\nback\nrun removed\n",
         b"1 0 non_contactable possible non_contactable
@@ -137,9 +182,9 @@ const START: &[u8] = b"events 2 refused 0\n0 0 removed possible removed\n";
 /// The place of the first of these scripts that doesn't print what is expected.
 fn first_other(
     alloc: Global,
-    told: &[Told<'_>],
-    cases: &[(&[u8], &[u8])],
-) -> Result<Option<usize>, Fail> {
+    told: &[Told],
+    cases: &[Case],
+) -> Result<Option<usize>, SessionFault> {
     for (at, (script, expected)) in cases.iter().enumerate() {
         let out = printed(alloc, told, 0, script)?;
         if out.strip_prefix(START) != Some(*expected) {
@@ -151,7 +196,8 @@ fn first_other(
 
 #[test]
 fn scripts_print_a_line_each(rt: HostRuntime) -> Result<(), Fail> {
-    assert_eq!(rt; first_other(rt.alloc(), &LOST_AND_BACK, &PRINTED)?, None);
+    let other = first_other(rt.alloc(), &LOST_AND_BACK, &PRINTED)?;
+    assert_eq!(rt; other, None);
     Ok(())
 }
 
@@ -187,18 +233,16 @@ impl Write for Fills {
 
 #[test]
 fn a_writer_that_fails_ends_the_script(rt: HostRuntime) -> Result<(), Fail> {
-    let alloc = rt.alloc();
-    let mut session = session_of(alloc, &LOST_AND_BACK)?;
-    let script = script_of(alloc, b"back\nback\n")?;
+    let back = Some(ScriptCommand::Move(Move::Back));
+    let mut session = session_of(rt.alloc(), &LOST_AND_BACK)?;
     let mut writer = Fills { room: 17 };
-    let end = print_walk(alloc, &mut writer, &mut session, &script);
-    assert_eq!(rt; end, Err(PrintError::Device));
-    assert_eq!(rt; writer.room, 0);
+    let end = print_walk(rt.alloc(), &mut writer, &mut session, &[back, back]);
+    assert_eq!(rt; (end, writer.room), (Err(PrintError::Device), 0));
     Ok(())
 }
 
 /// Events of two vehicles.
-const MIXED: [Told<'static>; 4] = [
+const MIXED: [Told; 4] = [
     Told {
         device: A,
         id: E1,
@@ -238,21 +282,36 @@ const VERDICTS: [Verdict; 5] = [
     Verdict::Fault(ItemFault::NotObject),
 ];
 
-/// How many of a vehicle's events were accepted, and how many refused.
-fn counts_of(alloc: Global, device: &str) -> Result<(usize, usize), Fail> {
-    let mut items = Vec::new(alloc);
-    for told in &MIXED {
-        items.push(EventItem::Event(event_of(alloc, *told)?))?;
-    }
+/// The items of these events, and the faulty one.
+fn mixed_items(alloc: Global) -> Result<Vec<EventItem>, AllocError> {
+    let mut items = items_of(alloc, &MIXED)?;
     items.push(EventItem::Fault(ItemFault::NotObject))?;
-    let events = vehicle_events(alloc, &items, &VERDICTS, key_of(device)?)?;
-    Ok((events.accepted.len(), events.refused))
+    Ok(items)
+}
+
+/// A vehicle, how many of its events were accepted, and how many refused.
+type Counted = (u64, usize, usize);
+
+/// The place of the first vehicle of which the numbers are others.
+fn first_counted_otherwise(
+    alloc: Global,
+    items: &[EventItem],
+    cases: &[Counted],
+) -> Result<Option<usize>, AllocError> {
+    for (at, (device, accepted, refused)) in cases.iter().enumerate() {
+        let events = vehicle_events(alloc, items, &VERDICTS, key_of(*device))?;
+        if events.accepted.len() != *accepted || events.refused != *refused {
+            return Ok(Some(at));
+        }
+    }
+    Ok(None)
 }
 
 #[test]
 fn events_are_of_one_vehicle(rt: HostRuntime) -> Result<(), Fail> {
-    assert_eq!(rt; counts_of(rt.alloc(), A)?, (2, 1));
-    assert_eq!(rt; counts_of(rt.alloc(), B)?, (1, 0));
-    assert_eq!(rt; counts_of(rt.alloc(), PROVIDER)?, (0, 0));
+    let items = mixed_items(rt.alloc())?;
+    let cases = [(A, 2, 1), (B, 1, 0), (PROVIDER, 0, 0)];
+    let other = first_counted_otherwise(rt.alloc(), &items, &cases)?;
+    assert_eq!(rt; other, None);
     Ok(())
 }
