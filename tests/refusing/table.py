@@ -185,6 +185,13 @@ QUIET = {
     ],
     ("mds_trace", "a_stream_begins_with_every_growth_refused"): ["LineReplay::open", "LineReplay::feed"],
     ("mds_debugger", "lines_are_read_with_every_growth_refused"): ["ScriptCommand::of_line", "print_walk"],
+    ("mds_commands", "problems_are_told_with_every_growth_refused"): [
+        "Problem::status",
+        "Status::code",
+        "tables_in",
+        "tell",
+    ],
+    ("mds_commands", "bad_words_are_told_with_every_growth_refused"): ["debug_to"],
     ("mds_request", "looks_are_planned_with_every_growth_refused"): [
         "Face::head_status",
         "HeadStatus::plan",

@@ -1,12 +1,9 @@
 //! Readers and writers that fail.
-use super::tests::asked;
-use super::{replay_to, table_to};
+use super::tests::{asked, file, replayed, tabled};
 use crate::source::{Form, Source};
 use std::alloc::Global;
 use std::io;
 use std::io::{ErrorKind, Read, Write};
-use std::process::Abort;
-use std::test::Fail;
 use std::thread::Threads;
 
 /// A reader that gives one byte of a text a call, and then fails.
@@ -60,62 +57,67 @@ impl Write for Full {
     }
 }
 
-/// Stops the test unless the replay of a file that this reads is told as one that can't be read.
-fn expect_unread<P: Abort + Threads + Sync, R: Read + Drop>(
+/// Whether the replay of a file that this reads is told as one that can't be read.
+fn is_unread<P: Threads + Sync, R: Read + Drop>(
     rt: &P,
     alloc: Global,
     form: Form,
     reader: R,
-) {
+) -> bool {
     let mut out = Vec::new(alloc);
     let mut faults = Vec::new(alloc);
     let source = Source {
         path: "events.json",
         reader: Some(reader),
     };
-    let table: Option<Source<'_, &[u8]>> = None;
-    let asked = asked(form, 1);
-    let status = replay_to(rt, alloc, table, source, asked, &mut out, &mut faults);
-    assert_eq!(rt; status, 3);
-    assert!(rt; out.is_empty());
-    assert_eq!(rt;
-        faults.as_slice(),
-        b"mds_city: cannot read events.json\n".as_slice()
-    );
+    let options = asked(form, 1);
+    let status = replayed(rt, alloc, None, source, options, &mut out, &mut faults);
+    status == 3
+        && out.is_empty()
+        && faults.as_slice() == b"mds_city: cannot read events.json\n".as_slice()
 }
 
-/// Files that can't be read to their ends: a fault of the lines before is not told.
+/// Files of a form that can't be read to their ends.
+type Broken = (Form, &'static [u8]);
+
+const BROKEN: [Broken; 6] = [
+    (Form::Batch, b""),
+    (Form::Batch, b"["),
+    (Form::Batch, b"[]"),
+    (Form::Lines, b""),
+    (Form::Lines, b"7\n"),
+    (Form::Lines, b"7\n{\n7\n"),
+];
+
+/// The place of the first of these files that is told otherwise.
+fn first_read<P: Threads + Sync>(rt: &P, alloc: Global, files: &[Broken]) -> Option<usize> {
+    for (at, (form, text)) in files.iter().enumerate() {
+        if !is_unread(rt, alloc, *form, Breaks { text }) {
+            return Some(at);
+        }
+    }
+    None
+}
+
+/// A fault of the lines before is not told.
 #[test]
 fn file_that_cannot_be_read(rt: HostRuntime) {
-    let cases = [
-        (Form::Batch, ""),
-        (Form::Batch, "["),
-        (Form::Batch, "[]"),
-        (Form::Lines, ""),
-        (Form::Lines, "7\n"),
-        (Form::Lines, "7\n{\n7\n"),
-    ];
-    for (form, text) in cases {
-        let reader = Breaks {
-            text: text.as_bytes(),
-        };
-        expect_unread(&rt, rt.alloc(), form, reader);
-    }
+    assert_eq!(rt; first_read(&rt, rt.alloc(), &BROKEN), None);
 }
 
 #[test]
 fn file_whose_reads_are_interrupted(rt: HostRuntime) {
-    for form in [Form::Batch, Form::Lines] {
-        expect_unread(&rt, rt.alloc(), form, Pauses {});
-    }
+    let batch = is_unread(&rt, rt.alloc(), Form::Batch, Pauses {});
+    let lines = is_unread(&rt, rt.alloc(), Form::Lines, Pauses {});
+    assert_eq!(rt; (batch, lines), (true, true));
 }
 
 #[test]
-fn table_that_was_not_opened_comes_first(rt: HostRuntime) -> Result<(), Fail> {
+fn table_that_was_not_opened_comes_first(rt: HostRuntime) {
     let alloc = rt.alloc();
     let mut out = Vec::new(alloc);
     let mut faults = Vec::new(alloc);
-    let table: Source<'_, &[u8]> = Source {
+    let table = Source {
         path: "-",
         reader: None,
     };
@@ -123,38 +125,48 @@ fn table_that_was_not_opened_comes_first(rt: HostRuntime) -> Result<(), Fail> {
         path: "events.json",
         reader: Some(Breaks { text: b"" }),
     };
-    let asked = asked(Form::Batch, 1);
-    let status = replay_to(&rt, alloc, Some(table), file, asked, &mut out, &mut faults);
+    let options = asked(Form::Batch, 1);
+    let status = replayed(
+        &rt,
+        alloc,
+        Some(table),
+        file,
+        options,
+        &mut out,
+        &mut faults,
+    );
     assert_eq!(rt; status, 3);
     assert_eq!(rt; faults.as_slice(), b"mds_city: cannot read -\n".as_slice());
-    Ok(())
 }
 
-#[test]
-fn output_that_fails(rt: HostRuntime) -> Result<(), Fail> {
-    let alloc = rt.alloc();
-    for left in 0..21usize {
-        let mut out = Full { left };
-        let mut faults = Vec::new(alloc);
-        let source = Source {
-            path: "-",
-            reader: Some(b"[]".as_slice()),
-        };
-        let table: Option<Source<'_, &[u8]>> = None;
-        let asked = asked(Form::Batch, 1);
-        let status = replay_to(&rt, alloc, table, source, asked, &mut out, &mut faults);
-        assert_eq!(rt; status, 3);
-        assert_eq!(rt; faults.as_slice(), b"mds_city: output\n".as_slice());
+/// Whether a replay over an output that takes so many bytes is told as one whose output failed.
+fn fails<P: Threads + Sync>(rt: &P, alloc: Global, left: usize) -> bool {
+    let mut out = Full { left };
+    let mut faults = Vec::new(alloc);
+    let options = asked(Form::Batch, 1);
+    let read = file("-", "[]");
+    let status = replayed(rt, alloc, None, read, options, &mut out, &mut faults);
+    status == 3 && faults.as_slice() == b"mds_city: output\n".as_slice()
+}
+
+/// The first of so many bytes taken of which the replay is told otherwise.
+fn first_not_failing<P: Threads + Sync>(rt: &P, alloc: Global, count: usize) -> Option<usize> {
+    for left in 0..count {
+        if !fails(rt, alloc, left) {
+            return Some(left);
+        }
     }
-    Ok(())
+    None
 }
 
 #[test]
-fn status_stays_where_faults_cannot_be_told(rt: HostRuntime) -> Result<(), Fail> {
-    let alloc = rt.alloc();
+fn output_that_fails(rt: HostRuntime) {
+    assert_eq!(rt; first_not_failing(&rt, rt.alloc(), 21), None);
+}
+
+#[test]
+fn status_stays_where_faults_cannot_be_told(rt: HostRuntime) {
     let mut out = Full { left: 0 };
     let mut faults = Full { left: 3 };
-    let table: Option<Source<'_, &[u8]>> = None;
-    assert_eq!(rt; table_to(alloc, table, &mut out, &mut faults), 3);
-    Ok(())
+    assert_eq!(rt; tabled(rt.alloc(), None, &mut out, &mut faults), 3);
 }

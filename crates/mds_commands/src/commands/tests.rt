@@ -5,7 +5,9 @@ ghost use Rattle.mds_replay.specs.WithFault.{IsWorkerCount};
 use super::{ReplayOptions, replay_to, table_to};
 use crate::source::{Form, Source};
 use mds_trace::Opening;
-use std::alloc::Global;
+use std::alloc::{AllocError, Global};
+use std::io;
+use std::io::{ErrorKind, Read, Write};
 use std::test::Fail;
 use std::thread::Threads;
 
@@ -120,9 +122,78 @@ pub fn file<'a>(path: &'a str, text: &'a str) -> Source<'a, &'a [u8]> {
     }
 }
 
+/// A file of this text, if one is given.
+pub fn source_of<'a>(path: &'a str, text: Option<&'a str>) -> Option<Source<'a, &'a [u8]>> {
+    match text {
+        Some(text) => Some(file(path, text)),
+        None => None,
+    }
+}
+
+/// A writer that takes this text alone, and no memory.
+#[derive(Drop)]
+pub struct Expects<'a> {
+    pub rest: &'a [u8],
+}
+
+impl Write for Expects<'_> {
+    fn write(&mut self, buf: &[u8]) -> io::Result<usize> {
+        match self.rest.strip_prefix(buf) {
+            Some(rest) => {
+                self.rest = rest;
+                Ok(buf.len())
+            }
+            None => Err(io::Error::from(ErrorKind::Other)),
+        }
+    }
+
+    fn flush(&mut self) -> io::Result<()> {
+        Ok(())
+    }
+}
+
+/// A writer of which this text is expected.
+pub fn expecting(text: &str) -> Expects<'_> {
+    Expects {
+        rest: text.as_bytes(),
+    }
+}
+
+/// A growth of a size of its own: `tests/refused-growths` refuses each one between two of these.
+#[inline(never)]
+pub fn fence(alloc: Global) -> Result<Vec<u8>, AllocError> {
+    Vec::with_capacity(alloc, 12_347)
+}
+
+/// The status of a replay.
+pub fn replayed<P: Threads + Sync, R: Read + Drop, W: Write, E: Write>(
+    rt: &P,
+    alloc: Global,
+    table: Option<Source<'_, &[u8]>>,
+    file: Source<'_, R>,
+    options: ReplayOptions,
+    out: &mut W,
+    faults: &mut E,
+) -> u8
+    requires { IsWorkerCount options.workers }
+{
+    replay_to(rt, alloc, table, file, options, out, faults)
+}
+
+/// The status of a print of tables.
+pub fn tabled<W: Write, E: Write>(
+    alloc: Global,
+    table: Option<Source<'_, &[u8]>>,
+    out: &mut W,
+    faults: &mut E,
+) -> u8 {
+    table_to(alloc, table, out, faults)
+}
+
 /// The text of a table file, if one is given, that of a file of events, and the status, the output and the faults that
 /// their replay must come to.
-type Replay = (
+#[derive(Clone, Copy)]
+struct Replay(
     Option<&'static str>,
     &'static str,
     u8,
@@ -134,174 +205,203 @@ type Replay = (
 fn replays<P: Threads + Sync>(rt: &P, alloc: Global, options: ReplayOptions, case: &Replay) -> bool
     requires { IsWorkerCount options.workers }
 {
-    let (table, text, status, out, faults) = *case;
-    let mut printed = Vec::new(alloc);
-    let mut told = Vec::new(alloc);
-    let table = table.map(|rows| file("T", rows));
-    let code = replay_to(
-        rt,
-        alloc,
-        table,
-        file("F", text),
-        options,
-        &mut printed,
-        &mut told,
-    );
-    code == status && printed.as_slice() == out.as_bytes() && told.as_slice() == faults.as_bytes()
+    let mut out = Vec::new(alloc);
+    let mut faults = Vec::new(alloc);
+    let table = source_of("T", case.0);
+    let read = file("F", case.1);
+    let status = replayed(rt, alloc, table, read, options, &mut out, &mut faults);
+    status == case.2
+        && out.as_slice() == case.3.as_bytes()
+        && faults.as_slice() == case.4.as_bytes()
 }
+
+/// The place of the first case whose replay comes to something else.
+fn first_other<P: Threads + Sync>(
+    rt: &P,
+    alloc: Global,
+    options: ReplayOptions,
+    cases: &[Replay],
+) -> Option<usize>
+    requires { IsWorkerCount options.workers }
+{
+    for (at, case) in cases.iter().enumerate() {
+        if !replays(rt, alloc, options, case) {
+            return Some(at);
+        }
+    }
+    None
+}
+
+const REPLAYS: [Replay; 13] = [
+    Replay(None, FIVE_EVENTS, 1, FIVE_LINES, ""),
+    Replay(Some(ONE_ROW), FIVE_EVENTS, 1, FIVE_BY_ONE_ROW, ""),
+    Replay(Some(TWO_TABLES), CHANGING_EVENTS, 1, CHANGING_LINES, ""),
+    Replay(None, FAULTY_ITEMS, 1, FAULTY_LINES, ""),
+    Replay(None, "[]", 0, "accepted 0 refused 0\n", ""),
+    Replay(None, "", 3, "", "mds_city: not a batch: not_json\n"),
+    Replay(None, "{", 3, "", "mds_city: not a batch: not_json\n"),
+    Replay(None, "7", 3, "", "mds_city: not a batch: not_list\n"),
+    // The table file's faults come first.
+    Replay(Some(""), "{", 3, "", "mds_city: not a table: not_json\n"),
+    Replay(Some("{"), "{", 3, "", "mds_city: not a table: not_json\n"),
+    Replay(Some("[]"), "{", 3, "", "mds_city: not a table: not_rows\n"),
+    Replay(
+        Some(r#"{"rows":[7]}"#),
+        "{",
+        3,
+        "",
+        "mds_city: not a table: bad_row 0\n",
+    ),
+    Replay(
+        Some(r#"{"rows":[]}"#),
+        "{",
+        3,
+        "",
+        "mds_city: not a table: empty\n",
+    ),
+];
 
 #[test]
 fn worked_replays(rt: HostRuntime) {
-    let cases: [Replay; 13] = [
-        (None, FIVE_EVENTS, 1, FIVE_LINES, ""),
-        (Some(ONE_ROW), FIVE_EVENTS, 1, FIVE_BY_ONE_ROW, ""),
-        (Some(TWO_TABLES), CHANGING_EVENTS, 1, CHANGING_LINES, ""),
-        (None, FAULTY_ITEMS, 1, FAULTY_LINES, ""),
-        (None, "[]", 0, "accepted 0 refused 0\n", ""),
-        (None, "", 3, "", "mds_city: not a batch: not_json\n"),
-        (None, "{", 3, "", "mds_city: not a batch: not_json\n"),
-        (None, "7", 3, "", "mds_city: not a batch: not_list\n"),
-        // The table file's faults come first.
-        (Some(""), "{", 3, "", "mds_city: not a table: not_json\n"),
-        (Some("{"), "{", 3, "", "mds_city: not a table: not_json\n"),
-        (Some("[]"), "{", 3, "", "mds_city: not a table: not_rows\n"),
-        (
-            Some(r#"{"rows":[7]}"#),
-            "{",
-            3,
-            "",
-            "mds_city: not a table: bad_row 0\n",
-        ),
-        (
-            Some(r#"{"rows":[]}"#),
-            "{",
-            3,
-            "",
-            "mds_city: not a table: empty\n",
-        ),
-    ];
-    for case in &cases {
-        assert!(rt;
-            replays(&rt, rt.alloc(), asked(Form::Batch, 1), case),
-            "{case:?}"
-        );
-        assert!(rt;
-            replays(&rt, rt.alloc(), asked(Form::Batch, 4), case),
-            "{case:?}"
-        );
-    }
+    let by_one = first_other(&rt, rt.alloc(), asked(Form::Batch, 1), &REPLAYS);
+    let by_four = first_other(&rt, rt.alloc(), asked(Form::Batch, 4), &REPLAYS);
+    assert_eq!(rt; (by_one, by_four), (None, None));
 }
+
+const REPLAYS_OF_LINES: [Replay; 8] = [
+    Replay(None, FIVE_EVENT_LINES, 1, FIVE_LINES, ""),
+    Replay(Some(ONE_ROW), FIVE_EVENT_LINES, 1, FIVE_BY_ONE_ROW, ""),
+    Replay(None, "", 0, "accepted 0 refused 0\n", ""),
+    Replay(None, "\n\t\r\n", 0, "accepted 0 refused 0\n", ""),
+    Replay(
+        None,
+        "7\n\n[{}]\r\n",
+        1,
+        "0 fault not_object\n1 fault not_object\naccepted 0 refused 2\n",
+        "",
+    ),
+    Replay(None, "7\n{", 3, "", "mds_city: not a batch: not_json 1\n"),
+    Replay(
+        None,
+        "[\n7\n]\n",
+        3,
+        "",
+        "mds_city: not a batch: not_json 0\n",
+    ),
+    Replay(Some("{"), "{", 3, "", "mds_city: not a table: not_json\n"),
+];
 
 #[test]
 fn worked_replays_of_lines(rt: HostRuntime) {
-    let no_objects = "0 fault not_object\n1 fault not_object\naccepted 0 refused 2\n";
-    let cases: [Replay; 8] = [
-        (None, FIVE_EVENT_LINES, 1, FIVE_LINES, ""),
-        (Some(ONE_ROW), FIVE_EVENT_LINES, 1, FIVE_BY_ONE_ROW, ""),
-        (None, "", 0, "accepted 0 refused 0\n", ""),
-        (None, "\n\t\r\n", 0, "accepted 0 refused 0\n", ""),
-        (None, "7\n\n[{}]\r\n", 1, no_objects, ""),
-        (None, "7\n{", 3, "", "mds_city: not a batch: not_json 1\n"),
-        (
-            None,
-            "[\n7\n]\n",
-            3,
-            "",
-            "mds_city: not a batch: not_json 0\n",
-        ),
-        (Some("{"), "{", 3, "", "mds_city: not a table: not_json\n"),
-    ];
-    for case in &cases {
-        assert!(rt;
-            replays(&rt, rt.alloc(), asked(Form::Lines, 64), case),
-            "{case:?}"
-        );
-    }
+    let other = first_other(&rt, rt.alloc(), asked(Form::Lines, 64), &REPLAYS_OF_LINES);
+    assert_eq!(rt; other, None);
 }
 
 /// A text that is repeated so often, and the status, the end of the output and the faults that a replay of its lines comes
 /// to.
-type Repeated = (&'static str, usize, u8, &'static str, &'static str);
+#[derive(Clone, Copy)]
+struct Repeated(&'static str, usize, u8, &'static str, &'static str);
 
 const LONG_LINES: [Repeated; 4] = [
-    ("7\n", 10_000, 1, "accepted 0 refused 10000\n", ""),
-    ("7\n", 10_001, 3, "", "mds_city: not a batch: too_many\n"),
-    (" ", 4_194_304, 0, "accepted 0 refused 0\n", ""),
-    (" ", 4_194_305, 3, "", "mds_city: not a batch: too_long\n"),
+    Repeated("7\n", 10_000, 1, "accepted 0 refused 10000\n", ""),
+    Repeated("7\n", 10_001, 3, "", "mds_city: not a batch: too_many\n"),
+    Repeated(" ", 4_194_304, 0, "accepted 0 refused 0\n", ""),
+    Repeated(" ", 4_194_305, 3, "", "mds_city: not a batch: too_long\n"),
 ];
 
 /// Whether the replay of these lines comes to this status, this end of the output and these faults.
 fn replays_lines<P: Threads + Sync>(rt: &P, alloc: Global, lines: &str, case: &Repeated) -> bool {
-    let (_, _, status, end, faults) = *case;
     let mut out = Vec::new(alloc);
-    let mut told = Vec::new(alloc);
-    let table: Option<Source<'_, &[u8]>> = None;
-    let asked = asked(Form::Lines, 1);
-    let code = replay_to(
-        rt,
-        alloc,
-        table,
-        file("F", lines),
-        asked,
-        &mut out,
-        &mut told,
-    );
-    code == status && told.as_slice() == faults.as_bytes() && out.ends_with(end.as_bytes())
+    let mut faults = Vec::new(alloc);
+    let options = asked(Form::Lines, 1);
+    let read = file("F", lines);
+    let status = replayed(rt, alloc, None, read, options, &mut out, &mut faults);
+    status == case.2 && out.ends_with(case.3.as_bytes()) && faults.as_slice() == case.4.as_bytes()
+}
+
+/// The place of the first case whose lines come to something else.
+fn first_other_lines<P: Threads + Sync>(
+    rt: &P,
+    alloc: Global,
+    cases: &[Repeated],
+) -> Result<Option<usize>, AllocError> {
+    for (at, case) in cases.iter().enumerate() {
+        let lines = case.0.repeat(alloc, case.1)?;
+        if !replays_lines(rt, alloc, lines.as_str(), case) {
+            return Ok(Some(at));
+        }
+    }
+    Ok(None)
 }
 
 /// Lines in more pieces than one.
 #[test]
 fn many_lines(rt: HostRuntime) -> Result<(), Fail> {
-    for case in &LONG_LINES {
-        let lines = case.0.repeat(rt.alloc(), case.1)?;
-        assert!(rt;
-            replays_lines(&rt, rt.alloc(), lines.as_str(), case),
-            "{case:?}"
-        );
-    }
+    let other = first_other_lines(&rt, rt.alloc(), &LONG_LINES)?;
+    assert_eq!(rt; other, None);
     Ok(())
 }
 
 /// The text of a table file, and the status, the output and the faults that its print must come to.
-type Print = (&'static str, u8, &'static str, &'static str);
+#[derive(Clone, Copy)]
+struct Print(&'static str, u8, &'static str, &'static str);
 
 /// Whether the print comes to this.
 fn prints(alloc: Global, case: &Print) -> bool {
-    let (text, status, out, faults) = *case;
-    let mut printed = Vec::new(alloc);
-    let mut told = Vec::new(alloc);
-    let code = table_to(alloc, Some(file("T", text)), &mut printed, &mut told);
-    code == status && printed.as_slice() == out.as_bytes() && told.as_slice() == faults.as_bytes()
+    let mut out = Vec::new(alloc);
+    let mut faults = Vec::new(alloc);
+    let status = tabled(alloc, Some(file("T", case.0)), &mut out, &mut faults);
+    status == case.1
+        && out.as_slice() == case.2.as_bytes()
+        && faults.as_slice() == case.3.as_bytes()
 }
+
+/// The place of the first case whose print comes to something else.
+fn first_other_print(alloc: Global, cases: &[Print]) -> Option<usize> {
+    for (at, case) in cases.iter().enumerate() {
+        if !prints(alloc, case) {
+            return Some(at);
+        }
+    }
+    None
+}
+
+const PRINTS: [Print; 7] = [
+    Print(ONE_ROW, 0, "wake removed available\nrows 1\n", ""),
+    Print("", 3, "", "mds_city: not a table: not_json\n"),
+    Print("[]", 3, "", "mds_city: not a table: not_rows\n"),
+    Print(r#"{"rows":[]}"#, 3, "", "mds_city: not a table: empty\n"),
+    Print(TWO_TABLES, 0, TWO_TABLES_LINES, ""),
+    Print(ONE_FROM_0, 0, "wake removed available\nrows 1\n", ""),
+    Print(
+        EMPTY_FROM_0,
+        3,
+        "",
+        "mds_city: not a table: table 0 empty\n",
+    ),
+];
 
 #[test]
 fn worked_tables(rt: HostRuntime) {
-    let cases: [Print; 7] = [
-        (ONE_ROW, 0, "wake removed available\nrows 1\n", ""),
-        ("", 3, "", "mds_city: not a table: not_json\n"),
-        ("[]", 3, "", "mds_city: not a table: not_rows\n"),
-        (r#"{"rows":[]}"#, 3, "", "mds_city: not a table: empty\n"),
-        (TWO_TABLES, 0, TWO_TABLES_LINES, ""),
-        (ONE_FROM_0, 0, "wake removed available\nrows 1\n", ""),
-        (
-            EMPTY_FROM_0,
-            3,
-            "",
-            "mds_city: not a table: table 0 empty\n",
-        ),
-    ];
-    for case in &cases {
-        assert!(rt; prints(rt.alloc(), case), "{case:?}");
+    assert_eq!(rt; first_other_print(rt.alloc(), &PRINTS), None);
+}
+
+/// How many lines a text has that ends with one.
+fn line_count(text: &[u8]) -> usize {
+    let mut count = 0usize;
+    for byte in text {
+        if *byte == b'\n' {
+            count = count.saturating_add(1);
+        }
     }
+    count
 }
 
 #[test]
 fn profile_prints_74_rows(rt: HostRuntime) {
     let mut out = Vec::new(rt.alloc());
     let mut faults = Vec::new(rt.alloc());
-    let table: Option<Source<'_, &[u8]>> = None;
-    let status = table_to(rt.alloc(), table, &mut out, &mut faults);
-    let lines = out.iter().filter(|byte| **byte == b'\n').count();
-    assert_eq!(rt; (status, lines), (0, 75));
+    let status = tabled(rt.alloc(), None, &mut out, &mut faults);
+    assert_eq!(rt; (status, line_count(&out)), (0, 75));
     assert!(rt; out.ends_with(b"unspecified non_operational available\nrows 74\n"));
 }

@@ -1,17 +1,32 @@
 //! The debugger's command, from bytes to bytes.
 use super::{Named, debug_to};
-use crate::commands::tests::{FIVE_EVENTS, file};
+use crate::commands::tests::{FIVE_EVENTS, expecting, fence, file};
 use crate::source::Source;
 use std::alloc::Global;
 use std::cell::Cell;
 use std::io::{self, Error, ErrorKind, Read, Write};
 
-/// The provider, the first vehicle, and one that no event names.
-pub const PROVIDER: &str = "00000000-0000-4000-8000-000000000001";
+/// The first vehicle, and one that no event names.
+pub const FIRST: Named<'static> = Named {
+    provider: "00000000-0000-4000-8000-000000000001",
+    device: "00000000-0000-4000-8000-00000000000a",
+};
 
-pub const FIRST: &str = "00000000-0000-4000-8000-00000000000a";
+const NOBODY: Named<'static> = Named {
+    provider: "00000000-0000-4000-8000-000000000001",
+    device: "00000000-0000-4000-8000-00000000000c",
+};
 
-const NOBODY: &str = "00000000-0000-4000-8000-00000000000c";
+/// Words that are no identifiers: of the provider, and of the device.
+const NO_PROVIDER: Named<'static> = Named {
+    provider: "P",
+    device: "00000000-0000-4000-8000-00000000000a",
+};
+
+const NO_DEVICE: Named<'static> = Named {
+    provider: "00000000-0000-4000-8000-000000000001",
+    device: "a",
+};
 
 /// The events of the worked script.
 pub const TWO_EVENTS: &str = r#"[
@@ -39,11 +54,25 @@ const FIVE_SHOWN: &str = "events 2 refused 2
 2 0 on_trip possible on_trip
 ";
 
+/// The status of a debugger over a file of this text, by the profile.
+pub fn debugged<I: Read, W: Write, E: Write>(
+    alloc: Global,
+    text: &str,
+    named: Named<'_>,
+    script: &mut I,
+    out: &mut W,
+    faults: &mut E,
+) -> u8 {
+    let table: Option<Source<'_, &[u8]>> = None;
+    debug_to(alloc, table, file("F", text), named, script, out, faults)
+}
+
 /// The text of the file, the words that name the vehicle, the script; and the status, the output and the faults that the
 /// debugger must come to.
-type Case = (
+#[derive(Clone, Copy)]
+struct Case(
     &'static str,
-    (&'static str, &'static str),
+    Named<'static>,
     &'static str,
     u8,
     &'static str,
@@ -52,43 +81,65 @@ type Case = (
 
 /// Whether the debugger comes to this.
 fn comes_to(alloc: Global, case: &Case) -> bool {
-    let (text, (provider, device), script, status, out, faults) = *case;
-    let mut printed = Vec::new(alloc);
-    let mut told = Vec::new(alloc);
-    let mut script = script.as_bytes();
-    let table: Option<Source<'_, &[u8]>> = None;
-    let named = Named { provider, device };
-    let file = file("F", text);
-    let code = debug_to(
-        alloc,
-        table,
-        file,
-        named,
-        &mut script,
-        &mut printed,
-        &mut told,
-    );
-    code == status && printed.as_slice() == out.as_bytes() && told.as_slice() == faults.as_bytes()
+    let mut out = Vec::new(alloc);
+    let mut faults = Vec::new(alloc);
+    let mut script = case.2.as_bytes();
+    let status = debugged(alloc, case.0, case.1, &mut script, &mut out, &mut faults);
+    status == case.3
+        && out.as_slice() == case.4.as_bytes()
+        && faults.as_slice() == case.5.as_bytes()
 }
+
+/// The place of the first case in which it comes to something else.
+fn first_other(alloc: Global, cases: &[Case]) -> Option<usize> {
+    for (at, case) in cases.iter().enumerate() {
+        if !comes_to(alloc, case) {
+            return Some(at);
+        }
+    }
+    None
+}
+
+const SCRIPTS: [Case; 7] = [
+    Case(TWO_EVENTS, FIRST, SCRIPT, 0, SCRIPT_LINES, ""),
+    Case(FIVE_EVENTS, FIRST, "run on_trip", 1, FIVE_SHOWN, ""),
+    Case(
+        TWO_EVENTS,
+        NOBODY,
+        "",
+        1,
+        "",
+        "mds_city: vehicle not in file\n",
+    ),
+    Case("[7]", FIRST, "", 1, "", "mds_city: vehicle not in file\n"),
+    // The words are looked at first, then the file.
+    Case("{", NO_PROVIDER, "", 2, "", "mds_city: bad identifier\n"),
+    Case("{", NO_DEVICE, "", 2, "", "mds_city: bad identifier\n"),
+    Case("{", FIRST, "", 3, "", "mds_city: not a batch: not_json\n"),
+];
 
 #[test]
 fn worked_scripts(rt: HostRuntime) {
-    let first = (PROVIDER, FIRST);
-    let bad = "mds_city: bad identifier\n";
-    let nobody = "mds_city: vehicle not in file\n";
-    let cases: [Case; 7] = [
-        (TWO_EVENTS, first, SCRIPT, 0, SCRIPT_LINES, ""),
-        (FIVE_EVENTS, first, "run on_trip", 1, FIVE_SHOWN, ""),
-        (TWO_EVENTS, (PROVIDER, NOBODY), "", 1, "", nobody),
-        ("[7]", first, "", 1, "", nobody),
-        // The words are looked at first, then the file.
-        ("{", ("P", FIRST), "", 2, "", bad),
-        ("{", (PROVIDER, "a"), "", 2, "", bad),
-        ("{", first, "", 3, "", "mds_city: not a batch: not_json\n"),
-    ];
-    for case in &cases {
-        assert!(rt; comes_to(rt.alloc(), case), "{case:?}");
-    }
+    assert_eq!(rt; first_other(rt.alloc(), &SCRIPTS), None);
+}
+
+/// Bad words are told without memory.
+#[test]
+fn bad_words_are_told_with_every_growth_refused(rt: HostRuntime) {
+    let mut script = SCRIPT.as_bytes();
+    let mut out = expecting("");
+    let mut faults = expecting("mds_city: bad identifier\n");
+    let _begun = fence(rt.alloc());
+    let status = debugged(
+        rt.alloc(),
+        "{",
+        NO_DEVICE,
+        &mut script,
+        &mut out,
+        &mut faults,
+    );
+    let _ended = fence(rt.alloc());
+    assert_eq!(rt; (status, faults.rest.is_empty()), (2, true));
 }
 
 /// An output that tells how many lines it has.
@@ -144,14 +195,7 @@ fn start_is_shown_before_the_script_is_read(rt: HostRuntime) {
         lines: &lines,
     };
     let mut told = Vec::new(alloc);
-    let table: Option<Source<'_, &[u8]>> = None;
-    let named = Named {
-        provider: PROVIDER,
-        device: FIRST,
-    };
-    let file = file("F", TWO_EVENTS);
-    let code = debug_to(alloc, table, file, named, &mut script, &mut out, &mut told);
-    assert_eq!(rt; code, 0);
+    let status = debugged(alloc, TWO_EVENTS, FIRST, &mut script, &mut out, &mut told);
+    assert_eq!(rt; (status, told.is_empty()), (0, true));
     assert_eq!(rt; out.bytes.as_slice(), SCRIPT_LINES.as_bytes());
-    assert!(rt; told.is_empty());
 }

@@ -45,25 +45,19 @@ fn is_told(alloc: Global, problem: Problem<'_>, status: Status, line: &[u8]) -> 
 #[test]
 fn line_goes_out_byte_by_byte(rt: HostRuntime) {
     let alloc = rt.alloc();
-    assert!(rt; is_told(alloc, Problem::Output, Status::Fault, b"mds_city: output\n"));
-    assert!(rt; is_told(alloc, Problem::Random, Status::Fault, b"mds_city: random\n"));
-    assert!(rt;
-        is_told(
-            alloc,
-            Problem::Memory,
-            Status::NoMemory,
-            b"mds_city: out of memory\n"
-        )
-    );
+    let output = is_told(alloc, Problem::Output, Status::Fault, b"mds_city: output\n");
+    let random = is_told(alloc, Problem::Random, Status::Fault, b"mds_city: random\n");
+    let memory = b"mds_city: out of memory\n";
+    let memory = is_told(alloc, Problem::Memory, Status::NoMemory, memory);
+    assert_eq!(rt; (output, random, memory), (true, true, true));
 }
 
 #[test]
 fn long_path_is_told_whole(rt: HostRuntime) -> Result<(), Fail> {
-    let alloc = rt.alloc();
-    let path = "folder/".repeat(alloc, 700)?;
-    let line = format!(in alloc; "mds_city: cannot read {path}\n")?;
-    assert_eq!(rt; line.len(), 4_923);
+    let path = "folder/".repeat(rt.alloc(), 700)?;
+    let line = format!(in rt.alloc(); "mds_city: cannot read {path}\n")?;
     let problem = Problem::CannotRead(path.as_str());
-    assert!(rt; is_told(alloc, problem, Status::Fault, line.as_bytes()));
+    let told = is_told(rt.alloc(), problem, Status::Fault, line.as_bytes());
+    assert_eq!(rt; (line.len(), told), (4_923, true));
     Ok(())
 }
