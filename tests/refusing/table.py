@@ -203,6 +203,13 @@ QUIET = {
         "memory_bytes",
         "bytes_of",
     ],
+    ("mds_face", "lack_is_told_with_every_growth_refused"): [
+        "Desk::call",
+        "Desk::events",
+        "Desk::rows",
+        "serve_one",
+        "read_plan",
+    ],
     ("mds_args", "kinds_are_told_with_every_growth_refused"): ["WordsError::kind"],
 }
 """A crate and its test, and the calls of the crate that it makes without memory: all of them, or those that are refused, look at

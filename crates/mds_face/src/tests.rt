@@ -12,7 +12,8 @@ ghost use Rattle.std.specs.Prelude.{◌≡◌, IfOk};
 use crate::{Desk, Face, ServeFault, Served, serve_one};
 use std::alloc::{AllocError, Global};
 use std::io::{self, Error, ErrorKind, Read, Write};
-use std::test::Fail;
+use std::process::Abort;
+use std::str::from_utf8;
 
 /// What a device does once it has given or taken the bytes that it is to.
 #[derive(Clone, Copy, Debug, PartialEq, Eq)]
@@ -122,9 +123,12 @@ pub enum Sent {
     Letters(usize),
 }
 
-/// A request, and the answer to it: what stands in the status line behind the version, the fields behind the last one that
-/// every answer has, and the body.
-pub type Exchange = (Sent, &'static str, &'static str, &'static str);
+/// An answer: what stands in the status line behind the version, the fields behind the last one that every answer has, and
+/// the body.
+pub type Answer<'a> = (&'a str, &'a str, &'a str);
+
+/// A request, and the answer to it.
+pub type Exchange = (Sent, Answer<'static>);
 
 /// The bytes of a POST.
 fn post(alloc: Global, target: &str, body: &str) -> Result<String, AllocError> {
@@ -156,18 +160,22 @@ pub fn bytes_sent(alloc: Global, sent: Sent) -> Result<String, AllocError> {
     }
 }
 
-/// The bytes of an answer of this status line, these further fields and this body.
-pub fn answer_text(
-    alloc: Global,
-    status: &str,
-    fields: &str,
-    body: &str,
-) -> Result<String, AllocError> {
+/// The bytes of an answer.
+pub fn answer_text(alloc: Global, answer: Answer<'_>) -> Result<String, AllocError> {
+    let (status, fields, body) = answer;
     let length = body.len();
     format!(in alloc;
         "HTTP/1.1 {status}\r\ncontent-type: application/json\r\ncontent-length: {length}\r\nconnection: close\r\n{fields}\r\n{body}"
     )
 }
+
+/// The text that the bytes of an answer are; an empty one where they are none.
+pub fn text_of(bytes: &[u8]) -> &str {
+    from_utf8(bytes).unwrap_or("")
+}
+
+/// What is said of a connection, and what was written.
+pub type Ending = (Result<Served, ServeFault>, Vec<u8>);
 
 /// What the desk answers to these bytes, sent so many a call.
 pub fn answered<D: Desk>(
@@ -175,10 +183,39 @@ pub fn answered<D: Desk>(
     desk: &mut D,
     bytes: &[u8],
     piece: usize,
-) -> Result<(Result<Served, ServeFault>, Vec<u8>), Fail> {
+) -> Result<Ending, AllocError> {
     let face = Face::open(alloc)?;
     let mut client = Client::new(bytes, piece);
     let mut peer = Peer::new(alloc);
     let served = serve_one(alloc, &face, &mut client, &mut peer, desk);
     Ok((served, peer.taken))
+}
+
+/// Sees that a desk gives this answer to what a client sends, so many bytes a call.
+fn see_answer<R: Abort, D: Desk>(
+    rt: &R,
+    alloc: Global,
+    desk: &mut D,
+    exchange: &Exchange,
+    piece: usize,
+) -> Result<(), AllocError> {
+    let bytes = bytes_sent(alloc, exchange.0)?;
+    let expected = answer_text(alloc, exchange.1)?;
+    let (_, written) = answered(alloc, desk, bytes.as_bytes(), piece)?;
+    assert_eq!(rt; text_of(written.as_slice()), expected.as_str());
+    Ok(())
+}
+
+/// Sees that a desk gives each answer in turn.
+pub fn see_answers<R: Abort, D: Desk>(
+    rt: &R,
+    alloc: Global,
+    desk: &mut D,
+    exchanges: &[Exchange],
+    piece: usize,
+) -> Result<(), AllocError> {
+    for exchange in exchanges {
+        see_answer(rt, alloc, desk, exchange, piece)?;
+    }
+    Ok(())
 }

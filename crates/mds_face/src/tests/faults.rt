@@ -2,14 +2,15 @@
 use super::cases::fleet;
 use super::{Client, Last, Peer, answer_text};
 use crate::{Face, ServeFault, Served, memory_bytes, serve_one};
-use std::alloc::Global;
-use std::test::Fail;
+use std::alloc::{AllocError, Global};
+use std::ops::Range;
+use std::process::Abort;
 
 /// A batch of no items.
 const EMPTY_BATCH: &[u8] = b"POST /events HTTP/1.1\r\nContent-Length: 2\r\n\r\n[]";
 
 /// What became of a connection.
-#[derive(Debug, PartialEq, Drop)]
+#[derive(Drop)]
 struct Ended {
     served: Result<Served, ServeFault>,
     written: Vec<u8>,
@@ -17,7 +18,7 @@ struct Ended {
 }
 
 /// What becomes of a connection between these two.
-fn outcome_of(alloc: Global, mut client: Client<'_>, mut peer: Peer) -> Result<Ended, Fail> {
+fn outcome_of(alloc: Global, mut client: Client<'_>, mut peer: Peer) -> Result<Ended, AllocError> {
     let face = Face::open(alloc)?;
     let mut fleet = fleet(alloc)?;
     let served = serve_one(alloc, &face, &mut client, &mut peer, &mut fleet);
@@ -36,58 +37,63 @@ fn byte_by_byte(count: usize, last: Last) -> Client<'static> {
     }
 }
 
+/// What becomes of a connection whose client sends the empty batch at once.
+fn outcome_with(alloc: Global, peer: Peer) -> Result<Ended, AllocError> {
+    outcome_of(alloc, Client::new(EMPTY_BATCH, 46), peer)
+}
+
 #[test]
-fn answer_lengths(rt: HostRuntime) -> Result<(), Fail> {
-    let found = outcome_of(
-        rt.alloc(),
-        Client::new(EMPTY_BATCH, 46),
-        Peer::new(rt.alloc()),
-    )?;
+fn answer_lengths(rt: HostRuntime) -> Result<(), AllocError> {
+    let found = outcome_with(rt.alloc(), Peer::new(rt.alloc()))?;
+    let whole = Served {
+        status: 200,
+        accepted: 0,
+    };
+    assert_eq!(rt; (found.served, found.calls), (Ok(whole), (1, 1)));
     assert_eq!(rt;
         (EMPTY_BATCH.len(), found.written.len(), memory_bytes().len()),
         (46, 127, 74)
     );
+    Ok(())
+}
+
+/// Sees that nothing is written to a client whose reads fail behind so many bytes.
+fn see_failed_read<R: Abort>(rt: &R, alloc: Global, count: usize) -> Result<(), AllocError> {
+    let found = outcome_of(alloc, byte_by_byte(count, Last::Fails), Peer::new(alloc))?;
     assert_eq!(rt;
-        (found.served, found.calls),
-        (
-            Ok(Served {
-                status: 200,
-                accepted: 0
-            }),
-            (1, 1)
-        )
+        (found.served, found.written.len()),
+        (Err(ServeFault::Read), 0)
     );
     Ok(())
 }
 
 #[test]
-fn reads_that_fail(rt: HostRuntime) -> Result<(), Fail> {
+fn reads_that_fail(rt: HostRuntime) -> Result<(), AllocError> {
     for count in 0..46 {
-        let found = outcome_of(
-            rt.alloc(),
-            byte_by_byte(count, Last::Fails),
-            Peer::new(rt.alloc()),
-        )?;
-        assert_eq!(rt;
-            (found.served, found.written.len()),
-            (Err(ServeFault::Read), 0)
-        );
+        see_failed_read(&rt, rt.alloc(), count)?;
+    }
+    Ok(())
+}
+
+/// Sees that this is answered to each of these many bytes, sent one by one.
+fn see_ended_reads<R: Abort>(
+    rt: &R,
+    alloc: Global,
+    counts: Range<usize>,
+    body: &str,
+) -> Result<(), AllocError> {
+    let expected = answer_text(alloc, ("400 Bad Request", "", body))?;
+    for count in counts {
+        let found = outcome_of(alloc, byte_by_byte(count, Last::Ends), Peer::new(alloc))?;
+        assert_eq!(rt; found.written.as_slice(), expected.as_bytes());
     }
     Ok(())
 }
 
 #[test]
-fn reads_that_end(rt: HostRuntime) -> Result<(), Fail> {
-    let alloc = rt.alloc();
-    let status = "400 Bad Request";
-    let no_head = answer_text(alloc, status, "", r#"{"error":"bad_head"}"#)?;
-    let no_body = answer_text(alloc, status, "", r#"{"error":"cut_short"}"#)?;
-    for count in 0..46 {
-        let found = outcome_of(alloc, byte_by_byte(count, Last::Ends), Peer::new(alloc))?;
-        let expected = if count < 44 { &no_head } else { &no_body };
-        assert_eq!(rt; found.written.as_slice(), expected.as_bytes());
-    }
-    Ok(())
+fn reads_that_end(rt: HostRuntime) -> Result<(), AllocError> {
+    see_ended_reads(&rt, rt.alloc(), 0..44, r#"{"error":"bad_head"}"#)?;
+    see_ended_reads(&rt, rt.alloc(), 44..46, r#"{"error":"cut_short"}"#)
 }
 
 /// One that takes so many bytes.
@@ -99,42 +105,43 @@ fn peer_of(alloc: Global, room: usize, last: Last) -> Peer {
     }
 }
 
+/// Sees how many bytes of an answer were written to a peer that takes so many.
+fn see_failed_write<R: Abort>(
+    rt: &R,
+    alloc: Global,
+    sent: usize,
+    last: Last,
+) -> Result<(), AllocError> {
+    let found = outcome_with(alloc, peer_of(alloc, sent, last))?;
+    assert_eq!(rt;
+        (found.served, found.written.len()),
+        (Err(ServeFault::Write { sent }), sent)
+    );
+    Ok(())
+}
+
 #[test]
-fn writes_that_fail(rt: HostRuntime) -> Result<(), Fail> {
-    let alloc = rt.alloc();
+fn writes_that_fail(rt: HostRuntime) -> Result<(), AllocError> {
     for sent in 0..127 {
-        for last in [Last::Fails, Last::Ends] {
-            let found = outcome_of(
-                alloc,
-                Client::new(EMPTY_BATCH, 46),
-                peer_of(alloc, sent, last),
-            )?;
-            assert_eq!(rt;
-                (found.served, found.written.len()),
-                (Err(ServeFault::Write { sent }), sent)
-            );
-        }
+        see_failed_write(&rt, rt.alloc(), sent, Last::Fails)?;
+        see_failed_write(&rt, rt.alloc(), sent, Last::Ends)?;
     }
     Ok(())
 }
 
 #[test]
-fn turns_run_out(rt: HostRuntime) -> Result<(), Fail> {
+fn turns_run_out(rt: HostRuntime) -> Result<(), AllocError> {
     let alloc = rt.alloc();
     let out_of_turns = Err(ServeFault::TooManyTurns { sent: 0 });
     let found = outcome_of(alloc, byte_by_byte(0, Last::Pauses), Peer::new(alloc))?;
     assert_eq!(rt; (found.served, found.calls), (out_of_turns, (5_000_000, 0)));
-    let found = outcome_of(
-        alloc,
-        Client::new(EMPTY_BATCH, 46),
-        peer_of(alloc, 0, Last::Pauses),
-    )?;
+    let found = outcome_with(alloc, peer_of(alloc, 0, Last::Pauses))?;
     assert_eq!(rt; (found.served, found.calls), (out_of_turns, (1, 5_000_000)));
     Ok(())
 }
 
 #[test]
-fn faults_print_their_words(rt: HostRuntime) -> Result<(), Fail> {
+fn faults_print_their_words(rt: HostRuntime) -> Result<(), AllocError> {
     let (read, write) = (ServeFault::Read, ServeFault::Write { sent: 7 });
     let (memory, turns) = (
         ServeFault::Memory { sent: 74 },

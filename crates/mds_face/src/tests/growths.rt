@@ -1,36 +1,47 @@
 //! Connections that find no memory.
 mod desks;
+mod quiet;
 
 ghost use Rattle.std.specs.Prelude.{◌≡◌, IfSome};
 
-use super::cases::{ONE_FAULTY_OF_THREE, fleet};
+use super::cases::{ONE_FAULTY_OF_THREE, fleet, profile};
 use super::tables::two_tables;
-use super::{Client, Sent, answer_text, answered, bytes_sent};
+use super::{Client, Ending, Sent, answer_text, answered, bytes_sent, text_of};
 use crate::{Desk, Face, Plan, ServeFault, Served, memory_bytes, read_plan, serve_one};
 use mds_core::{Event, Fleet, Key, Reply, Request};
 use mds_io::ReadError;
-use mds_table::{Row, State, Table, Tables};
+use mds_table::{Row, State, Tables, TablesFault};
 use std::alloc::{AllocError, Global};
 use std::io::{self, Write};
-use std::test::Fail;
+use std::process::Abort;
 use uuid::Uuid;
 
-/// The key of a vehicle, by the last byte of its device.
-fn key(last: u128) -> Key {
+/// The identifier that ends with these digits.
+fn uuid(last: u64) -> Uuid {
+    Uuid::from_u64_pair(0x4000, 0x8000_0000_0000_0000 | last)
+}
+
+/// The key of a vehicle, by the last digits of its device.
+fn key(last: u64) -> Key {
     Key {
-        provider: Uuid::from_u128(0x00000000_0000_4000_8000_000000000001),
-        device: Uuid::from_u128(0x00000000_0000_4000_8000_000000000000 | last),
+        provider: uuid(0x01),
+        device: uuid(last),
     }
 }
 
-/// Registers A and B, where memory allows at once or at a second try.
-fn register(fleet: &mut Fleet) -> Result<(), AllocError> {
-    for last in [0x0a, 0x0b] {
-        let request = Request::Register(key(last));
-        if fleet.step(&request).is_err() {
-            fleet.step(&request)?;
-        }
+/// Registers a vehicle, where memory allows at once or at a second try.
+fn register(fleet: &mut Fleet, last: u64) -> Result<Reply, AllocError> {
+    let request = Request::Register(key(last));
+    match fleet.step(&request) {
+        Ok(reply) => Ok(reply),
+        Err(AllocError) => fleet.step(&request),
     }
+}
+
+/// Registers A and B.
+fn register_both(fleet: &mut Fleet) -> Result<(), AllocError> {
+    register(fleet, 0x0a)?;
+    register(fleet, 0x0b)?;
     Ok(())
 }
 
@@ -74,40 +85,34 @@ impl Desk for Wanting<'_> {
     }
 }
 
-/// The states that A and B hold.
-fn held(fleet: &Fleet) -> [Option<State>; 2] {
-    [
-        fleet.standing(&key(0x0a)).map(|standing| standing.state),
-        fleet.standing(&key(0x0b)).map(|standing| standing.state),
-    ]
+/// The state that a vehicle holds.
+fn held(fleet: &Fleet, last: u64) -> Option<State> {
+    Some(fleet.standing(&key(last))?.state)
+}
+
+/// What is answered to the batch, which finds no memory behind its first event.
+fn cut_batch(alloc: Global, fleet: &mut Fleet) -> Result<Ending, AllocError> {
+    let bytes = bytes_sent(alloc, Sent::Post("/events", ONE_FAULTY_OF_THREE))?;
+    let mut desk = Wanting { fleet, left: 1 };
+    answered(alloc, &mut desk, bytes.as_bytes(), usize::MAX)
 }
 
 #[test]
-fn refused_growth_inside_a_batch(rt: HostRuntime) -> Result<(), Fail> {
+fn refused_growth_inside_a_batch(rt: HostRuntime) -> Result<(), AllocError> {
     let alloc = rt.alloc();
     let mut fleet = fleet(alloc)?;
-    register(&mut fleet)?;
-    let bytes = bytes_sent(alloc, Sent::Post("/events", ONE_FAULTY_OF_THREE))?;
-    let mut desk = Wanting {
-        fleet: &mut fleet,
-        left: 1,
+    register_both(&mut fleet)?;
+    let (served, written) = cut_batch(alloc, &mut fleet)?;
+    let partial = Served {
+        status: 503,
+        accepted: 1,
     };
-    let (served, written) = answered(alloc, &mut desk, bytes.as_bytes(), usize::MAX)?;
     let body = r#"{"error":"out_of_memory","index":2}"#;
-    let expected = answer_text(alloc, "503 Service Unavailable", "", body)?;
+    let expected = answer_text(alloc, ("503 Service Unavailable", "", body))?;
+    assert_eq!(rt; (body.len(), served), (35, Ok(partial)));
+    assert_eq!(rt; text_of(written.as_slice()), expected.as_str());
     assert_eq!(rt;
-        (body.len(), served),
-        (
-            35,
-            Ok(Served {
-                status: 503,
-                accepted: 1
-            })
-        )
-    );
-    assert_eq!(rt; written.as_slice(), expected.as_bytes());
-    assert_eq!(rt;
-        held(&fleet),
+        [held(&fleet, 0x0a), held(&fleet, 0x0b)],
         [Some(State::Available), Some(State::Removed)]
     );
     Ok(())
@@ -120,15 +125,15 @@ const LOOKS: &[&str] = &[
     "GET /table HTTP/1.1\r\n\r\n",
 ];
 
-#[test]
-fn refused_growth_of_a_look(rt: HostRuntime) -> Result<(), Fail> {
-    let alloc = rt.alloc();
-    let mut fleet = fleet(alloc)?;
-    for look in LOOKS {
-        let mut desk = Wanting {
-            fleet: &mut fleet,
-            left: 0,
-        };
+/// Sees that each of these is answered by the fixed answer where a fleet finds no memory.
+fn see_looks<R: Abort>(
+    rt: &R,
+    alloc: Global,
+    fleet: &mut Fleet,
+    looks: &[&str],
+) -> Result<(), AllocError> {
+    for look in looks {
+        let mut desk = Wanting { fleet, left: 0 };
         let (served, written) = answered(alloc, &mut desk, look.as_bytes(), 1)?;
         assert_eq!(rt;
             (served, written.as_slice()),
@@ -136,6 +141,11 @@ fn refused_growth_of_a_look(rt: HostRuntime) -> Result<(), Fail> {
         );
     }
     Ok(())
+}
+
+#[test]
+fn refused_growth_of_a_look(rt: HostRuntime) -> Result<(), AllocError> {
+    see_looks(&rt, rt.alloc(), &mut fleet(rt.alloc())?, LOOKS)
 }
 
 /// The same batch with its length.
@@ -197,19 +207,18 @@ fn stands(served: Result<Served, ServeFault>, written: usize, held: usize) -> bo
     }
 }
 
-/// The profile from 0 on.
-fn profile(alloc: Global) -> Result<Tables, AllocError> {
-    Tables::one(alloc, Table::profile(alloc)?)
+/// The profile, where memory allows at once or at a second try.
+fn profile_again(alloc: Global) -> Result<Tables, AllocError> {
+    match profile(alloc) {
+        Ok(tables) => Ok(tables),
+        Err(AllocError) => profile(alloc),
+    }
 }
 
-/// A fleet in which A and B are registered, where memory allows at once or at a second try.
+/// A fleet in which A and B are registered.
 fn registered(alloc: Global) -> Result<Fleet, AllocError> {
-    let tables = match profile(alloc) {
-        Ok(tables) => tables,
-        Err(AllocError) => profile(alloc)?,
-    };
-    let mut fleet = Fleet::open(alloc, tables);
-    register(&mut fleet)?;
+    let mut fleet = Fleet::open(alloc, profile_again(alloc)?);
+    register_both(&mut fleet)?;
     Ok(fleet)
 }
 
@@ -221,60 +230,54 @@ fn routes(alloc: Global) -> Result<Face, AllocError> {
     }
 }
 
+/// An answer of status 200 to so many accepted requests.
+fn whole(accepted: usize) -> Result<Served, ServeFault> {
+    Ok(Served {
+        status: 200,
+        accepted,
+    })
+}
+
 /// What was told stands, and the same request is then answered whole (by `tests/refused-growths`).
 #[test]
-fn calls_stand_after_a_refused_growth(rt: HostRuntime) -> Result<(), Fail> {
+fn calls_stand_after_a_refused_growth(rt: HostRuntime) -> Result<(), AllocError> {
     let alloc = rt.alloc();
     let mut fleet = registered(alloc)?;
     let face = routes(alloc)?;
     let (served, written, before) = told(alloc, &face, &mut fleet, THREE);
     assert!(rt; stands(served, written, before));
-    let whole = Ok(Served {
-        status: 200,
-        accepted: 2,
-    });
-    if served == whole {
+    if served == whole(2) {
         return Ok(());
     }
     let (served, _, after) = told(alloc, &face, &mut fleet, THREE);
-    assert_eq!(rt;
-        (served, after),
-        (
-            Ok(Served {
-                status: 200,
-                accepted: 4usize.saturating_sub(before)
-            }),
-            4
-        )
-    );
+    assert_eq!(rt; (served, after), (whole(4usize.saturating_sub(before)), 4));
     Ok(())
 }
 
+/// The two tables, where memory allows at once or at a second try.
+fn tables_again(alloc: Global) -> Result<Tables, TablesFault> {
+    match two_tables(alloc) {
+        Ok(tables) => Ok(tables),
+        Err(_) => two_tables(alloc),
+    }
+}
+
+/// Asks for the tables.
+const TABLES: &[u8] = b"GET /table HTTP/1.1\r\n\r\n";
+
 /// Two tables are told whole or not at all, and the same request is then answered whole (by `tests/refused-growths`).
 #[test]
-fn tables_are_told_after_a_refused_growth(rt: HostRuntime) -> Result<(), Fail> {
+fn tables_are_told_after_a_refused_growth(rt: HostRuntime) -> Result<(), TablesFault> {
     let alloc = rt.alloc();
-    let tables = match two_tables(alloc) {
-        Ok(tables) => tables,
-        Err(_) => two_tables(alloc)?,
-    };
-    let mut fleet = Fleet::open(alloc, tables);
+    let mut fleet = Fleet::open(alloc, tables_again(alloc)?);
     let face = routes(alloc)?;
-    let bytes = b"GET /table HTTP/1.1\r\n\r\n";
-    let whole = (
-        Ok(Served {
-            status: 200,
-            accepted: 0,
-        }),
-        256,
-        0,
-    );
-    let first = told(alloc, &face, &mut fleet, bytes);
-    if first == whole {
+    let first = told(alloc, &face, &mut fleet, TABLES);
+    if first == (whole(0), 256, 0) {
         return Ok(());
     }
-    assert_eq!(rt; first, (Err(ServeFault::Memory { sent: 74 }), 74, 0));
-    assert_eq!(rt; told(alloc, &face, &mut fleet, bytes), whole);
+    let second = told(alloc, &face, &mut fleet, TABLES);
+    let lack = Err(ServeFault::Memory { sent: 74 });
+    assert_eq!(rt; [first, second], [(lack, 74, 0), (whole(0), 256, 0)]);
     Ok(())
 }
 
@@ -286,19 +289,18 @@ fn plan_read(alloc: Global, face: &Face, bytes: &[u8]) -> Result<Plan, ReadError
     }
 }
 
-/// How many events a plan reports, faulty items among them.
-fn reported(plan: Plan) -> Option<usize> {
-    match plan {
+/// How many events the batch reports, faulty items among them.
+fn reported(alloc: Global, face: &Face) -> Result<Option<usize>, ReadError> {
+    Ok(match plan_read(alloc, face, THREE)? {
         Plan::Events(items) => Some(items.len()),
         _ => None,
-    }
+    })
 }
 
 /// A batch, read again where a growth is refused (by `tests/refused-growths`).
 #[test]
-fn a_batch_is_read_after_a_refused_growth(rt: HostRuntime) -> Result<(), Fail> {
+fn a_batch_is_read_after_a_refused_growth(rt: HostRuntime) -> Result<(), AllocError> {
     let face = routes(rt.alloc())?;
-    let plan = plan_read(rt.alloc(), &face, THREE)?;
-    assert_eq!(rt; reported(plan), Some(3));
+    assert_eq!(rt; reported(rt.alloc(), &face), Ok(Some(3)));
     Ok(())
 }

@@ -6,14 +6,13 @@ use crate::{Desk, Served};
 use mds_core::{Event, Key, MAX_EVENT_TYPES, Reply, Request};
 use mds_table::{Row, State, TypeName};
 use std::alloc::{AllocError, Global};
-use std::test::Fail;
 use uuid::Uuid;
 
 /// A desk that knows of one event, so many times, and finds no memory for anything else.
 #[derive(Drop)]
 struct Archive {
     alloc: Global,
-    event: Event,
+    event: Option<Event>,
     count: usize,
 }
 
@@ -33,9 +32,12 @@ impl Desk for Archive {
     }
 
     fn events(&mut self, _key: &Key) -> Result<Option<Vec<Event>>, AllocError> {
+        let Some(event) = &self.event else {
+            return Ok(None);
+        };
         let mut events = Vec::new(self.alloc);
         for _ in 0..self.count {
-            events.push(self.event.copy())?;
+            events.push(event.copy())?;
         }
         Ok(Some(events))
     }
@@ -45,19 +47,24 @@ impl Desk for Archive {
     }
 }
 
-/// An event with as many types as one may have, each of the longest name.
-fn longest_event(alloc: Global) -> Result<Event, Fail> {
-    let name = TypeName::new("a_type_of_an_event_with_32_bytes")?;
+/// As many types as an event may have, each of the longest name.
+fn longest_types(alloc: Global) -> Result<Vec<TypeName>, AllocError> {
     let mut types = Vec::new(alloc);
-    for _ in 0..MAX_EVENT_TYPES {
-        types.push(name.copy())?;
+    if let Ok(name) = TypeName::new("a_type_of_an_event_with_32_bytes") {
+        for _ in 0..MAX_EVENT_TYPES {
+            types.push(name.copy())?;
+        }
     }
+    Ok(types)
+}
+
+/// An event of these types.
+fn event_of(types: &[TypeName]) -> Option<Event> {
     let key = Key {
         provider: Uuid::from_u128(1),
         device: Uuid::from_u128(2),
     };
-    let id = Uuid::from_u128(3);
-    Ok(Event::new(key, id, State::OnTrip, &types, 0, None)?)
+    Event::new(key, Uuid::from_u128(3), State::OnTrip, types, 0, None).ok()
 }
 
 /// Asks for the events of that vehicle.
@@ -65,10 +72,11 @@ const EVENTS: &[u8] =
     b"GET /vehicles/00000000000000000000000000000001/00000000000000000000000000000002/events HTTP/1.1\r\n\r\n";
 
 #[test]
-fn answer_of_more_than_a_mebibyte(rt: HostRuntime) -> Result<(), Fail> {
+fn answer_of_more_than_a_mebibyte(rt: HostRuntime) -> Result<(), AllocError> {
+    let types = longest_types(rt.alloc())?;
     let mut archive = Archive {
         alloc: rt.alloc(),
-        event: longest_event(rt.alloc())?,
+        event: event_of(types.as_slice()),
         count: 2_500,
     };
     let (served, written) = answered(rt.alloc(), &mut archive, EVENTS, usize::MAX)?;
@@ -76,7 +84,6 @@ fn answer_of_more_than_a_mebibyte(rt: HostRuntime) -> Result<(), Fail> {
         status: 200,
         accepted: 0,
     };
-    assert_eq!(rt; served, Ok(whole));
-    assert!(rt; written.len() > 1_048_576);
+    assert_eq!(rt; (served, written.len() > 1_048_576), (Ok(whole), true));
     Ok(())
 }

@@ -1,12 +1,12 @@
 //! Each call of a desk, made again where its growth is refused (by `tests/refused-growths`).
 ghost use Rattle.std.specs.Prelude.{◌≡◌};
 
-use super::super::tables::two_tables;
-use super::key;
+use super::super::seats::hashers;
+use super::{key, tables_again, uuid};
 use crate::{Desk, SeatDesk};
 use mds_book::{Book, Keep, Seat, ShardLedger};
 use mds_core::{Event, Fleet, Outcome, Reply, Request};
-use mds_table::{State, Tables, TypeName};
+use mds_table::{State, Tables, TablesFault, TypeName};
 use std::alloc::{AllocError, Global};
 use std::hash::RandomState;
 use std::marker::Brand;
@@ -14,15 +14,11 @@ use std::random::RandomSource;
 use std::sync::Wait;
 use std::sync::ledger::Blank;
 use std::test::Fail;
-use uuid::Uuid;
 
-/// A registration of A, and its first event.
-fn requests() -> Result<[Request; 2], Fail> {
-    let about = key(0x0a);
-    let id = Uuid::from_u128(0x00000000_0000_4000_8000_0000000000e1);
-    let types = [TypeName::new("wake")?];
-    let event = Event::new(about, id, State::Available, &types, 1000, None)?;
-    Ok([Request::Register(about), Request::Report(event)])
+/// The first event of A.
+fn first_event() -> Option<Event> {
+    let types = [TypeName::new("wake").ok()?];
+    Event::new(key(0x0a), uuid(0xe1), State::Available, &types, 1000, None).ok()
 }
 
 /// The reply to a request.
@@ -33,10 +29,14 @@ fn reply_to<D: Desk>(desk: &mut D, request: &Request) -> Result<Reply, AllocErro
     }
 }
 
-/// The replies to these requests.
-fn replies_to<D: Desk>(desk: &mut D, requests: &[Request; 2]) -> Result<[Reply; 2], AllocError> {
-    let first = reply_to(desk, &requests[0])?;
-    Ok([first, reply_to(desk, &requests[1])?])
+/// The replies to a registration of A and to its first event.
+fn replies_of<D: Desk>(desk: &mut D) -> Result<Option<[Reply; 2]>, AllocError> {
+    let first = reply_to(desk, &Request::Register(key(0x0a)))?;
+    let Some(event) = first_event() else {
+        return Ok(None);
+    };
+    let second = reply_to(desk, &Request::Report(event))?;
+    Ok(Some([first, second]))
 }
 
 /// How many events A has, where it is registered.
@@ -62,11 +62,11 @@ fn last_table<D: Desk>(desk: &mut D) -> Result<Option<(u64, usize)>, AllocError>
 }
 
 /// What a desk tells: two replies, how many events A has then, and of the last table.
-type Told = ([Reply; 2], Option<usize>, Option<(u64, usize)>);
+type Told = (Option<[Reply; 2]>, Option<usize>, Option<(u64, usize)>);
 
 /// What a desk tells of a registration of A and its first event.
-fn told_at<D: Desk>(desk: &mut D) -> Result<Told, Fail> {
-    let replies = replies_to(desk, &requests()?)?;
+fn told_at<D: Desk>(desk: &mut D) -> Result<Told, AllocError> {
+    let replies = replies_of(desk)?;
     let events = event_count(desk)?;
     Ok((replies, events, last_table(desk)?))
 }
@@ -81,19 +81,11 @@ fn done(place: usize) -> Reply {
 
 /// What a desk over the two tables is to tell.
 fn whole() -> Told {
-    ([done(0), done(1)], Some(1), Some((2000, 1)))
-}
-
-/// The two tables.
-fn tables_again(alloc: Global) -> Result<Tables, Fail> {
-    match two_tables(alloc) {
-        Ok(tables) => Ok(tables),
-        Err(_) => Ok(two_tables(alloc)?),
-    }
+    (Some([done(0), done(1)]), Some(1), Some((2000, 1)))
 }
 
 #[test]
-fn a_fleet_answers_after_a_refused_growth(rt: HostRuntime) -> Result<(), Fail> {
+fn a_fleet_answers_after_a_refused_growth(rt: HostRuntime) -> Result<(), TablesFault> {
     let mut fleet = Fleet::open(rt.alloc(), tables_again(rt.alloc())?);
     assert_eq!(rt; told_at(&mut fleet)?, whole());
     Ok(())
@@ -105,7 +97,7 @@ fn told_at_a_seat<L: ShardLedger, M: ShardLedger, R: Wait>(
     alloc: Global,
     book: &Book<L, M>,
     mut seat: Seat<L, M>,
-) -> Result<Told, Fail> {
+) -> Result<Told, AllocError> {
     let mut desk = SeatDesk {
         alloc,
         rt,
@@ -123,7 +115,7 @@ fn in_a_book<L: ShardLedger, M: ShardLedger, R: Wait>(
     hashers: [RandomState; 2],
     first: Blank,
     second: Blank,
-) -> Result<Option<Told>, Fail>
+) -> Result<Option<Told>, AllocError>
     requires first { (first.name ≡ L.name) × (first.parts ≡ L.parts) × (first.parts ≡ 1) }
     requires second { (second.name ≡ M.name) × (second.parts ≡ M.parts) × (second.parts ≡ 1) }
     requires tables { (tables ≡ L.tables) × (tables ≡ M.tables) }
@@ -132,22 +124,33 @@ fn in_a_book<L: ShardLedger, M: ShardLedger, R: Wait>(
     let Ok((book, mut seats)) = opened else {
         return Ok(None);
     };
-    let seat = seats.pop().ok_or("a seat")?;
+    let Some(seat) = seats.pop() else {
+        return Ok(None);
+    };
     Ok(Some(told_at_a_seat(rt, alloc, &book, seat)?))
 }
 
-/// The same over the two tables, with ledgers of its own.
-fn in_a_new_book<R: Wait + RandomSource>(rt: &R, alloc: Global) -> Result<Option<Told>, Fail> {
-    let tables = tables_again(alloc)?;
-    let hashers = [RandomState::new(rt)?, RandomState::new(rt)?];
+/// The same with ledgers of its own.
+fn in_a_new_book<R: Wait>(
+    rt: &R,
+    alloc: Global,
+    tables: Tables,
+    hashers: [RandomState; 2],
+) -> Result<Option<Told>, AllocError> {
     in_a_book::<Brand, Brand, R>(rt, alloc, tables, hashers, Blank::new(1), Blank::new(1))
+}
+
+/// The same over the two tables.
+fn in_a_book_of_two<R: Wait + RandomSource>(rt: &R, alloc: Global) -> Result<Option<Told>, Fail> {
+    let (tables, hashers) = (tables_again(alloc)?, hashers(rt)?);
+    Ok(in_a_new_book(rt, alloc, tables, hashers)?)
 }
 
 /// The same, with a second book where there was no memory for the first.
 fn in_a_book_again<R: Wait + RandomSource>(rt: &R, alloc: Global) -> Result<Option<Told>, Fail> {
-    match in_a_new_book(rt, alloc)? {
+    match in_a_book_of_two(rt, alloc)? {
         Some(told) => Ok(Some(told)),
-        None => in_a_new_book(rt, alloc),
+        None => in_a_book_of_two(rt, alloc),
     }
 }
 
