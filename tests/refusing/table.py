@@ -211,6 +211,7 @@ QUIET = {
         "read_plan",
     ],
     ("mds_args", "kinds_are_told_with_every_growth_refused"): ["WordsError::kind"],
+    ("mds_city", "torn_is_told_with_every_growth_refused"): ["torn_to"],
 }
 """A crate and its test, and the calls of the crate that it makes without memory: all of them, or those that are refused, look at
 something, or say that there is no memory."""

@@ -148,3 +148,43 @@ fn torn_line(rt: HostRuntime) {
     assert_eq!(rt; faults.as_slice(), b"mds_city: torn 1 2\n".as_slice());
     assert_eq!(rt; torn_to(&mut Broken, 1, 2), 3);
 }
+
+/// A growth of a size of its own: `tests/refused-growths` refuses each one between two of these.
+#[inline(never)]
+fn fence(alloc: Global) -> Result<Vec<u8>, AllocError> {
+    Vec::with_capacity(alloc, 12_347)
+}
+
+/// A writer that takes this text alone, and no memory.
+#[derive(Drop)]
+struct Expects {
+    rest: &'static [u8],
+}
+
+impl Write for Expects {
+    fn write(&mut self, bytes: &[u8]) -> io::Result<usize> {
+        match self.rest.strip_prefix(bytes) {
+            Some(rest) => {
+                self.rest = rest;
+                Ok(bytes.len())
+            }
+            None => Err(io::Error::from(ErrorKind::Other)),
+        }
+    }
+
+    fn flush(&mut self) -> io::Result<()> {
+        Ok(())
+    }
+}
+
+/// The longest line, too, is told without memory.
+#[test]
+fn torn_is_told_with_every_growth_refused(rt: HostRuntime) {
+    let mut faults = Expects {
+        rest: b"mds_city: torn 18446744073709551615 18446744073709551615\n",
+    };
+    let _begun = fence(rt.alloc());
+    let code = torn_to(&mut faults, usize::MAX, usize::MAX);
+    let _ended = fence(rt.alloc());
+    assert_eq!(rt; (code, faults.rest.is_empty()), (5, true));
+}
