@@ -210,6 +210,7 @@ QUIET = {
         "serve_one",
         "read_plan",
     ],
+    ("mds_pool", "seats_come_back_with_every_growth_refused"): ["serve"],
     ("mds_args", "kinds_are_told_with_every_growth_refused"): ["WordsError::kind"],
     ("mds_city", "torn_is_told_with_every_growth_refused"): ["torn_to"],
 }

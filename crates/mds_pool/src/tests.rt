@@ -8,7 +8,7 @@ use crate::{Ending, PoolCause, Port, PortFault, serve};
 use mds_book::{Book, Gate, Keep, OpenGate, ShardLedger, reconcile};
 use mds_face::Face;
 use mds_table::{Table, Tables};
-use std::alloc::Global;
+use std::alloc::{AllocError, Global};
 use std::hash::RandomState;
 use std::io::{self, Write};
 use std::marker::Brand;
@@ -123,7 +123,14 @@ struct Came {
     accepted: Option<u128>,
 }
 
-/// Serves the port with a new book of so many seats, each of which answers so many connections, and settles it.
+/// A growth of a size of its own: `tests/refused-growths` refuses each one between two of these.
+#[inline(never)]
+fn fence(alloc: Global) -> Result<Vec<u8>, AllocError> {
+    Vec::with_capacity(alloc, 12_347)
+}
+
+/// Serves the port with a new book of so many seats, each of which answers so many connections, and settles it. It serves
+/// between two fences.
 fn served_by<
     R: Threads + Wait + RandomSource + Sync,
     P: Port + Sync,
@@ -159,10 +166,12 @@ where
         hashers,
     )?;
     let face = Face::open(alloc)?;
+    let _begun = fence(alloc);
     let (failed, back) = match serve(rt, alloc, &face, port, &book, list, each, gate) {
         Ok(back) => (false, back),
         Err(fault) => (fault.cause == PoolCause::Accept, fault.seats),
     };
+    let _ended = fence(alloc);
     let seats = back.len();
     let accepted = match reconcile(book, back) {
         Ok(settled) => Some(settled.accepted()),
@@ -234,17 +243,37 @@ fn two_workers_meet(rt: HostRuntime) -> Result<(), Fail> {
 }
 
 /// No connections; a peer that stops reading; a port that fails at once, and one that fails once its requests are taken.
-const CASES: [Case; 4] = [
+const CASES: &[Case] = &[
     (&[], 1, 0, false, 0, 0, 0),
     (&[(A, 10), (B, 999)], 1, 2, false, 2, 2, 1),
     (&[], 1, 1, true, 0, 0, 0),
     (&[(A, 999), (B, 999)], 2, 2, true, 2, 2, 2),
 ];
 
+/// The place of the first of these cases to which serving doesn't come, if there is one.
+fn first_other<R: Threads + Wait + RandomSource + Sync>(
+    rt: &R,
+    alloc: Global,
+    cases: &[Case],
+) -> Result<Option<usize>, Fail> {
+    for (place, case) in cases.iter().enumerate() {
+        if !comes_to(rt, alloc, &OpenGate, case)? {
+            return Ok(Some(place));
+        }
+    }
+    Ok(None)
+}
+
 #[test]
 fn connections_come_to_this(rt: HostRuntime) -> Result<(), Fail> {
-    for case in &CASES {
-        assert!(rt; comes_to(&rt, rt.alloc(), &OpenGate, case)?, "{case:?}");
-    }
+    assert_eq!(rt; first_other(&rt, rt.alloc(), CASES)?, None);
+    Ok(())
+}
+
+/// As many workers as there may be, of a port that fails at once.
+#[test]
+fn seats_come_back_with_every_growth_refused(rt: HostRuntime) -> Result<(), Fail> {
+    let case: Case = (&[], 64, 1, true, 0, 0, 0);
+    assert!(rt; comes_to(&rt, rt.alloc(), &OpenGate, &case)?);
     Ok(())
 }
