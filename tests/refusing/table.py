@@ -168,6 +168,11 @@ QUIET = {
         "each_event",
         "read_item",
     ],
+    ("mds_lines", "a_stream_begins_with_every_growth_refused"): [
+        "LineReader::open",
+        "LineReader::feed",
+        "LineReader::finish",
+    ],
     ("mds_replay", "nothing_is_replayed_with_every_growth_refused"): [
         "Replayer::open",
         "Replayer::finish",
@@ -211,6 +216,7 @@ QUIET = {
         "read_plan",
     ],
     ("mds_pool", "seats_come_back_with_every_growth_refused"): ["serve"],
+    ("mds_socket", "a_port_is_bound_with_every_growth_refused"): ["SocketPort::bind", "SocketPort::number"],
     ("mds_args", "kinds_are_told_with_every_growth_refused"): ["WordsError::kind"],
     ("mds_city", "torn_is_told_with_every_growth_refused"): ["torn_to"],
 }

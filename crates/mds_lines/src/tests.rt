@@ -354,3 +354,30 @@ fn a_taker_has_no_memory(rt: HostRuntime) -> Result<(), Fail> {
     }
     Ok(())
 }
+
+/// A growth of a size that no other has: between two of them `tests/refused-growths` refuses each growth.
+fn fence(alloc: Global) -> Result<Vec<u8>, AllocError> {
+    Vec::with_capacity(alloc, 12_347)
+}
+
+/// Calls that take no memory: a stream begins, takes in nothing, tells want of memory again, and ends (each growth between the
+/// fences is refused by `tests/refused-growths`).
+#[test]
+fn a_stream_begins_with_every_growth_refused(rt: HostRuntime) -> Result<(), Fail> {
+    let alloc = rt.alloc();
+    let mut items = Vec::new(alloc);
+    let begun = fence(alloc)?;
+    let mut reader = LineReader::open(alloc);
+    let empty = reader.feed(b"", &mut items);
+    let first = reader.feed(b"7\n", &mut items);
+    let again = reader.feed(b"", &mut items);
+    let ended = reader.finish(&mut items);
+    let ended_empty = LineReader::open(alloc).finish(&mut items);
+    let over = fence(alloc)?;
+    assert_eq!(rt;
+        (empty, ended_empty, begun.len(), over.len()),
+        (Ok(()), Ok(()), 0, 0)
+    );
+    assert_eq!(rt; (again, ended), (first, first));
+    Ok(())
+}

@@ -1,6 +1,11 @@
 //! Which errors of taking a connection are tried again, by Linux's numbers and by kinds alone.
-use super::{Retry, retry_of};
+use super::{Retry, SocketPort, retry_of};
+use mds_pool::{Ending, Port};
+use std::alloc::{AllocError, Global};
 use std::io::{self, ErrorKind};
+use std::net::{Ipv4Addr, TcpStream};
+use std::test::Fail;
+use std::time::Clock;
 
 /// Errors by their numbers: ENONET, EPROTO, ENOPROTOOPT, EHOSTDOWN, EINTR, EAGAIN, ECONNABORTED, EPERM, EOPNOTSUPP, ENETDOWN,
 /// ENETUNREACH, EHOSTUNREACH and ETIMEDOUT; EMFILE, ENFILE, ENOBUFS and ENOMEM; EBADF, EINVAL, ENOTSOCK and ENOTTY.
@@ -52,4 +57,40 @@ fn errors_of_a_kind_alone(rt: HostRuntime) {
     for (kind, wanted) in &KINDS {
         assert_eq!(rt; retry_of(&io::Error::from(*kind)), *wanted, "{kind:?}");
     }
+}
+
+/// A growth of a size that no other has: between two of them `tests/refused-growths` refuses each growth.
+fn fence(alloc: Global) -> Result<Vec<u8>, AllocError> {
+    Vec::with_capacity(alloc, 12_347)
+}
+
+/// Takes a connection and closes it: whether there was memory for its ends.
+fn takes<C: Clock + Copy>(port: &SocketPort<C>) -> bool {
+    match port.accept() {
+        Ok((input, output)) => {
+            port.end(input, output, Ending::AtOnce);
+            true
+        }
+        Err(_) => false,
+    }
+}
+
+/// A port is bound and tells its number without memory. A connection that comes is taken, or there is no memory for what its
+/// ends share; then the port goes on, and the next one is taken (each growth between the fences is refused by
+/// `tests/refused-growths`).
+#[test]
+fn a_port_is_bound_with_every_growth_refused(rt: HostRuntime) -> Result<(), Fail> {
+    let alloc = rt.alloc();
+    let begun = fence(alloc)?;
+    let port = SocketPort::bind(&rt, alloc, rt, 0)?;
+    let number = port.number()?;
+    let first = TcpStream::connect(&rt, (Ipv4Addr::LOCALHOST, number))?;
+    let taken = takes(&port);
+    let over = fence(alloc)?;
+    let second = TcpStream::connect(&rt, (Ipv4Addr::LOCALHOST, number))?;
+    let again = takes(&port);
+    drop((first, second));
+    assert!(rt; again && number > 0);
+    assert_eq!(rt; (begun.len(), over.len()), (0, 0), "taken: {taken}");
+    Ok(())
 }
