@@ -3,7 +3,7 @@ use Rattle.std.proofs.Common.{◌≡◌, ◌≢◌, ◌⊎◌, inl, inr, ℕ, ze
 use Rattle.std.specs.List.{filter_map}
 use Rattle.std.proofs.lemmas.Bool.{true≢false}
 use Rattle.std.proofs.lemmas.List.{append-nil}
-use Rattle.std.proofs.lemmas.List.Elements.{Contains-push_cases}
+use Rattle.std.proofs.lemmas.List.Elements.{Contains-push_cases, filter_map-append}
 use Rattle.mds_table.specs.Tables.{Tables}
 use Rattle.mds_steps.proofs.Sets.{none_in_empty}
 use Rattle.mds_core.specs.declared.key.Key.{Key}
@@ -14,7 +14,7 @@ use Rattle.mds_core.specs.declared.reply.Outcome.TheVariants.{Done, Seen, Refuse
 use Rattle.mds_core.specs.declared.reply.Refusal.TheVariants.{AlreadyRegistered, Unregistered}
 use Rattle.mds_core.specs.declared.reply.Reply.{Reply}
 use Rattle.mds_core.specs.Reported.{Reported}
-use Rattle.mds_core.specs.History.{requests_of, key_of, same_key, reports, standing_of}
+use Rattle.mds_core.specs.History.{requests_of, key_of, same_key, report_of, reports, standing_of}
 use Rattle.mds_core.specs.Answer.{Gives, next}
 use Rattle.mds_core.specs.Run.{IsRun}
 use Rattle.mds_core.proofs.RunLaws.{one_run}
@@ -80,37 +80,43 @@ record IsNew (before : List Request) (accepted : List Reported) (history : List 
 abbrev IsKnown : List Reported → List Request → Key → Type 0
 IsKnown accepted history key = requests_of history key ≡ as_requests key (prior_of key accepted)
 
--- the history holds the accepted events behind the registrations of their vehicles
-abbrev Fits : List Request → List Reported → List Request → Type 0
-Fits before accepted history = (key : Key) → IsNew before accepted history key ⊎ IsKnown accepted history key
+-- the history holds the accepted events, in their order, behind the registrations of their vehicles
+record Fits (before : List Request) (accepted : List Reported) (history : List Request) : Type 0 where
+  each : (key : Key) → IsNew before accepted history key ⊎ IsKnown accepted history key
+  whole : reports history ≡ accepted
 
 -- a request that registers nobody anew leaves all as it is
 fits_more : (before : List Request) (accepted : List Reported) (history : List Request) (request : Request) → Fits before accepted history
     → ((key : Key) → request ≡ Register key → requests_of history key ≡ [] → ⊥) → Fits (before ++ request ∷ []) accepted history
-fits_more before accepted history request fits old key = elim (fits key) [
-  | inl new ↦ inl (record {
-    own_list = new.own_list;
-    prior = new.prior;
-    absent = λ found. elim (Contains-push_cases before request (Register key) found) [
-      | inl earlier ↦ new.absent earlier
-      | inr is ↦ old key is new.own_list
-    ];
-  })
-  | inr known ↦ inr known
-]
+fits_more before accepted history request fits old = record { each = still; whole = fits.whole } where
+  still : (key : Key) → IsNew (before ++ request ∷ []) accepted history key ⊎ IsKnown accepted history key
+  still key = elim (fits.each key) [
+    | inl new ↦ inl (record {
+      own_list = new.own_list;
+      prior = new.prior;
+      absent = λ found. elim (Contains-push_cases before request (Register key) found) [
+        | inl earlier ↦ new.absent earlier
+        | inr is ↦ old key is new.own_list
+      ];
+    })
+    | inr known ↦ inr known
+  ]
 
 -- a vehicle is registered
 fits_registered : (before : List Request) (accepted : List Reported) (history : List Request) (key : Key) → Fits before accepted history → IsNew before accepted history key
     → Fits (before ++ Register key ∷ []) accepted (history ++ Register key ∷ [])
-fits_registered before accepted history key fits new other = by_key (same_key key other) refl where
-  by_key : (b : Bool) → same_key key other ≡ b
+fits_registered before accepted history key fits new = record { each = λ other. by_key other (same_key key other) refl; whole = same_reports } where
+  same_reports : reports (history ++ Register key ∷ []) ≡ accepted
+  same_reports = filter_map-append report_of history (Register key ∷ []) ∙ append-nil (reports history) ∙ fits.whole
+
+  by_key : (other : Key) (b : Bool) → same_key key other ≡ b
       → IsNew (before ++ Register key ∷ []) accepted (history ++ Register key ∷ []) other ⊎ IsKnown accepted (history ++ Register key ∷ []) other
-  by_key true is =
+  by_key other true is =
       let same = same_key_is key other is in
       let nothing : requests_of history other ≡ [] = ap (requests_of history) (sym same) ∙ new.own_list in
       let none : prior_of other accepted ≡ [] = ap (λ k. prior_of k accepted) (sym same) ∙ new.prior in
       inr (requests_of-push_same history (Register key) other is ∙ ap (λ all. all ++ Register key ∷ []) nothing ∙ ap (λ k. Register k ∷ []) same ∙ ap (as_requests other) (sym none))
-  by_key false is = elim (fits other) [
+  by_key other false is = elim (fits.each other) [
     | inl still ↦ inl (record {
       own_list = requests_of-push_other history (Register key) other is ∙ still.own_list;
       prior = still.prior;
@@ -125,10 +131,13 @@ fits_registered before accepted history key fits new other = by_key (same_key ke
 -- an event is accepted
 fits_accepted : (before : List Request) (accepted : List Reported) (history : List Request) (event : Reported) → Fits before accepted history → IsKnown accepted history event.key
     → Fits (before ++ Report event ∷ []) (accepted ++ event ∷ []) (history ++ Report event ∷ [])
-fits_accepted before accepted history event fits known other = by_key (same_key event.key other) refl where
-  by_key : (b : Bool) → same_key event.key other ≡ b
+fits_accepted before accepted history event fits known = record { each = λ other. by_key other (same_key event.key other) refl; whole = one_more } where
+  one_more : reports (history ++ Report event ∷ []) ≡ accepted ++ event ∷ []
+  one_more = filter_map-append report_of history (Report event ∷ []) ∙ ap (λ events. events ++ event ∷ []) fits.whole
+
+  by_key : (other : Key) (b : Bool) → same_key event.key other ≡ b
       → IsNew (before ++ Report event ∷ []) (accepted ++ event ∷ []) (history ++ Report event ∷ []) other ⊎ IsKnown (accepted ++ event ∷ []) (history ++ Report event ∷ []) other
-  by_key true is =
+  by_key other true is =
       let same = same_key_is event.key other is in
       let here : requests_of (history ++ Report event ∷ []) event.key ≡ as_requests event.key (prior_of event.key (accepted ++ event ∷ [])) =
       requests_of-push_same history (Report event) event.key (same_key_refl event.key)
@@ -136,9 +145,9 @@ fits_accepted before accepted history event fits known other = by_key (same_key 
       ∙ sym (requests-push event.key (prior_of event.key accepted) event)
       ∙ ap (as_requests event.key) (sym (prior_same accepted event (Accepted event.state))) in
       inr (subst (λ k. requests_of (history ++ Report event ∷ []) k ≡ as_requests k (prior_of k (accepted ++ event ∷ []))) same here)
-  by_key false is =
+  by_key other false is =
       let prior = prior_other accepted event (Accepted event.state) other is in
-      elim (fits other) [
+      elim (fits.each other) [
         | inl new ↦ inl (record {
           own_list = requests_of-push_other history (Report event) other is ∙ new.own_list;
           prior = prior ∙ new.prior;
@@ -161,7 +170,7 @@ registered_rest before request rest are i event at =
 -- a vehicle that is registered is known
 known_at : (before : List Request) (accepted : List Reported) (history : List Request) (key : Key) → Fits before accepted history → Contains before (Register key)
     → IsKnown accepted history key
-known_at before accepted history key fits registered = elim (fits key) [
+known_at before accepted history key fits registered = elim (fits.each key) [
   | inl new ↦ absurd (new.absent registered)
   | inr known ↦ known
 ]
@@ -211,7 +220,7 @@ module _ (tables : Tables) (all : List Request) (events : List Reported) where
       let none_more : accepted ≡ events = sym (append-nil accepted) ∙ kept in
       ([], history, refl, refl, subst (λ requests. Fits requests events history) none_left (subst (λ reported. Fits before reported history) none_more fits))
   runs_on [] before accepted history (one ∷ judged) fits turn same first whole kept = absurd (cc)
-  runs_on (Register key ∷ requests) before accepted history judged fits turn same first whole kept = elim (fits key) [
+  runs_on (Register key ∷ requests) before accepted history judged fits turn same first whole kept = elim (fits.each key) [
     | inl new ↦ silent history (Register key) Done requests (told_of judged) refl new.own_list
         (runs_on requests (before ++ Register key ∷ []) accepted (history ++ Register key ∷ []) judged (fits_registered before accepted history key fits new) turn same
         (registered_rest before (Register key) requests first) (append_assoc before (Register key ∷ []) requests ∙ whole) kept)
@@ -223,7 +232,7 @@ module _ (tables : Tables) (all : List Request) (events : List Reported) where
   runs_on (Look key ∷ requests) before accepted history judged fits turn same first whole kept =
       let rest = runs_on requests (before ++ Look key ∷ []) accepted history judged (fits_more before accepted history (Look key) fits (λ other is nothing. cc)) turn same
       (registered_rest before (Look key) requests first) (append_assoc before (Look key ∷ []) requests ∙ whole) kept in
-      elim (fits key) [
+      elim (fits.each key) [
         | inl new ↦ silent history (Look key) (RefusedBy Unregistered) requests (told_of judged) refl new.own_list rest
         | inr known ↦ silent history (Look key) (Seen (standing_of (requests_of history key))) requests (told_of judged) refl (not_empty accepted history key known, refl) rest
       ]
@@ -250,7 +259,10 @@ pub replayed_run : (tables : Tables) (items : List EventItem) (lines : List Verd
 replayed_run tables items lines are requests same first =
     let judged = without_faults tables [] items lines (in_turn Removed tables [] items lines are.count are.each) in
     let kept = accepted_in judged.0 in
-    let nothing : Fits [] [] [] = λ key. inl (record { own_list = refl; prior = refl; absent = none_in_empty (Register key) }) in
+    let nothing : Fits [] [] [] = record {
+      each = λ key. inl (record { own_list = refl; prior = refl; absent = none_in_empty (Register key) });
+      whole = refl;
+    } in
     let run = runs_on tables requests kept requests [] [] [] judged.0 nothing judged.1 (same ∙ sym judged.2) first refl refl in
     record {
       replies = run.0;
@@ -258,5 +270,6 @@ replayed_run tables items lines are requests same first =
       run = run.2;
       only = λ others left other. one_run tables [] requests others run.0 left run.1 other run.2;
       outcomes = run.3 ∙ judged.3;
+      accepted = run.4.whole ∙ judged.4;
       kept = λ key registered. known_at requests kept run.1 key run.4 registered ∙ ap (λ events. as_requests key (prior_of key events)) judged.4;
     }

@@ -41,14 +41,16 @@ outcomes_of_reports requests replies = filter_map (λ one. outcome_of_report one
 abbrev pub AreRegisteredFirst : List Request → Type 0
 AreRegisteredFirst requests = (i : ℕ) (event : Reported) → slice_get requests i ≡ Some (Report event) → Contains (take i requests) (Register event.key)
 
--- the machine has one run of the requests from nothing; the outcomes of its reports are those that the verdicts tell, and of
--- each registered vehicle it keeps its registration and the events that the verdicts accept
+-- the machine has one run of the requests from nothing; the outcomes of its reports are those that the verdicts tell. The
+-- events that it keeps are those that the verdicts accept, in their order, and of each registered vehicle it keeps its
+-- registration and its events among these
 pub record IsRunOf (tables : Tables) (requests : List Request) (items : List EventItem) (lines : List Verdict) : Type 0 where
   pub replies : List Reply
   pub history : List Request
   pub run : IsRun tables [] requests replies history
   pub only : (others : List Reply) (left : List Request) → IsRun tables [] requests others left → (others ≡ replies) × (left ≡ history)
   pub outcomes : outcomes_of_reports requests replies ≡ filter_map outcome_told lines
+  pub accepted : reports history ≡ accepted_of items lines
   pub kept : (key : Key) → Contains requests (Register key) → requests_of history key ≡ as_requests key (prior_of key (accepted_of items lines))
 
 -- so it is of all requests that report the events of the items, in their order, each behind a registration of its vehicle,
