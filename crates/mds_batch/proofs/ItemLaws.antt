@@ -14,8 +14,8 @@ use Rattle.mds_batch.specs.declared.item.VehicleItem.TheVariants as vehicle
 use Rattle.mds_batch.specs.declared.item.EventItem.{EventItem}
 use Rattle.mds_batch.specs.declared.item.EventItem.TheVariants as event
 use Rattle.mds_batch.specs.Member.{member_name}
-use Rattle.mds_table.specs.Json.{state_in}
-use Rattle.mds_batch.specs.Forms.{uuid_in, types_in, time_in}
+use Rattle.mds_table.specs.Json.{state_in, time_in}
+use Rattle.mds_batch.specs.Forms.{uuid_in, types_in}
 use Rattle.mds_batch.specs.Items.{position_or_null, is_faulty, fault_at, fault_of, vehicle_members, event_members, IsKeyOf, IsEventOf, IsVehicleItem, IsEventItem}
 use Rattle.mds_batch.specs.Laws.{named, IsFirstFaulty, FaultsNameTheFirst, FaultyMembersAreTold, Agree, VehiclesGoByMembers, EventsGoByMembers}
 

@@ -4,8 +4,8 @@ use Rattle.std.proofs.lemmas.Bool.{leb-true}
 use Rattle.std.proofs.lemmas.Option.{option_and_then_some}
 use Rattle.serde_json.specs.Data.{Data, Members, object}
 use Rattle.serde_json.specs.Find.{get, get_member, as_array, as_number, as_u64}
-use Rattle.mds_core.specs.Reported.{max_event_types, max_time, MayBeReported}
-use Rattle.mds_table.specs.Json.{items_in}
+use Rattle.mds_core.specs.Reported.{max_event_types, MayBeReported}
+use Rattle.mds_table.specs.Json.{items_in, max_time, time_in}
 use Rattle.mds_batch.specs.declared.member.Member.{Member}
 use Rattle.mds_batch.specs.declared.member.Member.TheVariants.{EventTypes, Timestamp}
 use Rattle.mds_batch.specs.declared.item.ItemFault.{ItemFault}
@@ -13,7 +13,7 @@ use Rattle.mds_batch.specs.declared.item.ItemFault.TheVariants.{Missing, Bad}
 use Rattle.mds_batch.specs.declared.slot.Slot.{Slot}
 use Rattle.mds_batch.specs.declared.types.TypeList.{TypeList}
 use Rattle.mds_batch.specs.Member.{member_name}
-use Rattle.mds_batch.specs.Forms.{types_in, time_in}
+use Rattle.mds_batch.specs.Forms.{types_in}
 use Rattle.mds_batch.specs.Items.{member_in, fault_at}
 use Rattle.mds_batch.specs.Slot.{found_in}
 use Rattle.mds_batch.specs.Filled.{types_found}

@@ -4,14 +4,14 @@ use Rattle.std.proofs.lemmas.Bool.{true≢false}
 use Rattle.std.proofs.lemmas.Slice.Eq.{bytes_eq-Decides}
 use Rattle.serde_json.specs.Data.{Data, Members, put}
 use Rattle.serde_json.specs.Find.{get_member}
-use Rattle.mds_table.specs.Json.{state_in}
+use Rattle.mds_table.specs.Json.{state_in, time_in}
 use Rattle.serde_json.proofs.Views.{get_member-put, get_member-put_other}
 use Rattle.mds_batch.specs.declared.location.LocationFields.{LocationFields}
 use Rattle.mds_batch.specs.declared.vehicle.VehicleFields.{VehicleFields}
 use Rattle.mds_batch.specs.declared.event.EventFields.{EventFields}
 use Rattle.mds_batch.specs.declared.member.Member.TheVariants.{ProviderId, DeviceId, EventId, VehicleState, EventTypes, Timestamp, LocationE7}
 use Rattle.mds_batch.specs.Member.{member_name}
-use Rattle.mds_batch.specs.Forms.{uuid_in, types_in, time_in}
+use Rattle.mds_batch.specs.Forms.{uuid_in, types_in}
 use Rattle.mds_batch.specs.Items.{position_or_null}
 use Rattle.mds_batch.specs.Slot.{found_in}
 use Rattle.mds_batch.specs.Filled.{whole_number_in, types_found, HoldsLocation, HoldsVehicle, HoldsEvent}

@@ -3,7 +3,7 @@ use Rattle.std.specs.Prelude.{◌≡◌, ◌≤◌, ◌++◌, codes, ℕ, ℤ, L
 use Rattle.serde_json.specs.Data.{Data, Members}
 use Rattle.serde_json.specs.Find.{get_member, as_number, as_i64}
 use Rattle.mds_core.specs.Reported.{max_event_types}
-use Rattle.mds_table.specs.Json.{state_in}
+use Rattle.mds_table.specs.Json.{state_in, time_in}
 use Rattle.mds_batch.specs.declared.slot.Slot.{Slot}
 use Rattle.mds_batch.specs.declared.location.LocationFields.{LocationFields}
 use Rattle.mds_batch.specs.declared.types.TypeList.{TypeList}
@@ -11,7 +11,7 @@ use Rattle.mds_batch.specs.declared.vehicle.VehicleFields.{VehicleFields}
 use Rattle.mds_batch.specs.declared.event.EventFields.{EventFields}
 use Rattle.mds_batch.specs.declared.member.Member.TheVariants.{ProviderId, DeviceId, EventId, VehicleState, EventTypes, Timestamp, LocationE7}
 use Rattle.mds_batch.specs.Member.{member_name}
-use Rattle.mds_batch.specs.Forms.{uuid_in, types_in, time_in, all_types, few_types}
+use Rattle.mds_batch.specs.Forms.{uuid_in, types_in, all_types, few_types}
 use Rattle.mds_batch.specs.Items.{position_or_null}
 use Rattle.mds_batch.specs.Slot.{found_in}
 

@@ -4,7 +4,7 @@ use Rattle.uuid.specs.Text.{parsed}
 use Rattle.serde_json.specs.Data.{Data}
 use Rattle.serde_json.specs.Find.{get, as_str, as_number, as_array, as_u64, as_i64}
 use Rattle.mds_table.specs.Json.{items_in, type_name_in}
-use Rattle.mds_core.specs.Reported.{max_event_types, max_time}
+use Rattle.mds_core.specs.Reported.{max_event_types}
 use Rattle.mds_core.specs.Position.{max_latitude, max_longitude}
 use Rattle.mds_core.specs.declared.position.Position.{Position}
 
@@ -24,10 +24,6 @@ few_types all = if nat_le 1 (length all) && nat_le (length all) max_event_types 
 -- the types that a value lists
 abbrev pub types_in : Data → Option (List (List ℕ))
 types_in value = option_and_then (λ items. few_types (items_in items)) (as_array value)
-
--- the time that a value is: a whole number of milliseconds, not past the latest
-abbrev pub time_in : Data → Option ℕ
-time_in value = option_and_then (λ time. if nat_le time max_time then Some time else None) (option_and_then as_u64 (as_number value))
 
 -- the whole number that a member of a value is
 abbrev pub whole_in : List ℕ → Data → Option ℤ

@@ -2,7 +2,7 @@
 use Rattle.std.specs.Prelude.{◌≡◌, codes, ℕ, List, [], ◌∷◌, ◌++◌, Bool, Option, Some, None, is_some, is_none, option_map, option_and_then, find, if◌then◌else◌}
 use Rattle.serde_json.specs.Data.{Data}
 use Rattle.serde_json.specs.Find.{get, as_null, as_object}
-use Rattle.mds_table.specs.Json.{state_in}
+use Rattle.mds_table.specs.Json.{state_in, time_in}
 use Rattle.mds_core.specs.declared.key.Key.{Key}
 use Rattle.mds_core.specs.declared.position.Position.{Position}
 use Rattle.mds_core.specs.Reported.{Reported}
@@ -15,7 +15,7 @@ use Rattle.mds_batch.specs.declared.item.VehicleItem.TheVariants as vehicle
 use Rattle.mds_batch.specs.declared.item.EventItem.{EventItem}
 use Rattle.mds_batch.specs.declared.item.EventItem.TheVariants as event
 use Rattle.mds_batch.specs.Member.{member_name}
-use Rattle.mds_batch.specs.Forms.{uuid_in, types_in, time_in, position_of}
+use Rattle.mds_batch.specs.Forms.{uuid_in, types_in, position_of}
 
 -- what a member stands for, where it is there and has this form
 abbrev pub member_in : {A : Type 0} → Member → (Data → Option A) → Data → Option A

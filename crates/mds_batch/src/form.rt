@@ -1,14 +1,13 @@
 //! The forms that the values of members have.
 ghost use Rattle.std.specs.Prelude.{◌≡◌, Some, None, IfOk, IfErr, option_and_then};
 ghost use Rattle.serde_json.specs.Find.{as_number, as_i64};
-ghost use Rattle.mds_table.specs.Json.{state_in, type_name_in};
+ghost use Rattle.mds_table.specs.Json.{state_in, time_in, type_name_in};
 ghost use Rattle.mds_batch.specs.Reading.{value_at, Reads};
-ghost use Rattle.mds_batch.specs.Forms.{uuid_in, time_in};
+ghost use Rattle.mds_batch.specs.Forms.{uuid_in};
 ghost use Rattle.mds_batch.specs.declared.tokens.ReadFault.TheVariants.{NotJson as not_json};
 
 use crate::tokens::{Head, ReadFault, Tokens, pass};
-use mds_core::MAX_TIME;
-use mds_table::{State, TypeName};
+use mds_table::{MAX_TIME, State, TypeName};
 use uuid::Uuid;
 
 /// The identifier that the next value is: a text in one of the forms of a UUID.

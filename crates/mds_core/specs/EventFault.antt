@@ -1,6 +1,7 @@
 -- What is wrong with an event's types and time.
 use Rattle.std.specs.Prelude.{◌≡◌, ℕ, ◌<◌, ◌≤◌, List, [], length, codes}
-use Rattle.mds_core.specs.Reported.{max_event_types, max_time}
+use Rattle.mds_table.specs.Json.{max_time}
+use Rattle.mds_core.specs.Reported.{max_event_types}
 use Rattle.mds_core.specs.declared.event.EventFault.{EventFault}
 use Rattle.mds_core.specs.declared.event.EventFault.TheVariants.{NoTypes, TooManyTypes, BadTime}
 

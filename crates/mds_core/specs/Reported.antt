@@ -1,6 +1,7 @@
 -- What a provider reports of a vehicle.
 use Rattle.std.specs.Prelude.{ℕ, ◌≤◌, List, length, Option}
 use Rattle.mds_table.specs.declared.state.State.{State}
+use Rattle.mds_table.specs.Json.{max_time}
 use Rattle.mds_core.specs.declared.key.Key.{Key}
 use Rattle.mds_core.specs.declared.position.Position.{Position}
 
@@ -17,11 +18,7 @@ pub record Reported : Type 0 where
 abbrev pub max_event_types : ℕ
 max_event_types = 64
 
--- the latest time: up to it no two whole numbers are the same double
-abbrev pub max_time : ℕ
-max_time = 9007199254740991
-
--- at least one type and not too many, and a time in the range
+-- at least one type and not too many, and a time not past the latest
 pub record MayBeReported (types : List (List ℕ)) (time : ℕ) : Type 0 where
   pub some : 1 ≤ length types
   pub few : length types ≤ max_event_types

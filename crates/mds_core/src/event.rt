@@ -1,11 +1,12 @@
 //! Events, as providers report them.
 ghost use Rattle.std.specs.Prelude.{◌≡◌, ◌↔◌, ◌≤◌, length, Some, IsOk, IfOk, IfErr, OnOk, OnErr};
-ghost use Rattle.mds_core.specs.Reported.{max_event_types, max_time, MayBeReported};
+ghost use Rattle.mds_table.specs.Json.{max_time};
+ghost use Rattle.mds_core.specs.Reported.{max_event_types, MayBeReported};
 ghost use Rattle.mds_core.specs.EventFault.{FaultOf, event_fault_text};
 
 use crate::event_types::EventTypes;
 use crate::{Key, Position};
-use mds_table::{State, TypeName};
+use mds_table::{MAX_TIME, State, TypeName};
 use std::error::Error;
 use std::fmt;
 use std::marker::Model;
@@ -13,9 +14,6 @@ use uuid::Uuid;
 
 /// The most types that an event carries.
 pub const MAX_EVENT_TYPES: usize = 64;
-
-/// The latest time of an event, 2 to the power 53 less 1: up to it no two whole numbers are the same double.
-pub const MAX_TIME: u64 = 9_007_199_254_740_991;
 
 /// An event, as a provider reports it (MDS 2.0, "Events"). It holds no memory of its own.
 #[derive(Clone, Copy, Debug, PartialEq, Eq, Hash)]

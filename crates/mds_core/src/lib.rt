@@ -23,7 +23,7 @@ mod tests;
 
 pub use answers::answer;
 pub use decision::{Known, decide, decide_event};
-pub use event::{Event, EventFault, MAX_EVENT_TYPES, MAX_TIME};
+pub use event::{Event, EventFault, MAX_EVENT_TYPES};
 pub use event_name::EventName;
 pub use fleet::Fleet;
 pub use key::Key;

@@ -8,11 +8,12 @@ use Rattle.std.proofs.lemmas.Grind.{flat_map-append}
 use Rattle.std.proofs.lemmas.List.Elements.{All-nil, All-push}
 use Rattle.std.proofs.lemmas.Str.{IsUtf8-from_ascii}
 use Rattle.mds_table.specs.declared.state.State.TheVariants.{Removed, Available, NonOperational, Reserved, OnTrip, Elsewhere, NonContactable, Missing, InDepot}
+use Rattle.mds_lines.specs.Stream.{HasNoFeed, IsFirstLine}
 use Rattle.mds_io.specs.Page.{with_newline}
 use Rattle.mds_debugger.specs.declared.script.ScriptCommand.{ScriptCommand}
 use Rattle.mds_debugger.specs.declared.script.ScriptCommand.TheVariants.{Move as Moves, Chain, Quit}
 use Rattle.mds_debugger.specs.declared.script.Move.TheVariants.{Step, Back, Next, Run}
-use Rattle.mds_debugger.specs.Script.{command_text, AreLines, HasNoFeed, IsCommandOf, IsFirstLine, IsScript}
+use Rattle.mds_debugger.specs.Script.{command_text, AreLines, IsCommandOf, IsScript}
 
 -- a byte is of ASCII
 abbrev is_small : ℕ → Bool

@@ -2,6 +2,7 @@
 use Rattle.std.specs.Prelude.{◌≡◌, ◌≢◌, ◌⊎◌, ℕ, List, [], ◌∷◌, ◌++◌, codes, Option, Some, None}
 use Rattle.std.specs.List.{All, AllZip, flat_map}
 use Rattle.mds_table.specs.State.{name_of}
+use Rattle.mds_lines.specs.Stream.{HasNoFeed}
 use Rattle.mds_io.specs.Page.{with_newline}
 use Rattle.mds_debugger.specs.declared.script.Move.{Move}
 use Rattle.mds_debugger.specs.declared.script.Move.TheVariants.{Step, Back, Next, Run}
@@ -25,14 +26,6 @@ command_text Quit = codes "quit"
 abbrev pub IsCommandOf : List ℕ → Option ScriptCommand → Type 0
 IsCommandOf line (Some command) = line ≡ command_text command
 IsCommandOf line None = (command : ScriptCommand) → line ≢ command_text command
-
--- no line feed is among the bytes
-abbrev pub HasNoFeed : List ℕ → Type 0
-HasNoFeed line = All (λ byte. byte ≢ 10) line
-
--- the first line of some bytes, and what comes behind it: the line ends with the first line feed, or at the end
-abbrev pub IsFirstLine : List ℕ → List ℕ → List ℕ → Type 0
-IsFirstLine bytes line next = HasNoFeed line × ((bytes ≡ line ++ 10 ∷ next) ⊎ ((bytes ≡ line) × (next ≡ [])))
 
 -- the lines of some bytes, without their line feeds: each has one, and the last may lack it where it isn't empty
 pub record AreLines (bytes : List ℕ) (lines : List (List ℕ)) : Type 0 where

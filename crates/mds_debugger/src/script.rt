@@ -1,7 +1,8 @@
 //! The commands of a script.
 ghost use Rattle.std.specs.Prelude.{◌≡◌, ◌≢◌, ◌<◌, length, IfOk, IfSome, IfNone, [], Some};
+ghost use Rattle.mds_lines.specs.Stream.{IsFirstLine};
 ghost use Rattle.mds_debugger.specs.declared.script.ScriptCommand.{ScriptCommand as Command};
-ghost use Rattle.mds_debugger.specs.Script.{command_text, IsCommandOf, IsFirstLine, IsScript, move_text};
+ghost use Rattle.mds_debugger.specs.Script.{command_text, IsCommandOf, IsScript, move_text};
 
 use mds_table::State;
 use std::alloc::{AllocError, Global};

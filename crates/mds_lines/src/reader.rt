@@ -50,8 +50,8 @@ impl LineReader {
     ///
     /// # Errors
     ///
-    /// The first fault of the stream, as far as it has come: every stream that begins so has it. Each later call answers
-    /// it too. A taker that has no memory for an item is [`LineFault::Memory`]. The items of the lines before the fault
+    /// The first fault of the stream, as far as it has come: every stream that begins so has it. It is told as soon as its
+    /// line has ended, or its byte has come. Each later call answers it too. A taker that has no memory for an item is [`LineFault::Memory`]. The items of the lines before the fault
     /// may have been taken by then.
     pub fn feed<T: TakesItems<Item = EventItem>>(
         &mut self,
@@ -64,6 +64,8 @@ impl LineReader {
         ensures taken { (before : T) (items : List Item) → HasEndedItems self.old.bytes items
             → T.took before items taker.old
             → (all : List Item) × T.took before all taker.new × OnOk result (HasEndedItems self.new.bytes all) }
+        // Whatever the taker had taken, each line that has ended holds its item, and no byte is too many.
+        ensures ended { OnOk result ((items : List Item) × HasEndedItems self.new.bytes items) }
         ensures whole { OnOk result (self.old.fault ≡ None) }
         ensures fault { IfErr result (IsFaultyWith (self.old.bytes ++ piece.now)) }
         ensures kept { IfErr result (λ fault. self.new.fault ≡ Some fault) }

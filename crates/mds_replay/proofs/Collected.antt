@@ -10,6 +10,7 @@ use Rattle.std.proofs.lemmas.List.Elements.{All-contains, All-weaker, Contains-a
 use Rattle.std.proofs.lemmas.Option.{slice_get-map, slice_get_within, slice_get-get_or}
 use Rattle.mds_steps.proofs.Sets.{none_in_empty}
 use Rattle.mds_table.specs.Tables.{Tables}
+use Rattle.mds_core.specs.declared.event_name.EventName.{EventName}
 use Rattle.mds_core.specs.declared.key.Key.{Key}
 use Rattle.mds_core.specs.Reported.{Reported}
 use Rattle.mds_batch.specs.declared.item.EventItem.{EventItem}
@@ -61,7 +62,7 @@ module _ (opening : Opening) (tables : Tables) (items : List EventItem) (parts :
   all_lines : length lines ≡ length items
   all_lines = put.count ∙ length-map items line_before
 
-  module _ (key : Key) (part : Part) (its : slice_get parts (worker_of workers key) ≡ Some part) (names : List (Key × List ℕ))
+  module _ (key : Key) (part : Part) (its : slice_get parts (worker_of workers key) ≡ Some part) (names : List EventName)
       (share : IsShare opening tables items workers (worker_of workers key) part.told.items part.vehicles.entries names) where
     abbrev worker : ℕ
     worker = worker_of workers key

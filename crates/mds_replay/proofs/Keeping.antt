@@ -8,9 +8,10 @@ use Rattle.std.proofs.lemmas.Slice.Eq.{bytes_eq-Decides}
 use Rattle.indexmap.specs.IndexMap.{insert_entry}
 use Rattle.indexmap.specs.IndexSet.{insert_key}
 use Rattle.mds_table.specs.Tables.{Tables}
+use Rattle.mds_core.specs.declared.event_name.EventName.{EventName}
 use Rattle.mds_core.specs.declared.key.Key.{Key}
 use Rattle.mds_core.specs.Reported.{Reported}
-use Rattle.mds_core.specs.History.{same_key, has_event}
+use Rattle.mds_core.specs.History.{same_key, same_event, has_event}
 use Rattle.mds_core.proofs.Histories.{same_key_is, same_key_refl}
 use Rattle.mds_batch.specs.declared.item.EventItem.TheVariants.{Event}
 use Rattle.mds_replay.specs.declared.report.Opening.{Opening}
@@ -25,10 +26,6 @@ use Rattle.mds_replay.proofs.Entries.{other_way, none_inserted, apart_insert, in
 use Rattle.mds_replay.proofs.Following.{reports-as_requests}
 use Rattle.mds_replay.proofs.Verdicts.{prior_same, prior_other}
 
--- the names of two events are the same
-abbrev pub same_name : Key × List ℕ → Key × List ℕ → Bool
-same_name a b = same_key a.0 b.0 && bytes_eq a.1 b.1
-
 bytes_eq-sym : (a b : List ℕ) → bytes_eq a b ≡ bytes_eq b a
 bytes_eq-sym a b = both (bytes_eq a b) (bytes_eq b a) refl refl where
   both : (one other : Bool) → bytes_eq a b ≡ one → bytes_eq b a ≡ other → one ≡ other
@@ -39,12 +36,12 @@ bytes_eq-sym a b = both (bytes_eq a b) (bytes_eq b a) refl refl where
 
 -- a name is among those of the accepted events where an accepted event of its vehicle has its identifier
 named : (key : Key) (id : List ℕ) (accepted : List Reported)
-    → list_any (same_name (key, id)) (map name_of accepted) ≡ list_any (λ event. bytes_eq event.id id) (prior_of key accepted)
+    → list_any (same_event (record { key = key; id = id })) (map name_of accepted) ≡ list_any (λ event. bytes_eq event.id id) (prior_of key accepted)
 named key id [] = refl
 named key id (event ∷ accepted) = by_key (same_key event.key key) refl (named key id accepted) where
   by_key : (b : Bool) → same_key event.key key ≡ b
-      → list_any (same_name (key, id)) (map name_of accepted) ≡ list_any (λ e. bytes_eq e.id id) (prior_of key accepted)
-      → ((same_key key event.key && bytes_eq id event.id) || list_any (same_name (key, id)) (map name_of accepted))
+      → list_any (same_event (record { key = key; id = id })) (map name_of accepted) ≡ list_any (λ e. bytes_eq e.id id) (prior_of key accepted)
+      → ((same_key key event.key && bytes_eq id event.id) || list_any (same_event (record { key = key; id = id })) (map name_of accepted))
       ≡ list_any (λ e. bytes_eq e.id id) (cond b (event ∷ prior_of key accepted) (prior_of key accepted))
   by_key true is rest =
       let its_own : same_key key event.key ≡ true = ap (same_key key) (same_key_is event.key key is) ∙ same_key_refl key in
@@ -53,10 +50,10 @@ named key id (event ∷ accepted) = by_key (same_key event.key key) refl (named 
       let another : same_key key event.key ≡ false = other_way same_key same_key_is same_key_refl event.key key is in
       rw (another, rest) refl
 
-pub repeated_is : (key : Key) (id : List ℕ) (accepted : List Reported) (names : List (Key × List ℕ)) → names ≡ map name_of accepted
-    → list_any (same_name (key, id)) names ≡ has_event (as_requests key (prior_of key accepted)) id
+pub repeated_is : (key : Key) (id : List ℕ) (accepted : List Reported) (names : List EventName) → names ≡ map name_of accepted
+    → list_any (same_event (record { key = key; id = id })) names ≡ has_event (as_requests key (prior_of key accepted)) id
 repeated_is key id accepted names are =
-    ap (list_any (same_name (key, id))) are ∙ named key id accepted
+    ap (list_any (same_event (record { key = key; id = id }))) are ∙ named key id accepted
     ∙ sym (ap (list_any (λ event. bytes_eq event.id id)) (reports-as_requests key (prior_of key accepted)))
 
 -- an accepted event has a new identifier
@@ -70,9 +67,9 @@ accepted_new opening tables prior event (NoOpening at) is done = absurd (true≢
 accepted_new opening tables prior event (Fault fault) is done = absurd (true≢false (sym done))
 
 -- its name is put to the others
-pub names_more : (opening : Opening) (tables : Tables) (accepted : List Reported) (event : Reported) (line : Verdict) (names : List (Key × List ℕ))
+pub names_more : (opening : Opening) (tables : Tables) (accepted : List Reported) (event : Reported) (line : Verdict) (names : List EventName)
     → names ≡ map name_of accepted → IsVerdictOn opening tables (prior_of event.key accepted) event line → accepts line ≡ true
-    → insert_key same_name names (name_of event) ≡ map name_of (accepted ++ accepted_by (Event event) line)
+    → insert_key same_event names (name_of event) ≡ map name_of (accepted ++ accepted_by (Event event) line)
 names_more opening tables accepted event line names are is done =
     let new = repeated_is event.key event.id accepted names are ∙ accepted_new opening tables (prior_of event.key accepted) event line is done in
     ap (λ b. if b then names else names ++ name_of event ∷ []) new
@@ -81,13 +78,13 @@ names_more opening tables accepted event line names are is done =
     ∙ ap (λ b. map name_of (accepted ++ (if b then event ∷ [] else []))) (sym done)
 
 -- and those of the accepted events stay where it is refused
-pub names_stay : (accepted : List Reported) (event : Reported) (line : Verdict) (names : List (Key × List ℕ)) → names ≡ map name_of accepted → accepts line ≡ false
+pub names_stay : (accepted : List Reported) (event : Reported) (line : Verdict) (names : List EventName) → names ≡ map name_of accepted → accepts line ≡ false
     → names ≡ map name_of (accepted ++ accepted_by (Event event) line)
 names_stay accepted event line names are refused =
     are ∙ ap (map name_of) (sym (append-nil accepted)) ∙ ap (λ b. map name_of (accepted ++ (if b then event ∷ [] else []))) (sym refused)
 
 -- what is kept of the vehicles goes on with what is kept of the event's own
-pub next_followed : (opening : Opening) (tables : Tables) (mentioned : List Key) (accepted : List Reported) (entries : List (Key × Followed)) (names now : List (Key × List ℕ))
+pub next_followed : (opening : Opening) (tables : Tables) (mentioned : List Key) (accepted : List Reported) (entries : List (Key × Followed)) (names now : List EventName)
     (event : Reported) (line : Verdict) (followed : Followed) → AreFollowed opening tables mentioned accepted entries names
     → IsFollowed opening tables event.key (prior_of event.key accepted ++ accepted_by (Event event) line) followed
     → now ≡ map name_of (accepted ++ accepted_by (Event event) line)

@@ -3,6 +3,7 @@ use Rattle.std.proofs.Common.{◌≡◌, ℕ, ◌++◌, ◌∷◌, List, [], ref
 use Rattle.std.proofs.lemmas.List.{append-nil}
 use Rattle.indexmap.specs.IndexSet.{insert_key}
 use Rattle.mds_table.specs.Tables.{Tables}
+use Rattle.mds_core.specs.declared.event_name.EventName.{EventName}
 use Rattle.mds_core.specs.declared.key.Key.{Key}
 use Rattle.mds_core.specs.Reported.{Reported}
 use Rattle.mds_core.specs.History.{same_key}
@@ -19,10 +20,10 @@ use Rattle.mds_replay.specs.Followed.{AreFollowed, IsReplayed}
 use Rattle.mds_replay.proofs.Mentions.{vehicles-push, events-push}
 use Rattle.mds_replay.proofs.Verdicts.{verdicts-push, accepted-push}
 
-module _ (opening : Opening) (tables : Tables) (items : List EventItem) (lines : List Verdict) (entries : List (Key × Followed)) (names : List (Key × List ℕ))
+module _ (opening : Opening) (tables : Tables) (items : List EventItem) (lines : List Verdict) (entries : List (Key × Followed)) (names : List EventName)
     (so_far : IsReplayed opening tables items lines entries names) where
   -- with an event
-  pub event_replayed : (event : Reported) (line : Verdict) (entries_now : List (Key × Followed)) (names_now : List (Key × List ℕ))
+  pub event_replayed : (event : Reported) (line : Verdict) (entries_now : List (Key × Followed)) (names_now : List EventName)
       → IsVerdictOn opening tables (prior_of event.key (accepted_of items lines)) event line
       → AreFollowed opening tables (insert_key same_key (vehicles_of (events_of items)) event.key) (accepted_of items lines ++ accepted_by (Event event) line) entries_now names_now
       → IsReplayed opening tables (items ++ Event event ∷ []) (lines ++ line ∷ []) entries_now names_now

@@ -6,6 +6,7 @@ use Rattle.std.proofs.lemmas.List.{length-map, map-append}
 use Rattle.std.proofs.lemmas.List.Elements.{All-nil, All-push, All-weaker, Contains-append_left, Contains-push}
 use Rattle.mds_steps.proofs.Sets.{none_in_empty}
 use Rattle.mds_table.specs.Tables.{Tables}
+use Rattle.mds_core.specs.declared.event_name.EventName.{EventName}
 use Rattle.mds_core.specs.declared.key.Key.{Key}
 use Rattle.mds_batch.specs.declared.item.EventItem.{EventItem}
 use Rattle.mds_batch.specs.declared.item.EventItem.TheVariants.{Event, Fault as Faulty}
@@ -76,12 +77,12 @@ no_share opening tables workers worker = record {
 }
 
 module _ (opening : Opening) (tables : Tables) (workers worker : ℕ) (items : List EventItem) (told : List ToldVerdict)
-    (entries : List (Key × Followed)) (names : List (Key × List ℕ)) (share : IsShare opening tables items workers worker told entries names) (item : EventItem) where
+    (entries : List (Key × Followed)) (names : List EventName) (share : IsShare opening tables items workers worker told entries names) (item : EventItem) where
   count : length share.lines ≡ length items
   count = share.replayed.verdicts.count ∙ length-map items (as_seen workers worker)
 
   -- an item of the worker's own is judged, and the verdict told
-  pub share_own : (line : Verdict) (entries_now : List (Key × Followed)) (names_now : List (Key × List ℕ)) → is_own workers worker item ≡ true
+  pub share_own : (line : Verdict) (entries_now : List (Key × Followed)) (names_now : List EventName) → is_own workers worker item ≡ true
       → IsReplayed opening tables (map (as_seen workers worker) items ++ item ∷ []) (share.lines ++ line ∷ []) entries_now names_now
       → IsShare opening tables (items ++ item ∷ []) workers worker (told ++ record { index = length items; verdict = line } ∷ []) entries_now names_now
   share_own line entries_now names_now own replayed = record {

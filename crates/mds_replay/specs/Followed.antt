@@ -2,6 +2,7 @@
 use Rattle.std.specs.Prelude.{◌≡◌, ℕ, List, [], ◌∷◌, map, Bool, false}
 use Rattle.std.specs.List.{AllZip, list_any}
 use Rattle.mds_table.specs.Tables.{Tables}
+use Rattle.mds_core.specs.declared.event_name.EventName.{EventName}
 use Rattle.mds_core.specs.declared.key.Key.{Key}
 use Rattle.mds_core.specs.Reported.{Reported}
 use Rattle.mds_core.specs.History.{same_key}
@@ -31,18 +32,18 @@ AreApart same (key ∷ keys) = (list_any (same key) keys ≡ false) × AreApart 
 abbrev pub AreEntries : {K V : Type 0} → (K → V → Type 0) → List K → List (K × V) → Type 0
 AreEntries Holds keys entries = AllZip (λ key entry. (entry.0 ≡ key) × Holds key entry.1) keys entries
 
--- the vehicle of an event and its identifier, which is unique within the vehicle
-abbrev pub name_of : Reported → Key × List ℕ
-name_of event = (event.key, event.id)
+-- what names an event among all events
+abbrev pub name_of : Reported → EventName
+name_of event = record { key = event.key; id = event.id }
 
 -- this is what is kept of the vehicles that were mentioned, and the names of the accepted events
-pub record AreFollowed (opening : Opening) (tables : Tables) (mentioned : List Key) (accepted : List Reported) (entries : List (Key × Followed)) (names : List (Key × List ℕ)) : Type 0 where
+pub record AreFollowed (opening : Opening) (tables : Tables) (mentioned : List Key) (accepted : List Reported) (entries : List (Key × Followed)) (names : List EventName) : Type 0 where
   pub apart : AreApart same_key mentioned
   pub unknown : (key : Key) → list_any (same_key key) mentioned ≡ false → prior_of key accepted ≡ []
   pub vehicles : AreEntries (λ key vehicle. IsFollowed opening tables key (prior_of key accepted) vehicle) mentioned entries
   pub named : names ≡ map name_of accepted
 
 -- the verdicts on the items so far, and what is kept of their vehicles
-pub record IsReplayed (opening : Opening) (tables : Tables) (items : List EventItem) (lines : List Verdict) (entries : List (Key × Followed)) (names : List (Key × List ℕ)) : Type 0 where
+pub record IsReplayed (opening : Opening) (tables : Tables) (items : List EventItem) (lines : List Verdict) (entries : List (Key × Followed)) (names : List EventName) : Type 0 where
   pub verdicts : AreVerdicts opening tables items lines
   pub vehicles : AreFollowed opening tables (vehicles_of (events_of items)) (accepted_of items lines) entries names

@@ -3,6 +3,7 @@ use Rattle.std.specs.Prelude.{◌≡◌, ◌⊎◌, ◌<◌, ℕ, ◌%◌, ◌==
 use Rattle.std.specs.List.{All, flat_map}
 use Rattle.std.specs.Int.{from_be_bytes, w128}
 use Rattle.mds_table.specs.Tables.{Tables}
+use Rattle.mds_core.specs.declared.event_name.EventName.{EventName}
 use Rattle.mds_core.specs.declared.key.Key.{Key}
 use Rattle.mds_batch.specs.declared.item.EventItem.{EventItem}
 use Rattle.mds_batch.specs.declared.item.EventItem.TheVariants.{Event, Fault as Faulty}
@@ -44,7 +45,7 @@ pub record AreTold (workers worker : ℕ) (items : List EventItem) (lines : List
 
 -- a worker's share: the replay of the items as the worker sees them. It tells the verdicts on its own items, and keeps of each
 -- vehicle what the replay keeps
-pub record IsShare (opening : Opening) (tables : Tables) (items : List EventItem) (workers worker : ℕ) (told : List ToldVerdict) (entries : List (Key × Followed)) (names : List (Key × List ℕ)) : Type 0 where
+pub record IsShare (opening : Opening) (tables : Tables) (items : List EventItem) (workers worker : ℕ) (told : List ToldVerdict) (entries : List (Key × Followed)) (names : List EventName) : Type 0 where
   pub lines : List Verdict
   pub replayed : IsReplayed opening tables (map (as_seen workers worker) items) lines entries names
   pub are_told : AreTold workers worker items lines told
@@ -52,7 +53,7 @@ pub record IsShare (opening : Opening) (tables : Tables) (items : List EventItem
 -- what a worker came to is its share
 abbrev pub IsPart : Opening → Tables → List EventItem → ℕ → ℕ → Part → Type 0
 IsPart opening tables items workers worker part =
-    (names : List (Key × List ℕ)) × IsShare opening tables items workers worker part.told.items part.vehicles.entries names
+    (names : List EventName) × IsShare opening tables items workers worker part.told.items part.vehicles.entries names
 
 -- there is a part of each worker, in their order
 abbrev pub AreParts : Opening → Tables → List EventItem → List Part → Type 0

@@ -1,6 +1,7 @@
 -- What contracts see of a replay that takes its items one by one.
 use Rattle.std.specs.Prelude.{◌≡◌, ℕ, List}
 use Rattle.mds_table.specs.Tables.{Tables}
+use Rattle.mds_core.specs.declared.event_name.EventName.{EventName}
 use Rattle.mds_core.specs.declared.key.Key.{Key}
 use Rattle.mds_batch.specs.declared.item.EventItem.{EventItem}
 use Rattle.mds_replay.specs.declared.report.Opening.{Opening}
@@ -15,7 +16,7 @@ pub record Replaying : Type 0 where
   pub opening : Opening
   pub lines : List Verdict
   pub vehicles : List (Key × Followed)
-  pub names : List (Key × List ℕ)
+  pub names : List EventName
 
 -- these are the items that a replayer took: its verdicts are those on them, and it keeps what a replay of them keeps
 abbrev pub Took : List EventItem → Replaying → Type 0

@@ -2,6 +2,7 @@
 ghost use Rattle.std.specs.Prelude.{◌≡◌, ◌<◌, ◌++◌, ◌∷◌, [], ℕ, List, length, IfOk, OnErr};
 ghost use Rattle.mds_table.specs.Tables.{Tables};
 ghost use Rattle.mds_core.specs.declared.key.Key.{Key as Vehicle};
+ghost use Rattle.mds_core.specs.declared.event_name.EventName.{EventName as Name};
 ghost use Rattle.mds_core.specs.Reported.{Reported};
 ghost use Rattle.mds_core.specs.History.{same_key};
 ghost use Rattle.mds_batch.specs.declared.item.EventItem.{EventItem as Item};
@@ -15,16 +16,15 @@ use crate::followed::Followed;
 use crate::{Opening, Verdict};
 use indexmap::{IndexMap, IndexSet};
 use mds_batch::EventItem;
-use mds_core::{Event, Key};
+use mds_core::{Event, EventName, Key};
 use mds_table::Tables;
 use std::alloc::AllocError;
-use uuid::Uuid;
 
 /// The vehicles that were mentioned, in the order of first mention.
 pub type Vehicles = IndexMap<Key, Followed>;
 
-/// The names of the accepted events: the vehicle and the identifier of each.
-pub type AcceptedNames = IndexSet<(Key, Uuid)>;
+/// The names of the accepted events.
+pub type AcceptedNames = IndexSet<EventName>;
 
 /// The verdict on an item, with which what is kept of its vehicle goes on. Without memory what is kept stays as it was.
 pub fn judge_item(
@@ -66,7 +66,10 @@ fn judge_event(
     ensures kept { OnErr result
         ((vehicles.new.entries ≡ vehicles.old.entries) × (names.new.keys ≡ names.old.keys)) }
 {
-    let name = (*event.key(), event.id());
+    let name = EventName {
+        key: *event.key(),
+        id: event.id(),
+    };
     let vehicle = vehicle_at(vehicles, event.key(), opening);
     let (line, followed) = vehicle.judge(tables, event, names.contains(&name));
     // With room for the name first, nothing is kept of an event for which there is no memory.
@@ -81,7 +84,7 @@ fn judge_event(
 /// What is kept of a vehicle so far.
 pub fn vehicle_at(vehicles: &Vehicles, key: &Key, opening: Opening) -> Followed
     ensures { (tables : Tables) (mentioned : List Vehicle) (accepted : List Reported)
-        (seen : List (Vehicle × List ℕ))
+        (seen : List Name)
         → AreFollowed opening tables mentioned accepted vehicles.now.entries seen
         → IsFollowed opening tables key.now (prior_of key.now accepted) result }
 {

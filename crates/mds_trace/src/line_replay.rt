@@ -1,7 +1,8 @@
 //! The replay of a stream's lines, which are fed in pieces.
-ghost use Rattle.std.specs.Prelude.{◌≡◌, ◌++◌, [], Some, None, IfOk, IfErr, OnOk, Err};
+ghost use Rattle.std.specs.Prelude.{◌≡◌, ◌++◌, [], List, Some, None, IfOk, IfErr, OnOk, Err};
+ghost use Rattle.mds_batch.specs.declared.item.EventItem.{EventItem};
 ghost use Rattle.mds_lines.specs.declared.fault.LineFault.{LineFault as Fault};
-ghost use Rattle.mds_lines.specs.Stream.{HasLineFault, IsFaultyWith};
+ghost use Rattle.mds_lines.specs.Stream.{HasEndedItems, HasLineFault, IsFaultyWith};
 ghost use Rattle.mds_trace.specs.LineReport.{IsLineReport};
 
 use crate::{Opening, Replayer, Report};
@@ -55,13 +56,15 @@ impl LineReplay {
     ///
     /// # Errors
     ///
-    /// The first fault of the stream, as far as it has come: every stream that begins so has it.
+    /// The first fault of the stream, as far as it has come: every stream that begins so has it. It is told as soon as its
+    /// line has ended, or its byte has come.
     /// [`LineFault::Memory`] comes as soon as a growth is refused, and then says nothing of the stream. Each later call
     /// answers the same fault.
     pub fn feed(&mut self, piece: &[u8]) -> Result<(), LineFault>
         ensures fed { OnOk result (self.new ≡ record self.old {
           stream = record { bytes = self.old.stream.bytes ++ piece.now; fault = None };
         }) }
+        ensures ended { OnOk result ((items : List EventItem) × HasEndedItems self.new.stream.bytes items) }
         ensures whole { OnOk result (self.old.stream.fault ≡ None) }
         ensures fault { IfErr result (IsFaultyWith (self.old.stream.bytes ++ piece.now)) }
         ensures kept { IfErr result (λ fault. self.new.stream.fault ≡ Some fault) }

@@ -5,9 +5,9 @@ use crate::Member::{
 };
 use crate::{BatchFault, EventItem, ItemFault, MAX_ITEMS, Member, VehicleItem};
 use arrayvec::ArrayVec;
-use mds_core::{Event, Key, MAX_EVENT_TYPES, MAX_TIME, Position};
-use mds_table::TypeName;
+use mds_core::{Event, Key, MAX_EVENT_TYPES, Position};
 use mds_table::json::{TextFault, state_of, type_name_of, value_of};
+use mds_table::{MAX_TIME, TypeName};
 use serde_json::Value;
 use std::alloc::Global;
 use std::slice;

@@ -1,6 +1,6 @@
 //! Positions, events and requests.
 use super::{A, B, E0, E1, Lack, event, key, type_of, types_of, uuid};
-use crate::{Event, EventFault, MAX_EVENT_TYPES, MAX_TIME, Position, Refusal};
+use crate::{Event, EventFault, MAX_EVENT_TYPES, Position, Refusal};
 use mds_table::State;
 use std::alloc::{AllocError, Global};
 use std::process::Abort;

@@ -1,8 +1,8 @@
 use Rattle.std.proofs.Common.{◌≡◌, rules, Some}
 use Rattle.serde_json.specs.Data.{object}
-use Rattle.mds_table.specs.Json.{state_in}
+use Rattle.mds_table.specs.Json.{state_in, time_in}
 use Rattle.mds_batch.specs.declared.member.Member.TheVariants.{EventId, VehicleState, EventTypes, Timestamp}
-use Rattle.mds_batch.specs.Forms.{uuid_in, types_in, time_in}
+use Rattle.mds_batch.specs.Forms.{uuid_in, types_in}
 use Rattle.mds_batch.specs.Items.{fault_of, event_members}
 use Rattle.mds_batch.proofs.ItemLemmas.{fault_of-event}
 use Rattle.mds_batch.proofs.MemberLemmas.{good_member, bad_member, good_types, bad_types}

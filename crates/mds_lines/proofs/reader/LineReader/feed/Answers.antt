@@ -32,3 +32,11 @@ returns-clause-taken g c = λ before items has took.
     let read = kept_items _ c.args.self.now _ _ _ _ items c.self.view_is c.in_default.is c.self.invariant has in
     let next = c.in_default-feed.ensures.taken items read in
     (next.0, next.1 before took, ended_items _ _ _ _ next.0 c.in_default-feed.ensures.short next.2)
+
+pub returns-clause-ended : goal.returns-clause-ended
+returns-clause-ended g c =
+    let old = c.self.inside in
+    let held : IsKept None old.bytes.items old.lines.ended old.lines.count old.lines.taken =
+    subst (λ fault. IsKept fault old.bytes.items old.lines.ended old.lines.count old.lines.taken) c.in_default.is c.self.invariant in
+    let next = c.in_default-feed.ensures.taken held.0.0 held.0.1 in
+    (next.0, ended_items _ _ _ _ next.0 c.in_default-feed.ensures.short next.2)
