@@ -1,7 +1,7 @@
 //! Positions, events and requests.
 use super::{A, B, E0, E1, Lack, event, key, type_of, types_of, uuid};
 use crate::{Event, EventFault, MAX_EVENT_TYPES, Position, Refusal};
-use mds_table::State;
+use mds_table::{MAX_TIME, State};
 use std::alloc::{AllocError, Global};
 use std::process::Abort;
 
