@@ -14,11 +14,10 @@ use Rattle.mds_commands.specs.declared.status.Status.{Status}
 use Rattle.mds_commands.specs.declared.status.Status.TheVariants as status
 use Rattle.mds_args.specs.declared.words.Command.{Command}
 use Rattle.mds_args.specs.declared.words.Command.TheVariants.{Serve, Replay, Debug, Table}
-use Rattle.mds_commands.specs.Command.{Replayed, Told, Tabled, TableTold}
+use Rattle.mds_commands.specs.Command.{CameToReplay, CameToTable}
 use Rattle.mds_commands.specs.Debug.{Debugs}
 use Rattle.mds_city.specs.Serve.{CameToServe}
 use Rattle.mds_commands.specs.Problem.{Tells}
-use Rattle.mds_commands.specs.Status.{code_of}
 use Rattle.mds_args.specs.declared.error.WordsError.{WordsError}
 use Rattle.mds_args.specs.declared.error.WordsErrorKind.{WordsErrorKind}
 use Rattle.mds_args.specs.declared.error.WordsErrorKind.TheVariants.{Help, Mistake, Memory}
@@ -57,20 +56,6 @@ form_if false = Batch
 abbrev pub options_of : Bool → Bool → ℕ → ReplayOptions
 options_of any lines workers = record { opening = opening_if any; form = form_if lines; workers = workers }
 
--- a replay of a file came to this status, and to these bytes at the output and the fault writer
-abbrev pub CameToReplay : {T R : Type 0} → ReplayOptions → (T → Option (List ℕ)) → Option (Source T) → (R → Option (List ℕ)) → Source R
-    → ℕ → Option (List ℕ) → Option (List ℕ) → Option (List ℕ) → Option (List ℕ) → Type 0
-CameToReplay options table_bytes table file_bytes file code out out_new faults faults_new =
-    (code < 2 → Replayed options table_bytes table file_bytes file code out out_new × Keeps faults faults_new)
-    × (2 ≤ code → Told options table_bytes table file_bytes file code out out_new faults faults_new)
-
--- a print of a table likewise
-abbrev pub CameToTable : {T : Type 0} → (T → Option (List ℕ)) → Option (Source T)
-    → ℕ → Option (List ℕ) → Option (List ℕ) → Option (List ℕ) → Option (List ℕ) → Type 0
-CameToTable table_bytes table code out out_new faults faults_new =
-    (code < 2 → (code ≡ 0) × Tabled table_bytes table out out_new × Keeps faults faults_new)
-    × (2 ≤ code → TableTold table_bytes table code out out_new faults faults_new)
-
 -- of what opens files: the relation of its paths to what comes of opening them, and itself
 module _ {O F : Type 0} (opens : O → List ℕ → Option F → Type 0) (files : O) where
   -- the source is the file of this path, opened if it can be
@@ -87,30 +72,30 @@ module _ {O F : Type 0} (opens : O → List ℕ → Option F → Type 0) (files 
   -- standard input: the bytes that are known of each, and standard input itself
   module _ {L I : Type 0} (listens : O → ℕ → L → ℕ → Type 0) (file_bytes : F → Option (List ℕ)) (input_bytes : I → Option (List ℕ)) (input : I) where
     -- a replay of the file of this path, which is standard input for `-` alone, came to these
-    abbrev pub CarriesReplay : ReplayOptions → List ℕ → Option (Source F) → ℕ → Option (List ℕ) → Option (List ℕ) → Option (List ℕ) → Option (List ℕ) → Type 0
-    CarriesReplay options path table code out out_new faults faults_new =
+    abbrev pub CarriesReplay : ReplayOptions → List ℕ → Option (Source F) → Status → Option (List ℕ) → Option (List ℕ) → Option (List ℕ) → Option (List ℕ) → Type 0
+    CarriesReplay options path table ended out out_new faults faults_new =
         ((path ≡ codes "-") × (file : Source I) × (file.path.now ≡ path) × (file.reader ≡ Some input)
-        × CameToReplay options file_bytes table input_bytes file code out out_new faults faults_new)
+        × CameToReplay options file_bytes table input_bytes file ended out out_new faults faults_new)
         ⊎ ((path ≢ codes "-") × (file : Source F) × IsFileOf path file
-        × CameToReplay options file_bytes table file_bytes file code out out_new faults faults_new)
+        × CameToReplay options file_bytes table file_bytes file ended out out_new faults faults_new)
 
     -- what a command did: it read the files that it names, and came to these
-    abbrev pub Carries : Command → ℕ → Option (List ℕ) → Option (List ℕ) → Option (List ℕ) → Option (List ℕ) → Type 0
-    Carries (Serve port each workers path) code out out_new faults faults_new =
-        (table : Option (Source F)) × IsFileNamed (option_map (λ named. named.now) path) table × CameToServe listens files port file_bytes table workers code out out_new faults faults_new
-    Carries (Table path) code out out_new faults faults_new =
-        (table : Option (Source F)) × IsFileNamed (option_map (λ named. named.now) path) table × CameToTable file_bytes table code out out_new faults faults_new
-    Carries (Replay file path any lines workers) code out out_new faults faults_new =
+    abbrev pub Carries : Command → Status → Option (List ℕ) → Option (List ℕ) → Option (List ℕ) → Option (List ℕ) → Type 0
+    Carries (Serve port each workers path) ended out out_new faults faults_new =
+        (table : Option (Source F)) × IsFileNamed (option_map (λ named. named.now) path) table × CameToServe listens files port file_bytes table workers ended out out_new faults faults_new
+    Carries (Table path) ended out out_new faults faults_new =
+        (table : Option (Source F)) × IsFileNamed (option_map (λ named. named.now) path) table × CameToTable file_bytes table ended out out_new faults faults_new
+    Carries (Replay file path any lines workers) ended out out_new faults faults_new =
         (table : Option (Source F)) × IsFileNamed (option_map (λ named. named.now) path) table
-        × CarriesReplay (options_of any lines workers) file.now table code out out_new faults faults_new
-    Carries (Debug file provider device path) code out out_new faults faults_new =
+        × CarriesReplay (options_of any lines workers) file.now table ended out out_new faults faults_new
+    Carries (Debug file provider device path) ended out out_new faults faults_new =
         (table : Option (Source F)) × IsFileNamed (option_map (λ named. named.now) path) table × (events : Source F) × IsFileOf file.now events
         × (input_new : Option (List ℕ))
-        × Debugs file_bytes table file_bytes events (record { provider = provider; device = device }) code (input_bytes input) input_new out out_new faults faults_new
+        × Debugs file_bytes table file_bytes events (record { provider = provider; device = device }) ended (input_bytes input) input_new out out_new faults faults_new
 
     -- what the program did with words: it carried out the command that they ask for, or explained why they give none
-    abbrev pub Runs : List (List ℕ) → ℕ → Option (List ℕ) → Option (List ℕ) → Option (List ℕ) → Option (List ℕ) → Type 0
-    Runs words code out out_new faults faults_new =
-        ((command : Command) × IsAskedBy words command × Carries command code out out_new faults faults_new)
-        ⊎ ((error : WordsError) × (ended : Status) × HasCause words error × (code ≡ code_of ended)
+    abbrev pub Runs : List (List ℕ) → Status → Option (List ℕ) → Option (List ℕ) → Option (List ℕ) → Option (List ℕ) → Type 0
+    Runs words ended out out_new faults faults_new =
+        ((command : Command) × IsAskedBy words command × Carries command ended out out_new faults faults_new)
+        ⊎ ((error : WordsError) × HasCause words error
         × Explains (words_kind error) ended out out_new faults faults_new)

@@ -11,9 +11,9 @@ use Rattle.mds_pool.specs.declared.serving.Stop.TheVariants as stop
 use Rattle.mds_commands.specs.declared.source.Source.{Source}
 use Rattle.mds_commands.specs.declared.problem.Problem.{Problem}
 use Rattle.mds_commands.specs.declared.problem.Problem.TheVariants.{CannotRead, NotATable, NotABatch, NotLines, Socket, Random, Output, Memory}
+use Rattle.mds_commands.specs.declared.status.Status.{Status}
 use Rattle.mds_commands.specs.declared.status.Status.TheVariants as status
 use Rattle.mds_commands.specs.Problem.{status_of, Tells}
-use Rattle.mds_commands.specs.Status.{code_of}
 use Rattle.mds_commands.specs.Source.{HasTablesIn, ExplainsTable}
 
 -- the line that says where a server listens
@@ -25,36 +25,36 @@ abbrev pub accepted_line : ℕ → List ℕ
 accepted_line accepted = codes "accepted " ++ decimal accepted
 
 -- the line of a shard and a place went out whole, or as many of its bytes as the writer took, fewer than all
-abbrev pub TellsTorn : ℕ → ℕ → ℕ → Option (List ℕ) → Option (List ℕ) → Type 0
-TellsTorn shard place code old new =
-    ((code ≡ code_of status.Torn) × Appends old new (torn_text shard place))
-    ⊎ ((code ≡ code_of status.Fault) × ((sent : ℕ) × (sent < length (torn_text shard place)) × Appends old new (take sent (torn_text shard place))))
+abbrev pub TellsTorn : ℕ → ℕ → Status → Option (List ℕ) → Option (List ℕ) → Type 0
+TellsTorn shard place ended old new =
+    ((ended ≡ status.Torn) × Appends old new (torn_text shard place))
+    ⊎ ((ended ≡ status.Fault) × ((sent : ℕ) × (sent < length (torn_text shard place)) × Appends old new (take sent (torn_text shard place))))
 
--- a problem has this code, and was told
-abbrev pub IsTold : Problem → ℕ → Option (List ℕ) → Option (List ℕ) → Type 0
-IsTold problem code faults faults_new = (code ≡ code_of (status_of problem)) × Tells faults faults_new problem
+-- a problem has this status, and was told
+abbrev pub IsTold : Problem → Status → Option (List ℕ) → Option (List ℕ) → Type 0
+IsTold problem ended faults faults_new = (ended ≡ status_of problem) × Tells faults faults_new problem
 
 -- the number of accepted requests was printed; or a front of that line, where the output failed or there was no memory
-abbrev pub SaysAccepted : ℕ → ℕ → Option (List ℕ) → Option (List ℕ) → Option (List ℕ) → Option (List ℕ) → Type 0
-SaysAccepted accepted code out out_new faults faults_new =
-    ((code ≡ code_of status.Done) × Appends out out_new (with_newline (accepted_line accepted)) × Keeps faults faults_new)
+abbrev pub SaysAccepted : ℕ → Status → Option (List ℕ) → Option (List ℕ) → Option (List ℕ) → Option (List ℕ) → Type 0
+SaysAccepted accepted ended out out_new faults faults_new =
+    ((ended ≡ status.Done) × Appends out out_new (with_newline (accepted_line accepted)) × Keeps faults faults_new)
     ⊎ (AppendsFront out out_new (with_newline (accepted_line accepted))
-    × (IsTold Output code faults faults_new ⊎ IsTold Memory code faults faults_new))
+    × (IsTold Output ended faults faults_new ⊎ IsTold Memory ended faults faults_new))
 
 -- what was printed and told of how serving ended: how many requests the settled book accepted, in both shards; else nothing, and why
-abbrev pub IsSaid : Result Collected Stop → ℕ → Option (List ℕ) → Option (List ℕ) → Option (List ℕ) → Option (List ℕ) → Type 0
-IsSaid (Ok all) code out out_new faults faults_new =
-    SaysAccepted (length all.first + length all.second) code out out_new faults faults_new
-IsSaid (Err stop.Memory) code out out_new faults faults_new = Keeps out out_new × IsTold Memory code faults faults_new
-IsSaid (Err stop.Accept) code out out_new faults faults_new =
-    Keeps out out_new × (IsTold Socket code faults faults_new ⊎ IsTold Memory code faults faults_new)
-IsSaid (Err (stop.Torn shard place)) code out out_new faults faults_new =
-    Keeps out out_new × TellsTorn shard place code faults faults_new
+abbrev pub IsSaid : Result Collected Stop → Status → Option (List ℕ) → Option (List ℕ) → Option (List ℕ) → Option (List ℕ) → Type 0
+IsSaid (Ok all) ended out out_new faults faults_new =
+    SaysAccepted (length all.first + length all.second) ended out out_new faults faults_new
+IsSaid (Err stop.Memory) ended out out_new faults faults_new = Keeps out out_new × IsTold Memory ended faults faults_new
+IsSaid (Err stop.Accept) ended out out_new faults faults_new =
+    Keeps out out_new × (IsTold Socket ended faults faults_new ⊎ IsTold Memory ended faults faults_new)
+IsSaid (Err (stop.Torn shard place)) ended out out_new faults faults_new =
+    Keeps out out_new × TellsTorn shard place ended faults faults_new
 
 -- serving with these tables and so many workers ended in some way, and that was said
-abbrev pub Serves : Tables → ℕ → ℕ → Option (List ℕ) → Option (List ℕ) → Option (List ℕ) → Option (List ℕ) → Type 0
-Serves tables workers code out out_new faults faults_new =
-    (ended : Result Collected Stop) × IsEnded tables workers ended × IsSaid ended code out out_new faults faults_new
+abbrev pub Serves : Tables → ℕ → Status → Option (List ℕ) → Option (List ℕ) → Option (List ℕ) → Option (List ℕ) → Type 0
+Serves tables workers ended out out_new faults faults_new =
+    (came : Result Collected Stop) × IsEnded tables workers came × IsSaid came ended out out_new faults faults_new
 
 -- of the command: the relation of a host and a number asked for to what listens and its port's number, the host, and the number; the
 -- known bytes of a table file's reader, and the table file if one is given
@@ -83,7 +83,7 @@ module _ {H L T : Type 0} (listens : H → ℕ → L → ℕ → Type 0) (host :
   Listened tables out out_new = HasTablesIn table_bytes table tables × ((port : ℕ) × IsPort port × Appends out out_new (with_newline (listening_line port)))
 
   -- what the command came to: nothing was served, for a problem that was told; or it was served, after the first line
-  abbrev pub CameToServe : ℕ → ℕ → Option (List ℕ) → Option (List ℕ) → Option (List ℕ) → Option (List ℕ) → Type 0
-  CameToServe workers code out out_new faults faults_new =
-      ((problem : Problem) × StopsBefore problem out out_new × IsTold problem code faults faults_new)
-      ⊎ ((tables : Tables) × (out_then : Option (List ℕ)) × Listened tables out out_then × Serves tables workers code out_then out_new faults faults_new)
+  abbrev pub CameToServe : ℕ → Status → Option (List ℕ) → Option (List ℕ) → Option (List ℕ) → Option (List ℕ) → Type 0
+  CameToServe workers ended out out_new faults faults_new =
+      ((problem : Problem) × StopsBefore problem out out_new × IsTold problem ended faults faults_new)
+      ⊎ ((tables : Tables) × (out_then : Option (List ℕ)) × Listened tables out out_then × Serves tables workers ended out_then out_new faults faults_new)

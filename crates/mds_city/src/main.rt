@@ -39,7 +39,7 @@ impl Listens for HostRuntime {
 fn main(rt: HostRuntime) -> ExitCode {
     let alloc = rt.alloc();
     let mut faults = rt.stderr();
-    let code = match words_of(alloc, env::args(&rt)) {
+    let status = match words_of(alloc, env::args(&rt)) {
         Ok(words) => run(
             &rt,
             alloc,
@@ -49,7 +49,7 @@ fn main(rt: HostRuntime) -> ExitCode {
             &mut rt.stdout(),
             &mut faults,
         ),
-        Err(fault) => tell_words(alloc, &mut faults, fault).code(),
+        Err(fault) => tell_words(alloc, &mut faults, fault),
     };
-    ExitCode::from(code)
+    ExitCode::from(status.code())
 }

@@ -79,7 +79,7 @@ pub fn tell_words<E: Write>(alloc: Global, faults: &mut E, fault: WordsFault) ->
 }
 
 /// Carries out what the words of the command line ask for, of which the first is the program's name, over these files and
-/// streams, or says why they ask for nothing. It answers the code of the status that the program ends with.
+/// streams, or says why they ask for nothing. It answers the status that the program ends with.
 pub fn run<
     R: Threads + Wait + RandomSource + Sync,
     S: AsStr,
@@ -87,14 +87,14 @@ pub fn run<
     I: Read + Drop,
     W: Write,
     E: Write,
->(rt: &R, alloc: Global, words: &[S], files: &O, input: I, out: &mut W, faults: &mut E) -> u8
+>(rt: &R, alloc: Global, words: &[S], files: &O, input: I, out: &mut W, faults: &mut E) -> Status
     ensures { Runs O.opens files.now O.listens O.File.remaining I.remaining input
         (map S.text words.now) result
         (W.contents out.old) (W.contents out.new) (E.contents faults.old) (E.contents faults.new) }
 {
     match parse_words(alloc, words) {
         Ok(command) => carry_out(rt, alloc, files, command, input, out, faults),
-        Err(error) => explain(alloc, &error, out, faults).code(),
+        Err(error) => explain(alloc, &error, out, faults),
     }
 }
 
@@ -124,8 +124,8 @@ fn explain<W: Write, E: Write>(
     }
 }
 
-/// Carries out a command over these files and streams, and answers the code of the status that the program ends with. The
-/// file `-` of a replay is `input`; the table file is one of its name, whatever that is.
+/// Carries out a command over these files and streams, and answers the status that the program ends with. The file `-` of
+/// a replay is `input`; the table file is one of its name, whatever that is.
 fn carry_out<
     R: Threads + Wait + RandomSource + Sync,
     O: Opens + Listens,
@@ -140,7 +140,7 @@ fn carry_out<
     input: I,
     out: &mut W,
     faults: &mut E,
-) -> u8
+) -> Status
     requires { HasWorkers command }
     ensures { Carries O.opens files.now O.listens O.File.remaining I.remaining input
         command.entry result

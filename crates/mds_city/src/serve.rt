@@ -50,8 +50,8 @@ pub struct ServeOptions {
 }
 
 /// Serves vehicles over the tables of a table file, or where none is given over the profile's, at a port of the host: prints
-/// where it listens, and goes on as [`serve_on`]. It answers the code of the status that the program ends with; a problem
-/// is told to `faults` in one line.
+/// where it listens, and goes on as [`serve_on`]. It answers the status that the program ends with; a problem is told to
+/// `faults` in one line.
 pub fn serve_at<
     R: Threads + Wait + RandomSource + Sync,
     H: Listens,
@@ -66,14 +66,14 @@ pub fn serve_at<
     asked: ServeOptions,
     out: &mut W,
     faults: &mut E,
-) -> u8
+) -> Status
     requires { IsSeatCount asked.workers }
     ensures { CameToServe H.listens host.now asked.port T.remaining table.entry asked.workers result
         (W.contents out.old) (W.contents out.new) (E.contents faults.old) (E.contents faults.new) }
 {
     let (tables, hashers, listening) = match begun(rt, alloc, host, table, asked.port, out) {
         Ok(begun) => begun,
-        Err(problem) => return tell(alloc, faults, problem).code(),
+        Err(problem) => return tell(alloc, faults, problem),
     };
     serve_on(
         rt,
@@ -114,11 +114,11 @@ fn begun<'a, R: RandomSource, H: Listens, T: Read + Drop, W: Write>(
     Ok((tables, [first, second], listening))
 }
 
-/// Serves connections of a port over these tables, with a new book of so many seats, 1 to [`mds_book::MAX_SEATS`], each of which
-/// answers so many of them; the book's shards hash by these hashers. At the end it settles the book, and prints how many requests were accepted. It answers the code
-/// of the status that the program ends with: `Done`; `Torn` where the notes of the accepted requests don't fit the
-/// histories; `Fault` where no further connection could be taken, or an output failed; `NoMemory` for want of memory. What
-/// isn't `Done` is told to `faults` in one line.
+/// Serves connections of a port over these tables, with a new book of so many seats, 1 to [`mds_book::MAX_SEATS`], each of
+/// which answers so many of them; the book's shards hash by these hashers. At the end it settles the book, and prints how
+/// many requests were accepted. It answers the status that the program ends with: `Done`; `Torn` where the notes of the
+/// accepted requests don't fit the histories; `Fault` where no further connection could be taken, or an output failed;
+/// `NoMemory` for want of memory. What isn't `Done` is told to `faults` in one line.
 pub fn serve_on<R: Threads + Wait + Sync, P: Port + Sync, W: Write, E: Write>(
     rt: &R,
     alloc: Global,
@@ -129,7 +129,7 @@ pub fn serve_on<R: Threads + Wait + Sync, P: Port + Sync, W: Write, E: Write>(
     each: usize,
     out: &mut W,
     faults: &mut E,
-) -> u8
+) -> Status
 where
     P::In: Send,
     P::Out: Send,
@@ -151,7 +151,15 @@ fn serve_book<
     M: ShardLedger + Send + Sync,
     W: Write,
     E: Write,
->(rt: &R, alloc: Global, opening: NewBook, port: &P, each: usize, out: &mut W, faults: &mut E) -> u8
+>(
+    rt: &R,
+    alloc: Global,
+    opening: NewBook,
+    port: &P,
+    each: usize,
+    out: &mut W,
+    faults: &mut E,
+) -> Status
 where
     P::In: Send,
     P::Out: Send,
@@ -174,14 +182,14 @@ fn say<L: ShardLedger, M: ShardLedger, W: Write, E: Write>(
     ended: Result<Settled<L, M>, Stop>,
     out: &mut W,
     faults: &mut E,
-) -> u8
+) -> Status
     ensures { IsSaid ended result
         (W.contents out.old) (W.contents out.new) (E.contents faults.old) (E.contents faults.new) }
 {
     match ended {
         Ok(settled) => say_accepted(alloc, settled.accepted(), out, faults),
-        Err(Stop::Memory) => tell(alloc, faults, Problem::Memory).code(),
-        Err(Stop::Accept) => tell(alloc, faults, Problem::Socket).code(),
+        Err(Stop::Memory) => tell(alloc, faults, Problem::Memory),
+        Err(Stop::Accept) => tell(alloc, faults, Problem::Socket),
         Err(Stop::Torn { shard, place }) => torn_to(faults, shard, place),
     }
 }
@@ -192,25 +200,25 @@ fn say_accepted<W: Write, E: Write>(
     accepted: u128,
     out: &mut W,
     faults: &mut E,
-) -> u8
+) -> Status
     ensures { SaysAccepted accepted result
         (W.contents out.old) (W.contents out.new) (E.contents faults.old) (E.contents faults.new) }
 {
     match print_line(alloc, out, &AcceptedLine { accepted }) {
-        Ok(()) => Status::Done.code(),
-        Err(fault) => tell(alloc, faults, Problem::from(fault)).code(),
+        Ok(()) => Status::Done,
+        Err(fault) => tell(alloc, faults, Problem::from(fault)),
     }
 }
 
-/// Tells, in one line, the shard, and the place in its history, that notes don't fit. It answers the code of `Torn`, or of
-/// `Fault` where the writer failed. It takes no memory.
-pub fn torn_to<E: Write>(faults: &mut E, shard: usize, place: usize) -> u8
+/// Tells, in one line, the shard, and the place in its history, that notes don't fit. It answers `Torn`, or `Fault` where
+/// the writer failed. It takes no memory.
+pub fn torn_to<E: Write>(faults: &mut E, shard: usize, place: usize) -> Status
     ensures { TellsTorn shard place result (E.contents faults.old) (E.contents faults.new) }
 {
     let line = torn_line(shard, place);
     match write_all_of(faults, line.as_bytes()) {
-        Ok(()) => Status::Torn.code(),
-        Err(_) => Status::Fault.code(),
+        Ok(()) => Status::Torn,
+        Err(_) => Status::Fault,
     }
 }
 

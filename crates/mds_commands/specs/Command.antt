@@ -10,7 +10,6 @@ use Rattle.mds_commands.specs.declared.problem.Problem.TheVariants.{CannotRead, 
 use Rattle.mds_commands.specs.declared.status.Status.{Status}
 use Rattle.mds_commands.specs.declared.status.Status.TheVariants.{Done, Refused}
 use Rattle.mds_io.specs.Page.{AppendsFront}
-use Rattle.mds_commands.specs.Status.{code_of}
 use Rattle.mds_commands.specs.Problem.{status_of, Tells}
 use Rattle.mds_commands.specs.declared.commands.ReplayOptions.{ReplayOptions}
 use Rattle.mds_replay.specs.declared.report.Opening.TheVariants as opening
@@ -33,9 +32,9 @@ module _ {T R : Type 0} (options : ReplayOptions) (table_bytes : T → Option (L
       (tables : Tables) × (items : List EventItem) × HasTablesIn table_bytes table tables × HasItemsIn options.form file_bytes file items
       × IsReport options.opening tables items report × (options.opening ≡ opening.Removed → AreOutcomes tables items report.lines.items)
 
-  -- the report's text went out; the status is 0 where each item was accepted, else 1
-  abbrev pub Replayed : ℕ → Option (List ℕ) → Option (List ℕ) → Type 0
-  Replayed status old new = (report : Report) × HasReport report × Appends old new (report_text options.opening report) × (status ≡ code_of (status_on report.refused))
+  -- the report's text went out; the status tells whether each item was accepted
+  abbrev pub Replayed : Status → Option (List ℕ) → Option (List ℕ) → Type 0
+  Replayed status old new = (report : Report) × HasReport report × Appends old new (report_text options.opening report) × (status ≡ status_on report.refused)
 
   -- the tables were had, and then the problem is one of the file of events
   abbrev pub ExplainsEvents : Problem → Type 0
@@ -68,9 +67,14 @@ module _ {T R : Type 0} (options : ReplayOptions) (table_bytes : T → Option (L
   WentOut Memory old new = Keeps old new ⊎ PrintsFront old new
 
   -- a problem has this status, is explained, and was told
-  abbrev pub Told : ℕ → Option (List ℕ) → Option (List ℕ) → Option (List ℕ) → Option (List ℕ) → Type 0
+  abbrev pub Told : Status → Option (List ℕ) → Option (List ℕ) → Option (List ℕ) → Option (List ℕ) → Type 0
   Told status old new faults_old faults_new =
-      (problem : Problem) × (status ≡ code_of (status_of problem)) × ExplainsReplay problem × WentOut problem old new × Tells faults_old faults_new problem
+      (problem : Problem) × (status ≡ status_of problem) × ExplainsReplay problem × WentOut problem old new × Tells faults_old faults_new problem
+
+  -- what a replay came to: its report was printed and nothing was told, or a problem was told
+  abbrev pub CameToReplay : Status → Option (List ℕ) → Option (List ℕ) → Option (List ℕ) → Option (List ℕ) → Type 0
+  CameToReplay status old new faults_old faults_new =
+      (Replayed status old new × Keeps faults_old faults_new) ⊎ Told status old new faults_old faults_new
 
 -- of a print of tables: the known bytes of its file's reader, and the file if one is given
 module _ {T : Type 0} (table_bytes : T → Option (List ℕ)) (table : Option (Source T)) where
@@ -101,6 +105,11 @@ module _ {T : Type 0} (table_bytes : T → Option (List ℕ)) (table : Option (S
   TableWentOut Memory old new = Keeps old new ⊎ ((tables : Tables) × HasTablesIn table_bytes table tables × AppendsFront old new (table_text tables))
 
   -- a problem has this status, is explained, and was told
-  abbrev pub TableTold : ℕ → Option (List ℕ) → Option (List ℕ) → Option (List ℕ) → Option (List ℕ) → Type 0
+  abbrev pub TableTold : Status → Option (List ℕ) → Option (List ℕ) → Option (List ℕ) → Option (List ℕ) → Type 0
   TableTold status old new faults_old faults_new =
-      (problem : Problem) × (status ≡ code_of (status_of problem)) × ExplainsPrint problem × TableWentOut problem old new × Tells faults_old faults_new problem
+      (problem : Problem) × (status ≡ status_of problem) × ExplainsPrint problem × TableWentOut problem old new × Tells faults_old faults_new problem
+
+  -- what a print of tables came to: they were printed and nothing was told, or a problem was told
+  abbrev pub CameToTable : Status → Option (List ℕ) → Option (List ℕ) → Option (List ℕ) → Option (List ℕ) → Type 0
+  CameToTable status old new faults_old faults_new =
+      ((status ≡ Done) × Tabled old new × Keeps faults_old faults_new) ⊎ TableTold status old new faults_old faults_new

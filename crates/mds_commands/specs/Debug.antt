@@ -30,7 +30,6 @@ use Rattle.mds_commands.specs.declared.status.Status.TheVariants as status
 use Rattle.mds_commands.specs.Command.{ExplainsReplay, status_on}
 use Rattle.mds_commands.specs.Problem.{Tells, status_of}
 use Rattle.mds_commands.specs.Source.{HasTablesIn, HasItemsIn}
-use Rattle.mds_commands.specs.Status.{code_of}
 
 -- two words are the identifiers of a vehicle
 abbrev pub IsNamed : Named → Key → Type 0
@@ -125,12 +124,12 @@ module _ {T R : Type 0} (table_bytes : T → Option (List ℕ)) (table : Option 
   DebugWentOut problem input input_new old new = Consumes input input_new [] × Keeps old new
 
   -- the session was shown, as the script that was read says, and the status tells whether an event of the vehicle was refused
-  abbrev pub Shows : ℕ → Option (List ℕ) → Option (List ℕ) → Option (List ℕ) → Option (List ℕ) → Type 0
-  Shows code input input_new old new =
-      (walk : Walk) × (counts : CountsLine) × HasSession walk counts × Shown walk counts input input_new old new × (code ≡ code_of (status_on counts.refused))
+  abbrev pub Shows : Status → Option (List ℕ) → Option (List ℕ) → Option (List ℕ) → Option (List ℕ) → Type 0
+  Shows ended input input_new old new =
+      (walk : Walk) × (counts : CountsLine) × HasSession walk counts × Shown walk counts input input_new old new × (ended ≡ status_on counts.refused)
 
   -- what the debugger did: it showed a session, or told why it couldn't
-  abbrev pub Debugs : ℕ → Option (List ℕ) → Option (List ℕ) → Option (List ℕ) → Option (List ℕ) → Option (List ℕ) → Option (List ℕ) → Type 0
-  Debugs code input input_new old new faults faults_new =
-      (Shows code input input_new old new × Keeps faults faults_new)
-      ⊎ ((problem : DebugProblem) × (code ≡ code_of (debug_status_of problem)) × ExplainsDebug problem × DebugWentOut problem input input_new old new × TellsDebug faults faults_new problem)
+  abbrev pub Debugs : Status → Option (List ℕ) → Option (List ℕ) → Option (List ℕ) → Option (List ℕ) → Option (List ℕ) → Option (List ℕ) → Type 0
+  Debugs ended input input_new old new faults faults_new =
+      (Shows ended input input_new old new × Keeps faults faults_new)
+      ⊎ ((problem : DebugProblem) × (ended ≡ debug_status_of problem) × ExplainsDebug problem × DebugWentOut problem input input_new old new × TellsDebug faults faults_new problem)

@@ -1,6 +1,6 @@
 //! What the commands do, over any readers and writers.
-ghost use Rattle.std.specs.Prelude.{◌≡◌, ◌≢◌, ◌<◌, ◌≤◌, List, IfOk, IfErr, OnOk};
-ghost use Rattle.std.specs.Io.KnownBytes.{Appends, Keeps};
+ghost use Rattle.std.specs.Prelude.{◌≡◌, ◌≢◌, List, IfOk, IfErr, OnOk};
+ghost use Rattle.std.specs.Io.KnownBytes.{Appends};
 ghost use Rattle.mds_batch.specs.declared.item.EventItem.{EventItem as Item};
 ghost use Rattle.mds_replay.specs.declared.report.Report.{Report};
 ghost use Rattle.mds_replay.specs.Laws.{AreOutcomes};
@@ -8,7 +8,7 @@ ghost use Rattle.mds_replay.specs.Replay.{IsReport};
 ghost use Rattle.mds_replay.specs.WithFault.{IsWorkerCount};
 ghost use Rattle.mds_commands.specs.Source.{HasItemsIn, ExplainsFile};
 ghost use Rattle.mds_commands.specs.Text.{report_text};
-ghost use Rattle.mds_commands.specs.Command.{HasReport, ExplainsReplay, WentOut, Replayed, Told, Tabled, ExplainsPrint, TableWentOut, TableTold, status_on};
+ghost use Rattle.mds_commands.specs.Command.{CameToReplay, CameToTable, HasReport, ExplainsReplay, WentOut, Tabled, ExplainsPrint, TableWentOut, status_on};
 
 use crate::print::{print_report, print_tables};
 use crate::problem::{Problem, tell};
@@ -36,8 +36,8 @@ pub struct ReplayOptions {
 }
 
 /// Replays a file of events over the tables of a table file, or where none is given over the profile's, as the options say.
-/// It prints a line for each item, a line for each vehicle, and the totals. It answers the code of the status that the
-/// program ends with: `Done` where each item was accepted, `Refused` where one was not, and else the one of the problem,
+/// It prints a line for each item, a line for each vehicle, and the totals. It answers the status that the program ends
+/// with: `Done` where each item was accepted, `Refused` where one was not, and else the one of the problem,
 /// which is told to `faults` in one line: `Fault` for a file that can't be read, is no table, no batch or no lines of items,
 /// or an output that fails, `NoMemory` for want of memory.
 pub fn replay_to<P: Threads + Sync, T: Read + Drop, R: Read + Drop, W: Write, E: Write>(
@@ -48,18 +48,14 @@ pub fn replay_to<P: Threads + Sync, T: Read + Drop, R: Read + Drop, W: Write, E:
     options: ReplayOptions,
     out: &mut W,
     faults: &mut E,
-) -> u8
+) -> Status
     requires { IsWorkerCount options.workers }
-    ensures ran { result < 2 → Replayed options T.remaining table.entry R.remaining file.entry
-        result
-        (W.contents out.old) (W.contents out.new)
-        × Keeps (E.contents faults.old) (E.contents faults.new) }
-    ensures told { 2 ≤ result → Told options T.remaining table.entry R.remaining file.entry result
+    ensures { CameToReplay options T.remaining table.entry R.remaining file.entry result
         (W.contents out.old) (W.contents out.new) (E.contents faults.old) (E.contents faults.new) }
 {
     match replay_into(rt, alloc, table, file, options, out) {
-        Ok(refused) => status_on(refused).code(),
-        Err(problem) => tell(alloc, faults, problem).code(),
+        Ok(refused) => status_on(refused),
+        Err(problem) => tell(alloc, faults, problem),
     }
 }
 
@@ -173,24 +169,21 @@ fn report_of_items<'a, P: Threads + Sync>(
 }
 
 /// Prints the tables of a table file, or where none is given the profile's: a line for each row, in row order, and their
-/// number; of several tables these of each, behind a line that says from when it is in force. It answers the code of the
-/// status that the program ends with: `Done`, or the one of the problem, which is told to `faults` in one line: `Fault` for
-/// a file that can't be read or is no table, or an output that fails, `NoMemory` for want of memory.
+/// number; of several tables these of each, behind a line that says from when it is in force. It answers the status
+/// that the program ends with: `Done`, or the one of the problem, which is told to `faults` in one line: `Fault` for a file
+/// that can't be read or is no table, or an output that fails, `NoMemory` for want of memory.
 pub fn table_to<T: Read + Drop, W: Write, E: Write>(
     alloc: Global,
     table: Option<Source<'_, T>>,
     out: &mut W,
     faults: &mut E,
-) -> u8
-    ensures ran { result < 2 → (result ≡ 0) × Tabled T.remaining table.entry (W.contents out.old)
-        (W.contents out.new)
-        × Keeps (E.contents faults.old) (E.contents faults.new) }
-    ensures told { 2 ≤ result → TableTold T.remaining table.entry result
+) -> Status
+    ensures { CameToTable T.remaining table.entry result
         (W.contents out.old) (W.contents out.new) (E.contents faults.old) (E.contents faults.new) }
 {
     match table_into(alloc, table, out) {
-        Ok(()) => Status::Done.code(),
-        Err(problem) => tell(alloc, faults, problem).code(),
+        Ok(()) => Status::Done,
+        Err(problem) => tell(alloc, faults, problem),
     }
 }
 

@@ -95,8 +95,8 @@ impl From<PrintError> for DebugProblem<'_> {
 
 /// Opens the debugger on a vehicle: replays the file over the tables, each vehicle registered before its first event, prints
 /// how many of the vehicle's events were accepted and how many refused, and the first place of the session over the
-/// accepted ones; and then carries out the commands of `script`, a line each. It answers the code of the status that the
-/// program ends with: `Done` where each event of the vehicle was accepted, `Refused` where one was not or the file has none,
+/// accepted ones; and then carries out the commands of `script`, a line each. It answers the status that the program ends
+/// with: `Done` where each event of the vehicle was accepted, `Refused` where one was not or the file has none,
 /// `BadWords` where a word is no identifier, and else the one of the problem. A problem is told to `faults` in one line. The
 /// words are looked at first, then the table file, the file, and the vehicle.
 pub fn debug_to<T: Read + Drop, R: Read + Drop, I: Read, W: Write, E: Write>(
@@ -107,14 +107,14 @@ pub fn debug_to<T: Read + Drop, R: Read + Drop, I: Read, W: Write, E: Write>(
     script: &mut I,
     out: &mut W,
     faults: &mut E,
-) -> u8
+) -> Status
     ensures { Debugs T.remaining table.entry R.remaining file.entry named.entry result
         (I.remaining script.old) (I.remaining script.new)
         (W.contents out.old) (W.contents out.new) (E.contents faults.old) (E.contents faults.new) }
 {
     match debug_into(alloc, table, file, named, script, out) {
-        Ok(refused) => status_on(refused).code(),
-        Err(problem) => tell_debug(alloc, faults, problem).code(),
+        Ok(refused) => status_on(refused),
+        Err(problem) => tell_debug(alloc, faults, problem),
     }
 }
 

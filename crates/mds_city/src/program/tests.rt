@@ -99,7 +99,7 @@ struct Came {
 fn ran<R: Threads + Wait + RandomSource + Sync>(rt: &R, alloc: Global, words: &[&str]) -> Came {
     let mut out = Vec::new(alloc);
     let mut faults = Vec::new(alloc);
-    let code = run(
+    let status = run(
         rt,
         alloc,
         words,
@@ -108,6 +108,7 @@ fn ran<R: Threads + Wait + RandomSource + Sync>(rt: &R, alloc: Global, words: &[
         &mut out,
         &mut faults,
     );
+    let code = status.code();
     Came { code, out, faults }
 }
 
@@ -269,14 +270,14 @@ impl Write for Full {
     }
 }
 
-/// The status of a program whose output is full, and what it told.
+/// The code of the status of a program whose output is full, and what it told.
 fn ran_full<R: Threads + Wait + RandomSource + Sync>(
     rt: &R,
     alloc: Global,
     words: &[&str],
 ) -> (u8, Vec<u8>) {
     let mut faults = Vec::new(alloc);
-    let code = run(
+    let status = run(
         rt,
         alloc,
         words,
@@ -285,7 +286,7 @@ fn ran_full<R: Threads + Wait + RandomSource + Sync>(
         &mut Full,
         &mut faults,
     );
-    (code, faults)
+    (status.code(), faults)
 }
 
 #[test]
@@ -304,7 +305,7 @@ fn streams_that_are_full(rt: HostRuntime) {
             &mut Full,
             &mut Full,
         );
-        assert_eq!(rt; ended, code);
+        assert_eq!(rt; ended.code(), code);
     }
 }
 

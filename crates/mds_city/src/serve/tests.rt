@@ -71,7 +71,9 @@ fn ends_so<R: Threads + Wait + Sync>(
         &mut out,
         &mut faults,
     );
-    came == code && out.as_slice() == printed.as_bytes() && faults.as_slice() == told.as_bytes()
+    came.code() == code
+        && out.as_slice() == printed.as_bytes()
+        && faults.as_slice() == told.as_bytes()
 }
 
 #[test]
@@ -89,7 +91,7 @@ fn no_connections_and_first_accept_fails(rt: HostRuntime) -> Result<(), Fail> {
 fn last_line_fails(rt: HostRuntime) -> Result<(), Fail> {
     let tables = profile(rt.alloc())?;
     let mut faults = Vec::new(rt.alloc());
-    let code = serve_on(
+    let status = serve_on(
         &rt,
         rt.alloc(),
         tables,
@@ -100,7 +102,7 @@ fn last_line_fails(rt: HostRuntime) -> Result<(), Fail> {
         &mut Broken,
         &mut faults,
     );
-    assert_eq!(rt; code, 3);
+    assert_eq!(rt; status.code(), 3);
     assert_eq!(rt; faults.as_slice(), b"mds_city: output\n".as_slice());
     Ok(())
 }
@@ -143,10 +145,10 @@ fn no_random_numbers(rt: HostRuntime) {
 #[test]
 fn torn_line(rt: HostRuntime) {
     let mut faults = Vec::new(rt.alloc());
-    let code = torn_to(&mut faults, 1, 2);
-    assert_eq!(rt; code, 5);
+    let status = torn_to(&mut faults, 1, 2);
+    assert_eq!(rt; status.code(), 5);
     assert_eq!(rt; faults.as_slice(), b"mds_city: torn 1 2\n".as_slice());
-    assert_eq!(rt; torn_to(&mut Broken, 1, 2), 3);
+    assert_eq!(rt; torn_to(&mut Broken, 1, 2).code(), 3);
 }
 
 /// A growth of a size of its own: `tests/refused-growths` refuses each one between two of these.
@@ -184,7 +186,7 @@ fn torn_is_told_with_every_growth_refused(rt: HostRuntime) {
         rest: b"mds_city: torn 18446744073709551615 18446744073709551615\n",
     };
     let _begun = fence(rt.alloc());
-    let code = torn_to(&mut faults, usize::MAX, usize::MAX);
+    let status = torn_to(&mut faults, usize::MAX, usize::MAX);
     let _ended = fence(rt.alloc());
-    assert_eq!(rt; (code, faults.rest.is_empty()), (5, true));
+    assert_eq!(rt; (status.code(), faults.rest.is_empty()), (5, true));
 }

@@ -165,7 +165,7 @@ pub fn fence(alloc: Global) -> Result<Vec<u8>, AllocError> {
     Vec::with_capacity(alloc, 12_347)
 }
 
-/// The status of a replay.
+/// The code of the status of a replay.
 pub fn replayed<P: Threads + Sync, R: Read + Drop, W: Write, E: Write>(
     rt: &P,
     alloc: Global,
@@ -177,17 +177,17 @@ pub fn replayed<P: Threads + Sync, R: Read + Drop, W: Write, E: Write>(
 ) -> u8
     requires { IsWorkerCount options.workers }
 {
-    replay_to(rt, alloc, table, file, options, out, faults)
+    replay_to(rt, alloc, table, file, options, out, faults).code()
 }
 
-/// The status of a print of tables.
+/// The code of the status of a print of tables.
 pub fn tabled<W: Write, E: Write>(
     alloc: Global,
     table: Option<Source<'_, &[u8]>>,
     out: &mut W,
     faults: &mut E,
 ) -> u8 {
-    table_to(alloc, table, out, faults)
+    table_to(alloc, table, out, faults).code()
 }
 
 /// The text of a table file, if one is given, that of a file of events, and the status, the output and the faults that

@@ -54,7 +54,7 @@ const FIVE_SHOWN: &str = "events 2 refused 2
 2 0 on_trip possible on_trip
 ";
 
-/// The status of a debugger over a file of this text, by the profile.
+/// The code of the status of a debugger over a file of this text, by the profile.
 pub fn debugged<I: Read, W: Write, E: Write>(
     alloc: Global,
     text: &str,
@@ -64,7 +64,7 @@ pub fn debugged<I: Read, W: Write, E: Write>(
     faults: &mut E,
 ) -> u8 {
     let table: Option<Source<'_, &[u8]>> = None;
-    debug_to(alloc, table, file("F", text), named, script, out, faults)
+    debug_to(alloc, table, file("F", text), named, script, out, faults).code()
 }
 
 /// The text of the file, the words that name the vehicle, the script; and the status, the output and the faults that the

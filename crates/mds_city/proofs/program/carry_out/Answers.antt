@@ -1,7 +1,8 @@
 use Rattle.std.proofs.Common.{inl, inr, rules, subst, sym}
 use Rattle.mds_args.specs.declared.words.Command.{Command}
 use Rattle.mds_commands.specs.declared.commands.ReplayOptions.{ReplayOptions}
-use Rattle.mds_city.specs.Program.{Carries, CameToReplay}
+use Rattle.mds_commands.specs.Command.{CameToReplay}
+use Rattle.mds_city.specs.Program.{Carries}
 use Rattle.mds_city.proofs.program.carry_out.Goals as goal
 
 pub returns-then-is_standard_input : goal.returns-then-is_standard_input
@@ -12,7 +13,7 @@ returns-then-is_standard_input g c =
     let came = subst
     (λ (options : ReplayOptions). CameToReplay options bytes c.file_if_named-table-in-Replay.result g.I.Read.remaining c.open_file-file.result c.replay_to.result
     (out c.args.out.now) (out c.replay_to.new.out) (faults c.args.faults.now) (faults c.replay_to.new.faults))
-    c.options_of-options.ensures (c.replay_to.ensures.ran, c.replay_to.ensures.told) in
+    c.options_of-options.ensures c.replay_to.ensures in
     subst
     (λ (command : Command). Carries g.O.Opens.opens c.args.files.now g.O.Listens.listens bytes g.I.Read.remaining c.args.input command c.replay_to.result
     (out c.args.out.now) (out c.replay_to.new.out) (faults c.args.faults.now) (faults c.replay_to.new.faults))
@@ -27,7 +28,7 @@ returns-else-is_standard_input g c =
     let came = subst
     (λ (options : ReplayOptions). CameToReplay options bytes c.file_if_named-table-in-Replay.result bytes c.file_of.result c.replay_to-in-Replay.result
     (out c.args.out.now) (out c.replay_to-in-Replay.new.out) (faults c.args.faults.now) (faults c.replay_to-in-Replay.new.faults))
-    c.options_of-options.ensures (c.replay_to-in-Replay.ensures.ran, c.replay_to-in-Replay.ensures.told) in
+    c.options_of-options.ensures c.replay_to-in-Replay.ensures in
     subst
     (λ (command : Command). Carries g.O.Opens.opens c.args.files.now g.O.Listens.listens bytes g.I.Read.remaining c.args.input command c.replay_to-in-Replay.result
     (out c.args.out.now) (out c.replay_to-in-Replay.new.out) (faults c.args.faults.now) (faults c.replay_to-in-Replay.new.faults))

@@ -1,9 +1,8 @@
-use Rattle.std.proofs.Common.{◌∙◌, ℕ, List, Option, inl, inr, ap}
+use Rattle.std.proofs.Common.{ℕ, List, Option, inl, inr}
 use Rattle.mds_commands.specs.declared.source.Source.{Source}
 use Rattle.mds_commands.specs.declared.problem.Problem.{Problem}
 use Rattle.mds_commands.specs.declared.problem.Problem.TheVariants.{CannotRead, NotATable, NotABatch, NotLines, Socket, Random, Output, Memory}
 use Rattle.mds_city.specs.Serve.{StopsBefore}
-use Rattle.mds_commands.specs.Status.{code_of}
 use Rattle.mds_city.proofs.serve.serve_at.Goals as goal
 
 module _ {H L T : Type 0} (listens : H → ℕ → L → ℕ → Type 0) (host : H) (number : ℕ) (table_bytes : T → Option (List ℕ)) (table : Option (Source T)) where
@@ -23,10 +22,10 @@ pub returns-in-Err : goal.returns-in-Err
 returns-in-Err g c =
     let stops = c.in-Err.ensures.err in
     elim c.tell.ensures [
-      | inl told ↦ inl (c.in-Err.problem, stops, (c.code.ensures ∙ ap code_of told.0, told.1))
+      | inl told ↦ inl (c.in-Err.problem, stops, told)
       | inr told ↦ inl (
         Memory,
         out_before g.H.Listens.listens c.args.host.now c.args.asked.port g.T.Read.remaining c.args.table c.in-Err.problem (g.W.Write.contents c.args.out.now) (g.W.Write.contents c.begun.new.out) stops,
-        (c.code.ensures ∙ ap code_of told.0, told.1),
+        told,
       )
     ]

@@ -1,4 +1,4 @@
-use Rattle.std.proofs.Common.{◌≡◌, ◌<◌, List, ℕ, length, take, inr, rules, subst}
+use Rattle.std.proofs.Common.{◌≡◌, ◌<◌, List, ℕ, length, take, inr, refl, rules, subst}
 use Rattle.std.specs.Io.KnownBytes.{Appends}
 use Rattle.mds_city.specs.Torn.{torn_text}
 use Rattle.mds_city.proofs.serve.torn_to.Goals as goal
@@ -11,4 +11,4 @@ returns-in-Err g c =
     let cut = subst
     (λ (bytes : List ℕ). (sent < length bytes) × Appends (contents c.args.faults.now) (contents c.write_all_of.new.writer) (take sent bytes))
     line c.in-Err.ensures.err in
-    inr (c.code-in-Err.ensures, (sent, cut.0, cut.1))
+    inr (refl, (sent, cut.0, cut.1))

@@ -5,7 +5,6 @@ use Rattle.mds_commands.specs.declared.source.Source.{Source}
 use Rattle.mds_commands.specs.declared.problem.Problem.{Problem}
 use Rattle.mds_commands.specs.declared.problem.Problem.TheVariants.{CannotRead, NotATable, NotABatch, NotLines, Socket, Random, Output, Memory}
 use Rattle.mds_commands.specs.Command.{WentOut, status_on}
-use Rattle.mds_commands.specs.Status.{code_of}
 use Rattle.mds_commands.proofs.commands.replay_to.Goals as goal
 
 -- whatever the problem, nothing went out before it, or a front of the report's text
@@ -20,20 +19,20 @@ out_before options table_bytes table file_bytes file Random old new out = absurd
 out_before options table_bytes table file_bytes file Output old new out = inr out
 out_before options table_bytes table file_bytes file Memory old new out = out
 
-pub returns-in-Ok-clause-ran : goal.returns-in-Ok-clause-ran
-returns-in-Ok-clause-ran g c _ =
+pub returns-in-Ok : goal.returns-in-Ok
+returns-in-Ok g c =
     let done = c.in-Ok.ensures.ok in
     let same : c.in-Ok.refused ≡ done.0.refused = done.3 in
-    ((done.0, done.1, done.2, c.code.ensures ∙ ap code_of (c.status_on.ensures ∙ ap status_on same)), Keeps-refl _)
+    inl ((done.0, done.1, done.2, c.status_on.ensures ∙ ap status_on same), Keeps-refl _)
 
-pub returns-in-Err-clause-told : goal.returns-in-Err-clause-told
-returns-in-Err-clause-told g c _ =
+pub returns-in-Err : goal.returns-in-Err
+returns-in-Err g c =
     let failed = c.in-Err.ensures.err in
     elim c.tell.ensures [
-      | inl told ↦ (c.in-Err.problem, c.code-in-Err.ensures ∙ ap code_of told.0, failed.0, failed.1, told.1)
-      | inr told ↦ (
+      | inl told ↦ inr (c.in-Err.problem, told.0, failed.0, failed.1, told.1)
+      | inr told ↦ inr (
         Memory,
-        c.code-in-Err.ensures ∙ ap code_of told.0,
+        told.0,
         tt,
         out_before c.args.options g.T.Read.remaining c.args.table g.R.Read.remaining c.args.file c.in-Err.problem
             (g.W.Write.contents c.args.out.now) (g.W.Write.contents c.replay_into.new.out) failed.1,

@@ -7,7 +7,6 @@ use Rattle.mds_commands.specs.declared.problem.Problem.TheVariants.{CannotRead, 
 use Rattle.mds_commands.specs.declared.source.Source.{Source}
 use Rattle.mds_commands.specs.Command.{status_on}
 use Rattle.mds_commands.specs.Debug.{DebugWentOut, ExplainsDebug, IsOther}
-use Rattle.mds_commands.specs.Status.{code_of}
 use Rattle.mds_commands.proofs.debug.debug_to.Goals as goal
 
 module _ {T R : Type 0} (table_bytes : T → Option (List ℕ)) (table : Option (Source T)) (file_bytes : R → Option (List ℕ)) (file : Source R) (named : Named) where
@@ -36,17 +35,16 @@ module _ {T R : Type 0} (table_bytes : T → Option (List ℕ)) (table : Option 
 pub returns-in-Ok : goal.returns-in-Ok
 returns-in-Ok g c =
     let shown = c.in-Ok.ensures.ok in
-    let code = c.code.ensures ∙ ap code_of (c.status_on.ensures ∙ ap status_on shown.4) in
-    inl ((shown.0, shown.1, shown.2, shown.3, code), Keeps-refl _)
+    inl ((shown.0, shown.1, shown.2, shown.3, c.status_on.ensures ∙ ap status_on shown.4), Keeps-refl _)
 
 pub returns-in-Err : goal.returns-in-Err
 returns-in-Err g c =
     let failed = c.in-Err.ensures.err in
     elim c.tell_debug.ensures [
-      | inl told ↦ inr (c.in-Err.problem, c.code-in-Err.ensures ∙ ap code_of told.0, failed.0, failed.1, told.1)
+      | inl told ↦ inr (c.in-Err.problem, told.0, failed.0, failed.1, told.1)
       | inr told ↦ inr (
         Other Memory,
-        c.code-in-Err.ensures ∙ ap code_of told.1,
+        told.1,
         explained_before g.T.Read.remaining c.args.table g.R.Read.remaining c.args.file c.args.named c.in-Err.problem told.0 failed.0,
         out_before g.T.Read.remaining c.args.table g.R.Read.remaining c.args.file c.args.named c.in-Err.problem
             (g.I.Read.remaining c.args.script.now) (g.I.Read.remaining c.debug_into.new.script) (g.W.Write.contents c.args.out.now) (g.W.Write.contents c.debug_into.new.out) told.0 failed.1,
