@@ -355,29 +355,24 @@ fn a_taker_has_no_memory(rt: HostRuntime) -> Result<(), Fail> {
     Ok(())
 }
 
-/// A growth of a size that no other has: between two of them `tests/refused-growths` refuses each growth.
+/// A growth of a size of its own: `tests/refused-growths` refuses each one between two of these.
+#[inline(never)]
 fn fence(alloc: Global) -> Result<Vec<u8>, AllocError> {
     Vec::with_capacity(alloc, 12_347)
 }
 
-/// Calls that take no memory: a stream begins, takes in nothing, tells want of memory again, and ends (each growth between the
-/// fences is refused by `tests/refused-growths`).
+/// A stream begins, takes in nothing, tells want of memory again, and ends (`tests/refused-growths` refuses each growth
+/// meanwhile).
 #[test]
-fn a_stream_begins_with_every_growth_refused(rt: HostRuntime) -> Result<(), Fail> {
+fn a_stream_begins_with_every_growth_refused(rt: HostRuntime) {
     let alloc = rt.alloc();
     let mut items = Vec::new(alloc);
-    let begun = fence(alloc)?;
+    let _begun = fence(alloc);
     let mut reader = LineReader::open(alloc);
     let empty = reader.feed(b"", &mut items);
     let first = reader.feed(b"7\n", &mut items);
     let again = reader.feed(b"", &mut items);
     let ended = reader.finish(&mut items);
-    let ended_empty = LineReader::open(alloc).finish(&mut items);
-    let over = fence(alloc)?;
-    assert_eq!(rt;
-        (empty, ended_empty, begun.len(), over.len()),
-        (Ok(()), Ok(()), 0, 0)
-    );
-    assert_eq!(rt; (again, ended), (first, first));
-    Ok(())
+    let _ended = fence(alloc);
+    assert_eq!(rt; (empty, again, ended), (Ok(()), first, first));
 }

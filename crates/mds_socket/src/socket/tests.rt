@@ -59,7 +59,8 @@ fn errors_of_a_kind_alone(rt: HostRuntime) {
     }
 }
 
-/// A growth of a size that no other has: between two of them `tests/refused-growths` refuses each growth.
+/// A growth of a size of its own: `tests/refused-growths` refuses each one between two of these.
+#[inline(never)]
 fn fence(alloc: Global) -> Result<Vec<u8>, AllocError> {
     Vec::with_capacity(alloc, 12_347)
 }
@@ -76,21 +77,18 @@ fn takes<C: Clock + Copy>(port: &SocketPort<C>) -> bool {
 }
 
 /// A port is bound and tells its number without memory. A connection that comes is taken, or there is no memory for what its
-/// ends share; then the port goes on, and the next one is taken (each growth between the fences is refused by
-/// `tests/refused-growths`).
+/// ends share; then the port goes on, and takes the next one (`tests/refused-growths` refuses each growth up to there).
 #[test]
 fn a_port_is_bound_with_every_growth_refused(rt: HostRuntime) -> Result<(), Fail> {
     let alloc = rt.alloc();
-    let begun = fence(alloc)?;
+    let _begun = fence(alloc);
     let port = SocketPort::bind(&rt, alloc, rt, 0)?;
     let number = port.number()?;
     let first = TcpStream::connect(&rt, (Ipv4Addr::LOCALHOST, number))?;
-    let taken = takes(&port);
-    let over = fence(alloc)?;
+    let _taken = takes(&port);
+    let _ended = fence(alloc);
     let second = TcpStream::connect(&rt, (Ipv4Addr::LOCALHOST, number))?;
-    let again = takes(&port);
+    assert!(rt; takes(&port));
     drop((first, second));
-    assert!(rt; again && number > 0);
-    assert_eq!(rt; (begun.len(), over.len()), (0, 0), "taken: {taken}");
     Ok(())
 }
