@@ -8,7 +8,7 @@ from serving.wire import post
 
 PROVIDERS = [identifier(0, number) for number in (1, 2, 0xABC)]
 LONG = ["battery_low", "battery_charged"] * 8
-"""Types that lead from available to available, as many as an event may have."""
+"""Sixteen types that lead from available to available."""
 AT_ONCE = 5000
 
 
