@@ -1,6 +1,8 @@
 """The words of the command line, and the files that they name."""
 
-from cases.replays import A, P, batch, event, replayed
+import re
+
+from cases.replays import A, B, P, batch, event, replayed
 from cases.tables import ONE_ROW, ONE_ROW_PRINTED
 from harness.case import CLOSED, FOLDER, FULL, NO_STREAMS, NOT_TEXT, SOME, Case
 from harness.case import cannot_read, not_a_batch, not_a_table, told
@@ -10,6 +12,8 @@ EXAMPLES = ROOT / "examples"
 EVENTS = batch([event(A, "e1", "wake", "available", 1000)])
 """What the table of one row accepts, and the profile's doesn't."""
 NOTHING = "accepted 0 refused 0\n"
+MISTAKE = re.compile(r"error: .*\n", re.S)
+"""How a mistake in the words is told."""
 
 
 OPTIONS = {
@@ -56,6 +60,9 @@ def commands():
         "replay - --table=table.json --any",
     ):
         yield replayed(EVENTS, ["ok available"], [(A, "available", 1, "removed")], words=words, files=files)
+    five = (EXAMPLES / "five-events.json").read_text()
+    verdicts = ["refused no_chain removed 0"] * 5
+    yield replayed(five, verdicts, [(A, "removed", 0), (B, "removed", 0)], words="replay - --table table.json", files=files)
 
 
 NO_COUNTS = ["0", "65", "-1", "x", "", "1.0", "99999999999999999999"]
@@ -96,6 +103,7 @@ WRONG = [
     ["replay", "events.json", "--any=yes"],
     ["replay", "events.json", "--lines", "--lines"],
     ["replay", "events.json", "--lines=yes"],
+    ["replay", "events.json", "--lines", "1"],
     ["table", "--any"],
     ["table", "--lines"],
     *[["replay", "events.json", "--workers", count] for count in NO_COUNTS],
@@ -131,6 +139,8 @@ def wrong_words():
     files = {"events.json": "[]", "table.json": ONE_ROW, b"table\xff.json": ONE_ROW}
     for words in WRONG:
         yield Case(words, status=2, faults=SOME, files=files)
+    for words in ("replay", "table table.json", "replay events.json --workers 65"):
+        yield Case(words, status=2, faults=MISTAKE, files=files)
     for words in NO_TEXTS:
         yield Case(words, status=2, faults=NOT_TEXT, files=files)
     for stderr in NO_STREAMS:

@@ -51,6 +51,7 @@ SCRIPTS = [
     (f"{'x' * (MAX_SCRIPT - 6)}\nchain", f"{UNKNOWN}removed non_contactable\n"),
     (f"{'x' * (MAX_SCRIPT - 5)}\nchain", UNKNOWN * 2),
     ("x\n" * (MAX_SCRIPT // 2) + "quit\n", UNKNOWN * (MAX_SCRIPT // 2)),
+    ("\n" * (MAX_SCRIPT + 1), UNKNOWN * MAX_SCRIPT),
 ]
 
 

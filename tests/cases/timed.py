@@ -201,6 +201,37 @@ def edges():
             yield (device, "e1", kind, "available", time), verdict
 
 
+TURNS = [(1000 * number, [REST if number % 2 else WAKE]) for number in range(MOST_TABLES)]
+"""As many tables as there can be, a second after another: by turns vehicles wake and rest."""
+
+
+def by_turns(device, later):
+    """What a vehicle reports so long after the start of each table: by turns that it woke and that it rests."""
+    for number in range(MOST_TABLES):
+        kind, state = ("rest", "removed") if number % 2 else ("wake", "available")
+        yield device, f"{number:x}", kind, state, 1000 * number + later
+
+
+def tables_by_turns():
+    """Events of a vehicle come exactly as a table starts, another's one millisecond before the next one does, and a third's as
+    the next one has. The last table has none after it, so the third's last event goes by it, and is its first accepted one. The
+    debugger passes each event of the first vehicle, and goes back over it."""
+    third = identifier(1, 3)
+    text = batch(event(*it) for it in (*by_turns(A, 0), *by_turns(B, 999), *by_turns(third, 1000)))
+    files = {"table.json": tables_file(TURNS)}
+    verdicts = ["ok available", "ok removed"] * MOST_TABLES + ["refused no_opening 0"] * (MOST_TABLES - 1) + ["ok removed"]
+    ends = [*((device, "removed", MOST_TABLES, "removed") for device in (A, B)), (third, "removed", 1, "available")]
+    yield replayed(text, verdicts, ends, "replay --any - --table table.json", files=files, name="most tables by turns")
+    lines = ""
+    for number in range(MOST_TABLES):
+        held, new = ("available", "removed") if number % 2 else ("removed", "available")
+        within, behind = f"{number} 1 {held} possible {new}\n", f"{number + 1} 0 {new} possible {new}\n"
+        lines += f"{within}{behind}{within}{number} 0 {held} possible {held}\n{behind}"
+    script = "step\nstep\nback\nback\nnext\n" * MOST_TABLES + "next\n"
+    words = ["debug", "events.json", P, A, "--table", "table.json"]
+    yield debugged(script, f"{lines}at end\n", text, (MOST_TABLES, 0), words=words, files=files, name="most tables by turns")
+
+
 def changing_tables():
     """Events that are judged by the table in force at their own times, whatever came before of other vehicles."""
     files = {"table.json": tables_file(CHANGES)}
@@ -220,3 +251,4 @@ def changing_tables():
     text = batch(event(*of_event) for of_event, _ in many)
     files = {"table.json": tables_file(MANY_TABLES)}
     yield replayed(text, [verdict for _, verdict in many], ends, "replay - --table table.json", files=files, name="most tables")
+    yield from tables_by_turns()

@@ -2,7 +2,7 @@
 
 import re
 
-from refusing.sources import calls, crates, every_call, tests_of
+from refusing.sources import calls, crates, every_call, libraries, tests_of
 from refusing.table import QUIET, TESTED, WITHOUT
 
 AGAIN = "after_a_refused_growth"
@@ -12,8 +12,8 @@ ALWAYS = "with_every_growth_refused"
 
 
 def by_call(table):
-    """The test of each call of a table, as a crate and a name."""
-    return {f"{crate}::{call}": (crate, test) for (crate, test), calls in table.items() for call in calls}
+    """The test of each call of a table, as where it stands and its name."""
+    return {f"{crate}::{call}": (place, test) for (crate, place, test), calls in table.items() for call in calls}
 
 
 def makes(text, call):
@@ -24,13 +24,14 @@ def makes(text, call):
 def unlisted():
     """What is wrong with the table, in words."""
     found = crates()
-    there, listed, quiet = set(calls(found)), by_call(TESTED), by_call(QUIET)
+    own = libraries(found)
+    there, listed, quiet = set(calls(own)), by_call(TESTED), by_call(QUIET)
     known = {*listed, *WITHOUT}
     for call in sorted(there - known):
         yield f"{call} can find no memory, and no test in tests/refusing/table.py refuses its growths"
     for call in sorted(known - there):
         yield f"{call} is in tests/refusing/table.py, and no such call can find no memory"
-    for call in sorted(quiet.keys() - set(every_call(found))):
+    for call in sorted(quiet.keys() - set(every_call(own))):
         yield f"{call} is in tests/refusing/table.py, and there is no such call"
     yield from unmade(found, listed, AGAIN)
     yield from unmade(found, quiet, ALWAYS)
@@ -38,9 +39,10 @@ def unlisted():
 
 def unmade(found, listed, part):
     """Which calls have no test in which they are made and whose name has this part, in words."""
-    for call, (crate, test) in listed.items():
-        text = tests_of(found[crate]).get(test) if crate in found else None
+    for call, (place, test) in listed.items():
+        crate, _, module = place.partition("::")
+        text = tests_of(found[crate], module).get(test) if crate in found else None
         if text is None or part not in test:
-            yield f"{call} wants a test {test} of {crate} whose name has {part}"
+            yield f"{call} wants a test {test} of {place} whose name has {part}"
         elif not makes(text, call):
-            yield f"{call} isn't made where {crate} has the test {test}"
+            yield f"{call} isn't made where {place} has the test {test}"

@@ -2,6 +2,7 @@
 
 import re
 from dataclasses import dataclass
+from pathlib import Path
 
 from harness.counting import ROOT
 
@@ -41,6 +42,11 @@ def crate_of(folder):
 def crates():
     """The crates of the repository, by their names."""
     return {folder.name: crate_of(folder) for folder in sorted((ROOT / "crates").iterdir()) if (folder / "src").exists()}
+
+
+def libraries(found):
+    """Those of these crates that aren't of tests alone."""
+    return {name: crate for name, crate in found.items() if not name.startswith("test_")}
 
 
 def types_of(crate):
@@ -143,6 +149,7 @@ def calls(found):
                 yield call
 
 
-def tests_of(crate):
-    """The tests of a crate by their names, each with the text of its file."""
-    return {name: text for text in crate.tests.values() for name in TEST.findall(text)}
+def tests_of(crate, module):
+    """The tests of a crate by their names, or those of a module of its root, each with the text of its file."""
+    files = [text for path, text in crate.tests.items() if not module or Path(path).with_suffix("").parts[0] == module]
+    return {name: text for text in files for name in TEST.findall(text)}

@@ -6,56 +6,57 @@ passes whichever growth that is. Those of the others have `with_every_growth_ref
 growths of a size of their own. A call is named as its callers name it."""
 
 TESTED = {
-    ("mds_table", "call_succeeds_after_a_refused_growth"): [
+    ("mds_table", "test_rules", "table_calls_succeed_after_a_refused_growth"): [
         "Table::profile",
         "Table::from_json",
         "Table::rows",
         "Table::copy",
     ],
-    ("mds_table", "tables_after_a_refused_growth"): ["Tables::one", "Tables::from_json", "Tables::copy"],
-    ("mds_table", "a_text_is_read_after_a_refused_growth"): ["json::value_of"],
-    ("mds_steps", "least_chain_succeeds_after_a_refused_growth"): ["least_chain"],
-    ("mds_core", "call_succeeds_after_a_refused_growth"): ["Fleet::step", "Fleet::events", "run"],
-    ("mds_shard", "step_succeeds_after_a_refused_growth"): ["Shard::step", "Shard::events"],
-    ("mds_book", "calls_succeed_after_a_refused_growth"): ["Book::open", "Book::call", "Book::vehicle_events"],
-    ("mds_book", "slot_steps_after_a_refused_growth"): ["Slot::step"],
-    ("mds_io", "calls_succeed_after_a_refused_growth"): [
+    ("mds_table", "test_rules", "tables_after_a_refused_growth"): ["Tables::one", "Tables::from_json", "Tables::copy"],
+    ("mds_table", "test_rules", "a_text_is_read_after_a_refused_growth"): ["json::value_of"],
+    ("mds_steps", "test_rules", "least_chain_succeeds_after_a_refused_growth"): ["least_chain"],
+    ("mds_core", "test_rules", "fleet_calls_succeed_after_a_refused_growth"): ["Fleet::step", "Fleet::events", "run"],
+    ("mds_shard", "test_books", "step_succeeds_after_a_refused_growth"): ["Shard::step", "Shard::events"],
+    ("mds_book", "mds_book", "calls_succeed_after_a_refused_growth"): ["Book::open", "Book::call", "Book::vehicle_events"],
+    ("mds_book", "mds_book", "slot_steps_after_a_refused_growth"): ["Slot::step"],
+    ("mds_io", "test_batches", "calls_succeed_after_a_refused_growth"): [
         "read_front",
         "read_up_to",
         "read_more",
         "add_line",
         "end_page",
     ],
-    ("mds_batch", "call_succeeds_after_a_refused_growth"): ["read_vehicles", "read_events"],
-    ("mds_batch", "events_are_handed_on_after_a_refused_growth"): ["each_event"],
-    ("mds_batch", "an_item_is_taken_after_a_refused_growth"): ["TakesItems::take"],
-    ("mds_batch", "an_item_is_read_after_a_refused_growth"): ["read_item", "ItemReader::read"],
-    ("mds_lines", "a_stream_is_read_after_a_refused_growth"): ["LineReader::feed", "LineReader::finish"],
-    ("mds_replay", "replay_succeeds_after_a_refused_growth"): ["replay"],
-    ("mds_replay", "replay_with_succeeds_after_a_refused_growth"): ["replay_with"],
-    ("mds_replay", "items_are_taken_after_a_refused_growth"): ["Replayer::take", "Replayer::finish"],
-    ("mds_trace", "session_succeeds_after_a_refused_growth"): ["Session::open", "Session::chain"],
-    ("mds_trace", "lines_are_replayed_after_a_refused_growth"): ["LineReplay::feed", "LineReplay::finish"],
-    ("mds_debugger", "a_script_is_read_after_a_refused_growth"): ["read_script", "script_of"],
-    ("mds_debugger", "a_start_is_printed_after_a_refused_growth"): ["vehicle_events", "print_start"],
-    ("mds_debugger", "a_walk_is_printed_after_a_refused_growth"): ["print_walk"],
-    ("mds_commands", "tables_are_had_after_a_refused_growth"): ["tables_in"],
-    ("mds_request", "call_succeeds_after_a_refused_growth"): ["Face::open", "plan_of", "HeadStatus::plan"],
-    ("mds_response", "answer_is_whole_after_a_refused_growth"): ["bytes_of"],
-    ("mds_face", "calls_stand_after_a_refused_growth"): ["serve_one"],
-    ("mds_face", "a_batch_is_read_after_a_refused_growth"): ["read_plan"],
-    ("mds_face", "a_seat_answers_after_a_refused_growth"): ["Desk::call", "Desk::events", "Desk::rows"],
-    ("mds_pool", "workers_serve_after_a_refused_growth"): ["serve"],
-    ("mds_pool", "a_book_is_settled_after_a_refused_growth"): ["serve_and_settle"],
-    ("mds_args", "words_are_read_after_a_refused_growth"): ["parse_words"],
+    ("mds_batch", "test_batches", "call_succeeds_after_a_refused_growth"): ["read_vehicles", "read_events"],
+    ("mds_batch", "test_batches", "events_are_handed_on_after_a_refused_growth"): ["each_event"],
+    ("mds_batch", "test_batches", "an_item_is_taken_after_a_refused_growth"): ["TakesItems::take"],
+    ("mds_batch", "test_batches", "an_item_is_read_after_a_refused_growth"): ["read_item", "ItemReader::read"],
+    ("mds_lines", "test_batches", "a_stream_is_read_after_a_refused_growth"): ["LineReader::feed", "LineReader::finish"],
+    ("mds_replay", "test_replays", "replay_succeeds_after_a_refused_growth"): ["replay"],
+    ("mds_replay", "test_replays", "replay_with_succeeds_after_a_refused_growth"): ["replay_with"],
+    ("mds_replay", "test_replays", "items_are_taken_after_a_refused_growth"): ["Replayer::take", "Replayer::finish"],
+    ("mds_trace", "test_replays", "session_succeeds_after_a_refused_growth"): ["Session::open", "Session::chain"],
+    ("mds_trace", "test_replays", "lines_are_replayed_after_a_refused_growth"): ["LineReplay::feed", "LineReplay::finish"],
+    ("mds_debugger", "test_replays", "a_script_is_read_after_a_refused_growth"): ["read_script", "script_of"],
+    ("mds_debugger", "test_replays", "a_start_is_printed_after_a_refused_growth"): ["vehicle_events", "print_start"],
+    ("mds_debugger", "test_replays", "a_walk_is_printed_after_a_refused_growth"): ["print_walk"],
+    ("mds_commands", "test_words", "tables_are_had_after_a_refused_growth"): ["tables_in"],
+    ("mds_request", "test_faces", "call_succeeds_after_a_refused_growth"): ["Face::open", "plan_of", "HeadStatus::plan"],
+    ("mds_response", "test_faces", "answer_is_whole_after_a_refused_growth"): ["bytes_of"],
+    ("mds_face", "test_faces", "calls_stand_after_a_refused_growth"): ["serve_one"],
+    ("mds_face", "test_faces", "a_batch_is_read_after_a_refused_growth"): ["read_plan"],
+    ("mds_face", "test_faces", "a_seat_answers_after_a_refused_growth"): ["Desk::call", "Desk::events", "Desk::rows"],
+    ("mds_pool", "test_edge", "workers_serve_after_a_refused_growth"): ["serve"],
+    ("mds_pool", "test_edge", "a_book_is_settled_after_a_refused_growth"): ["serve_and_settle"],
+    ("mds_args", "test_words", "words_are_read_after_a_refused_growth"): ["parse_words"],
 }
-"""A crate and its test, and the calls of the crate that it makes."""
+"""A library, where its test stands (a crate, and a module of it where more than one has a test of this name), the test, and the
+calls of the library that it makes."""
 
 WITHOUT = ["mds_table::Tables::new", "mds_io::flush_page"]
 """Calls that take no memory, though their fault is a type that could tell of a lack: that of calls beside them."""
 
 QUIET = {
-    ("mds_table", "tables_are_told_of_with_every_growth_refused"): [
+    ("mds_table", "test_rules", "tables_are_told_of_with_every_growth_refused"): [
         "State::code",
         "State::name",
         "State::of_name",
@@ -75,7 +76,7 @@ QUIET = {
         "mask::bit_of",
         "mask::has",
     ],
-    ("mds_steps", "events_are_admitted_with_every_growth_refused"): [
+    ("mds_steps", "test_rules", "events_are_admitted_with_every_growth_refused"): [
         "StateSet::empty",
         "StateSet::all",
         "StateSet::of",
@@ -90,7 +91,7 @@ QUIET = {
         "forward",
         "openings",
     ],
-    ("mds_core", "events_are_told_of_with_every_growth_refused"): [
+    ("mds_core", "test_rules", "events_are_told_of_with_every_growth_refused"): [
         "Event::new",
         "Event::assign",
         "Event::assign_from",
@@ -105,7 +106,7 @@ QUIET = {
         "Position::lat",
         "Position::lng",
     ],
-    ("mds_core", "looks_are_answered_with_every_growth_refused"): [
+    ("mds_core", "test_rules", "looks_are_answered_with_every_growth_refused"): [
         "Fleet::open",
         "Fleet::step",
         "Fleet::tables",
@@ -115,7 +116,7 @@ QUIET = {
         "Fleet::events",
         "Refusal::word",
     ],
-    ("mds_core", "events_are_decided_with_every_growth_refused"): [
+    ("mds_core", "test_rules", "events_are_decided_with_every_growth_refused"): [
         "answer",
         "decide",
         "decide_event",
@@ -126,7 +127,7 @@ QUIET = {
         "Request::event",
         "Request::copy",
     ],
-    ("mds_shard", "shards_are_told_of_with_every_growth_refused"): [
+    ("mds_shard", "test_books", "shards_are_told_of_with_every_growth_refused"): [
         "Shard::open",
         "Shard::step",
         "Shard::events",
@@ -135,9 +136,9 @@ QUIET = {
         "Shard::tables",
         "Shard::len",
     ],
-    ("mds_settle", "notes_are_judged_with_every_growth_refused"): ["judge", "judge_lawful", "NoteList::notes"],
-    ("mds_gate", "the_open_gate_is_passed_with_every_growth_refused"): ["Gate::enter", "Gate::leave"],
-    ("mds_book", "books_are_told_of_with_every_growth_refused"): [
+    ("mds_settle", "test_books", "notes_are_judged_with_every_growth_refused"): ["judge", "judge_lawful", "NoteList::notes"],
+    ("mds_gate", "test_books", "the_open_gate_is_passed_with_every_growth_refused"): ["Gate::enter", "Gate::leave"],
+    ("mds_book", "mds_book", "books_are_told_of_with_every_growth_refused"): [
         "Book::call",
         "Book::shard_of",
         "Book::tables",
@@ -153,9 +154,9 @@ QUIET = {
         "Settled::tables",
         "Settled::accepted",
     ],
-    ("mds_book", "slots_are_told_of_with_every_growth_refused"): ["Slot::shard", "Slot::step"],
-    ("mds_io", "writes_go_out_with_every_growth_refused"): ["write_all_of", "flush_page"],
-    ("mds_batch", "items_are_read_again_with_every_growth_refused"): [
+    ("mds_book", "mds_book", "slots_are_told_of_with_every_growth_refused"): ["Slot::shard", "Slot::step"],
+    ("mds_io", "test_batches", "writes_go_out_with_every_growth_refused"): ["write_all_of", "flush_page"],
+    ("mds_batch", "test_batches", "items_are_read_again_with_every_growth_refused"): [
         "Member::name",
         "ItemFault::word",
         "BatchItem::ask",
@@ -168,18 +169,18 @@ QUIET = {
         "each_event",
         "read_item",
     ],
-    ("mds_lines", "a_stream_begins_with_every_growth_refused"): [
+    ("mds_lines", "test_batches", "a_stream_begins_with_every_growth_refused"): [
         "LineReader::open",
         "LineReader::feed",
         "LineReader::finish",
     ],
-    ("mds_replay", "nothing_is_replayed_with_every_growth_refused"): [
+    ("mds_replay", "test_replays", "nothing_is_replayed_with_every_growth_refused"): [
         "Replayer::open",
         "Replayer::finish",
         "Verdict::accepts",
     ],
-    ("mds_replay", "numbers_are_looked_at_with_every_growth_refused"): ["replay_with"],
-    ("mds_trace", "sessions_move_with_every_growth_refused"): [
+    ("mds_replay", "test_replays", "numbers_are_looked_at_with_every_growth_refused"): ["replay_with"],
+    ("mds_trace", "test_replays", "sessions_move_with_every_growth_refused"): [
         "Session::place",
         "Session::state",
         "Session::possible",
@@ -188,37 +189,37 @@ QUIET = {
         "Session::next_event",
         "Session::run_to",
     ],
-    ("mds_trace", "a_stream_begins_with_every_growth_refused"): ["LineReplay::open", "LineReplay::feed"],
-    ("mds_debugger", "lines_are_read_with_every_growth_refused"): ["ScriptCommand::of_line", "print_walk"],
-    ("mds_commands", "problems_are_told_with_every_growth_refused"): [
+    ("mds_trace", "test_replays", "a_stream_begins_with_every_growth_refused"): ["LineReplay::open", "LineReplay::feed"],
+    ("mds_debugger", "test_replays", "lines_are_read_with_every_growth_refused"): ["ScriptCommand::of_line", "print_walk"],
+    ("mds_commands", "test_words", "problems_are_told_with_every_growth_refused"): [
         "Problem::status",
         "Status::code",
         "tables_in",
         "tell",
     ],
-    ("mds_commands", "bad_words_are_told_with_every_growth_refused"): ["debug_to"],
-    ("mds_request", "looks_are_planned_with_every_growth_refused"): [
+    ("mds_commands", "test_words", "bad_words_are_told_with_every_growth_refused"): ["debug_to"],
+    ("mds_request", "test_faces", "looks_are_planned_with_every_growth_refused"): [
         "Face::head_status",
         "HeadStatus::plan",
         "plan_of",
     ],
-    ("mds_response", "lack_is_answered_with_every_growth_refused"): [
+    ("mds_response", "test_faces", "lack_is_answered_with_every_growth_refused"): [
         "status_of",
         "Found::accepted",
         "memory_bytes",
         "bytes_of",
     ],
-    ("mds_face", "lack_is_told_with_every_growth_refused"): [
+    ("mds_face", "test_faces", "lack_is_told_with_every_growth_refused"): [
         "Desk::call",
         "Desk::events",
         "Desk::rows",
         "serve_one",
         "read_plan",
     ],
-    ("mds_pool", "seats_come_back_with_every_growth_refused"): ["serve"],
-    ("mds_socket", "a_port_is_bound_with_every_growth_refused"): ["SocketPort::bind", "SocketPort::number"],
-    ("mds_args", "kinds_are_told_with_every_growth_refused"): ["WordsError::kind"],
-    ("mds_city", "torn_is_told_with_every_growth_refused"): ["torn_to"],
+    ("mds_pool", "test_edge", "seats_come_back_with_every_growth_refused"): ["serve"],
+    ("mds_socket", "mds_socket", "a_port_is_bound_with_every_growth_refused"): ["SocketPort::bind", "SocketPort::number"],
+    ("mds_args", "test_words", "kinds_are_told_with_every_growth_refused"): ["WordsError::kind"],
+    ("mds_city", "mds_city", "torn_is_told_with_every_growth_refused"): ["torn_to"],
 }
-"""A crate and its test, and the calls of the crate that it makes without memory: all of them, or those that are refused, look at
-something, or say that there is no memory."""
+"""The same for calls that it makes without memory: all of a library's, or those that are refused, look at something, or say
+that there is no memory."""

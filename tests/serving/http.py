@@ -7,7 +7,7 @@ from cases.batches import ACCEPTED, BACKWARDS, ESCAPED, FAULTS, FAULTY, GOOD, NA
 from cases.depot import DEPOT, STORED
 from cases.replays import RUNS, A, B, P, batch, event, item, second_events
 from cases.tables import ONE_ROW, PROFILE_ROWS
-from cases.timed import CHANGES, CHANGING, MANY_TABLES, edges, tables_file
+from cases.timed import CHANGES, CHANGING, MANY_TABLES, MOST_TIME, edges, tables_file
 from harness.case import MAX_BYTES, MAX_ITEMS, lists, padded, started
 from harness.texts import as_bytes
 from model.http import answer, error
@@ -163,6 +163,9 @@ BAD_HEADS = [
     b"GET /ta ble HTTP/1.1\r\n\r\n",
     b"GET /ta\xffble HTTP/1.1\r\n\r\n",
     b"GET /table HTTP/1.1\rHost: x\r\n\r\n",
+    b"GET /table HTTP/1.1\r\rx",
+    b"GET\0 /table HTTP/1.1\r\n\r\n",
+    b"G\xc3\xa4T /table HTTP/1.1\r\n\r\n",
     head(START, b"Host : x"),
     head(START, b": x"),
     head(START, b"Host"),
@@ -179,6 +182,7 @@ BAD_HEADS = [
     b"a" * (HEAD_BYTES + 1),
     b"\r\n" * (HEAD_BYTES // 2),
     b"\n" * HEAD_BYTES,
+    b"\n" * (HEAD_BYTES - len(head(START)) + 1) + head(START),
     long_head(HEAD_BYTES + 1),
     long_head(20000),
     head(START, "more: " + "x" * 20000),
@@ -205,6 +209,7 @@ GOOD_HEADS = [
     b"\r\n\n\r\n" + head(START),
     head(START, "Host: x").replace(b"\r\n", b"\n"),
     as_bytes(START) + b"\r\nHost: x\n\r\n",
+    as_bytes(START) + b"\r\n\n",
     head(START, "Host: x", "host: y", "Host:"),
     head(START, "!#$%&'*+-.^_`|~09azAZ: \t value \t", b"more: \xff\xfe", "empty:", "tabs:\t\t"),
     head(START, "Connection: keep-alive", "Expect: 100-continue", "Upgrade: h2c", "Range: bytes=0-1"),
@@ -237,11 +242,13 @@ NO_TARGETS = [
     "//",
     "*",
     "x",
+    "?",
     "?/table",
     "/vehicles/",
     "/events/",
     "/table/",
     "/table/x",
+    "/tables",
     "/Vehicles",
     "/TABLE",
     "//vehicles",
@@ -252,6 +259,7 @@ NO_TARGETS = [
     f"/vehicles/x/{A}",
     f"/vehicles//{A}",
     f"/vehicles/{P}//events",
+    f"/vehicles/{P}/events",
     f"/vehicles/{P}/{A}/",
     f"/vehicles/{P}/{A}/event",
     f"/vehicles/{P}/{A}/Events",
@@ -279,6 +287,7 @@ TARGETS = [
     f"/vehicles/{P}/{A}?x=1&y=%zz",
     f"/vehicles/{P}/{A}?a?b/c",
     f"/vehicles/{P}/{A}?ä",
+    f"/vehicles/{P}/{A}?/events",
     f"/vehicles/{P}/{A.upper()}",
     f"/vehicles/{P.replace('-', '')}/{A.replace('-', '').upper()}",
     f"/vehicles/urn:uuid:{P}/{{{A}}}",
@@ -297,6 +306,9 @@ def targets():
     yield Talk([registered(A), *[Exchange(get(target), answer(200, {"events": []}), name=target) for target in none]])
     posted = Exchange(post("/vehicles?x=1", [vehicle()]), done(1))
     yield Talk([posted, Exchange(post("/events?", batch([item()])), done(1)), look(A, "available", 1, 1000)])
+    row = answer(200, '{"rows":[{"from":"removed","to":"available","type":"wake"}]}')
+    tables = [f"/table{query}" for query in ("?", "?x=1", "?/x//?")]
+    yield Talk([Exchange(get(target), row, name=target) for target in tables], table=ONE_ROW)
 
 
 ROUTES = {
@@ -306,7 +318,8 @@ ROUTES = {
     f"/vehicles/{P}/{A}/events": "GET",
     "/table": "GET",
 }
-METHODS = ["GET", "POST", "PUT", "DELETE", "HEAD", "OPTIONS", "PATCH", "CONNECT", "TRACE", "get", "Post", "POSTS", "X!"]
+METHODS = ["GET", "POST", "PUT", "DELETE", "HEAD", "OPTIONS", "PATCH", "CONNECT", "TRACE"]
+METHODS += ["get", "post", "Post", "POSTS", "X!"]
 
 
 def methods():
@@ -317,7 +330,7 @@ def methods():
         yield Talk([Exchange(head(start, "Content-Length: 2") + b"[]", refused, name=start) for start in starts])
 
 
-BAD_LENGTHS = [[it] for it in ("12x", "", " ", "+2", "-2", "0x2", "2 2", "2,2", "2;", "2.0", "٢", "x" * 9000)]
+BAD_LENGTHS = [[it] for it in ("12x", "", " ", "+2", "-2", "0x2", "2 2", "2,2", "2, 2", "2;", "2.0", "٢", "２", "x" * 9000)]
 BAD_LENGTHS += [["2", "2"], ["2", "3"], ["2", ""], ["2", "2", "2"], ["4194305", "4194305"], ["99999999x"]]
 LONG = [str(MAX_BYTES + 1), f"000{MAX_BYTES + 1}", str(2**32), str(2**64), str(2**64 + 2), "9" * 9000]
 LENGTHS = ["2", " 2", "\t2 \t", "02", "0" * 9000 + "2"]
@@ -332,7 +345,9 @@ def lengths():
         bad = [Exchange(of(start, it), error(400, "bad_length"), name=str(it)) for start in starts for it in BAD_LENGTHS]
         long = [Exchange(of(start, [it]), error(413, "too_long"), name=it) for start in starts for it in LONG]
         good = [Exchange(of(start, [it]) + b"[]", EMPTY, name=it) for start in starts for it in LENGTHS]
-        yield Talk([*bad, *long, *good])
+        fields = ["a: b"] * (FIELDS - 1), ["X-Content-Length: 9"]
+        beside = [Exchange(head(start, *more, f"{name}: 2") + b"[]", EMPTY, name=name) for start in starts for more in fields]
+        yield Talk([*bad, *long, *good, *beside])
     none = [head(start, *more) for start in starts for more in ([], ["Content-Lengths: 2"], ["Content_Length: 2"])]
     yield Talk([Exchange(request, error(411, "length_required")) for request in none])
     coded = [
@@ -364,7 +379,11 @@ SAME_PART = [
     ((400, "bad_length"), {"lengths": [str(MAX_BYTES + 1)] * 2}),
     ((400, "bad_length"), {"lengths": ["99999999x"]}),
     ((400, "not_json"), {"body": MANY[:-1]}),
+    ((400, "not_json"), {"body": MANY + "]"}),
     ((400, "not_json"), {"body": "7 7"}),
+    ((400, "not_json"), {"body": "[]", "lengths": ["1"]}),
+    ((400, "not_json"), {"body": padded("[]", MAX_BYTES - 1) + "]"}),
+    ((400, "not_list"), {"body": "7[]", "lengths": ["1"], "version": "HTTP/1.0"}),
 ]
 
 
@@ -399,11 +418,15 @@ def bodies():
             told = error(413 if fault == "too_long" else 400, fault)
             yield Talk([Exchange(post(target, text), told, name=f"{target}, {started(text)}")])
         cut = [changed(target=target, body=batch([item()])[:-1], missing=missing) for missing in (1, 10, 4000000)]
+        cut.append(changed(target=target, body=padded("[]", MAX_BYTES - 1), missing=1))
         yield Talk([Exchange(request, error(400, "cut_short"), ends=True) for request in cut])
         deep = Exchange(post(target, lists(127)), done(1, [{"error": "not_object", "index": 0}]))
         yield Talk([deep, Exchange(post(target, lists(128)), error(400, "not_json"))])
         most = done(MAX_ITEMS, failures(["not_object"] * MAX_ITEMS))
         yield Talk([Exchange(post(target, batch(["0"] * MAX_ITEMS)), most, name="most items")])
+        zeros = changed(target=target, body=padded("[]", MAX_BYTES), lengths=["0" * 3000 + str(MAX_BYTES)])
+        more = changed(target=target, body=" [] 7", lengths=["4"])
+        yield Talk([Exchange(zeros, EMPTY, name="most bytes behind zeros"), Exchange(more, EMPTY, name="more than the body")])
     for name, text in GOOD:
         sent = Exchange(post("/events", text), done(1), name=name)
         yield Talk([registered(A), sent, look(A, "available", 1, 1000)])
@@ -440,6 +463,7 @@ def positions():
     where, bare = {"lat": 525200000, "lng": 134050000}, {"lat": -900000000, "lng": -1800000000}
     ups = [("e1", "provider_drop_off", "available", None), ("e2", "battery_low", "non_operational", where)]
     ups += [("e3", "battery_charged", "available", None), ("e4", "battery_low", "non_operational", bare)]
+    ups += [("e5", "battery_charged battery_low", "non_operational", {"lat": -1, "lng": -1})]
     exchanges, listed, last = [registered(A)], [], None
     for at, (number, types, state, position) in enumerate(ups):
         told = {**json.loads(event(A, number, types, state, 1000 + at)), "location": {"lat": 1.5, "lng": 2}}
@@ -478,6 +502,30 @@ TWO_TABLES = (
 )
 
 
+# Tables, and what is answered to a GET of them: one, the same twice, and several rows, of which the last are in force from the
+# latest time on.
+LISTED = [
+    (CHANGES[:1], '{"rows":[{"from":"removed","to":"available","type":"wake"}]}'),
+    (
+        [(0, [("x", "missing", "missing")]), (1, [("x", "missing", "missing")])],
+        '{"tables":[{"from_time":0,"rows":[{"from":"missing","to":"missing","type":"x"}]},'
+        '{"from_time":1,"rows":[{"from":"missing","to":"missing","type":"x"}]}]}',
+    ),
+    (
+        [
+            (0, [("b", "on_trip available", "removed"), ("a", "missing", "missing")]),
+            (10, [("c_1", "removed", "removed")]),
+            (MOST_TIME, [("a", "removed", "elsewhere reserved")]),
+        ],
+        '{"tables":[{"from_time":0,"rows":[{"from":"missing","to":"missing","type":"a"},'
+        '{"from":"available","to":"removed","type":"b"},{"from":"on_trip","to":"removed","type":"b"}]},'
+        '{"from_time":10,"rows":[{"from":"removed","to":"removed","type":"c_1"}]},'
+        '{"from_time":9007199254740991,"rows":[{"from":"removed","to":"reserved","type":"a"},'
+        '{"from":"removed","to":"elsewhere","type":"a"}]}]}',
+    ),
+]
+
+
 def judged(events):
     """The exchange that posts a batch of these events, with the failures of which `replay` would print the verdicts."""
     events = list(events)
@@ -500,8 +548,8 @@ def changes():
     rows = [{"from_time": start, "rows": Table(entries).listed()} for start, entries in MANY_TABLES]
     whole = [Exchange(get("/table"), answer(200, {"tables": rows})), registered(*[it[0] for it, _ in many]), judged(many)]
     yield Talk(whole, table=tables_file(MANY_TABLES))
-    one = '{"rows":[{"from":"removed","to":"available","type":"wake"}]}'
-    yield Talk([Exchange(get("/table"), answer(200, one))], table=tables_file(CHANGES[:1]))
+    for tables, told in LISTED:
+        yield Talk([Exchange(get("/table"), answer(200, told))], table=tables_file(tables))
 
 
 def depots():

@@ -500,6 +500,3 @@ fn argument<'a>(alloc: Global, name: &'a str, help: &'a str) -> Arg<'a>
 {
     Arg::new(alloc, name).help(help)
 }
-
-#[cfg(test)]
-mod tests;

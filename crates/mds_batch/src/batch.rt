@@ -22,7 +22,7 @@ use std::fmt;
 pub const MAX_ITEMS: usize = 10_000;
 
 /// Why bytes are no batch: the first that holds, looked for in the order from [`BatchFault::TooLong`] on.
-#[derive(Clone, Copy, Debug, PartialEq, Eq, Hash)]
+#[derive(Clone, Copy, Debug, PartialEq, Eq)]
 pub enum BatchFault {
     /// There was no memory to read it.
     Memory,

@@ -8,7 +8,7 @@ use std::error::Error;
 use std::fmt;
 
 /// What is wrong with an item: the first that holds, in this order, and of its members the first that is at fault.
-#[derive(Clone, Copy, Debug, PartialEq, Eq, Hash)]
+#[derive(Clone, Copy, Debug, PartialEq, Eq)]
 pub enum ItemFault {
     /// The item isn't an object.
     NotObject,
@@ -47,7 +47,7 @@ impl fmt::Display for ItemFault {
 impl Error for ItemFault {}
 
 /// An item of a batch of registrations.
-#[derive(Clone, Copy, Debug, PartialEq, Eq, Hash)]
+#[derive(Clone, Copy, Debug, PartialEq, Eq)]
 pub enum VehicleItem {
     /// The vehicle to register.
     Vehicle(Key),
@@ -56,7 +56,7 @@ pub enum VehicleItem {
 }
 
 /// An item of a batch of events. It holds no memory of its own.
-#[derive(Clone, Copy, Debug, PartialEq, Eq, Hash)]
+#[derive(Clone, Copy, Debug, PartialEq, Eq)]
 pub enum EventItem {
     /// The event that is reported.
     Event(Event),

@@ -18,8 +18,6 @@ mod number;
 mod reader;
 mod slot;
 mod taker;
-#[cfg(test)]
-mod tests;
 mod tokens;
 mod types;
 mod vehicle;

@@ -5,7 +5,7 @@ ghost use Rattle.mds_batch.specs.Member.{member_name};
 use std::fmt;
 
 /// A member of an item, in the order in which faults are looked for.
-#[derive(Clone, Copy, Debug, PartialEq, Eq, Hash)]
+#[derive(Clone, Copy, Debug, PartialEq, Eq)]
 pub enum Member {
     /// The provider of the vehicle: a UUID (RFC 9562) in one of its text forms.
     ProviderId,

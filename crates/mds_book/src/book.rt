@@ -28,7 +28,7 @@ use std::sync::{Mutex, Wait};
 pub const MAX_SEATS: usize = 64;
 
 /// Why no book was opened.
-#[derive(Clone, Copy, Debug, PartialEq, Eq, Hash)]
+#[derive(Clone, Copy, Debug, PartialEq, Eq)]
 pub enum OpenFault {
     /// There is no memory for it.
     Memory,

@@ -10,7 +10,7 @@ use std::marker::Model;
 use std::sync::ledger::{Ledger, Share};
 
 /// Which of its calls a seat notes.
-#[derive(Clone, Copy, Debug, PartialEq, Eq, Hash)]
+#[derive(Clone, Copy, Debug, PartialEq, Eq)]
 pub enum Keep {
     /// Every call.
     All,

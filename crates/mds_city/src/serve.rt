@@ -223,4 +223,4 @@ pub fn torn_to<E: Write>(faults: &mut E, shard: usize, place: usize) -> Status
 }
 
 #[cfg(test)]
-mod tests;
+pub(crate) mod tests;

@@ -24,7 +24,7 @@ use std::io::{Read, Write};
 use std::thread::Threads;
 
 /// What is asked of a replay.
-#[derive(Clone, Copy, Debug, PartialEq, Eq, Hash)]
+#[derive(Clone, Copy, Debug, PartialEq, Eq)]
 pub struct ReplayOptions {
     /// What the vehicles hold at first.
     pub opening: Opening,
@@ -202,10 +202,3 @@ fn table_into<'a, T: Read + Drop, W: Write>(
     print_tables(alloc, out, &tables)?;
     Ok(())
 }
-
-#[cfg(test)]
-mod failing;
-#[cfg(test)]
-mod refused;
-#[cfg(test)]
-pub(crate) mod tests;

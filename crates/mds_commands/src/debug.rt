@@ -257,6 +257,3 @@ fn show<'a, I: Read, W: Write>(
     print_walk(alloc, out, &mut session, &commands)?;
     Ok(())
 }
-
-#[cfg(test)]
-pub(crate) mod tests;

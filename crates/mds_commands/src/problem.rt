@@ -171,6 +171,3 @@ fn tell_whole<E: Write>(alloc: Global, faults: &mut E, problem: Problem<'_>) -> 
         },
     }
 }
-
-#[cfg(test)]
-mod tests;

@@ -17,7 +17,7 @@ use std::io::Read;
 pub(crate) const MAX_READ: usize = MAX_BYTES + 1;
 
 /// How a file has its items.
-#[derive(Clone, Copy, Debug, PartialEq, Eq, Hash)]
+#[derive(Clone, Copy, Debug, PartialEq, Eq)]
 pub enum Form {
     /// It is a batch: one text of JSON, which lists them.
     Batch,

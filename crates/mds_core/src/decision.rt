@@ -9,7 +9,7 @@ use mds_steps::admit;
 use mds_table::Tables;
 
 /// What is known of the vehicle of a request: all that the outcome depends on, besides the request and the tables.
-#[derive(Clone, Copy, Debug, PartialEq, Eq, Hash)]
+#[derive(Clone, Copy, Debug, PartialEq, Eq)]
 pub struct Known {
     /// Where the vehicle stands, or `None` where it isn't registered.
     pub standing: Option<Standing>,

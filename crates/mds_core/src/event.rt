@@ -16,7 +16,7 @@ use uuid::Uuid;
 pub const MAX_EVENT_TYPES: usize = 64;
 
 /// An event, as a provider reports it (MDS 2.0, "Events"). It holds no memory of its own.
-#[derive(Clone, Copy, Debug, PartialEq, Eq, Hash)]
+#[derive(Clone, Copy, Debug, PartialEq, Eq)]
 pub struct Event {
     key: Key,
     id: Uuid,
@@ -53,7 +53,7 @@ impl Model for Event {
 }
 
 /// Why no event can be made of some types and a time.
-#[derive(Clone, Copy, Debug, PartialEq, Eq, Hash)]
+#[derive(Clone, Copy, Debug, PartialEq, Eq)]
 pub enum EventFault {
     /// There is no type.
     NoTypes,

@@ -2,14 +2,11 @@
 ghost use Rattle.std.specs.Prelude.{◌≡◌, ◌≤◌, length, nat_eq};
 ghost use Rattle.std.specs.Cmp.{partial_equiv_from_equiv};
 ghost use Rattle.std.specs.Cmp.Lexicographic.{pointwise, pointwise_decides, bytes_decides, lists_equiv, nat_list_eq_equiv};
-ghost use Rattle.std.specs.Hash as fed;
-ghost use Rattle.std.proofs.Common.{ap};
 ghost use Rattle.mds_core.specs.Reported.{max_event_types};
 
 use crate::MAX_EVENT_TYPES;
 use mds_table::TypeName;
 use std::fmt;
-use std::hash::{Hash, Hasher};
 use std::marker::Model;
 
 /// The types of an event, in their order: at most [`MAX_EVENT_TYPES`]. They are copied as a whole, not one by one.
@@ -80,16 +77,6 @@ impl PartialEq for EventTypes {
 
 impl Eq for EventTypes {
     ghost laws = { lists_equiv nat_list_eq_equiv };
-}
-
-impl Hash for EventTypes {
-    ghost hash_input = { fed.slice (fed.slice fed.u8) };
-
-    ghost respects_eq = { λ x y same. ap (fed.slice (fed.slice fed.u8)) ((pointwise_decides bytes_decides x y).0 same) };
-
-    fn hash<H: Hasher>(&self, state: &mut H) {
-        self.as_slice().hash(state);
-    }
 }
 
 /// As the list of the types.

@@ -18,8 +18,6 @@ mod position;
 mod reply;
 mod request;
 mod runs;
-#[cfg(test)]
-mod tests;
 
 pub use answers::answer;
 pub use decision::{Known, decide, decide_event};

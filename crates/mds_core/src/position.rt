@@ -9,7 +9,7 @@ pub const MAX_LATITUDE: i64 = 900_000_000;
 pub const MAX_LONGITUDE: i64 = 1_800_000_000;
 
 /// A latitude and a longitude, in ten-millionths of a degree. Their limits fit in 32 bits each.
-#[derive(Clone, Copy, Debug, PartialEq, Eq, Hash)]
+#[derive(Clone, Copy, Debug, PartialEq, Eq)]
 pub struct Position {
     lat: i32,
     lng: i32,

@@ -13,7 +13,7 @@ use std::error::Error;
 use std::fmt;
 
 /// Where a registered vehicle stands.
-#[derive(Clone, Copy, Debug, PartialEq, Eq, Hash)]
+#[derive(Clone, Copy, Debug, PartialEq, Eq)]
 pub struct Standing {
     /// The state that it holds: the one of its last event, `removed` before its first.
     pub state: State,
@@ -63,7 +63,7 @@ impl Standing {
 }
 
 /// What became of a request.
-#[derive(Clone, Copy, Debug, PartialEq, Eq, Hash)]
+#[derive(Clone, Copy, Debug, PartialEq, Eq)]
 pub enum Outcome {
     /// It was accepted.
     Done,
@@ -74,7 +74,7 @@ pub enum Outcome {
 }
 
 /// Why a request was refused: the first that holds, in this order.
-#[derive(Clone, Copy, Debug, PartialEq, Eq, Hash)]
+#[derive(Clone, Copy, Debug, PartialEq, Eq)]
 pub enum Refusal {
     /// A registration of a vehicle that is registered.
     AlreadyRegistered,
@@ -130,7 +130,7 @@ impl fmt::Display for Refusal {
 impl Error for Refusal {}
 
 /// A reply of the machine.
-#[derive(Clone, Copy, Debug, PartialEq, Eq, Hash)]
+#[derive(Clone, Copy, Debug, PartialEq, Eq)]
 pub struct Reply {
     /// How many requests were accepted before this one.
     pub place: usize,

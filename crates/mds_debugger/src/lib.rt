@@ -7,8 +7,6 @@
 mod input;
 mod line;
 mod script;
-#[cfg(test)]
-mod tests;
 mod vehicle;
 mod walk;
 

@@ -9,7 +9,7 @@ use std::alloc::{AllocError, Global};
 use std::str;
 
 /// How a script moves a session.
-#[derive(Clone, Copy, Debug, PartialEq, Eq, Hash)]
+#[derive(Clone, Copy, Debug, PartialEq, Eq)]
 pub enum Move {
     /// Past one type.
     Step,
@@ -22,7 +22,7 @@ pub enum Move {
 }
 
 /// A command of a script.
-#[derive(Clone, Copy, Debug, PartialEq, Eq, Hash)]
+#[derive(Clone, Copy, Debug, PartialEq, Eq)]
 pub enum ScriptCommand {
     /// The session moves: `step`, `back`, `next`, or `run` and a state's name.
     Move(Move),

@@ -20,7 +20,7 @@ use std::fmt;
 use std::io::{Read, Write};
 
 /// An answer that was written.
-#[derive(Clone, Copy, Debug, PartialEq, Eq, Hash)]
+#[derive(Clone, Copy, Debug, PartialEq, Eq)]
 pub struct Served {
     /// Its status (RFC 9110, section 15).
     pub status: u16,
@@ -29,7 +29,7 @@ pub struct Served {
 }
 
 /// Why no answer was written whole.
-#[derive(Clone, Copy, Debug, PartialEq, Eq, Hash)]
+#[derive(Clone, Copy, Debug, PartialEq, Eq)]
 pub enum ServeFault {
     /// A read failed: nothing was asked of the desk, and nothing was written.
     Read,

@@ -7,8 +7,6 @@ mod connection;
 mod desk;
 pub mod laws;
 mod reading;
-#[cfg(test)]
-mod tests;
 
 pub use connection::{ServeFault, Served, serve_one};
 pub use desk::{Desk, SeatDesk};

@@ -1,9 +1,6 @@
 //! Where workers can be stopped, one by one.
 #![tactic(auto)]
 
-#[cfg(test)]
-mod tests;
-
 /// What each of many workers passes on its way. A worker enters before a piece of its work and leaves after it; a gate
 /// may make it wait there.
 pub trait Gate {
@@ -15,7 +12,7 @@ pub trait Gate {
 }
 
 /// The gate that does nothing.
-#[derive(Clone, Copy, Debug, PartialEq, Eq, Hash)]
+#[derive(Clone, Copy, Debug, PartialEq, Eq)]
 pub struct OpenGate;
 
 impl Gate for OpenGate {

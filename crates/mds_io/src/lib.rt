@@ -8,8 +8,6 @@
 mod call;
 mod page;
 mod read;
-#[cfg(test)]
-mod tests;
 mod write;
 
 pub use call::MAX_CALLS;

@@ -7,7 +7,7 @@ use std::fmt;
 
 /// Why a stream's lines are no items: the first fault in the stream. At a line's end [`LineFault::NotJson`] is looked
 /// for before [`LineFault::TooMany`].
-#[derive(Clone, Copy, Debug, PartialEq, Eq, Hash)]
+#[derive(Clone, Copy, Debug, PartialEq, Eq)]
 pub enum LineFault {
     /// There was no memory. This says nothing of the stream.
     Memory,

@@ -9,8 +9,6 @@ mod fault;
 pub mod laws;
 mod lines;
 mod reader;
-#[cfg(test)]
-mod tests;
 
 pub use fault::LineFault;
 pub use reader::LineReader;

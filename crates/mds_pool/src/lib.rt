@@ -9,6 +9,3 @@ mod serving;
 pub use pool::{PoolCause, PoolFault, serve};
 pub use port::{Ending, Port, PortFault};
 pub use serving::{NewBook, Stop, serve_and_settle};
-
-#[cfg(test)]
-mod tests;

@@ -18,7 +18,7 @@ use std::thread::{self, Threads};
 const OK: u16 = 200;
 
 /// Why workers didn't answer all connections that they were to answer.
-#[derive(Clone, Copy, Debug, PartialEq, Eq, Hash)]
+#[derive(Clone, Copy, Debug, PartialEq, Eq)]
 pub enum PoolCause {
     /// There was no memory for the workers: kept for a pool that takes memory for them, which this one doesn't.
     Memory,

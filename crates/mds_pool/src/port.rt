@@ -4,7 +4,7 @@ use std::fmt;
 use std::io::{Read, Write};
 
 /// No further connection can be taken.
-#[derive(Clone, Copy, Debug, PartialEq, Eq, Hash)]
+#[derive(Clone, Copy, Debug, PartialEq, Eq)]
 pub struct PortFault;
 
 impl fmt::Display for PortFault {

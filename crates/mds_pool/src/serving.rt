@@ -17,7 +17,7 @@ use std::sync::ledger::Blank;
 use std::thread::Threads;
 
 /// Why no settled book was handed out.
-#[derive(Clone, Copy, Debug, PartialEq, Eq, Hash)]
+#[derive(Clone, Copy, Debug, PartialEq, Eq)]
 pub enum Stop {
     /// There was no memory to begin.
     Memory,

@@ -6,8 +6,6 @@
 //! Several workers may share a replay. The report is the same, however many there are.
 #![tactic(auto)]
 
-#[cfg(test)]
-mod cases;
 mod collect;
 mod followed;
 mod judge;
@@ -16,8 +14,6 @@ mod one_by_one;
 mod part;
 mod replayer;
 mod report;
-#[cfg(test)]
-mod timed_tests;
 mod workers;
 
 pub use one_by_one::Replayer;

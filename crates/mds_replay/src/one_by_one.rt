@@ -5,9 +5,6 @@ ghost use Rattle.mds_replay.specs.Replay.{IsReport};
 ghost use Rattle.mds_replay.specs.Laws.{AreOutcomes};
 ghost use Rattle.mds_replay.specs.Replayer.{Took};
 
-#[cfg(test)]
-mod tests;
-
 use crate::judge::{AcceptedNames, Vehicles, judge_item};
 use crate::replayer::{ends_of, report_of};
 use crate::{Opening, Report, Verdict};

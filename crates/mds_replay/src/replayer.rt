@@ -10,9 +10,6 @@ ghost use Rattle.mds_replay.specs.Replay.{accepted_of, AreVerdicts, IsEnd, IsRep
 ghost use Rattle.mds_replay.specs.Laws.{AreOutcomes};
 ghost use Rattle.mds_replay.specs.Followed.{end_at};
 
-#[cfg(test)]
-mod tests;
-
 use crate::followed::Followed;
 use crate::judge::Vehicles;
 use crate::{Opening, Replayer, Report, VehicleEnd, Verdict};

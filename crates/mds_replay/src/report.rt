@@ -9,7 +9,7 @@ use mds_table::State;
 use std::fmt;
 
 /// What a vehicle is taken to hold before its first accepted event.
-#[derive(Clone, Copy, Debug, PartialEq, Eq, Hash)]
+#[derive(Clone, Copy, Debug, PartialEq, Eq)]
 pub enum Opening {
     /// It is registered, and holds `removed`.
     Removed,
@@ -18,7 +18,7 @@ pub enum Opening {
 }
 
 /// What is said of an item.
-#[derive(Clone, Copy, Debug, PartialEq, Eq, Hash)]
+#[derive(Clone, Copy, Debug, PartialEq, Eq)]
 pub enum Verdict {
     /// Its event was accepted, and its vehicle holds this state from then on.
     Accepted(State),

@@ -5,9 +5,6 @@ ghost use Rattle.mds_replay.specs.Laws.{AreOutcomes};
 ghost use Rattle.mds_replay.specs.Parts.{AreParts, IsPart};
 ghost use Rattle.mds_replay.specs.WithFault.{with_fault_text, IsBadCount};
 
-#[cfg(test)]
-mod tests;
-
 use crate::collect::collect;
 use crate::part::{Part, replay_part};
 use crate::{Opening, Report};
@@ -23,7 +20,7 @@ use std::{fmt, thread};
 pub const MAX_WORKERS: usize = 64;
 
 /// Why items weren't replayed by several workers.
-#[derive(Clone, Copy, Debug, PartialEq, Eq, Hash)]
+#[derive(Clone, Copy, Debug, PartialEq, Eq)]
 pub enum WithFault {
     /// There was no memory for the report, or for what is kept of the vehicles on the way.
     Memory,

@@ -2,7 +2,7 @@
 
 /// What a request is about, by its route: the items that it posts, or what it looks at. `V` stands for the vehicle that a
 /// request looks at: its key, or `()` where only the route is known.
-#[derive(Clone, Copy, Debug, PartialEq, Eq, Hash)]
+#[derive(Clone, Copy, Debug, PartialEq, Eq)]
 pub enum Aim<V> {
     /// `POST /vehicles`: registrations.
     Vehicles,

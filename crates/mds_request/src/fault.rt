@@ -6,7 +6,7 @@ use std::error::Error;
 use std::fmt;
 
 /// Why a request asks for nothing: the first that holds, in this order.
-#[derive(Clone, Copy, Debug, PartialEq, Eq, Hash)]
+#[derive(Clone, Copy, Debug, PartialEq, Eq)]
 pub enum HttpFault {
     /// The first 16384 bytes hold no whole head (RFC 9112, section 2.1) of at most 64 fields.
     BadHead,

@@ -18,8 +18,6 @@ mod head_status;
 pub mod laws;
 mod plan;
 mod target;
-#[cfg(test)]
-mod tests;
 
 pub use aim::Aim;
 pub use face::Face;

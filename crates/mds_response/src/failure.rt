@@ -6,7 +6,7 @@ use mds_batch::ItemFault;
 use mds_core::{Outcome, Refusal};
 
 /// Why an item wasn't accepted.
-#[derive(Clone, Copy, Debug, PartialEq, Eq, Hash)]
+#[derive(Clone, Copy, Debug, PartialEq, Eq)]
 pub enum Cause {
     /// The item is faulty.
     Fault(ItemFault),
@@ -27,7 +27,7 @@ impl Cause {
 }
 
 /// An item that wasn't accepted.
-#[derive(Clone, Copy, Debug, PartialEq, Eq, Hash)]
+#[derive(Clone, Copy, Debug, PartialEq, Eq)]
 pub struct Failure {
     /// The index of the item, from 0.
     pub index: usize,

@@ -14,8 +14,6 @@ mod head;
 mod json;
 pub mod laws;
 mod status;
-#[cfg(test)]
-mod tests;
 
 pub use answer::bytes_of;
 pub use failure::{Cause, Failure};

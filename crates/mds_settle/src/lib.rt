@@ -9,8 +9,6 @@ mod count;
 mod note;
 mod order;
 mod same;
-#[cfg(test)]
-mod tests;
 mod truth;
 mod verdict;
 

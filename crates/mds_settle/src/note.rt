@@ -5,7 +5,7 @@ ghost use Rattle.mds_settle.specs.declared.note.Note.{Note as Noted};
 use mds_core::{Reply, Request};
 
 /// A call that a caller noted.
-#[derive(Clone, Copy, Debug, PartialEq, Eq, Hash)]
+#[derive(Clone, Copy, Debug, PartialEq, Eq)]
 pub struct Note {
     /// The number of the shard that was asked.
     pub shard: usize,

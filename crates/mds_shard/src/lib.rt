@@ -6,8 +6,6 @@
 #![tactic(auto)]
 
 mod shard;
-#[cfg(test)]
-mod tests;
 mod vehicle;
 
 pub use shard::Shard;

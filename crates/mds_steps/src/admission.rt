@@ -11,7 +11,7 @@ use std::error::Error;
 use std::fmt;
 
 /// No chain leads from the state held to the state reported.
-#[derive(Clone, Copy, Debug, PartialEq, Eq, Hash)]
+#[derive(Clone, Copy, Debug, PartialEq, Eq)]
 pub struct NoChain {
     /// The place of the first type that no chain passes, or the number of types where all can be passed and only the
     /// state reported can't be reached.

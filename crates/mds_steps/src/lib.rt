@@ -10,8 +10,6 @@ mod chain;
 mod reach;
 mod state_set;
 mod steps;
-#[cfg(test)]
-mod tests;
 
 pub use admission::{NoChain, admit, stuck_from};
 pub use chain::least_chain;

@@ -15,7 +15,7 @@ pub const MAX_BYTES: usize = 4_194_304;
 pub const MAX_TIME: u64 = 9_007_199_254_740_991;
 
 /// Why no value was read from bytes.
-#[derive(Clone, Copy, Debug, PartialEq, Eq, Hash)]
+#[derive(Clone, Copy, Debug, PartialEq, Eq)]
 pub enum TextFault {
     /// There was no memory to read it. This says nothing of the bytes.
     Memory,

@@ -20,8 +20,6 @@ mod table_file;
 mod tables;
 mod tables_fault;
 mod tables_file;
-#[cfg(test)]
-mod tests;
 mod type_name;
 
 pub use json::{MAX_BYTES, MAX_TIME};

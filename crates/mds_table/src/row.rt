@@ -1,9 +1,6 @@
 //! Rows of a table, and sorted lists of them.
 ghost use Rattle.std.specs.Prelude.{◌≡◌, ◌↔◌, ◌++◌, IsTrue, OnOk, Some, true, Contains, refl};
 ghost use Rattle.std.specs.Cmp.{po, partial_equiv_from_equiv};
-ghost use Rattle.std.specs.Cmp.Rules.{hashing};
-ghost use Rattle.std.specs.Hash as fed;
-ghost use Rattle.std.proofs.Common.{rules};
 ghost use Rattle.mds_table.specs.State.{code_of};
 ghost use Rattle.mds_table.specs.Row.{row_of, row_cmp, same_row, in_order};
 ghost use Rattle.mds_table.specs.RowLaws.{row_cmp_total, same_row_equiv, same_row_ties};
@@ -12,7 +9,6 @@ ghost use Rattle.mds_table.specs.Entry.{Adds};
 use crate::{State, TypeName};
 use std::alloc::AllocError;
 use std::cmp::Ordering;
-use std::hash::{Hash, Hasher};
 
 /// A row of a table: an event of this type may lead from the one state to the other. Rows stand in the order of a table:
 /// by type, then by the state before, then by the state after.
@@ -74,19 +70,6 @@ impl Ord for Row {
 
     fn cmp(&self, other: &Row) -> Ordering {
         compare(self, other.from, &other.kind, other.to)
-    }
-}
-
-impl Hash for Row {
-    ghost hash_input = { λ row. fed.slice fed.u8 row.kind
-        ++ fed.u8 (code_of row.from) ++ fed.u8 (code_of row.to) };
-
-    ghost respects_eq = { Prim.search (hashing, rules) };
-
-    fn hash<H: Hasher>(&self, state: &mut H) {
-        self.kind.hash(state);
-        self.from.code().hash(state);
-        self.to.code().hash(state);
     }
 }
 

@@ -7,7 +7,7 @@ use std::fmt;
 
 /// The state of a vehicle, after MDS 2.0, "Vehicle States", but for [`State::InDepot`], which is this project's own. States
 /// are ordered by their codes.
-#[derive(Clone, Copy, Debug, PartialEq, Eq, PartialOrd, Ord, Hash)]
+#[derive(Clone, Copy, Debug, PartialEq, Eq, PartialOrd, Ord)]
 pub enum State {
     /// Off the street: not deployed, or taken away.
     Removed,

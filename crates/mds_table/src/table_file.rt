@@ -27,7 +27,7 @@ pub const MAX_ROWS: usize = 4096;
 pub const MAX_TABLE_TYPES: usize = 64;
 
 /// Why a text is no table file. All but the first are looked for in this order, those of the entries entry by entry.
-#[derive(Clone, Copy, Debug, PartialEq, Eq, Hash)]
+#[derive(Clone, Copy, Debug, PartialEq, Eq)]
 pub enum TableFault {
     /// There is no memory to read it.
     Memory,

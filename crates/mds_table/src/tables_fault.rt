@@ -11,7 +11,7 @@ use std::fmt;
 /// Why there are no tables that change at stated times: a text is no file of them, or starting times and tables may not
 /// follow one another. The faults of the whole, but for `Memory`, are looked for first: `TooLong`, `NotJson`, `NotRows`,
 /// `NoTables` and `TooManyTables`; then, table by table, `BadEntry`, `FirstNotZero`, `NotRising` and `InTable`.
-#[derive(Clone, Copy, Debug, PartialEq, Eq, Hash)]
+#[derive(Clone, Copy, Debug, PartialEq, Eq)]
 pub enum TablesFault {
     /// There is no memory for them.
     Memory,

@@ -3,15 +3,11 @@ ghost use Rattle.std.specs.Prelude.{◌≡◌, ◌↔◌, Some, IsOk, IfOk, IfEr
 ghost use Rattle.std.specs.Ordering.{nat_cmp};
 ghost use Rattle.std.specs.Cmp.{partial_equiv_from_equiv};
 ghost use Rattle.std.specs.Cmp.Lexicographic.{pointwise, slice_cmp, nat_list_eq_equiv, nat_list_cmp_total, texts_po, texts_ties};
-ghost use Rattle.std.specs.Cmp.Rules.{hashing};
-ghost use Rattle.std.specs.Hash as fed;
-ghost use Rattle.std.proofs.Common.{rules};
 ghost use Rattle.mds_table.specs.TypeName.{may_stand, IsTypeName};
 ghost use Rattle.mds_table.specs.NameFault.{FaultOf, name_fault_text};
 
 use std::cmp::Ordering;
 use std::error::Error;
-use std::hash::{Hash, Hasher};
 use std::marker::Model;
 use std::{fmt, str};
 
@@ -43,7 +39,7 @@ impl Model for TypeName {
 }
 
 /// Why a text is no type name.
-#[derive(Clone, Copy, Debug, PartialEq, Eq, Hash)]
+#[derive(Clone, Copy, Debug, PartialEq, Eq)]
 pub enum NameFault {
     /// The text has no byte.
     Empty,
@@ -166,16 +162,6 @@ impl Ord for TypeName {
 
     fn cmp(&self, other: &TypeName) -> Ordering {
         self.as_str().cmp(&other.as_str())
-    }
-}
-
-impl Hash for TypeName {
-    ghost hash_input = { fed.slice fed.u8 };
-
-    ghost respects_eq = { Prim.search (hashing, rules) };
-
-    fn hash<H: Hasher>(&self, state: &mut H) {
-        self.as_bytes().hash(state);
     }
 }
 

@@ -8,10 +8,6 @@ mod line_replay;
 mod session;
 mod session_events;
 mod session_fault;
-#[cfg(test)]
-mod session_tests;
-#[cfg(test)]
-mod timed_tests;
 
 pub use line_replay::LineReplay;
 pub use mds_lines::LineFault;

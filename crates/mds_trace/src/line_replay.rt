@@ -96,6 +96,3 @@ impl LineReplay {
         }
     }
 }
-
-#[cfg(test)]
-mod tests;

@@ -18,7 +18,7 @@ use std::fmt;
 use std::marker::Model;
 
 /// A place in a vehicle's events: before an event, within it, or at the end of all.
-#[derive(Clone, Copy, Debug, PartialEq, Eq, Hash)]
+#[derive(Clone, Copy, Debug, PartialEq, Eq)]
 pub struct Place {
     /// The event, from 0; at the end, the number of events.
     pub event: usize,
@@ -27,7 +27,7 @@ pub struct Place {
 }
 
 /// Why a session doesn't move.
-#[derive(Clone, Copy, Debug, PartialEq, Eq, Hash)]
+#[derive(Clone, Copy, Debug, PartialEq, Eq)]
 pub enum Halt {
     /// No such place comes later.
     AtEnd,

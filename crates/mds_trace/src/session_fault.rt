@@ -8,7 +8,7 @@ use std::fmt;
 
 /// Why no session is opened over some events. The events are gone over in turn; at each, its order is looked at before
 /// its types.
-#[derive(Clone, Copy, Debug, PartialEq, Eq, Hash)]
+#[derive(Clone, Copy, Debug, PartialEq, Eq)]
 pub enum SessionFault {
     /// There is no memory to compare identifiers.
     Memory,

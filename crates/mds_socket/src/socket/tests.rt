@@ -1,62 +1,33 @@
-//! Which errors of taking a connection are tried again, by Linux's numbers and by kinds alone.
+//! Which errors of taking a connection are tried again, by Linux's numbers, and a port without memory.
 use super::{Retry, SocketPort, retry_of};
 use mds_pool::{Ending, Port};
 use std::alloc::{AllocError, Global};
-use std::io::{self, ErrorKind};
+use std::io;
 use std::net::{Ipv4Addr, TcpStream};
-use std::test::Fail;
 use std::time::Clock;
 
-/// Errors by their numbers: ENONET, EPROTO, ENOPROTOOPT, EHOSTDOWN, EINTR, EAGAIN, ECONNABORTED, EPERM, EOPNOTSUPP, ENETDOWN,
-/// ENETUNREACH, EHOSTUNREACH and ETIMEDOUT; EMFILE, ENFILE, ENOBUFS and ENOMEM; EBADF, EINVAL, ENOTSOCK and ENOTTY.
-const NUMBERS: [(i32, Retry); 21] = [
-    (64, Retry::AtOnce),
-    (71, Retry::AtOnce),
-    (92, Retry::AtOnce),
-    (112, Retry::AtOnce),
-    (4, Retry::AtOnce),
-    (11, Retry::AtOnce),
-    (103, Retry::AtOnce),
-    (1, Retry::AtOnce),
-    (95, Retry::AtOnce),
-    (100, Retry::AtOnce),
-    (101, Retry::AtOnce),
-    (113, Retry::AtOnce),
-    (110, Retry::AtOnce),
-    (24, Retry::Later),
-    (23, Retry::Later),
-    (105, Retry::Later),
-    (12, Retry::Later),
-    (9, Retry::Never),
-    (22, Retry::Never),
-    (88, Retry::Never),
-    (25, Retry::Never),
-];
+/// Errors by their numbers: EINTR, EAGAIN, ECONNABORTED, ECONNRESET, EPERM, and those of a connection's network and protocol;
+/// EMFILE, ENFILE, ENOBUFS and ENOMEM; EBADF, EINVAL, ENOTSOCK and ENOTTY.
+const AT_ONCE: &[i32] = &[4, 11, 103, 104, 1, 64, 71, 92, 112, 95, 100, 101, 113, 110];
 
-/// Errors that have a kind alone.
-const KINDS: [(ErrorKind, Retry); 7] = [
-    (ErrorKind::Interrupted, Retry::AtOnce),
-    (ErrorKind::WouldBlock, Retry::AtOnce),
-    (ErrorKind::ConnectionAborted, Retry::AtOnce),
-    (ErrorKind::ConnectionReset, Retry::AtOnce),
-    (ErrorKind::OutOfMemory, Retry::Later),
-    (ErrorKind::InvalidInput, Retry::Never),
-    (ErrorKind::Other, Retry::Never),
-];
+const LATER: &[i32] = &[24, 23, 105, 12];
 
-#[test]
-fn errors_by_their_numbers(rt: HostRuntime) {
-    for (number, wanted) in &NUMBERS {
-        let error = io::Error::from_raw_os_error(*number);
-        assert_eq!(rt; retry_of(&error), *wanted, "{number}");
-    }
+const NEVER: &[i32] = &[9, 22, 88, 25];
+
+/// The first of these errors of which something else becomes.
+fn first_other(retry: Retry, numbers: &[i32]) -> Option<i32> {
+    let mut numbers = numbers.iter().copied();
+    numbers.find(|number| retry_of(&io::Error::from_raw_os_error(*number)) != retry)
 }
 
 #[test]
-fn errors_of_a_kind_alone(rt: HostRuntime) {
-    for (kind, wanted) in &KINDS {
-        assert_eq!(rt; retry_of(&io::Error::from(*kind)), *wanted, "{kind:?}");
-    }
+fn errors_by_their_numbers(rt: HostRuntime) {
+    let (at_once, later) = (
+        first_other(Retry::AtOnce, AT_ONCE),
+        first_other(Retry::Later, LATER),
+    );
+    let never = first_other(Retry::Never, NEVER);
+    assert_eq!(rt; (at_once, later, never), (None, None, None));
 }
 
 /// A growth of a size of its own: `tests/refused-growths` refuses each one between two of these.
@@ -67,28 +38,29 @@ fn fence(alloc: Global) -> Result<Vec<u8>, AllocError> {
 
 /// Takes a connection and closes it: whether there was memory for its ends.
 fn takes<C: Clock + Copy>(port: &SocketPort<C>) -> bool {
-    match port.accept() {
-        Ok((input, output)) => {
-            port.end(input, output, Ending::AtOnce);
-            true
-        }
-        Err(_) => false,
-    }
+    let Ok((input, output)) = port.accept() else {
+        return false;
+    };
+    port.end(input, output, Ending::AtOnce);
+    true
+}
+
+/// Whether a port takes a connection behind one that comes where there may be no memory.
+fn goes_on(rt: HostRuntime) -> io::Result<bool> {
+    let alloc = rt.alloc();
+    let _begun = fence(alloc);
+    let port = SocketPort::bind(&rt, alloc, rt, 0)?;
+    let number = port.number()?;
+    let _first = TcpStream::connect(&rt, (Ipv4Addr::LOCALHOST, number))?;
+    let _taken = takes(&port);
+    let _ended = fence(alloc);
+    let _second = TcpStream::connect(&rt, (Ipv4Addr::LOCALHOST, number))?;
+    Ok(takes(&port))
 }
 
 /// A port is bound and tells its number without memory. A connection that comes is taken, or there is no memory for what its
 /// ends share; then the port goes on, and takes the next one (`tests/refused-growths` refuses each growth up to there).
 #[test]
-fn a_port_is_bound_with_every_growth_refused(rt: HostRuntime) -> Result<(), Fail> {
-    let alloc = rt.alloc();
-    let _begun = fence(alloc);
-    let port = SocketPort::bind(&rt, alloc, rt, 0)?;
-    let number = port.number()?;
-    let first = TcpStream::connect(&rt, (Ipv4Addr::LOCALHOST, number))?;
-    let _taken = takes(&port);
-    let _ended = fence(alloc);
-    let second = TcpStream::connect(&rt, (Ipv4Addr::LOCALHOST, number))?;
-    assert!(rt; takes(&port));
-    drop((first, second));
-    Ok(())
+fn a_port_is_bound_with_every_growth_refused(rt: HostRuntime) {
+    assert!(rt; matches!(goes_on(rt), Ok(true)));
 }

@@ -1,0 +1,125 @@
+//! Batches: values from outside, and that each call can succeed.
+mod by_value;
+mod changes;
+mod quiet;
+mod seeded;
+mod takers;
+mod texts;
+mod values;
+
+use mds_batch::{
+    BatchFault, BatchItem, EventItem, ItemFault, Member, VehicleItem, read_events, read_vehicles,
+};
+use mds_core::{Event, Position};
+use mds_table::{State, TypeName};
+use std::alloc::{AllocError, Global};
+pub use takers::Few;
+use test_fixtures::{A, E1, key, type_of, uuid};
+
+/// How many items a text lists and the fault of the first, or why it lists none.
+pub type First = Result<(usize, Option<ItemFault>), BatchFault>;
+
+fn first_of<I: BatchItem + Drop>(read: Result<Vec<I>, BatchFault>) -> First {
+    let items = read?;
+    let fault = match items.first() {
+        Some(item) => item.fault(),
+        None => None,
+    };
+    Ok((items.len(), fault))
+}
+
+/// What a text lists, of registrations and of events.
+pub type Firsts = (First, First);
+
+pub fn firsts(alloc: Global, text: &[u8]) -> Firsts {
+    let vehicles = first_of(read_vehicles(alloc, text));
+    (vehicles, first_of(read_events(alloc, text)))
+}
+
+/// The pieces, each as often as it stands.
+pub fn text_of(alloc: Global, pieces: &[(&str, usize)]) -> Result<String, AllocError> {
+    let mut text = String::new(alloc);
+    for (piece, times) in pieces {
+        text.push_str(piece.repeat(alloc, *times)?.as_str())?;
+    }
+    Ok(text)
+}
+
+/// An event of three types, with a position.
+pub const EVENT: &str = r#"{"provider_id":"00000000-0000-4000-8000-000000000001",
+"device_id":"00000000-0000-4000-8000-00000000000a","event_id":"00000000-0000-4000-8000-0000000000e1",
+"vehicle_state":"on_trip","event_types":["trip_end","battery_low","trip_end"],
+"timestamp":1000,"location_e7":{"lat":525200000,"lng":134050000}}"#;
+
+/// A latitude and a longitude, if there are any.
+pub type Place = Option<(i64, i64)>;
+
+/// The position of the event.
+pub const BERLIN: Place = Some((525200000, 134050000));
+
+/// The event, at this time and place.
+fn event(time: u64, place: Place) -> Option<Event> {
+    let types: [TypeName; 3] = [
+        type_of("trip_end"),
+        type_of("battery_low"),
+        type_of("trip_end"),
+    ];
+    let position = match place {
+        Some((lat, lng)) => Position::new(lat, lng),
+        None => None,
+    };
+    Event::new(key(A), uuid(E1), State::OnTrip, &types, time, position).ok()
+}
+
+/// The item that reports the event, at this time and place. No text of these tests has the other one.
+pub fn report(time: u64, place: Place) -> EventItem {
+    match event(time, place) {
+        Some(event) => EventItem::Event(event),
+        None => EventItem::Fault(ItemFault::NotObject),
+    }
+}
+
+/// Registrations of one vehicle, alone and with members that are ignored, and items at fault.
+const REGISTRATIONS: &[u8] = br#"[
+{"provider_id":"00000000-0000-4000-8000-000000000001","device_id":"00000000-0000-4000-8000-00000000000a"},
+{"device_id":"0000000000004000800000000000000A","provider_id":"00000000-0000-4000-8000-000000000001","timestamp":1.5},
+{"provider_id":"00000000-0000-4000-8000-000000000001"},
+{"provider_id":"00000000-0000-4000-8000-000000000001","device_id":1},
+{}, null, []]"#;
+
+/// Whether they are read so.
+fn are_registered(alloc: Global) -> Result<bool, BatchFault> {
+    let expected = [
+        VehicleItem::Vehicle(key(A)),
+        VehicleItem::Vehicle(key(A)),
+        VehicleItem::Fault(ItemFault::Missing(Member::DeviceId)),
+        VehicleItem::Fault(ItemFault::Bad(Member::DeviceId)),
+        VehicleItem::Fault(ItemFault::Missing(Member::ProviderId)),
+        VehicleItem::Fault(ItemFault::NotObject),
+        VehicleItem::Fault(ItemFault::NotObject),
+    ];
+    Ok(read_vehicles(alloc, REGISTRATIONS)?.as_slice() == expected.as_slice())
+}
+
+#[test]
+fn registrations(rt: HostRuntime) {
+    assert_eq!(rt; are_registered(rt.alloc()), Ok(true));
+}
+
+/// Two items, of which one is at fault.
+pub const TWO_ITEMS: &[u8] = br#"[{"provider_id":"00000000-0000-4000-8000-000000000001"},7]"#;
+
+/// What they are, read again where a growth is refused.
+fn firsts_again(alloc: Global) -> Firsts {
+    match firsts(alloc, TWO_ITEMS) {
+        (Err(BatchFault::Memory), _) | (_, Err(BatchFault::Memory)) => firsts(alloc, TWO_ITEMS),
+        found => found,
+    }
+}
+
+/// Each call, made again where its growth is refused (by `tests/refused-growths`).
+#[test]
+fn call_succeeds_after_a_refused_growth(rt: HostRuntime) {
+    let expected = Ok((2, Some(ItemFault::Missing(Member::DeviceId))));
+    assert_eq!(rt; firsts_again(rt.alloc()), (expected, expected));
+}

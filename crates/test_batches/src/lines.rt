@@ -1,0 +1,278 @@
+//! Lines: values from outside, however they are cut, and that each call can succeed.
+use crate::batches::{Few, text_of};
+use mds_batch::{BatchItem, EventItem, ItemFault, Member};
+use mds_lines::{LineFault, LineReader};
+use std::alloc::{AllocError, Global};
+use test_fixtures::fence;
+
+/// What is read of a stream: the faults of its items, each if it has one, or the stream's own first fault.
+type Items<'a> = Result<&'a [Option<ItemFault>], LineFault>;
+
+const NO_OBJECT: Option<ItemFault> = Some(ItemFault::NotObject);
+
+const NO_PROVIDER: Option<ItemFault> = Some(ItemFault::Missing(Member::ProviderId));
+
+/// An event, on a line.
+const EVENT: &str =
+    r#"{"provider_id":"00000000-0000-4000-8000-000000000001","device_id":"00000000-0000-4000-8000-00000000000a","event_id":"00000000-0000-4000-8000-0000000000e1","vehicle_state":"on_trip","event_types":["trip_start"],"timestamp":1000}"#;
+
+/// Line 0 is no JSON.
+const AT_0: Items<'static> = Err(LineFault::NotJson { line: 0 });
+
+const AT_1: Items<'static> = Err(LineFault::NotJson { line: 1 });
+
+const AT_2: Items<'static> = Err(LineFault::NotJson { line: 2 });
+
+const STREAMS: &[(&[u8], Items<'static>)] = &[
+    // no items
+    (b"", Ok(&[])),
+    (b"\n", Ok(&[])),
+    (b"\n\r\n \t\n\t ", Ok(&[])),
+    // lines of one item each; the last may end without a line feed
+    (b"7", Ok(&[NO_OBJECT])),
+    (b"7\n", Ok(&[NO_OBJECT])),
+    (b"7\r\n{}\r\n", Ok(&[NO_OBJECT, NO_PROVIDER])),
+    (b"{}\n7", Ok(&[NO_PROVIDER, NO_OBJECT])),
+    (b"\n\n{}\n \r\n\n7\r\n\n", Ok(&[NO_PROVIDER, NO_OBJECT])),
+    // characters of two, three and four bytes
+    (
+        b"\"\xc3\xa4\xe2\x82\xac\xf0\x9f\x9b\xb4\"\n7",
+        Ok(&[NO_OBJECT, NO_OBJECT]),
+    ),
+    (b"{\"\xe2\x82\xac\":0}", Ok(&[NO_PROVIDER])),
+    // a line that is no JSON; blank lines are counted too
+    (b"{", AT_0),
+    (b"{\n7", AT_0),
+    (b"7\n{\n7\n", AT_1),
+    (b"7\n\n{}{}\n7\n", AT_2),
+    (b"{}\r\n7\r\n\"\xe2\x82\xac\n\"\n", AT_2),
+    (b"\r\n\"\xe2\x82\xac\"\r\n{\"\xe2\x82\xac\":\r\n\n7", AT_2),
+    (b"{\n}\n", AT_0),
+    (b"7\n\x0b\n", AT_1),
+    (b"7\n\xc2\xa0", AT_1),
+    (b"7\r8\n", AT_0),
+    // bytes that aren't UTF-8, and a character that a line feed divides
+    (b"7\n\"\xff\"\n", AT_1),
+    (b"\"\xe2\x82\n\xac\"\n", AT_0),
+];
+
+/// The items of a stream that is fed in a front and in pieces of this length, or its first fault, which later calls answer too.
+fn fed(
+    alloc: Global,
+    front: &[u8],
+    rest: &[u8],
+    length: usize,
+) -> Result<Vec<EventItem>, LineFault> {
+    let mut items = Vec::new(alloc);
+    let mut reader = LineReader::open(alloc);
+    let mut first = reader.feed(front, &mut items);
+    for piece in rest.chunks(length.max(1)) {
+        let fed = reader.feed(piece, &mut items);
+        if first.is_ok() {
+            first = fed;
+        } else if fed != first {
+            return Err(LineFault::Memory);
+        }
+    }
+    let again = reader.feed(b"", &mut items);
+    let ended = reader.finish(&mut items);
+    if again != first || first.is_err() && ended != first {
+        return Err(LineFault::Memory);
+    }
+    ended.map(|()| items)
+}
+
+/// Whether the items have these faults.
+fn have(items: &[EventItem], faults: &[Option<ItemFault>]) -> bool {
+    for (item, fault) in items.iter().zip(faults.iter()) {
+        if item.fault() != *fault {
+            return false;
+        }
+    }
+    items.len() == faults.len()
+}
+
+/// Whether this was read.
+fn is_as(read: Result<Vec<EventItem>, LineFault>, expected: Items<'_>) -> bool {
+    match (read, expected) {
+        (Ok(items), Ok(faults)) => have(items.as_slice(), faults),
+        (Err(found), Err(fault)) => found == fault,
+        _ => false,
+    }
+}
+
+/// The first stream of which something else is read, and the length of its pieces or of its front then.
+fn first_other(alloc: Global, streams: &[(&[u8], Items<'_>)]) -> Option<(usize, usize)> {
+    for (place, (stream, expected)) in streams.iter().enumerate() {
+        for length in [usize::MAX, 1, 2, 3] {
+            if !is_as(fed(alloc, b"", stream, length), *expected) {
+                return Some((place, length));
+            }
+        }
+        for at in 0..stream.len() {
+            let (front, rest) = stream.split_at(at.min(stream.len()));
+            if !is_as(fed(alloc, front, rest, rest.len()), *expected) {
+                return Some((place, at));
+            }
+        }
+    }
+    None
+}
+
+#[test]
+fn streams_whole_and_cut_at_each_byte(rt: HostRuntime) {
+    assert_eq!(rt; first_other(rt.alloc(), STREAMS), None);
+}
+
+/// Pieces of long streams with how often each stands.
+const LONG_STREAMS: &[(&[(&str, usize)], Items<'static>)] = &[
+    // the most bytes
+    (&[("7", 1), (" ", 4_194_303)], Ok(&[NO_OBJECT])),
+    (&[("7", 1), (" ", 4_194_302), ("\n", 1)], Ok(&[NO_OBJECT])),
+    (&[("7", 1), (" ", 4_194_302), ("{", 1)], AT_0),
+    // one more, whatever it is
+    (&[("7", 1), (" ", 4_194_304)], LONG),
+    (&[("7", 1), (" ", 4_194_303), ("\n", 1)], LONG),
+    (&[("7", 1), (" ", 4_194_303), ("{", 1)], LONG),
+    // a line that is no JSON, and ends within the limit; and one that ends behind it
+    (&[("{", 1), (" ", 4_194_302), ("\n", 1), ("7", 9)], AT_0),
+    (&[("{", 1), (" ", 4_194_303), ("\n", 1), ("7", 9)], LONG),
+    // events among other lines
+    (
+        &[
+            (EVENT, 1),
+            ("\n \r\n", 1),
+            (EVENT, 1),
+            ("\r\n7\n{}\n", 1),
+            (EVENT, 1),
+        ],
+        Ok(&[None, None, NO_OBJECT, NO_PROVIDER, None]),
+    ),
+    // one item too many, and a line behind as many as there may be
+    (&[("7\n", 10_000), ("7", 1)], MANY),
+    (&[("7\n", 10_000), ("7\n", 1)], MANY),
+    (&[("7\n", 10_000), ("7\n{\n", 1)], MANY),
+    (&[("7\n", 10_000), ("{", 1)], AT_10_000),
+    (&[("7\n", 10_000), ("{\n", 1)], AT_10_000),
+];
+
+const LONG: Items<'static> = Err(LineFault::TooLong);
+
+const MANY: Items<'static> = Err(LineFault::TooMany);
+
+const AT_10_000: Items<'static> = Err(LineFault::NotJson { line: 10_000 });
+
+/// The first long stream of which something else is read.
+fn first_other_long(
+    alloc: Global,
+    streams: &[(&[(&str, usize)], Items<'_>)],
+) -> Result<Option<usize>, AllocError> {
+    for (place, (pieces, expected)) in streams.iter().enumerate() {
+        let stream = text_of(alloc, pieces)?;
+        for length in [100, 16_384, 4_194_304, 5_000_000] {
+            if !is_as(fed(alloc, b"", stream.as_bytes(), length), *expected) {
+                return Ok(Some(place));
+            }
+        }
+    }
+    Ok(None)
+}
+
+#[test]
+fn most_bytes_and_items(rt: HostRuntime) {
+    assert_eq!(rt; first_other_long(rt.alloc(), LONG_STREAMS), Ok(None));
+}
+
+/// How many items three pieces of a stream are.
+fn count_of(alloc: Global) -> Result<usize, LineFault> {
+    let mut items = Vec::new(alloc);
+    let mut reader = LineReader::open(alloc);
+    reader.feed(b"{\"x\":", &mut items)?;
+    reader.feed(b"1}\n7\n", &mut items)?;
+    reader.feed(b"[]", &mut items)?;
+    reader.finish(&mut items)?;
+    Ok(items.len())
+}
+
+/// A stream, fed again from its beginning where a growth is refused (by `tests/refused-growths`).
+#[test]
+fn a_stream_is_read_after_a_refused_growth(rt: HostRuntime) {
+    let read = match count_of(rt.alloc()) {
+        Err(LineFault::Memory) => count_of(rt.alloc()),
+        other => other,
+    };
+    assert_eq!(rt; read, Ok(3));
+}
+
+/// Want of memory is kept, as any fault is (growths are refused by `tests/refused-growths`).
+#[test]
+fn memory_is_kept_after_a_refused_growth(rt: HostRuntime) {
+    let mut items = Vec::new(rt.alloc());
+    let mut reader = LineReader::open(rt.alloc());
+    let fed = [
+        reader.feed(b"7\n7\n", &mut items),
+        reader.feed(b"7", &mut items),
+        reader.feed(b"\n", &mut items),
+    ];
+    let ended = reader.finish(&mut items).map(|()| items.len());
+    let kept = match fed {
+        [Ok(()), Ok(()), Ok(())] => ended == Ok(3) || ended == Err(LineFault::Memory),
+        [_, _, last] => last == Err(LineFault::Memory) && ended == Err(LineFault::Memory),
+    };
+    assert!(rt; kept);
+}
+
+/// What a stream answers that is fed in two pieces and finished, where the taker finds memory for so many items of the first
+/// alone; and what it has then.
+fn taken(alloc: Global, most: usize) -> ([Result<(), LineFault>; 3], Vec<EventItem>) {
+    let mut taker = Few::new(alloc, most);
+    let mut reader = LineReader::open(alloc);
+    let first = reader.feed(b"7\n\n{}\n7", &mut taker);
+    taker.most = 9;
+    let second = reader.feed(b"\n7\n", &mut taker);
+    let ended = reader.finish(&mut taker);
+    ([first, second, ended], taker.items)
+}
+
+/// Whether these are the answers, and items of these faults are taken.
+fn takes(
+    alloc: Global,
+    most: usize,
+    answer: Result<(), LineFault>,
+    faults: &[Option<ItemFault>],
+) -> bool {
+    let (answers, items) = taken(alloc, most);
+    answers == [answer; 3] && have(items.as_slice(), faults)
+}
+
+/// A taker's want of memory is the stream's fault, and is kept; the items before it were taken, and none behind it.
+#[test]
+fn a_taker_has_no_memory(rt: HostRuntime) {
+    let memory = Err(LineFault::Memory);
+    let took = [
+        takes(rt.alloc(), 0, memory, &[]),
+        takes(rt.alloc(), 1, memory, &[NO_OBJECT]),
+        takes(
+            rt.alloc(),
+            2,
+            Ok(()),
+            &[NO_OBJECT, NO_PROVIDER, NO_OBJECT, NO_OBJECT],
+        ),
+    ];
+    assert_eq!(rt; took, [true; 3]);
+}
+
+/// A stream begins, takes in nothing, tells want of memory again, and ends (`tests/refused-growths` refuses each growth
+/// meanwhile).
+#[test]
+fn a_stream_begins_with_every_growth_refused(rt: HostRuntime) {
+    let mut items = Vec::new(rt.alloc());
+    let _begun = fence(rt.alloc());
+    let mut reader = LineReader::open(rt.alloc());
+    let empty = reader.feed(b"", &mut items);
+    let first = reader.feed(b"7\n", &mut items);
+    let again = reader.feed(b"", &mut items);
+    let ended = reader.finish(&mut items);
+    let _ended = fence(rt.alloc());
+    assert_eq!(rt; (empty, again, ended), (Ok(()), first, first));
+}

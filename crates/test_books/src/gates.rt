@@ -1,0 +1,24 @@
+//! What no clause says: that the open gate takes no memory.
+use mds_gate::{Gate, OpenGate};
+use std::alloc::{AllocError, Global};
+
+/// A growth of a size of its own: `tests/refused-growths` refuses each one between two of these.
+#[inline(never)]
+fn fence(alloc: Global) -> Result<Vec<u8>, AllocError> {
+    Vec::with_capacity(alloc, 12_347)
+}
+
+/// Takes a worker past a gate, before and after so many pieces of its work.
+fn pass<G: Gate>(gate: &G, worker: usize, pieces: usize) {
+    for nth in 0..pieces {
+        gate.enter(worker, nth);
+        gate.leave(worker, nth);
+    }
+}
+
+#[test]
+fn the_open_gate_is_passed_with_every_growth_refused(rt: HostRuntime) {
+    let _begun = fence(rt.alloc());
+    pass(&OpenGate, 3, 2);
+    let _ended = fence(rt.alloc());
+}

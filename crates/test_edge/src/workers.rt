@@ -1,0 +1,345 @@
+//! What no clause says: that workers work side by side, and what comes of their connections.
+mod gates;
+
+ghost use Rattle.std.specs.Prelude.{◌≡◌, IfOk};
+ghost use Rattle.mds_book.specs.Books.{IsSeatCount};
+
+use mds_book::{Book, Gate, Keep, OpenGate, ShardLedger, reconcile};
+use mds_face::Face;
+use mds_pool::{Ending, NewBook, PoolCause, Port, PortFault, Stop, serve, serve_and_settle};
+use std::alloc::Global;
+use std::hash::RandomState;
+use std::io::{self, Write};
+use std::marker::Brand;
+use std::random::RandomSource;
+use std::sync::Wait;
+use std::sync::atomic::{AtomicUsize, Ordering};
+use std::thread::Threads;
+use test_fixtures::{Lack, MeetingGate, fence, profile_again};
+
+/// Requests that register two vehicles, of different shards.
+const A: &[u8] =
+    b"POST /vehicles HTTP/1.1\r\nContent-Length: 105\r\n\r\n{\"provider_id\":\"00000000-0000-4000-8000-000000000001\",\"device_id\":\"00000000-0000-4000-8000-00000000000a\"}";
+
+const B: &[u8] =
+    b"POST /vehicles HTTP/1.1\r\nContent-Length: 105\r\n\r\n{\"provider_id\":\"00000000-0000-4000-8000-000000000001\",\"device_id\":\"00000000-0000-4000-8000-00000000000b\"}";
+
+/// A writer that takes so many bytes and then fails, and counts the answers of status 200 that begin.
+#[derive(Drop)]
+struct Answer<'a> {
+    room: usize,
+    good: &'a AtomicUsize,
+}
+
+impl Write for Answer<'_> {
+    fn write(&mut self, bytes: &[u8]) -> io::Result<usize> {
+        let count = bytes.len().min(self.room);
+        if count == 0 {
+            return Err(io::Error::from(io::ErrorKind::BrokenPipe));
+        }
+        if bytes.starts_with(b"HTTP/1.1 200 OK\r\n") {
+            self.good.fetch_add(1, Ordering::SeqCst);
+        }
+        self.room -= count;
+        Ok(count)
+    }
+
+    fn flush(&mut self) -> io::Result<()> {
+        Ok(())
+    }
+}
+
+/// What a port in memory gives: requests, each with the number of bytes that its writer takes.
+type Requests = &'static [(&'static [u8], usize)];
+
+/// A port in memory: these requests; then it fails. It counts the connections that ended at once.
+#[derive(Drop)]
+struct Listed<'a> {
+    list: Requests,
+    next: AtomicUsize,
+    good: &'a AtomicUsize,
+    at_once: &'a AtomicUsize,
+}
+
+impl<'a> Port for Listed<'a> {
+    type In = &'static [u8];
+
+    type Out = Answer<'a>;
+
+    fn accept(&self) -> Result<(&'static [u8], Answer<'a>), PortFault> {
+        let place = self.next.fetch_add(1, Ordering::SeqCst);
+        let Some(request) = self.list.get(place) else {
+            return Err(PortFault);
+        };
+        let good = self.good;
+        let answer = Answer {
+            room: request.1,
+            good,
+        };
+        Ok((request.0, answer))
+    }
+
+    fn end(&self, _input: &'static [u8], _output: Answer<'a>, ending: Ending) {
+        if ending == Ending::AtOnce {
+            self.at_once.fetch_add(1, Ordering::SeqCst);
+        }
+    }
+}
+
+/// What serving came to: whether the port failed, how many seats came back, and how many requests were accepted, where their
+/// notes fit.
+type Came = (bool, usize, Option<u128>);
+
+/// How a port is served: by so many seats, of which each answers so many connections in each of so many rounds.
+#[derive(Clone, Copy)]
+struct Turns {
+    seats: usize,
+    each: usize,
+    rounds: usize,
+}
+
+/// The routes, where memory allows at once or at a second try.
+fn routes(alloc: Global) -> Result<Face, Lack> {
+    match Face::open(alloc) {
+        Ok(face) => Ok(face),
+        Err(_) => Ok(Face::open(alloc)?),
+    }
+}
+
+/// Serves the port with a new book, and settles it. It serves between two fences.
+fn served_by<
+    R: Threads + Wait + Sync,
+    P: Port + Sync,
+    G: Gate + Sync,
+    L: ShardLedger + Send + Sync,
+    M: ShardLedger + Send + Sync,
+>(rt: &R, alloc: Global, port: &P, gate: &G, turns: Turns, opening: NewBook) -> Result<Came, Lack>
+where
+    P::In: Send,
+    P::Out: Send,
+    requires first { (opening.first.name ≡ L.name) × (opening.first.parts ≡ L.parts) }
+    requires second { (opening.second.name ≡ M.name) × (opening.second.parts ≡ M.parts) }
+    requires parts { (opening.first.parts ≡ opening.seats)
+        × (opening.second.parts ≡ opening.seats) }
+    requires tables { (opening.tables ≡ L.tables) × (opening.tables ≡ M.tables) }
+{
+    let NewBook {
+        tables,
+        seats,
+        first,
+        second,
+        hashers,
+    } = opening;
+    let opened = Book::<L, M>::open(alloc, tables, seats, Keep::Accepted, first, second, hashers);
+    let Ok((book, mut list)) = opened else {
+        return Err(Lack::Memory);
+    };
+    let face = routes(alloc)?;
+    let mut failed = false;
+    let _begun = fence(alloc);
+    for _ in 0..turns.rounds {
+        list = match serve(rt, alloc, &face, port, &book, list, turns.each, gate) {
+            Ok(back) => back,
+            Err(fault) => {
+                failed = failed || fault.cause == PoolCause::Accept;
+                fault.seats
+            }
+        };
+    }
+    let _ended = fence(alloc);
+    let count = list.len();
+    let accepted = match reconcile(book, list) {
+        Ok(settled) => Some(settled.accepted()),
+        Err(_) => None,
+    };
+    Ok((failed, count, accepted))
+}
+
+/// What a book over the profile is opened with.
+fn opening<R: RandomSource>(rt: &R, alloc: Global, seats: usize) -> Result<NewBook, Lack>
+    ensures seats { IfOk result (λ opening. opening.seats ≡ seats) }
+    ensures parts { IfOk result (λ opening.
+        (opening.first.parts ≡ opening.seats) × (opening.second.parts ≡ opening.seats)) }
+{
+    let (Ok(one), Ok(other)) = (RandomState::new(rt), RandomState::new(rt)) else {
+        return Err(Lack::Case);
+    };
+    Ok(NewBook::of(profile_again(alloc)?, seats, [one, other]))
+}
+
+/// The same with a book over the profile, with ledgers of its own.
+fn served<R: Threads + Wait + RandomSource + Sync, P: Port + Sync, G: Gate + Sync>(
+    rt: &R,
+    alloc: Global,
+    port: &P,
+    gate: &G,
+    turns: Turns,
+) -> Result<Came, Lack>
+where
+    P::In: Send,
+    P::Out: Send,
+{
+    let opening = opening(rt, alloc, turns.seats)?;
+    served_by::<R, P, G, Brand, Brand>(rt, alloc, port, gate, turns, opening)
+}
+
+/// What serving these requests came to, how many answers of status 200 were begun, and how many connections ended at once.
+fn came_of<R: Threads + Wait + RandomSource + Sync, G: Gate + Sync>(
+    rt: &R,
+    alloc: Global,
+    gate: &G,
+    list: Requests,
+    turns: Turns,
+) -> Result<(Came, usize, usize), Lack> {
+    let (good, at_once) = (AtomicUsize::new(0), AtomicUsize::new(0));
+    let port = Listed {
+        list,
+        next: AtomicUsize::new(0),
+        good: &good,
+        at_once: &at_once,
+    };
+    let came = served(rt, alloc, &port, gate, turns)?;
+    let counts = (good.load(Ordering::SeqCst), at_once.load(Ordering::SeqCst));
+    Ok((came, counts.0, counts.1))
+}
+
+/// One round of so many seats and connections of each.
+fn once(seats: usize, each: usize) -> Turns {
+    Turns {
+        seats,
+        each,
+        rounds: 1,
+    }
+}
+
+#[test]
+fn two_workers_meet(rt: HostRuntime) {
+    let gate = MeetingGate::new(&rt);
+    let list = &[(A, 999), (B, 999)];
+    let came = came_of(&rt, rt.alloc(), &gate, list, once(2, 1));
+    assert_eq!(rt;
+        (came, gate.gave_up()),
+        (Ok(((false, 2, Some(2)), 2, 2)), false)
+    );
+}
+
+/// A case: the requests, how many seats there are and how many connections each answers, and what serving comes to.
+type Case = (Requests, usize, usize, (Came, usize, usize));
+
+/// No connections; a peer that stops reading; a port that fails at once, and one that fails once its requests are taken.
+const CASES: &[Case] = &[
+    (&[], 1, 0, ((false, 1, Some(0)), 0, 0)),
+    (&[(A, 10), (B, 999)], 1, 2, ((false, 1, Some(2)), 2, 1)),
+    (&[], 1, 1, ((true, 1, Some(0)), 0, 0)),
+    (&[(A, 999), (B, 999)], 2, 2, ((true, 2, Some(2)), 2, 2)),
+];
+
+/// The place of the first of these cases to which serving doesn't come, if there is one.
+fn first_other<R: Threads + Wait + RandomSource + Sync>(
+    rt: &R,
+    alloc: Global,
+    cases: &[Case],
+) -> Result<Option<usize>, Lack> {
+    for (place, case) in cases.iter().enumerate() {
+        let (list, seats, each, expected) = *case;
+        if came_of(rt, alloc, &OpenGate, list, once(seats, each))? != expected {
+            return Ok(Some(place));
+        }
+    }
+    Ok(None)
+}
+
+#[test]
+fn connections_come_to_this(rt: HostRuntime) {
+    assert_eq!(rt; first_other(&rt, rt.alloc(), CASES), Ok(None));
+}
+
+/// As many workers as there may be, of a port that fails at once.
+#[test]
+fn seats_come_back_with_every_growth_refused(rt: HostRuntime) {
+    let came = came_of(&rt, rt.alloc(), &OpenGate, &[], once(64, 1));
+    assert_eq!(rt; came, Ok(((true, 64, Some(0)), 0, 0)));
+}
+
+/// Registrations of A and of B, and the same again.
+const TWICE: Requests = &[(A, 999), (B, 999), (A, 999), (B, 999)];
+
+/// What a book of two seats came to that served these connections in two rounds; it is opened again where there was no memory.
+fn served_in_two_rounds<R: Threads + Wait + RandomSource + Sync>(
+    rt: &R,
+    alloc: Global,
+) -> Result<Came, Lack> {
+    let turns = Turns {
+        seats: 2,
+        each: 1,
+        rounds: 2,
+    };
+    match came_of(rt, alloc, &OpenGate, TWICE, turns) {
+        Ok((came, _, _)) => Ok(came),
+        Err(_) => Ok(came_of(rt, alloc, &OpenGate, TWICE, turns)?.0),
+    }
+}
+
+/// By `tests/refused-growths`, as the other of such a name.
+#[test]
+fn workers_serve_after_a_refused_growth(rt: HostRuntime) {
+    assert_eq!(rt;
+        served_in_two_rounds(&rt, rt.alloc()),
+        Ok((false, 2, Some(2)))
+    );
+}
+
+/// How many requests a book accepted that served the port, once it is settled.
+fn ended<
+    R: Threads + Wait + Sync,
+    P: Port + Sync,
+    L: ShardLedger + Send + Sync,
+    M: ShardLedger + Send + Sync,
+>(rt: &R, alloc: Global, port: &P, opening: NewBook) -> Result<u128, Stop>
+where
+    P::In: Send,
+    P::Out: Send,
+    requires first { (opening.first.name ≡ L.name) × (opening.first.parts ≡ L.parts) }
+    requires second { (opening.second.name ≡ M.name) × (opening.second.parts ≡ M.parts) }
+    requires parts { (opening.first.parts ≡ opening.seats)
+        × (opening.second.parts ≡ opening.seats) }
+    requires tables { (opening.tables ≡ L.tables) × (opening.tables ≡ M.tables) }
+    requires seats { IsSeatCount opening.seats }
+{
+    match serve_and_settle::<R, P, L, M>(rt, alloc, opening, port, 2) {
+        Ok(settled) => Ok(settled.accepted()),
+        Err(stop) => Err(stop),
+    }
+}
+
+/// The same of the connections and a new book of two seats with ledgers of its own.
+fn ended_anew<R: Threads + Wait + RandomSource + Sync>(
+    rt: &R,
+    alloc: Global,
+) -> Result<Result<u128, Stop>, Lack> {
+    let (good, at_once) = (AtomicUsize::new(0), AtomicUsize::new(0));
+    let port = Listed {
+        list: TWICE,
+        next: AtomicUsize::new(0),
+        good: &good,
+        at_once: &at_once,
+    };
+    let opening = opening(rt, alloc, 2)?;
+    Ok(ended::<R, Listed<'_>, Brand, Brand>(rt, alloc, &port, opening))
+}
+
+/// The same, with a second book where there was no memory to begin.
+fn ended_again<R: Threads + Wait + RandomSource + Sync>(
+    rt: &R,
+    alloc: Global,
+) -> Result<Result<u128, Stop>, Lack> {
+    match ended_anew(rt, alloc)? {
+        Err(Stop::Memory) => ended_anew(rt, alloc),
+        ended => Ok(ended),
+    }
+}
+
+#[test]
+fn a_book_is_settled_after_a_refused_growth(rt: HostRuntime) {
+    assert_eq!(rt; ended_again(&rt, rt.alloc()), Ok(Ok(2)));
+}

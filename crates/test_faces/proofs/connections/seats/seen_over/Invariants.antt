@@ -1,0 +1,13 @@
+use Rattle.test_faces.proofs.connections.seats.seen_over.Given as goal
+
+abbrev pub ghosts-seen_in-L-Ledger : goal.ghosts-seen_in-L-Ledger
+ghosts-seen_in-L-Ledger g a = record { name = a.first.name; parts = a.first.parts }
+
+abbrev pub ghosts-seen_in-L-ShardLedger : goal.ghosts-seen_in-L-ShardLedger
+ghosts-seen_in-L-ShardLedger g a = record { tables = a.tables }
+
+abbrev pub ghosts-seen_in-M-Ledger : goal.ghosts-seen_in-M-Ledger
+ghosts-seen_in-M-Ledger g a = record { name = a.second.name; parts = a.second.parts }
+
+abbrev pub ghosts-seen_in-M-ShardLedger : goal.ghosts-seen_in-M-ShardLedger
+ghosts-seen_in-M-ShardLedger g a = record { tables = a.tables }

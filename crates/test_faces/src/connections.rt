@@ -1,0 +1,146 @@
+//! One connection: the worked answers, and what becomes of it where a device fails or there is no memory.
+mod answers;
+mod endings;
+mod growths;
+mod quiet;
+mod seats;
+
+ghost use Rattle.std.specs.Prelude.{◌≡◌, IfOk};
+
+use crate::cases::{Answer, answer_text};
+use mds_face::{Desk, Face, ServeFault, Served, serve_one};
+use std::alloc::{AllocError, Global};
+use std::io::{self, Error, ErrorKind, Read, Write};
+
+/// What a device does once it has given or taken the bytes that it is to.
+#[derive(Clone, Copy, Debug, PartialEq, Eq)]
+pub enum Last {
+    /// It answers 0.
+    Ends,
+    /// It fails.
+    Fails,
+    /// It is interrupted, again and again.
+    Pauses,
+}
+
+/// The answer of a device that has no bytes left to give or to take.
+fn last_answer(last: Last) -> io::Result<usize>
+    ensures { IfOk result (λ count. count ≡ 0) }
+{
+    match last {
+        Last::Ends => Ok(0),
+        Last::Fails => Err(Error::from(ErrorKind::BrokenPipe)),
+        Last::Pauses => Err(Error::from(ErrorKind::Interrupted)),
+    }
+}
+
+/// A client that sends its bytes, at most so many a call.
+#[derive(Drop)]
+pub struct Client<'a> {
+    pub bytes: &'a [u8],
+    pub piece: usize,
+    pub last: Last,
+    pub reads: u32,
+}
+
+/// A client that sends these bytes, so many a call, and then does this.
+pub fn client_of(bytes: &[u8], piece: usize, last: Last) -> Client<'_> {
+    Client {
+        bytes,
+        piece,
+        last,
+        reads: 0,
+    }
+}
+
+impl Read for Client<'_> {
+    fn read(&mut self, buf: &mut [u8]) -> io::Result<usize> {
+        self.reads = self.reads.saturating_add(1);
+        let count = buf.len().min(self.piece).min(self.bytes.len());
+        if count == 0 {
+            return last_answer(self.last);
+        }
+        let (first, rest) = self.bytes.split_at(count);
+        buf[..count].copy_from_slice(first);
+        self.bytes = rest;
+        Ok(count)
+    }
+}
+
+/// A client's other side, which takes so many bytes.
+#[derive(Drop)]
+pub struct Peer {
+    pub taken: Vec<u8>,
+    pub room: usize,
+    pub last: Last,
+    pub writes: u32,
+}
+
+/// One that takes all bytes, and takes no memory for the first 4096; made again where its growth is refused.
+pub fn peer_of(alloc: Global) -> Result<Peer, AllocError> {
+    let taken = match Vec::with_capacity(alloc, 4096) {
+        Err(_) => Vec::with_capacity(alloc, 4096)?,
+        Ok(taken) => taken,
+    };
+    Ok(Peer {
+        taken,
+        room: usize::MAX,
+        last: Last::Ends,
+        writes: 0,
+    })
+}
+
+impl Write for Peer {
+    fn write(&mut self, buf: &[u8]) -> io::Result<usize> {
+        self.writes = self.writes.saturating_add(1);
+        let count = buf.len().min(self.room);
+        if count == 0 {
+            return last_answer(self.last);
+        }
+        self.taken.extend_from_slice(&buf[..count])?;
+        self.room -= count;
+        Ok(count)
+    }
+
+    fn flush(&mut self) -> io::Result<()> {
+        Ok(())
+    }
+}
+
+/// A request, and the answer to it.
+pub type Exchange = (&'static str, Answer);
+
+/// What is said of a connection, and what was written.
+pub type Ending = (Result<Served, ServeFault>, Vec<u8>);
+
+/// What the desk answers to these bytes, sent so many a call.
+pub fn answered<D: Desk>(
+    alloc: Global,
+    face: &Face,
+    desk: &mut D,
+    bytes: &[u8],
+    piece: usize,
+) -> Result<Ending, AllocError> {
+    let mut client = client_of(bytes, piece, Last::Ends);
+    let mut peer = peer_of(alloc)?;
+    let served = serve_one(alloc, face, &mut client, &mut peer, desk);
+    Ok((served, peer.taken))
+}
+
+/// The place of the first request that a desk answers otherwise, if there is one. Each comes so many bytes a call.
+pub fn first_other<D: Desk>(
+    alloc: Global,
+    face: &Face,
+    desk: &mut D,
+    exchanges: &[Exchange],
+    piece: usize,
+) -> Result<Option<usize>, AllocError> {
+    for (place, (request, answer)) in exchanges.iter().enumerate() {
+        let expected = answer_text(alloc, *answer)?;
+        let (_, written) = answered(alloc, face, desk, request.as_bytes(), piece)?;
+        if written.as_slice() != expected.as_bytes() {
+            return Ok(Some(place));
+        }
+    }
+    Ok(None)
+}

@@ -1,0 +1,240 @@
+//! The worked answers, each asked of a fleet.
+use super::{Exchange, answered, first_other};
+use crate::cases::{
+    A_IS_AVAILABLE, Answer, BAD_LENGTH, CODED, CUT_SHORT, EMPTY, EVENTS_OF_A, FAULTY_AMONG_THREE,
+    GET_ONLY, NO_LENGTH, NO_ROUTE, NONE_DONE, NOT_JSON, NOT_LIST, OK, ONE_DONE, POST_ONLY, THREE,
+    TOO_LONG, TWO_DONE, UNKNOWN, WAKE_AND_REST, tables_of,
+};
+use mds_core::Fleet;
+use mds_face::Face;
+use std::alloc::Global;
+use std::str::from_utf8;
+use test_fixtures::{Lack, profile};
+
+/// The file of no tables: the profile, from 0 on.
+pub const PROFILE: &str = "";
+
+/// A registration of A, and registrations of A and B.
+const A_REGISTERS: &str =
+    "POST /vehicles HTTP/1.1\r\nHost: city\r\nContent-Length: 105\r\n\r\n{\"provider_id\":\"00000000-0000-4000-8000-000000000001\",\"device_id\":\"00000000-0000-4000-8000-00000000000a\"}";
+
+const BOTH_REGISTER: &str =
+    "POST /vehicles HTTP/1.1\r\nHost: city\r\nContent-Length: 214\r\n\r\n[{\"provider_id\":\"00000000-0000-4000-8000-000000000001\",\"device_id\":\"00000000-0000-4000-8000-00000000000a\"},\n\
+{\"provider_id\":\"00000000-0000-4000-8000-000000000001\",\"device_id\":\"00000000-0000-4000-8000-00000000000b\"}]";
+
+/// An event of A.
+const A_REPORTS: &str =
+    "POST /events HTTP/1.1\r\nHost: city\r\nContent-Length: 239\r\n\r\n[{\"provider_id\":\"00000000-0000-4000-8000-000000000001\",\"device_id\":\"00000000-0000-4000-8000-00000000000a\",\n\
+\"event_id\":\"00000000-0000-4000-8000-0000000000e1\",\"vehicle_state\":\"available\",\"event_types\":[\"provider_drop_off\"],\"timestamp\":1000}]";
+
+/// A and B are looked at.
+const LOOK_AT_A: &str =
+    "GET /vehicles/00000000-0000-4000-8000-000000000001/00000000-0000-4000-8000-00000000000a?x=1 HTTP/1.1\r\n\r\n";
+
+const LOOK_AT_B: &str =
+    "GET /vehicles/00000000-0000-4000-8000-000000000001/00000000-0000-4000-8000-00000000000b HTTP/1.0\r\n\r\n";
+
+/// Their events are looked at.
+const LIST_A: &str =
+    "GET /vehicles/00000000-0000-4000-8000-000000000001/00000000-0000-4000-8000-00000000000a/events HTTP/1.1\r\n\r\n";
+
+const LIST_B: &str =
+    "GET /vehicles/00000000-0000-4000-8000-000000000001/00000000-0000-4000-8000-00000000000b/events HTTP/1.1\r\n\r\n";
+
+const B_IS_AVAILABLE: Answer = (
+    OK,
+    "",
+    r#"{"device_id":"00000000-0000-4000-8000-00000000000b","events":1,"last":1000,"location_e7":null,"provider_id":"00000000-0000-4000-8000-000000000001","vehicle_state":"available"}"#,
+);
+
+/// One faulty item among three: what is asked in turn, and what is answered.
+pub const AMONG_THREE: &[Exchange] = &[
+    (BOTH_REGISTER, TWO_DONE),
+    (THREE, FAULTY_AMONG_THREE),
+    (LOOK_AT_A, A_IS_AVAILABLE),
+    (LOOK_AT_B, B_IS_AVAILABLE),
+];
+
+/// A wakes and rests one millisecond before 2000, and rests and wakes at 2000; later B wakes at 1000.
+const ROUND_THE_START: &str =
+    "POST /events HTTP/1.1\r\nContent-Length: 1126\r\n\r\n[{\"provider_id\":\"00000000-0000-4000-8000-000000000001\",\"device_id\":\"00000000-0000-4000-8000-00000000000a\",\n\
+\"event_id\":\"00000000-0000-4000-8000-0000000000e1\",\"vehicle_state\":\"available\",\"event_types\":[\"wake\"],\"timestamp\":1999},\n\
+{\"provider_id\":\"00000000-0000-4000-8000-000000000001\",\"device_id\":\"00000000-0000-4000-8000-00000000000a\",\n\
+\"event_id\":\"00000000-0000-4000-8000-0000000000e2\",\"vehicle_state\":\"removed\",\"event_types\":[\"rest\"],\"timestamp\":1999},\n\
+{\"provider_id\":\"00000000-0000-4000-8000-000000000001\",\"device_id\":\"00000000-0000-4000-8000-00000000000a\",\n\
+\"event_id\":\"00000000-0000-4000-8000-0000000000e3\",\"vehicle_state\":\"removed\",\"event_types\":[\"rest\"],\"timestamp\":2000},\n\
+{\"provider_id\":\"00000000-0000-4000-8000-000000000001\",\"device_id\":\"00000000-0000-4000-8000-00000000000a\",\n\
+\"event_id\":\"00000000-0000-4000-8000-0000000000e4\",\"vehicle_state\":\"available\",\"event_types\":[\"wake\"],\"timestamp\":2000},\n\
+{\"provider_id\":\"00000000-0000-4000-8000-000000000001\",\"device_id\":\"00000000-0000-4000-8000-00000000000b\",\n\
+\"event_id\":\"00000000-0000-4000-8000-0000000000e1\",\"vehicle_state\":\"available\",\"event_types\":[\"wake\"],\"timestamp\":1000}]";
+
+/// Two of those events are refused; A rests then.
+const TWO_REFUSED: Answer = (
+    OK,
+    "",
+    r#"{"failures":[{"at":0,"error":"no_chain","held":"available","index":1},{"at":0,"error":"no_chain","held":"removed","index":3}],"success":3,"total":5}"#,
+);
+
+const A_IS_REMOVED: Answer = (
+    OK,
+    "",
+    r#"{"device_id":"00000000-0000-4000-8000-00000000000a","events":2,"last":2000,"location_e7":null,"provider_id":"00000000-0000-4000-8000-000000000001","vehicle_state":"removed"}"#,
+);
+
+/// Registrations, those events, the tables and where A and B stand.
+pub const TWO_IN_TURN: &[Exchange] = &[
+    (BOTH_REGISTER, TWO_DONE),
+    (ROUND_THE_START, TWO_REFUSED),
+    ("GET /table HTTP/1.1\r\n\r\n", (OK, "", WAKE_AND_REST)),
+    (LOOK_AT_A, A_IS_REMOVED),
+    (LOOK_AT_B, B_IS_AVAILABLE),
+];
+
+/// A is registered already.
+const AGAIN: Answer = (
+    OK,
+    "",
+    r#"{"failures":[{"error":"already_registered","index":0}],"success":0,"total":1}"#,
+);
+
+/// Lists, one within the other, as many as there may be and one more; the first is no vehicle.
+const DEEP: &str =
+    "POST /vehicles HTTP/1.1\r\nContent-Length: 254\r\n\r\n[[[[[[[[[[[[[[[[[[[[[[[[[[[[[[[[[[[[[[[[[[[[[[[[[[[[[[[[[[[[[[[[[[[[[[[[[[[[[[[[[[[[[[[[[[[[[[[[[[[[[[[[[[[[[[[[[[[[[[[[[[[[[[[]]]]]]]]]]]]]]]]]]]]]]]]]]]]]]]]]]]]]]]]]]]]]]]]]]]]]]]]]]]]]]]]]]]]]]]]]]]]]]]]]]]]]]]]]]]]]]]]]]]]]]]]]]]]]]]]]]]]]]]]]]]]]]]";
+
+const TOO_DEEP: &str =
+    "POST /vehicles HTTP/1.1\r\nContent-Length: 256\r\n\r\n[[[[[[[[[[[[[[[[[[[[[[[[[[[[[[[[[[[[[[[[[[[[[[[[[[[[[[[[[[[[[[[[[[[[[[[[[[[[[[[[[[[[[[[[[[[[[[[[[[[[[[[[[[[[[[[[[[[[[[[[[[[[[[[[]]]]]]]]]]]]]]]]]]]]]]]]]]]]]]]]]]]]]]]]]]]]]]]]]]]]]]]]]]]]]]]]]]]]]]]]]]]]]]]]]]]]]]]]]]]]]]]]]]]]]]]]]]]]]]]]]]]]]]]]]]]]]]]]";
+
+const NO_OBJECT: Answer = (
+    OK,
+    "",
+    r#"{"failures":[{"error":"not_object","index":0}],"success":0,"total":1}"#,
+);
+
+/// Vehicles: the empty batch, registering twice, the worked answers to looks, and deep nesting.
+const OF_VEHICLES: &[Exchange] = &[
+    (EMPTY, NONE_DONE),
+    (A_REGISTERS, ONE_DONE),
+    (A_REGISTERS, AGAIN),
+    (A_REPORTS, ONE_DONE),
+    (LOOK_AT_A, A_IS_AVAILABLE),
+    (LIST_A, EVENTS_OF_A),
+    (LOOK_AT_B, UNKNOWN),
+    (LIST_B, UNKNOWN),
+    (DEEP, NO_OBJECT),
+    (TOO_DEEP, NOT_JSON),
+];
+
+/// Requests that ask for nothing: no route, another method, lengths, bodies that are no batch, and broken requests.
+const OF_NOTHING: &[Exchange] = &[
+    (
+        "GET /vehicles/00000000-0000-4000-8000-000000000001/x HTTP/1.1\r\n\r\n",
+        NO_ROUTE,
+    ),
+    ("GET /vehicles/ HTTP/1.1\r\n\r\n", NO_ROUTE),
+    ("DELETE /events HTTP/1.1\r\n\r\n", POST_ONLY),
+    (
+        "POST /table HTTP/1.1\r\nContent-Length: 2\r\n\r\n[]",
+        GET_ONLY,
+    ),
+    ("POST /events HTTP/1.1\r\n\r\n", NO_LENGTH),
+    (
+        "POST /events HTTP/1.1\r\nContent-Length: 2\r\ncontent-length: 2\r\n\r\n[]",
+        BAD_LENGTH,
+    ),
+    (
+        "POST /events HTTP/1.1\r\nContent-Length: 12x\r\n\r\n[]",
+        BAD_LENGTH,
+    ),
+    (
+        "POST /events HTTP/1.1\r\nContent-Length: 4194305\r\n\r\n[]",
+        TOO_LONG,
+    ),
+    (
+        "POST /events HTTP/1.1\r\nContent-Length: 1\r\n\r\n7",
+        NOT_LIST,
+    ),
+    (
+        "POST /events HTTP/1.1\r\nContent-Length: 4\r\n\r\n[1,2",
+        NOT_JSON,
+    ),
+    (
+        "POST /events HTTP/1.1\r\nContent-Length: 2\r\n\r\n[",
+        CUT_SHORT,
+    ),
+    (
+        "POST /events HTTP/1.1\r\nTransfer-Encoding: chunked\r\n\r\n",
+        CODED,
+    ),
+];
+
+/// The name of a talk, the file of its tables, what is asked in turn, and what is answered.
+type Talk = (&'static str, &'static str, &'static [Exchange]);
+
+const TALKS: &[Talk] = &[
+    ("of vehicles", PROFILE, OF_VEHICLES),
+    ("of nothing", PROFILE, OF_NOTHING),
+    ("one faulty item among three", PROFILE, AMONG_THREE),
+    ("two tables", WAKE_AND_REST, TWO_IN_TURN),
+];
+
+/// A fleet over the tables of this file, or over the profile.
+pub fn fleet_over(alloc: Global, file: &str) -> Result<Fleet, Lack> {
+    let tables = if file.is_empty() {
+        profile(alloc)?
+    } else {
+        tables_of(alloc, file)?
+    };
+    Ok(Fleet::open(alloc, tables))
+}
+
+/// The first talk in which a fleet answers otherwise, and the place there.
+fn first_other_talk(
+    alloc: Global,
+    talks: &[Talk],
+    piece: usize,
+) -> Result<Option<(&'static str, usize)>, Lack> {
+    let face = Face::open(alloc)?;
+    for (name, file, exchanges) in talks {
+        let mut fleet = fleet_over(alloc, file)?;
+        if let Some(place) = first_other(alloc, &face, &mut fleet, exchanges, piece)? {
+            return Ok(Some((*name, place)));
+        }
+    }
+    Ok(None)
+}
+
+/// What comes at once, and what comes byte by byte.
+#[test]
+fn worked_answers(rt: HostRuntime) {
+    assert_eq!(rt;
+        [
+            first_other_talk(rt.alloc(), TALKS, usize::MAX),
+            first_other_talk(rt.alloc(), TALKS, 1)
+        ],
+        [Ok(None), Ok(None)]
+    );
+}
+
+/// How the answer of the profile ends its head, and begins its body.
+const FIRST_ROW: &str =
+    "\r\n\r\n{\"rows\":[{\"from\":\"removed\",\"to\":\"available\",\"type\":\"agency_drop_off\"},{\"";
+
+/// Whether a GET of the profile has the status 200 and its first row, and the rows of its body, read as the file of a table;
+/// and whether these are those of the profile.
+fn profile_told(alloc: Global) -> Result<(bool, usize, bool), Lack> {
+    let mut fleet = fleet_over(alloc, PROFILE)?;
+    let face = Face::open(alloc)?;
+    let request = b"GET /table HTTP/1.1\r\n\r\n";
+    let (_, bytes) = answered(alloc, &face, &mut fleet, request, 7)?;
+    let text = from_utf8(bytes.as_slice()).unwrap_or("");
+    let begins = text.starts_with("HTTP/1.1 200 OK\r\n") && text.contains(FIRST_ROW);
+    let (_, body) = text.split_once("\r\n\r\n").unwrap_or(("", ""));
+    let rows = tables_of(alloc, body)?.at(0).rows(alloc)?;
+    let expected = profile(alloc)?.at(0).rows(alloc)?;
+    Ok((begins, rows.len(), rows.as_slice() == expected.as_slice()))
+}
+
+#[test]
+fn table_is_a_table_file(rt: HostRuntime) {
+    assert_eq!(rt; profile_told(rt.alloc()), Ok((true, 74, true)));
+}

@@ -1,0 +1,240 @@
+//! Connections that find no memory.
+ghost use Rattle.std.specs.Prelude.{◌≡◌, IfSome};
+
+use super::answers::fleet_over;
+use super::{Last, Peer, answered, client_of, peer_of};
+use crate::cases::{THREE, WAKE_AND_REST};
+use mds_core::{Event, Fleet, Key, Reply, Request};
+use mds_face::{Desk, Face, Plan, ServeFault, Served, memory_bytes, read_plan, serve_one};
+use mds_io::ReadError;
+use mds_table::{Row, State};
+use std::alloc::{AllocError, Global};
+use test_fixtures::{A, B, Lack, key, profile_again};
+
+/// Registers a vehicle, where memory allows at once or at a second try.
+pub fn register(fleet: &mut Fleet, device: u64) -> Result<Reply, AllocError> {
+    let request = Request::Register(key(device));
+    match fleet.step(&request) {
+        Ok(reply) => Ok(reply),
+        Err(AllocError) => fleet.step(&request),
+    }
+}
+
+/// A fleet in which A and B are registered, and the routes.
+fn registered(alloc: Global) -> Result<(Fleet, Face), AllocError> {
+    let mut fleet = Fleet::open(alloc, profile_again(alloc)?);
+    register(&mut fleet, A)?;
+    register(&mut fleet, B)?;
+    Ok((fleet, routes(alloc)?))
+}
+
+/// The routes, where memory allows at once or at a second try.
+pub fn routes(alloc: Global) -> Result<Face, AllocError> {
+    match Face::open(alloc) {
+        Ok(face) => Ok(face),
+        Err(_) => Face::open(alloc),
+    }
+}
+
+/// A fleet that finds no memory once so many requests were put to it.
+#[derive(Drop)]
+struct Wanting<'a> {
+    fleet: &'a mut Fleet,
+    left: usize,
+}
+
+impl Desk for Wanting<'_> {
+    ghost use Rattle.std.specs.Prelude.{IfSome};
+    ghost use Rattle.mds_core.specs.History.{key_of, requests_of};
+    ghost use Rattle.mds_core.specs.Answer.{Answers};
+    ghost use Rattle.mds_core.proofs.OfTheirKind.{given_is_for};
+
+    ghost calls = { λ old request reply new.
+        IfSome reply (Answers old.fleet.now.tables old.fleet.now.history request) };
+
+    ghost gives_events = { λ desk key events. Unit {0} };
+
+    ghost gives_rows = { λ desk tables. Unit {0} };
+
+    ghost of_its_kind = { λ old request reply new answers. given_is_for old.fleet.now.tables
+        (requests_of old.fleet.now.history (key_of request)) request reply.outcome answers.outcome };
+
+    fn call(&mut self, request: &Request) -> Result<Reply, AllocError> {
+        if self.left == 0 {
+            return Err(AllocError);
+        }
+        self.left -= 1;
+        self.fleet.step(request)
+    }
+
+    fn events(&mut self, _key: &Key) -> Result<Option<Vec<Event>>, AllocError> {
+        Err(AllocError)
+    }
+
+    fn rows(&mut self) -> Result<Vec<(u64, Vec<Row>)>, AllocError> {
+        Err(AllocError)
+    }
+}
+
+/// The state that a vehicle holds.
+fn held(fleet: &Fleet, device: u64) -> Option<State> {
+    Some(fleet.standing(&key(device))?.state)
+}
+
+/// The answer to the batch of three items that finds no memory for its last one.
+const PARTIAL: &[u8] =
+    b"HTTP/1.1 503 Service Unavailable\r\ncontent-type: application/json\r\ncontent-length: 35\r\nconnection: close\r\n\r\n{\"error\":\"out_of_memory\",\"index\":2}";
+
+/// What is told of a batch which finds no memory behind its first event, whether that is its answer, and the states of A and
+/// of B then.
+type Partial = (Result<Served, ServeFault>, bool, [Option<State>; 2]);
+
+fn partial_batch(alloc: Global) -> Result<Partial, AllocError> {
+    let (mut fleet, face) = registered(alloc)?;
+    let mut desk = Wanting {
+        fleet: &mut fleet,
+        left: 1,
+    };
+    let (served, written) = answered(alloc, &face, &mut desk, THREE.as_bytes(), usize::MAX)?;
+    let is_partial = written.as_slice() == PARTIAL;
+    Ok((served, is_partial, [held(&fleet, A), held(&fleet, B)]))
+}
+
+#[test]
+fn refused_growth_inside_a_batch(rt: HostRuntime) {
+    let served = Ok(Served {
+        status: 503,
+        accepted: 1,
+    });
+    let states = [Some(State::Available), Some(State::Removed)];
+    assert_eq!(rt; partial_batch(rt.alloc()), Ok((served, true, states)));
+}
+
+/// What a GET asks for that finds no memory.
+const LOOKS: &[&str] = &[
+    "GET /vehicles/00000000-0000-4000-8000-000000000001/00000000-0000-4000-8000-00000000000a HTTP/1.1\r\n\r\n",
+    "GET /vehicles/00000000-0000-4000-8000-000000000001/00000000-0000-4000-8000-00000000000a/events HTTP/1.1\r\n\r\n",
+    "GET /table HTTP/1.1\r\n\r\n",
+];
+
+/// The first of these that isn't answered by the fixed answer where a fleet finds no memory.
+fn first_other_look(
+    alloc: Global,
+    looks: &[&'static str],
+) -> Result<Option<&'static str>, AllocError> {
+    let (mut fleet, face) = registered(alloc)?;
+    let mut desk = Wanting {
+        fleet: &mut fleet,
+        left: 0,
+    };
+    for look in looks {
+        let (served, written) = answered(alloc, &face, &mut desk, look.as_bytes(), 1)?;
+        let is_fixed = written.as_slice() == memory_bytes();
+        if (served, is_fixed) != (Err(ServeFault::Memory { sent: 74 }), true) {
+            return Ok(Some(*look));
+        }
+    }
+    Ok(None)
+}
+
+#[test]
+fn refused_growth_of_a_look(rt: HostRuntime) {
+    assert_eq!(rt; first_other_look(rt.alloc(), LOOKS), Ok(None));
+}
+
+/// What is told of a request, how many bytes were written and how many requests the fleet holds then.
+pub type Told = (Result<Served, ServeFault>, usize, usize);
+
+/// What is told of these bytes, which come at once, to a fleet.
+pub fn told_of(
+    alloc: Global,
+    face: &Face,
+    fleet: &mut Fleet,
+    bytes: &[u8],
+    mut peer: Peer,
+) -> Told {
+    let mut client = client_of(bytes, usize::MAX, Last::Ends);
+    let served = serve_one(alloc, face, &mut client, &mut peer, fleet);
+    (served, peer.taken.len(), fleet.history().len())
+}
+
+/// Whether a fleet of so many requests is what was told of the batch, where A and B were registered before.
+fn stands(told: Told) -> bool {
+    let (served, written, held) = told;
+    match served {
+        Ok(Served { status, accepted }) => {
+            let expected = if accepted == 2 { 200 } else { 503 };
+            accepted <= 2 && held == 2 + accepted && status == expected
+        }
+        Err(ServeFault::Memory { sent }) => sent == 74 && written == 74 && (held == 2 || held == 4),
+        _ => false,
+    }
+}
+
+/// An answer of status 200 to so many accepted requests.
+pub fn whole(accepted: usize) -> Result<Served, ServeFault> {
+    Ok(Served {
+        status: 200,
+        accepted,
+    })
+}
+
+/// Whether what was told of the batch stands; whether the same request is then answered whole, where it wasn't before; and the
+/// states of A and of B at last.
+fn twice_told(alloc: Global) -> Result<(bool, bool, [Option<State>; 2]), AllocError> {
+    let (mut fleet, face) = registered(alloc)?;
+    let first = told_of(alloc, &face, &mut fleet, THREE.as_bytes(), peer_of(alloc)?);
+    let mut is_whole = first.0 == whole(2);
+    if !is_whole {
+        let again = told_of(alloc, &face, &mut fleet, THREE.as_bytes(), peer_of(alloc)?);
+        is_whole = (again.0, again.2) == (whole(4usize.saturating_sub(first.2)), 4);
+    }
+    Ok((stands(first), is_whole, [held(&fleet, A), held(&fleet, B)]))
+}
+
+/// By `tests/refused-growths`, as the others of such names.
+#[test]
+fn calls_stand_after_a_refused_growth(rt: HostRuntime) {
+    let states = [Some(State::Available), Some(State::Available)];
+    assert_eq!(rt; twice_told(rt.alloc()), Ok((true, true, states)));
+}
+
+/// What is told of two tables at once, or at a second time where there was no memory at the first.
+fn tables_told(alloc: Global) -> Result<Option<Told>, Lack> {
+    let mut fleet = fleet_over(alloc, WAKE_AND_REST)?;
+    let face = routes(alloc)?;
+    let request = b"GET /table HTTP/1.1\r\n\r\n";
+    let first = told_of(alloc, &face, &mut fleet, request, peer_of(alloc)?);
+    match first.0 {
+        Ok(_) => Ok(Some(first)),
+        Err(_) if first != (Err(ServeFault::Memory { sent: 74 }), 74, 0) => Ok(None),
+        Err(_) => Ok(Some(told_of(alloc, &face, &mut fleet, request, peer_of(alloc)?))),
+    }
+}
+
+#[test]
+fn tables_are_told_after_a_refused_growth(rt: HostRuntime) {
+    assert_eq!(rt; tables_told(rt.alloc()), Ok(Some((whole(0), 256, 0))));
+}
+
+/// How many events the batch reports, faulty items among them, read again where there was no memory to read it.
+fn reported(alloc: Global) -> Result<Option<usize>, Lack> {
+    let face = routes(alloc)?;
+    let (mut once, mut again) = (
+        client_of(THREE.as_bytes(), 16, Last::Ends),
+        client_of(THREE.as_bytes(), 16, Last::Ends),
+    );
+    let plan = match read_plan(alloc, &face, &mut once) {
+        Err(ReadError::Memory) => read_plan(alloc, &face, &mut again),
+        read => read,
+    };
+    match plan {
+        Ok(Plan::Events(items)) => Ok(Some(items.len())),
+        _ => Ok(None),
+    }
+}
+
+#[test]
+fn a_batch_is_read_after_a_refused_growth(rt: HostRuntime) {
+    assert_eq!(rt; reported(rt.alloc()), Ok(Some(3)));
+}

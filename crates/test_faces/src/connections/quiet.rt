@@ -1,0 +1,82 @@
+//! What is answered without memory.
+use super::answers::{PROFILE, fleet_over};
+use super::growths::{Told, register, told_of, whole};
+use super::{Client, Last, Peer, client_of, peer_of};
+use mds_core::{Fleet, Outcome, Refusal, Request, Standing};
+use mds_face::{Desk, Face, ServeFault, Served, read_plan, serve_one};
+use mds_io::ReadError;
+use std::alloc::{AllocError, Global};
+use test_fixtures::{A, B, Lack, fence, key};
+
+/// The outcomes of a look at A and of its second registration, and whether B has no events.
+fn outcomes<D: Desk>(desk: &mut D) -> Result<([Outcome; 2], bool), AllocError> {
+    let seen = desk.call(&Request::Look(key(A)))?.outcome;
+    let refused = desk.call(&Request::Register(key(A)))?.outcome;
+    let unknown = desk.events(&key(B))?.is_none();
+    Ok(([seen, refused], unknown))
+}
+
+/// A client whose first read fails.
+fn failing() -> Client<'static> {
+    client_of(b"", 1, Last::Fails)
+}
+
+/// What is said of that client where it is served, and where it is only read.
+type Faults = (Result<Served, ServeFault>, Option<ReadError>);
+
+fn faults_of(alloc: Global, face: &Face, fleet: &mut Fleet, mut peer: Peer) -> Faults {
+    let served = serve_one(alloc, face, &mut failing(), &mut peer, fleet);
+    (served, read_plan(alloc, face, &mut failing()).err())
+}
+
+/// Asks for the events of A.
+const EVENTS: &[u8] =
+    b"GET /vehicles/00000000-0000-4000-8000-000000000001/00000000-0000-4000-8000-00000000000a/events HTTP/1.1\r\n\r\n";
+
+/// What was told between two fences: outcomes, faults, and what a GET of events was answered; and whether the desk gave no
+/// rows and the growths were refused, which is the same.
+type Quiet = (
+    Result<([Outcome; 2], bool), AllocError>,
+    Faults,
+    Told,
+    (bool, bool),
+);
+
+fn told_quietly(alloc: Global) -> Result<Quiet, Lack> {
+    let face = Face::open(alloc)?;
+    let mut fleet = fleet_over(alloc, PROFILE)?;
+    register(&mut fleet, A)?;
+    let (first, second) = (peer_of(alloc)?, peer_of(alloc)?);
+    let _begun = fence(alloc);
+    let outcomes = outcomes(&mut fleet);
+    let faults = faults_of(alloc, &face, &mut fleet, first);
+    let told = told_of(alloc, &face, &mut fleet, EVENTS, second);
+    let lacks = Desk::rows(&mut fleet).is_err();
+    let ended = fence(alloc).is_err();
+    Ok((outcomes, faults, told, (lacks, ended)))
+}
+
+/// What is to be told, where the growths are refused or not.
+fn expected(is_refused: bool) -> Quiet {
+    let refused = Outcome::Refused(Refusal::AlreadyRegistered);
+    let seen = Outcome::Seen(Standing::registered());
+    let told = if is_refused {
+        (Err(ServeFault::Memory { sent: 74 }), 74, 1)
+    } else {
+        (whole(0), 103, 1)
+    };
+    (
+        Ok(([seen, refused], true)),
+        (Err(ServeFault::Read), Some(ReadError::Device)),
+        told,
+        (is_refused, is_refused),
+    )
+}
+
+/// A desk answers what it needs no memory for, and where a connection finds none the fixed answer of status 503 is written.
+#[test]
+fn lack_is_told_with_every_growth_refused(rt: HostRuntime) -> Result<(), Lack> {
+    let found = told_quietly(rt.alloc())?;
+    assert_eq!(rt; found, expected(found.3.1));
+    Ok(())
+}

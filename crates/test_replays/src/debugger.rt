@@ -1,0 +1,288 @@
+//! The debugger's readers and writers that fail, and its calls where memory is wanting.
+ghost use Rattle.std.specs.Prelude.{◌≡◌, IfOk};
+
+use crate::told::{Told, items_of};
+use mds_core::Refusal;
+use mds_debugger::{
+    CountsLine, Move, ScriptCommand, ScriptEnd, VehicleEvents, print_start, print_walk,
+    read_script, script_of, vehicle_events,
+};
+use mds_io::PrintError;
+use mds_table::State::{Available, OnTrip, Removed};
+use mds_trace::{Session, SessionFault, Verdict};
+use std::alloc::{AllocError, Global};
+use std::io::{self, Error, ErrorKind, Read, Write};
+use test_fixtures::{A, B, E1, E2, Lack, fence, key, profile};
+
+/// A reader that gives so many line feeds, with an interruption before each call, and then fails so or is at its end.
+#[derive(Drop)]
+struct Feeds {
+    left: usize,
+    calls: u32,
+    last: Option<ErrorKind>,
+}
+
+impl Read for Feeds {
+    fn read(&mut self, buf: &mut [u8]) -> io::Result<usize> {
+        self.calls = self.calls.saturating_add(1);
+        if self.calls % 2 == 1 {
+            return Err(Error::from(ErrorKind::Interrupted));
+        }
+        let count = buf.len().min(self.left);
+        if count == 0 {
+            return ending(self.last);
+        }
+        buf[..count].fill(b'\n');
+        self.left -= count;
+        Ok(count)
+    }
+}
+
+/// How a stream goes on behind its bytes.
+fn ending(last: Option<ErrorKind>) -> io::Result<usize>
+    ensures { IfOk result (λ n. n ≡ 0) }
+{
+    match last {
+        Some(kind) => Err(Error::from(kind)),
+        None => Ok(0),
+    }
+}
+
+/// What is read of a stream: how many bytes, how many are left, the number of calls, and how reading ends.
+type Taken = (usize, usize, u32, ScriptEnd);
+
+/// The length of a stream, how it goes on, and what is read of it.
+type Stream = (usize, Option<ErrorKind>, Taken);
+
+const BROKEN: Option<ErrorKind> = Some(ErrorKind::BrokenPipe);
+
+const PAUSED: Option<ErrorKind> = Some(ErrorKind::Interrupted);
+
+const STREAMS: &[Stream] = &[
+    (70_000, None, (70_000, 0, 6, ScriptEnd::Whole)),
+    (70_000, BROKEN, (70_000, 0, 6, ScriptEnd::Broken)),
+    (0, BROKEN, (0, 0, 2, ScriptEnd::Broken)),
+    (5, PAUSED, (5, 0, 5_000_000, ScriptEnd::Broken)),
+    (1_048_576, BROKEN, (1_048_576, 0, 32, ScriptEnd::Whole)),
+    (1_048_577, None, (1_048_576, 1, 32, ScriptEnd::Whole)),
+    (1_048_575, None, (1_048_575, 0, 34, ScriptEnd::Whole)),
+];
+
+/// What is read of a stream of this length that goes on so.
+fn taken(alloc: Global, left: usize, last: Option<ErrorKind>) -> Result<Taken, AllocError> {
+    let mut reader = Feeds {
+        left,
+        calls: 0,
+        last,
+    };
+    let script = read_script(alloc, &mut reader)?;
+    Ok((script.bytes.len(), reader.left, reader.calls, script.end))
+}
+
+/// The place of the first of these streams of which something else is read, and what.
+fn first_other(alloc: Global, streams: &[Stream]) -> Result<Option<(usize, Taken)>, AllocError> {
+    for (at, (len, last, expected)) in streams.iter().enumerate() {
+        let taken = taken(alloc, *len, *last)?;
+        if taken != *expected {
+            return Ok(Some((at, taken)));
+        }
+    }
+    Ok(None)
+}
+
+#[test]
+fn reading_ends_at_the_end_the_limit_or_a_fault(rt: HostRuntime) {
+    assert_eq!(rt; first_other(rt.alloc(), STREAMS), Ok(None));
+}
+
+/// What the line of a script says.
+type Said = Option<ScriptCommand>;
+
+const STEP: Said = Some(ScriptCommand::Move(Move::Step));
+
+const BACK: Said = Some(ScriptCommand::Move(Move::Back));
+
+const NEXT: Said = Some(ScriptCommand::Move(Move::Next));
+
+const CHAIN: Said = Some(ScriptCommand::Chain);
+
+const QUIT: Said = Some(ScriptCommand::Quit);
+
+/// A script, and what its lines say.
+const SCRIPT: &[u8] = b"step\n\nback\nnext\nchain\nquit";
+
+const SAID: &[Said] = &[STEP, None, BACK, NEXT, CHAIN, QUIT];
+
+/// Whether this is read of it.
+fn is_read(alloc: Global) -> Result<bool, AllocError> {
+    let mut reader = SCRIPT;
+    let script = read_script(alloc, &mut reader)?;
+    let said = match script_of(alloc, &script.bytes) {
+        Err(_) => script_of(alloc, &script.bytes)?,
+        Ok(said) => said,
+    };
+    Ok(script.end == ScriptEnd::Whole && said.as_slice() == SAID)
+}
+
+/// Each call, made again where its growth is refused (by `tests/refused-growths`).
+#[test]
+fn a_script_is_read_after_a_refused_growth(rt: HostRuntime) {
+    let is_read = match is_read(rt.alloc()) {
+        Err(_) => is_read(rt.alloc()),
+        read => read,
+    };
+    assert_eq!(rt; is_read, Ok(true));
+}
+
+/// Two events of A, of which the second comes too soon, between one of B.
+const TOLD: &[Told] = &[
+    Told(A, E1, &["provider_drop_off"], Available, 1000),
+    Told(B, E1, &["provider_drop_off"], Available, 1000),
+    Told(A, E2, &["trip_start"], OnTrip, 999),
+];
+
+/// What a replay says of them.
+const VERDICTS: &[Verdict] = &[
+    Verdict::Accepted(Available),
+    Verdict::Accepted(Available),
+    Verdict::Refused(Refusal::Late { last: 1000 }),
+];
+
+/// A session over the event of A that was accepted, and what is counted.
+fn opened(alloc: Global) -> Result<(Session, CountsLine), Lack> {
+    let items = items_of(alloc, TOLD)?;
+    let VehicleEvents { accepted, refused } = vehicle_events(alloc, &items, VERDICTS, key(A))?;
+    let counts = CountsLine {
+        events: accepted.len(),
+        refused,
+    };
+    match Session::open(alloc, profile(alloc)?, Removed, accepted) {
+        Ok(session) => Ok((session, counts)),
+        Err(SessionFault::Memory) => Err(Lack::Memory),
+        Err(_) => Err(Lack::Case),
+    }
+}
+
+/// A writer that takes this text alone, and no memory; behind it, it fails.
+#[derive(Drop)]
+struct Expects {
+    rest: &'static [u8],
+}
+
+impl Write for Expects {
+    fn write(&mut self, buf: &[u8]) -> io::Result<usize> {
+        let count = buf.len().min(self.rest.len());
+        let (Some(wanted), Some(rest)) = (self.rest.get(..count), self.rest.get(count..)) else {
+            return Err(Error::from(ErrorKind::Other));
+        };
+        if count == 0 || buf.get(..count) != Some(wanted) {
+            return Err(Error::from(ErrorKind::BrokenPipe));
+        }
+        self.rest = rest;
+        Ok(count)
+    }
+
+    fn flush(&mut self) -> io::Result<()> {
+        Ok(())
+    }
+}
+
+/// How a printing ended, and whether all that was expected went out.
+type Printed = (Result<(), PrintError>, bool);
+
+/// How a printing to this writer ended, unless memory was wanting.
+fn printed(end: Result<(), PrintError>, writer: &Expects) -> Result<Printed, Lack> {
+    match end {
+        Err(PrintError::Memory) => Err(Lack::Memory),
+        end => Ok((end, writer.rest.is_empty())),
+    }
+}
+
+/// The printing of a session's start.
+fn started(alloc: Global) -> Result<Printed, Lack> {
+    let (session, counts) = opened(alloc)?;
+    let mut writer = Expects {
+        rest: b"events 1 refused 1\n0 0 removed possible removed\n",
+    };
+    let end = print_start(alloc, &mut writer, &session, counts);
+    printed(end, &writer)
+}
+
+/// The printing of what a script does in a new session.
+fn walked(alloc: Global, script: &[Said], rest: &'static [u8]) -> Result<Printed, Lack> {
+    let (mut session, _) = opened(alloc)?;
+    let mut writer = Expects { rest };
+    let end = print_walk(alloc, &mut writer, &mut session, script);
+    printed(end, &writer)
+}
+
+#[test]
+fn a_start_is_printed_after_a_refused_growth(rt: HostRuntime) {
+    let printed = match started(rt.alloc()) {
+        Err(_) => started(rt.alloc()),
+        printed => printed,
+    };
+    assert_eq!(rt; printed, Ok((Ok(()), true)));
+}
+
+/// A short script, and what it prints.
+const WALK: &[Said] = &[CHAIN, NEXT, None];
+
+const WALKED: &[u8] = b"removed available\n1 0 available possible available\nunknown command\n";
+
+#[test]
+fn a_walk_is_printed_after_a_refused_growth(rt: HostRuntime) {
+    let printed = match walked(rt.alloc(), WALK, WALKED) {
+        Err(_) => walked(rt.alloc(), WALK, WALKED),
+        printed => printed,
+    };
+    assert_eq!(rt; printed, Ok((Ok(()), true)));
+}
+
+/// A writer that fails within the second line.
+#[test]
+fn a_writer_that_fails_ends_the_script(rt: HostRuntime) {
+    let printed = walked(rt.alloc(), &[BACK, BACK], b"at start\nat star");
+    assert_eq!(rt; printed, Ok((Err(PrintError::Device), true)));
+}
+
+/// Lines, and what they say.
+const LINES: &[(&[u8], Said)] = &[
+    (b"chain", CHAIN),
+    (
+        b"run removed",
+        Some(ScriptCommand::Move(Move::Run(Removed))),
+    ),
+    (b"run flying", None),
+    (b"\xff", None),
+];
+
+/// The place of the first of these lines that says something else.
+fn first_misread(lines: &[(&[u8], Said)]) -> Option<usize> {
+    for (at, (line, said)) in lines.iter().enumerate() {
+        if ScriptCommand::of_line(line) != *said {
+            return Some(at);
+        }
+    }
+    None
+}
+
+/// The same between two fences, and how a script that quits ends, which prints nothing.
+fn misread_and_quit(
+    alloc: Global,
+    lines: &[(&[u8], Said)],
+) -> Result<(Option<usize>, Result<(), PrintError>), Lack> {
+    let (mut session, _) = opened(alloc)?;
+    let mut writer = Expects { rest: b"" };
+    let _begun = fence(alloc);
+    let misread = first_misread(lines);
+    let end = print_walk(alloc, &mut writer, &mut session, &[QUIT, None]);
+    let _ended = fence(alloc);
+    Ok((misread, end))
+}
+
+/// Lines are read, and a script that quits prints nothing.
+#[test]
+fn lines_are_read_with_every_growth_refused(rt: HostRuntime) {
+    assert_eq!(rt; misread_and_quit(rt.alloc(), LINES), Ok((None, Ok(()))));
+}

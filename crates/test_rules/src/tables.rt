@@ -1,0 +1,7 @@
+//! Tables of allowed transitions, and tables that change at stated times: values from outside, files and their faults, growths
+//! that are refused, and calls that take no memory.
+mod files;
+mod names;
+mod quiet;
+mod refused;
+mod starts;

@@ -1,0 +1,36 @@
+//! What states, names, faults and refusals print.
+use mds_core::{EventFault, Refusal};
+use mds_steps::NoChain;
+use mds_table::{NameFault, State, TableFault, TablesFault, TypeName};
+use std::alloc::{AllocError, Global};
+
+/// Whether one of each, with commas between, are these words.
+fn have_words(alloc: Global, words: &str) -> Result<bool, AllocError> {
+    let (state, kind, name) = (
+        State::NonContactable,
+        TypeName::default(),
+        NameFault::BadByte(4),
+    );
+    let file = TableFault::BadRow(3);
+    let tables = TablesFault::InTable {
+        table: Some(12),
+        fault: file,
+    };
+    let (event, stuck) = (EventFault::TooManyTypes, NoChain { at: 2 });
+    let refusal = Refusal::NoChain {
+        held: State::OnTrip,
+        at: 0,
+    };
+    let text = format!(in alloc;
+        "{state},{kind},{name},{file},{tables},{event},{stuck},{refusal}"
+    )?;
+    Ok(text.as_str() == words)
+}
+
+const WORDS: &str =
+    "non_contactable,unspecified,bad_byte 4,bad_row 3,table 12 bad_row 3,too_many_types,no_chain 2,no_chain on_trip 0";
+
+#[test]
+fn texts_have_their_words(rt: HostRuntime) {
+    assert_eq!(rt; have_words(rt.alloc(), WORDS), Ok(true));
+}
