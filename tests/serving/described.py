@@ -348,8 +348,9 @@ def bodies_of_requests():
     seen = set()
     for talk in (talk for subject in TALKS for talk in subject()):
         for exchange in talk.exchanges:
-            head, _, body = exchange.request.partition(b"\r\n\r\n")
-            path = re.match(rb"POST (/events|/vehicles)[ ?]", head)
+            head, _, sent = exchange.request.partition(b"\r\n\r\n")
+            path, length = re.match(rb"POST (/events|/vehicles)[ ?]", head), LENGTH.search(head)
+            body = sent[: int(length.group(1))] if length else sent
             status, told = exchange.answer[9:12], exchange.answer.partition(b"\r\n\r\n")[2]
             if path and len(body) <= MOST_BODY and (status == b"200" or told == NOT_LIST):
                 if (path.group(1), body, told) not in seen:
@@ -358,6 +359,8 @@ def bodies_of_requests():
 
 
 NOT_LIST = b'{"error":"not_list"}'
+LENGTH = re.compile(rb"\r\nContent-Length:[ \t]*([0-9]{1,9})[ \t]*(?:\r\n|$)", re.I)
+"""How many bytes of what was sent are the body: what comes behind them isn't read."""
 READER = json.JSONDecoder(parse_float=number, parse_int=lambda text: Otherwise(text) if text == "-0" else int(text))
 
 
