@@ -11,23 +11,27 @@ use test_fixtures::{Ask, Lack, request_of};
 /// A note: the shard that was asked, what was asked, and the place and the outcome of the reply.
 type Noted = (usize, Ask, usize, Outcome);
 
-/// The note, or `None` where it is of a report of what is no event.
-fn note_of((shard, asked, place, outcome): &Noted) -> Option<Note> {
-    Some(Note {
+/// Puts the note behind the others.
+fn put(notes: &mut Vec<Note>, noted: &Noted) -> Result<(), Lack> {
+    let (shard, asked, place, outcome) = noted;
+    let request = request_of(asked).ok_or(Lack::Case)?;
+    let reply = Reply {
+        place: *place,
+        outcome: *outcome,
+    };
+    notes.push(Note {
         shard: *shard,
-        request: request_of(asked)?,
-        reply: Reply {
-            place: *place,
-            outcome: *outcome,
-        },
-    })
+        request,
+        reply,
+    })?;
+    Ok(())
 }
 
 /// The notes of one caller.
 fn notes_of(alloc: Global, noted: &[Noted]) -> Result<Vec<Note>, Lack> {
     let mut notes = Vec::with_capacity(alloc, noted.len())?;
     for one in noted {
-        notes.push(note_of(one).ok_or(Lack::Case)?)?;
+        put(&mut notes, one)?;
     }
     Ok(notes)
 }

@@ -1,6 +1,8 @@
 //! Verdicts on the cases, and on notes over as many tables as there may be.
+ghost use Rattle.mds_core.specs.Lawful.{IsLawful};
+
 use super::cases::{Case, LAWFUL, UNLAWFUL};
-use super::{Noted, note_of, notes_of};
+use super::{Noted, notes_of, put};
 use crate::steps::{Step, most_tables, tables_of, turns};
 use mds_core::{Request, run};
 use mds_settle::{Note, NoteList, judge, judge_lawful};
@@ -49,23 +51,33 @@ fn first_count<S: NoteList>(lists: &[S]) -> Option<usize> {
     }
 }
 
-/// The places of the fault that both calls tell of in the history that a machine accepts of the requests, its length,
-/// and how many notes the first caller has; between two fences once the machine has the history.
+/// The places of the fault that both calls tell of in this history, its length, and how many notes the first caller has.
+fn told(
+    tables: &Tables,
+    shard: usize,
+    history: &[Request],
+    lists: &[Vec<Note>],
+) -> ([Option<usize>; 2], usize, Option<usize>)
+    requires { IsLawful tables.now history.now }
+{
+    let faults = [
+        judge(tables, shard, history, lists).err(),
+        judge_lawful(tables, shard, history, lists).err(),
+    ];
+    (faults, history.len(), first_count(lists))
+}
+
+/// The same of the history that a machine accepts of the requests, between two fences once the machine has it.
 fn told_between(
     alloc: Global,
-    tables: Tables,
+    tables: &Tables,
     shard: usize,
     requests: &[Request],
     lists: &[Vec<Note>],
 ) -> Result<([Option<usize>; 2], usize, Option<usize>), AllocError> {
-    let (fleet, _) = run(alloc, tables, requests)?;
+    let (fleet, _) = run(alloc, tables.copy(alloc)?, requests)?;
     let _begun = fence(alloc);
-    let history = fleet.history();
-    let faults = [
-        judge(fleet.tables(), shard, history, lists).err(),
-        judge_lawful(fleet.tables(), shard, history, lists).err(),
-    ];
-    let found = (faults, history.len(), first_count(lists));
+    let found = told(tables, shard, fleet.history(), lists);
     let _ended = fence(alloc);
     Ok(found)
 }
@@ -75,7 +87,7 @@ fn is_judged(alloc: Global, case: &Case) -> Result<bool, Lack> {
     let (_, file, shard, asked, callers, fault) = case;
     let requests = requests_of(alloc, asked)?;
     let lists = lists_of(alloc, callers)?;
-    let told = told_between(alloc, tables_of(alloc, *file)?, *shard, &requests, &lists)?;
+    let told = told_between(alloc, &tables_of(alloc, *file)?, *shard, &requests, &lists)?;
     let count = match callers.first() {
         Some(noted) => Some(noted.len()),
         None => None,
@@ -102,7 +114,7 @@ fn lawful_cases_with_every_growth_refused(rt: HostRuntime) {
 fn notes_of_steps(alloc: Global, steps: &[Step]) -> Result<Vec<Note>, Lack> {
     let mut notes = Vec::with_capacity(alloc, steps.len())?;
     for (asked, place, outcome) in steps {
-        notes.push(note_of(&(0, *asked, *place, *outcome)).ok_or(Lack::Case)?)?;
+        put(&mut notes, &(0, *asked, *place, *outcome))?;
     }
     Ok(notes)
 }

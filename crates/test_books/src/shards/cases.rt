@@ -150,26 +150,37 @@ fn events_of(
 
 /// What a shard tells after these steps: the first in which it replies otherwise, the last entry of its history, its
 /// length and the number of rows; and the events of A and of C.
-type Told = (
-    Option<usize>,
-    Option<Request>,
-    [usize; 2],
-    [Option<(usize, Option<Event>)>; 2],
-);
+#[derive(Debug, PartialEq, Eq, Drop)]
+struct Told {
+    other: Option<usize>,
+    last: Option<Request>,
+    counts: [usize; 2],
+    of_a: Option<(usize, Option<Event>)>,
+    of_c: Option<(usize, Option<Event>)>,
+}
 
 fn told_after<R: RandomSource>(rt: &R, alloc: Global, steps: &[Step]) -> Result<Told, Lack> {
     let mut shard = Shard::open(alloc, profile(alloc)?, hasher(rt)?);
     let other = first_other(&mut shard, steps)?;
-    let events = [events_of(alloc, &shard, A)?, events_of(alloc, &shard, C)?];
-    let counts = [shard.len(), shard.tables().at(0).row_count()];
-    Ok((other, shard.history().last().copied(), counts, events))
+    Ok(Told {
+        other,
+        last: shard.history().last().copied(),
+        counts: [shard.len(), shard.tables().at(0).row_count()],
+        of_a: events_of(alloc, &shard, A)?,
+        of_c: events_of(alloc, &shard, C)?,
+    })
 }
 
 #[test]
 fn a_shard_after_a_first_event(rt: HostRuntime) {
-    let report = request_of(&DROPPED_OFF);
-    let event = report.and_then(|report| report.event().copied());
-    let told = (None, report, [2, 74], [Some((1, event)), None]);
+    let event = request_of(&DROPPED_OFF).and_then(|report| report.event().copied());
+    let told = Told {
+        other: None,
+        last: request_of(&DROPPED_OFF),
+        counts: [2, 74],
+        of_a: Some((1, event)),
+        of_c: None,
+    };
     assert_eq!(rt; told_after(&rt, rt.alloc(), FIRST_EVENT), Ok(told));
 }
 
