@@ -136,7 +136,7 @@ QUIET = {
         "Shard::tables",
         "Shard::len",
     ],
-    ("mds_settle", "test_books", "notes_are_judged_with_every_growth_refused"): ["judge", "judge_lawful", "NoteList::notes"],
+    ("mds_settle", "test_books", "lawful_cases_with_every_growth_refused"): ["judge", "judge_lawful", "NoteList::notes"],
     ("mds_gate", "test_books", "the_open_gate_is_passed_with_every_growth_refused"): ["Gate::enter", "Gate::leave"],
     ("mds_book", "mds_book", "books_are_told_of_with_every_growth_refused"): [
         "Book::call",

@@ -1,12 +1,6 @@
 //! What no clause says: that the open gate takes no memory.
 use mds_gate::{Gate, OpenGate};
-use std::alloc::{AllocError, Global};
-
-/// A growth of a size of its own: `tests/refused-growths` refuses each one between two of these.
-#[inline(never)]
-fn fence(alloc: Global) -> Result<Vec<u8>, AllocError> {
-    Vec::with_capacity(alloc, 12_347)
-}
+use test_fixtures::fence;
 
 /// Takes a worker past a gate, before and after so many pieces of its work.
 fn pass<G: Gate>(gate: &G, worker: usize, pieces: usize) {

@@ -1,17 +1,17 @@
 //! A shard of many vehicles against a fleet.
 ghost use Rattle.std.specs.Prelude.{◌<◌};
 
-use super::{event_of, opened, profile, uuid};
-use mds_core::{Fleet, Key, Outcome, Refusal, Reply, Request};
+use super::hasher;
+use mds_core::{Fleet, Outcome, Refusal};
 use mds_shard::Shard;
-use mds_table::State;
-use std::alloc::{AllocError, Global};
-use std::hash::RandomState;
-use std::test::Fail;
-use uuid::Uuid;
+use mds_table::State::{self, Available, NonContactable, NonOperational};
+use std::alloc::Global;
+use std::random::RandomSource;
+use test_fixtures::Ask::{self, Look, Register, Report};
+use test_fixtures::{Lack, profile, request_of};
 
 /// How many vehicles are registered first, and then only stand there.
-const BYSTANDERS: u64 = 9000;
+const BYSTANDERS: u64 = 10_000;
 
 /// How many other vehicles the requests after that are about, and how many requests those are.
 const VEHICLES: u64 = 1000;
@@ -38,48 +38,31 @@ impl Numbers {
     }
 }
 
-/// The key of a vehicle of shard 0, by its number.
-fn key(number: u64) -> Key {
-    Key {
-        provider: uuid(0x8000_0000_0000_0001),
-        device: Uuid::from_u128(2 * u128::from(number)),
-    }
-}
-
-/// A type and the state that a vehicle is reported in after it.
-fn change(number: u64) -> (&'static str, State) {
+/// The types and the state of a report.
+fn change(number: u64) -> (&'static [&'static str], State) {
     match number {
-        0 => ("provider_drop_off", State::Available),
-        1 => ("comms_lost", State::NonContactable),
-        2 => ("comms_restored", State::Available),
-        _ => ("battery_low", State::NonOperational),
+        0 => (&["provider_drop_off"], Available),
+        1 => (&["comms_lost"], NonContactable),
+        2 => (&["comms_restored"], Available),
+        _ => (&["battery_low"], NonOperational),
     }
 }
 
-/// A report of a vehicle: one of four identifiers, four times and four changes.
-fn report(numbers: &mut Numbers, key: Key) -> Option<Request> {
-    let id = Uuid::from_u128(u128::from(numbers.below(4)));
-    let time = 1000 + numbers.below(4);
-    let (name, state) = change(numbers.below(4));
-    Some(Request::Report(event_of(key, id, &[name], state, time)?))
-}
-
-/// The request of this number: a bystander's registration, or else one about another vehicle.
-fn nth(numbers: &mut Numbers, number: u64) -> Option<Request> {
+/// The request of this number: a bystander's registration, or else one about another vehicle: a registration, a look,
+/// or a report with one of four identifiers, four times and four changes.
+fn nth(numbers: &mut Numbers, number: u64) -> Ask {
     if number < BYSTANDERS {
-        Some(Request::Register(key(VEHICLES + number)))
-    } else {
-        request(numbers)
+        return Register(2 * (VEHICLES + number));
     }
-}
-
-/// A registration, a look, or else a report.
-fn request(numbers: &mut Numbers) -> Option<Request> {
-    let key = key(numbers.below(VEHICLES));
+    let device = 2 * numbers.below(VEHICLES);
     match numbers.below(5) {
-        0 => Some(Request::Register(key)),
-        1 => Some(Request::Look(key)),
-        _ => report(numbers, key),
+        0 => Register(device),
+        1 => Look(device),
+        _ => {
+            let (id, time) = (numbers.below(4), 1000 + numbers.below(4));
+            let (types, state) = change(numbers.below(4));
+            Report(device, id, types, state, time)
+        }
     }
 }
 
@@ -98,61 +81,33 @@ fn kind_of(outcome: &Outcome) -> usize
     }
 }
 
-/// A shard and a fleet that are asked the same requests.
-#[derive(Drop)]
-struct Both {
-    shard: Shard,
-    fleet: Fleet,
-    found: Vec<Reply>,
-    expected: Vec<Reply>,
-}
-
-impl Both {
-    /// A shard and a fleet over the profile that were asked nothing.
-    fn open(alloc: Global, hasher: RandomState) -> Result<Both, AllocError> {
-        Ok(Both {
-            shard: opened(alloc, hasher)?,
-            fleet: Fleet::open(alloc, profile(alloc)?),
-            found: Vec::new(alloc),
-            expected: Vec::new(alloc),
-        })
-    }
-
-    /// Asks both a request, and keeps what each replies.
-    fn ask(&mut self, request: &Request) -> Result<(), AllocError> {
-        self.found.push(self.shard.step(request)?)?;
-        self.expected.push(self.fleet.step(request)?)?;
-        Ok(())
-    }
-}
-
-/// A shard and a fleet after the same requests.
-fn after_all(alloc: Global, hasher: RandomState) -> Result<Both, Fail> {
+/// The number of the first request to which a shard and a fleet reply otherwise, and whether there is a reply of each
+/// kind.
+fn compared(shard: &mut Shard, fleet: &mut Fleet) -> Result<(Option<u64>, [bool; 7]), Lack> {
     let mut numbers = Numbers { state: 1 };
-    let mut both = Both::open(alloc, hasher)?;
+    let mut kinds = [false; 7];
     for number in 0..BYSTANDERS + REQUESTS {
-        both.ask(&nth(&mut numbers, number).ok_or("a request")?)?;
+        let request = request_of(&nth(&mut numbers, number)).ok_or(Lack::Case)?;
+        let reply = fleet.step(&request)?;
+        kinds[kind_of(&reply.outcome)] = true;
+        if shard.step(&request)? != reply {
+            return Ok((Some(number), kinds));
+        }
     }
-    Ok(both)
+    Ok((None, kinds))
 }
 
-/// Whether there is a reply of each kind.
-fn kinds_in(replies: &[Reply]) -> [bool; 7] {
-    let mut seen = [false; 7];
-    for reply in replies {
-        seen[kind_of(&reply.outcome)] = true;
-    }
-    seen
-}
-
-/// Whether both replied the same, and whether there is a reply of each kind.
-fn compared(both: &Both) -> (bool, [bool; 7]) {
-    (both.found == both.expected, kinds_in(&both.expected))
+/// The same of a shard and a fleet over the profile.
+fn compared_by_profile<R: RandomSource>(
+    rt: &R,
+    alloc: Global,
+) -> Result<(Option<u64>, [bool; 7]), Lack> {
+    let mut shard = Shard::open(alloc, profile(alloc)?, hasher(rt)?);
+    let mut fleet = Fleet::open(alloc, profile(alloc)?);
+    compared(&mut shard, &mut fleet)
 }
 
 #[test]
-fn ten_thousand_vehicles_as_a_fleet_has_them(rt: HostRuntime) -> Result<(), Fail> {
-    let both = after_all(rt.alloc(), RandomState::new(&rt)?)?;
-    assert_eq!(rt; compared(&both), (true, [true; 7]));
-    Ok(())
+fn ten_thousand_vehicles_as_a_fleet_has_them(rt: HostRuntime) {
+    assert_eq!(rt; compared_by_profile(&rt, rt.alloc()), Ok((None, [true; 7])));
 }
