@@ -112,16 +112,26 @@ fn changed_pieces(rt: HostRuntime) {
     assert_eq!(rt; first_other(rt.alloc(), CHANGES), None);
 }
 
-/// How many types an event has, so many of this name between its first and its last; none where the item is at fault.
+/// How many types an event has; none where the item is at fault.
+fn types_in(item: &Item) -> Result<Option<usize>, BatchFault> {
+    let item = match item {
+        Ok(Some(item)) => item,
+        Ok(None) => return Ok(None),
+        Err(fault) => return Err(*fault),
+    };
+    let EventItem::Event(event) = item else {
+        return Ok(None);
+    };
+    Ok(Some(event.types().len()))
+}
+
+/// The same of the event with so many types of this name between its first and its last.
 fn type_count(alloc: Global, name: &str, times: usize) -> Result<Option<usize>, BatchFault> {
     let Ok(types) = name.repeat(alloc, times) else {
         return Err(BatchFault::Memory);
     };
     let text = EVENT.replace(alloc, "\"battery_low\",", types.as_str());
-    Ok(match item_in(alloc, text)? {
-        Some(EventItem::Event(event)) => Some(event.types().len()),
-        _ => None,
-    })
+    types_in(&item_in(alloc, text))
 }
 
 /// A type's name may have 32 letters, and an event 64 types.

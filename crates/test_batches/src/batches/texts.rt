@@ -103,19 +103,42 @@ fn texts_are_these(rt: HostRuntime) {
     assert_eq!(rt; first_other(rt.alloc(), TEXTS), Ok(None));
 }
 
-/// The event, by a reader that reads it again where there was no memory.
+/// The event, read again where there was no memory.
 fn item_again(alloc: Global) -> Result<EventItem, BatchFault> {
+    match read_item(alloc, EVENT.as_bytes()) {
+        Err(BatchFault::Memory) => read_item(alloc, EVENT.as_bytes()),
+        other => other,
+    }
+}
+
+/// The event that a reader reads.
+fn read_by(reader: &mut ItemReader) -> Result<EventItem, BatchFault> {
+    Ok(*reader.read(EVENT.as_bytes())?)
+}
+
+/// The event, read again by the same reader where there was no memory.
+fn read_again(alloc: Global) -> Result<EventItem, BatchFault> {
     let mut reader = ItemReader::new(alloc);
-    Ok(*again!(reader.read(EVENT.as_bytes()))?)
+    match read_by(&mut reader) {
+        Err(BatchFault::Memory) => read_by(&mut reader),
+        other => other,
+    }
+}
+
+/// Whether both are what is expected.
+fn are_read_again(alloc: Global) -> bool {
+    let expected = report(1000, BERLIN);
+    let Ok(first) = item_again(alloc) else {
+        return false;
+    };
+    let Ok(second) = read_again(alloc) else {
+        return false;
+    };
+    first == expected && second == expected
 }
 
 /// Each call, made again where its growth is refused (by `tests/refused-growths`).
 #[test]
 fn an_item_is_read_after_a_refused_growth(rt: HostRuntime) {
-    let items = (
-        again!(read_item(rt.alloc(), EVENT.as_bytes())),
-        item_again(rt.alloc()),
-    );
-    let expected = Ok(report(1000, BERLIN));
-    assert_eq!(rt; items, (expected, expected));
+    assert!(rt; are_read_again(rt.alloc()));
 }
