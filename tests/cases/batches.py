@@ -6,12 +6,17 @@ from cases.replays import MEMBERS, A, B, batch, item, replayed
 from cases.tables import ONE_ROW
 from harness.case import MAX_BYTES, MAX_ITEMS, lists, not_a_batch, padded, started, told
 
+# Bytes that are no UTF-8: continuations alone, long forms, surrogates, past the last character, and cut ones.
+NO_UTF8 = [b"\x80", b"\xbf", b"\xc0\x80", b"\xc1\xbf", b"\xc3", b"\xc3(", b"\xe0\x9f\xbf", b"\xe2\x82"]
+NO_UTF8 += [b"\xed\xa0\x80", b"\xed\xbf\xbf", b"\xf0\x8f\xbf\xbf", b"\xf0\x9f\x98", b"\xf4\x90\x80\x80"]
+NO_UTF8 += [b"\xf5\x80\x80\x80", b"\xfe", b"\xff"]
 FAULTS = [
     (" " * (MAX_BYTES + 1), "too_long"),
     (padded("[]", MAX_BYTES + 1), "too_long"),
     (b"\xff" * (MAX_BYTES + 1), "too_long"),
     ("0" * (3 * MAX_BYTES), "too_long"),
     (" " * MAX_BYTES, "not_json"),
+    (b"\xff" * MAX_BYTES, "not_json"),
     ("", "not_json"),
     ("\n", "not_json"),
     ("{", "not_json"),
@@ -21,8 +26,7 @@ FAULTS = [
     ("[NaN]", "not_json"),
     ("[1e999]", "not_json"),
     ("['available']", "not_json"),
-    (b'["\xff"]', "not_json"),
-    (b'["\xc0\x80"]', "not_json"),
+    *[(text % it, "not_json") for text in (b'["%s"]', b'{"%s":0}', b'[{"provider_id":"\\n%sx"}]') for it in NO_UTF8],
     (lists(128), "not_json"),
     (item(more=lists(127)), "not_json"),
     (batch([item(more=lists(126))]), "not_json"),

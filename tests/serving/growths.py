@@ -7,6 +7,7 @@ from cases.replays import A, B, P, batch, item
 from harness.building import Refusal
 from harness.case import NO_MEMORY, SOCKET
 from model.http import answer, error
+from model.tables import Table
 from serving.http import E1, LOOK, Exchange, done, look, registered
 from serving.server import NotListening, Server
 from serving.wire import ask, get, post
@@ -31,6 +32,7 @@ def turns():
     yield Exchange(get(f"/vehicles/{P}/{A}"), answer(200, LOOK)), []
     yield Exchange(get(f"/vehicles/{P}/{A}/events"), answer(200, f'{{"events":[{E1}]}}')), []
     yield look(B, "removed", 0, None), []
+    yield Exchange(get("/table"), answer(200, {"rows": Table().listed()})), []
 
 
 TURNS = list(turns())

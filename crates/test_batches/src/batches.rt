@@ -1,8 +1,6 @@
 //! Batches: values from outside, and that each call can succeed.
-mod by_value;
 mod changes;
 mod quiet;
-mod seeded;
 mod takers;
 mod texts;
 mod values;
@@ -10,11 +8,11 @@ mod values;
 use mds_batch::{
     BatchFault, BatchItem, EventItem, ItemFault, Member, VehicleItem, read_events, read_vehicles,
 };
-use mds_core::{Event, Position};
-use mds_table::{State, TypeName};
+use mds_core::Position;
+use mds_table::State;
 use std::alloc::{AllocError, Global};
 pub use takers::Few;
-use test_fixtures::{A, E1, key, type_of, uuid};
+use test_fixtures::{A, E1, event_of, key};
 
 /// How many items a text lists and the fault of the first, or why it lists none.
 pub type First = Result<(usize, Option<ItemFault>), BatchFault>;
@@ -57,23 +55,14 @@ pub type Place = Option<(i64, i64)>;
 /// The position of the event.
 pub const BERLIN: Place = Some((525200000, 134050000));
 
-/// The event, at this time and place.
-fn event(time: u64, place: Place) -> Option<Event> {
-    let types: [TypeName; 3] = [
-        type_of("trip_end"),
-        type_of("battery_low"),
-        type_of("trip_end"),
-    ];
+/// The item that reports the event, at this time and place. No text of these tests has the other one.
+pub fn report(time: u64, place: Place) -> EventItem {
+    let types = &["trip_end", "battery_low", "trip_end"];
     let position = match place {
         Some((lat, lng)) => Position::new(lat, lng),
         None => None,
     };
-    Event::new(key(A), uuid(E1), State::OnTrip, &types, time, position).ok()
-}
-
-/// The item that reports the event, at this time and place. No text of these tests has the other one.
-pub fn report(time: u64, place: Place) -> EventItem {
-    match event(time, place) {
+    match event_of(A, E1, types, State::OnTrip, time, position) {
         Some(event) => EventItem::Event(event),
         None => EventItem::Fault(ItemFault::NotObject),
     }
@@ -109,17 +98,11 @@ fn registrations(rt: HostRuntime) {
 /// Two items, of which one is at fault.
 pub const TWO_ITEMS: &[u8] = br#"[{"provider_id":"00000000-0000-4000-8000-000000000001"},7]"#;
 
-/// What they are, read again where a growth is refused.
-fn firsts_again(alloc: Global) -> Firsts {
-    match firsts(alloc, TWO_ITEMS) {
-        (Err(BatchFault::Memory), _) | (_, Err(BatchFault::Memory)) => firsts(alloc, TWO_ITEMS),
-        found => found,
-    }
-}
-
 /// Each call, made again where its growth is refused (by `tests/refused-growths`).
 #[test]
 fn call_succeeds_after_a_refused_growth(rt: HostRuntime) {
+    let vehicles = again!(read_vehicles(rt.alloc(), TWO_ITEMS));
+    let events = again!(read_events(rt.alloc(), TWO_ITEMS));
     let expected = Ok((2, Some(ItemFault::Missing(Member::DeviceId))));
-    assert_eq!(rt; firsts_again(rt.alloc()), (expected, expected));
+    assert_eq!(rt; [first_of(vehicles), first_of(events)], [expected; 2]);
 }

@@ -98,7 +98,7 @@ impl Write for Stream {
 /// A stream and the most bytes that are read of it; and how many are, or why none, and the number of calls.
 type Reading = ((Plan, usize), (Result<usize, ReadError>, u32));
 
-const READINGS: &[Reading] = &[
+const READINGS: &[Reading] = rows! {
     (((7, 1, true, Last::Zero), 9), (Ok(7), 16)),
     (((0, 1, false, Last::Zero), 9), (Ok(0), 1)),
     (((7, 9, false, Last::Zero), 6), (Ok(6), 1)),
@@ -107,11 +107,8 @@ const READINGS: &[Reading] = &[
     (((3, 1, false, Last::Timeout), 9), (DEVICE, 4)),
     (((2, 1, false, Last::Pause), 9), (TURNS, 5_000_000)),
     // two chunks of 65,536 bytes, one byte, and the end
-    (
-        ((131_073, 200_000, false, Last::Zero), 200_000),
-        (Ok(131_073), 4),
-    ),
-];
+    (((131_073, 200_000, false, Last::Zero), 200_000), (Ok(131_073), 4)),
+};
 
 const DEVICE: Result<usize, ReadError> = Err(ReadError::Device);
 
@@ -141,29 +138,20 @@ fn reads_end_as_the_stream_does(rt: HostRuntime) {
 /// How many bytes are written, and the stream; and where writing stops and why if not all go out, and the number of calls.
 type Writing = ((usize, Plan), (Option<(usize, WriteErrorKind)>, u32));
 
-const WRITINGS: &[Writing] = &[
+const WRITINGS: &[Writing] = rows! {
     ((0, (9, 1, true, Last::Zero)), (None, 0)),
     ((3, (9, 1, true, Last::Zero)), (None, 6)),
     ((3, (2, 1, false, Last::Zero)), (Some((2, Device)), 3)),
     ((3, (1, 1, false, Last::Failure)), (Some((1, Device)), 2)),
     ((3, (1, 1, false, Last::Block)), (Some((1, Device)), 2)),
     ((3, (1, 1, false, Last::Timeout)), (Some((1, Device)), 2)),
-    (
-        (3, (2, 1, false, Last::Pause)),
-        (Some((2, TooManyTurns)), MAX_CALLS),
-    ),
+    ((3, (2, 1, false, Last::Pause)), (Some((2, TooManyTurns)), MAX_CALLS)),
     // a text is offered whole
     ((131_073, (200_000, 200_000, false, Last::Zero)), (None, 1)),
     // the last call that is allowed may be the one that takes the last byte
-    (
-        (2_500_000, (3_000_000, 1, true, Last::Zero)),
-        (None, 5_000_000),
-    ),
-    (
-        (2_500_001, (3_000_000, 1, true, Last::Zero)),
-        (Some((2_500_000, TooManyTurns)), 5_000_000),
-    ),
-];
+    ((2_500_000, (3_000_000, 1, true, Last::Zero)), (None, 5_000_000)),
+    ((2_500_001, (3_000_000, 1, true, Last::Zero)), (Some((2_500_000, TooManyTurns)), 5_000_000)),
+};
 
 /// The first of these writings that ends otherwise, and how.
 fn first_other_writing(
@@ -190,47 +178,34 @@ fn writes_end_as_the_stream_does(rt: HostRuntime) {
 /// What a read answers, how many bytes there are then, and how many calls are left.
 type Step = (Result<bool, ReadError>, usize, u32);
 
-/// What reads of two kinds answer that share ten calls of a stream that pauses.
-fn sharing(alloc: Global) -> [Step; 3] {
-    let mut stream = Stream::new((7, 1, true, Last::Pause));
+/// What a piece that is read of the stream answers, and then reads up to so many bytes, and up to nine, by so many
+/// calls in all.
+fn read_in_turn(alloc: Global, plan: Plan, limit: usize, calls: u32) -> [Step; 3] {
+    let mut stream = Stream::new(plan);
     let mut bytes = Vec::new(alloc);
     let mut room = [0u8; 4];
-    let mut calls = 10;
+    let mut calls = calls;
     let more = read_more(&mut stream, &mut bytes, &mut room, 9, &mut calls);
-    let first = (more, bytes.len(), calls);
-    let three = read_up_to(&mut stream, &mut bytes, &mut room, 3, &mut calls);
-    let second = (three.map(|()| true), bytes.len(), calls);
+    let piece = (more, bytes.len(), calls);
+    let some = read_up_to(&mut stream, &mut bytes, &mut room, limit, &mut calls);
+    let wanted = (some.map(|()| true), bytes.len(), calls);
     let all = read_up_to(&mut stream, &mut bytes, &mut room, 9, &mut calls);
-    [first, second, (all.map(|()| true), bytes.len(), calls)]
+    [piece, wanted, (all.map(|()| true), bytes.len(), calls)]
 }
 
-/// Reads of several kinds share the calls.
+/// Reads of several kinds share the calls, and ask for no more than is wanted.
 #[test]
 fn reads_share_the_calls(rt: HostRuntime) {
-    let expected = [
-        (Ok(false), 1, 8),
-        (Ok(true), 3, 4),
-        (Err(ReadError::TooManyTurns), 5, 0),
-    ];
-    assert_eq!(rt; sharing(rt.alloc()), expected);
-}
-
-/// How many bytes there are, and are left in the reader, and how many calls: where five are wanted of seven, and then nine.
-fn wanted(alloc: Global) -> Result<[(usize, usize, u32); 2], ReadError> {
-    let mut reader = b"abcdefg".as_slice();
-    let mut bytes = Vec::new(alloc);
-    let mut room = [0u8; 4];
-    let mut calls = 9;
-    read_up_to(&mut reader, &mut bytes, &mut room, 5, &mut calls)?;
-    let five = (bytes.len(), reader.len(), calls);
-    read_up_to(&mut reader, &mut bytes, &mut room, 9, &mut calls)?;
-    Ok([five, (bytes.len(), reader.len(), calls)])
-}
-
-/// A reader that gives what is asked for, and at its end nothing, is asked for what is wanted.
-#[test]
-fn reads_ask_for_what_is_wanted(rt: HostRuntime) {
-    assert_eq!(rt; wanted(rt.alloc()), Ok([(5, 2, 7), (7, 0, 5)]));
+    let pausing = read_in_turn(rt.alloc(), (7, 1, true, Last::Pause), 3, 10);
+    let whole = read_in_turn(rt.alloc(), (7, 9, false, Last::Zero), 5, 9);
+    let turns = (Err(ReadError::TooManyTurns), 5, 0);
+    assert_eq!(rt;
+        [pausing, whole],
+        [
+            [(Ok(false), 1, 8), (Ok(true), 3, 4), turns],
+            [(Ok(false), 4, 8), (Ok(true), 5, 7), (Ok(true), 7, 5)]
+        ]
+    );
 }
 
 /// How many bytes went out and wait on the page: behind 10,922 lines of six bytes, and behind another one.
@@ -248,33 +223,6 @@ fn shared_page(alloc: Global) -> Result<[(usize, usize); 2], PrintError> {
 #[test]
 fn lines_share_a_write(rt: HostRuntime) {
     assert_eq!(rt; shared_page(rt.alloc()), Ok([(0, 65_532), (65_538, 0)]));
-}
-
-/// What is said of a page that is put out to a stream that takes three bytes of it, how many those are, and what is left of it.
-fn page_stopped(alloc: Global) -> Result<(Result<(), PrintError>, usize, usize), PrintError> {
-    let mut stream = Stream::new((3, 1, false, Last::Zero));
-    let mut page = String::new(alloc);
-    add_line(&mut stream, &mut page, &"abcd")?;
-    let flushed = flush_page(&mut stream, &mut page);
-    Ok((flushed, stream.left, page.len()))
-}
-
-#[test]
-fn a_page_that_cannot_be_put_out(rt: HostRuntime) {
-    let expected = (Err(PrintError::Device), 0, 5);
-    assert_eq!(rt; page_stopped(rt.alloc()), Ok(expected));
-}
-
-/// The bytes that are read, again from a new reader where a growth is refused.
-fn front_again(alloc: Global, bytes: &[u8]) -> Result<Vec<u8>, ReadError> {
-    let mut reader = bytes;
-    match read_front(alloc, &mut reader, 9) {
-        Err(ReadError::Memory) => {
-            reader = bytes;
-            read_front(alloc, &mut reader, 9)
-        }
-        other => other,
-    }
 }
 
 /// What two kinds of reads give behind three bytes, each made again where its growth is refused, which leaves the bytes as they
@@ -296,46 +244,48 @@ fn read_again(alloc: Global) -> Result<Vec<u8>, ReadError> {
     Ok(bytes)
 }
 
-/// Lays two lines out and puts them out, on a page of their own.
-fn two_lines(alloc: Global, out: &mut Vec<u8>) -> Result<(), PrintError> {
-    let mut page = String::new(alloc);
-    add_line(out, &mut page, &"accepted 3")?;
-    end_page(out, &mut page, &7)
-}
-
-/// The same, laid out and put out again where a growth is refused: of the page, before anything goes out, or of what takes it.
-fn two_lines_again(alloc: Global) -> Result<Vec<u8>, PrintError> {
+/// Two lines, laid out and put out on a page of their own.
+fn two_lines(alloc: Global) -> Result<Vec<u8>, PrintError> {
     let mut out = Vec::new(alloc);
-    if two_lines(alloc, &mut out).is_err() && out.is_empty() {
-        two_lines(alloc, &mut out)?;
-    }
+    let mut page = String::new(alloc);
+    add_line(&mut out, &mut page, &"accepted 3")?;
+    end_page(&mut out, &mut page, &7)?;
     Ok(out)
 }
 
 /// Each call that takes memory, made again where its growth is refused (by `tests/refused-growths`).
 #[test]
 fn calls_succeed_after_a_refused_growth(rt: HostRuntime) {
-    let front = front_again(rt.alloc(), b"abc").map(|bytes| bytes.len());
+    let front = again!(read_front(rt.alloc(), &mut b"abc".as_slice(), 9)).map(|bytes| bytes.len());
     let bytes = read_again(rt.alloc()).map(|bytes| bytes.as_slice()
         == b"abcdefghijklmnop".as_slice());
-    let lines = two_lines_again(rt.alloc()).map(|lines| lines.as_slice()
+    let lines = again!(two_lines(rt.alloc())).map(|lines| lines.as_slice()
         == b"accepted 3\n7\n".as_slice());
     assert_eq!(rt; (front, bytes, lines), (Ok(3), Ok(true), Ok(true)));
 }
 
-/// How many bytes of a text and of a page don't go out.
-fn left_over(page: &mut String) -> (Result<(), WriteError>, Result<(), PrintError>, usize) {
-    let mut out = Stream::new((20, 20, false, Last::Zero));
+/// What comes of three bytes and of a page that go out to a stream, how many bytes more that takes, and how many the
+/// page has then.
+type Sent = (Result<(), WriteError>, Result<(), PrintError>, usize, usize);
+
+fn sent(page: &mut String, plan: Plan) -> Sent {
+    let mut out = Stream::new(plan);
     let wrote = write_all_of(&mut out, b"abc");
-    (wrote, flush_page(&mut out, page), out.left)
+    (wrote, flush_page(&mut out, page), out.left, page.len())
 }
 
+/// A page that can't be put out whole is kept, and one that can is emptied.
 #[test]
 fn writes_go_out_with_every_growth_refused(rt: HostRuntime) {
     let mut page = String::new(rt.alloc());
     let pushed = page.push_str("accepted 3\n");
     let _begun = fence(rt.alloc());
-    let left = left_over(&mut page);
+    let front = sent(&mut page, (6, 1, false, Last::Zero));
+    let whole = sent(&mut page, (20, 20, false, Last::Zero));
     let _ended = fence(rt.alloc());
-    assert_eq!(rt; (pushed, left), (Ok(()), (Ok(()), Ok(()), 6)));
+    let expected = [
+        (Ok(()), Err(PrintError::Device), 0, 11),
+        (Ok(()), Ok(()), 6, 0),
+    ];
+    assert_eq!(rt; (pushed, [front, whole]), (Ok(()), expected));
 }

@@ -1,8 +1,8 @@
 //! Lines: values from outside, however they are cut, and that each call can succeed.
-use crate::batches::{Few, text_of};
+use crate::batches::Few;
 use mds_batch::{BatchItem, EventItem, ItemFault, Member};
 use mds_lines::{LineFault, LineReader};
-use std::alloc::{AllocError, Global};
+use std::alloc::Global;
 use test_fixtures::fence;
 
 /// What is read of a stream: the faults of its items, each if it has one, or the stream's own first fault.
@@ -12,9 +12,14 @@ const NO_OBJECT: Option<ItemFault> = Some(ItemFault::NotObject);
 
 const NO_PROVIDER: Option<ItemFault> = Some(ItemFault::Missing(Member::ProviderId));
 
-/// An event, on a line.
-const EVENT: &str =
-    r#"{"provider_id":"00000000-0000-4000-8000-000000000001","device_id":"00000000-0000-4000-8000-00000000000a","event_id":"00000000-0000-4000-8000-0000000000e1","vehicle_state":"on_trip","event_types":["trip_start"],"timestamp":1000}"#;
+/// Two events, a number, an object of no members and an event, each on a line, and a line of a space.
+const EVENTS: &[u8] =
+    br#"{"provider_id":"00000000-0000-4000-8000-000000000001","device_id":"00000000-0000-4000-8000-00000000000a","event_id":"00000000-0000-4000-8000-0000000000e1","vehicle_state":"on_trip","event_types":["trip_start"],"timestamp":1000}
+
+{"provider_id":"00000000-0000-4000-8000-000000000001","device_id":"00000000-0000-4000-8000-00000000000a","event_id":"00000000-0000-4000-8000-0000000000e1","vehicle_state":"on_trip","event_types":["trip_start"],"timestamp":1000}
+7
+{}
+{"provider_id":"00000000-0000-4000-8000-000000000001","device_id":"00000000-0000-4000-8000-00000000000a","event_id":"00000000-0000-4000-8000-0000000000e1","vehicle_state":"on_trip","event_types":["trip_start"],"timestamp":1000}"#;
 
 /// Line 0 is no JSON.
 const AT_0: Items<'static> = Err(LineFault::NotJson { line: 0 });
@@ -23,7 +28,7 @@ const AT_1: Items<'static> = Err(LineFault::NotJson { line: 1 });
 
 const AT_2: Items<'static> = Err(LineFault::NotJson { line: 2 });
 
-const STREAMS: &[(&[u8], Items<'static>)] = &[
+const STREAMS: &[(&[u8], Items<'static>)] = rows! {
     // no items
     (b"", Ok(&[])),
     (b"\n", Ok(&[])),
@@ -35,10 +40,7 @@ const STREAMS: &[(&[u8], Items<'static>)] = &[
     (b"{}\n7", Ok(&[NO_PROVIDER, NO_OBJECT])),
     (b"\n\n{}\n \r\n\n7\r\n\n", Ok(&[NO_PROVIDER, NO_OBJECT])),
     // characters of two, three and four bytes
-    (
-        b"\"\xc3\xa4\xe2\x82\xac\xf0\x9f\x9b\xb4\"\n7",
-        Ok(&[NO_OBJECT, NO_OBJECT]),
-    ),
+    (b"\"\xc3\xa4\xe2\x82\xac\xf0\x9f\x9b\xb4\"\n7", Ok(&[NO_OBJECT, NO_OBJECT])),
     (b"{\"\xe2\x82\xac\":0}", Ok(&[NO_PROVIDER])),
     // a line that is no JSON; blank lines are counted too
     (b"{", AT_0),
@@ -54,9 +56,9 @@ const STREAMS: &[(&[u8], Items<'static>)] = &[
     // bytes that aren't UTF-8, and a character that a line feed divides
     (b"7\n\"\xff\"\n", AT_1),
     (b"\"\xe2\x82\n\xac\"\n", AT_0),
-];
+};
 
-/// The items of a stream that is fed in a front and in pieces of this length, or its first fault, which later calls answer too.
+/// The items of a stream that is fed in a front and in pieces of this length, or its first fault.
 fn fed(
     alloc: Global,
     front: &[u8],
@@ -65,21 +67,12 @@ fn fed(
 ) -> Result<Vec<EventItem>, LineFault> {
     let mut items = Vec::new(alloc);
     let mut reader = LineReader::open(alloc);
-    let mut first = reader.feed(front, &mut items);
+    reader.feed(front, &mut items)?;
     for piece in rest.chunks(length.max(1)) {
-        let fed = reader.feed(piece, &mut items);
-        if first.is_ok() {
-            first = fed;
-        } else if fed != first {
-            return Err(LineFault::Memory);
-        }
+        reader.feed(piece, &mut items)?;
     }
-    let again = reader.feed(b"", &mut items);
-    let ended = reader.finish(&mut items);
-    if again != first || first.is_err() && ended != first {
-        return Err(LineFault::Memory);
-    }
-    ended.map(|()| items)
+    reader.finish(&mut items)?;
+    Ok(items)
 }
 
 /// Whether the items have these faults.
@@ -101,19 +94,24 @@ fn is_as(read: Result<Vec<EventItem>, LineFault>, expected: Items<'_>) -> bool {
     }
 }
 
-/// The first stream of which something else is read, and the length of its pieces or of its front then.
+/// The length of the first front with which something else is read of a stream, where the rest comes whole, or byte
+/// by byte.
+fn first_front(alloc: Global, stream: &[u8], expected: Items<'_>) -> Option<usize> {
+    for at in 0..stream.len().saturating_add(1) {
+        let (front, rest) = stream.split_at(at.min(stream.len()));
+        let whole = fed(alloc, front, rest, usize::MAX);
+        if !is_as(whole, expected) || !is_as(fed(alloc, front, rest, 1), expected) {
+            return Some(at);
+        }
+    }
+    None
+}
+
+/// The first stream of which something else is read, and that length.
 fn first_other(alloc: Global, streams: &[(&[u8], Items<'_>)]) -> Option<(usize, usize)> {
     for (place, (stream, expected)) in streams.iter().enumerate() {
-        for length in [usize::MAX, 1, 2, 3] {
-            if !is_as(fed(alloc, b"", stream, length), *expected) {
-                return Some((place, length));
-            }
-        }
-        for at in 0..stream.len() {
-            let (front, rest) = stream.split_at(at.min(stream.len()));
-            if !is_as(fed(alloc, front, rest, rest.len()), *expected) {
-                return Some((place, at));
-            }
+        if let Some(at) = first_front(alloc, stream, *expected) {
+            return Some((place, at));
         }
     }
     None
@@ -124,84 +122,12 @@ fn streams_whole_and_cut_at_each_byte(rt: HostRuntime) {
     assert_eq!(rt; first_other(rt.alloc(), STREAMS), None);
 }
 
-/// Pieces of long streams with how often each stands.
-const LONG_STREAMS: &[(&[(&str, usize)], Items<'static>)] = &[
-    // the most bytes
-    (&[("7", 1), (" ", 4_194_303)], Ok(&[NO_OBJECT])),
-    (&[("7", 1), (" ", 4_194_302), ("\n", 1)], Ok(&[NO_OBJECT])),
-    (&[("7", 1), (" ", 4_194_302), ("{", 1)], AT_0),
-    // one more, whatever it is
-    (&[("7", 1), (" ", 4_194_304)], LONG),
-    (&[("7", 1), (" ", 4_194_303), ("\n", 1)], LONG),
-    (&[("7", 1), (" ", 4_194_303), ("{", 1)], LONG),
-    // a line that is no JSON, and ends within the limit; and one that ends behind it
-    (&[("{", 1), (" ", 4_194_302), ("\n", 1), ("7", 9)], AT_0),
-    (&[("{", 1), (" ", 4_194_303), ("\n", 1), ("7", 9)], LONG),
-    // events among other lines
-    (
-        &[
-            (EVENT, 1),
-            ("\n \r\n", 1),
-            (EVENT, 1),
-            ("\r\n7\n{}\n", 1),
-            (EVENT, 1),
-        ],
-        Ok(&[None, None, NO_OBJECT, NO_PROVIDER, None]),
-    ),
-    // one item too many, and a line behind as many as there may be
-    (&[("7\n", 10_000), ("7", 1)], MANY),
-    (&[("7\n", 10_000), ("7\n", 1)], MANY),
-    (&[("7\n", 10_000), ("7\n{\n", 1)], MANY),
-    (&[("7\n", 10_000), ("{", 1)], AT_10_000),
-    (&[("7\n", 10_000), ("{\n", 1)], AT_10_000),
-];
-
-const LONG: Items<'static> = Err(LineFault::TooLong);
-
-const MANY: Items<'static> = Err(LineFault::TooMany);
-
-const AT_10_000: Items<'static> = Err(LineFault::NotJson { line: 10_000 });
-
-/// The first long stream of which something else is read.
-fn first_other_long(
-    alloc: Global,
-    streams: &[(&[(&str, usize)], Items<'_>)],
-) -> Result<Option<usize>, AllocError> {
-    for (place, (pieces, expected)) in streams.iter().enumerate() {
-        let stream = text_of(alloc, pieces)?;
-        for length in [100, 16_384, 4_194_304, 5_000_000] {
-            if !is_as(fed(alloc, b"", stream.as_bytes(), length), *expected) {
-                return Ok(Some(place));
-            }
-        }
-    }
-    Ok(None)
-}
-
-#[test]
-fn most_bytes_and_items(rt: HostRuntime) {
-    assert_eq!(rt; first_other_long(rt.alloc(), LONG_STREAMS), Ok(None));
-}
-
-/// How many items three pieces of a stream are.
-fn count_of(alloc: Global) -> Result<usize, LineFault> {
-    let mut items = Vec::new(alloc);
-    let mut reader = LineReader::open(alloc);
-    reader.feed(b"{\"x\":", &mut items)?;
-    reader.feed(b"1}\n7\n", &mut items)?;
-    reader.feed(b"[]", &mut items)?;
-    reader.finish(&mut items)?;
-    Ok(items.len())
-}
-
-/// A stream, fed again from its beginning where a growth is refused (by `tests/refused-growths`).
+/// A stream of events among other lines, fed again from its beginning where a growth is refused (by
+/// `tests/refused-growths`).
 #[test]
 fn a_stream_is_read_after_a_refused_growth(rt: HostRuntime) {
-    let read = match count_of(rt.alloc()) {
-        Err(LineFault::Memory) => count_of(rt.alloc()),
-        other => other,
-    };
-    assert_eq!(rt; read, Ok(3));
+    let read = again!(fed(rt.alloc(), b"", EVENTS, 99));
+    assert!(rt; is_as(read, Ok(&[None, None, NO_OBJECT, NO_PROVIDER, None])));
 }
 
 /// Want of memory is kept, as any fault is (growths are refused by `tests/refused-growths`).

@@ -78,12 +78,8 @@ pub struct Peer {
 
 /// One that takes all bytes, and takes no memory for the first 4096; made again where its growth is refused.
 pub fn peer_of(alloc: Global) -> Result<Peer, AllocError> {
-    let taken = match Vec::with_capacity(alloc, 4096) {
-        Err(_) => Vec::with_capacity(alloc, 4096)?,
-        Ok(taken) => taken,
-    };
     Ok(Peer {
-        taken,
+        taken: again!(Vec::with_capacity(alloc, 4096))?,
         room: usize::MAX,
         last: Last::Ends,
         writes: 0,
@@ -112,6 +108,11 @@ pub type Exchange = (&'static str, Answer);
 
 /// What is said of a connection, and what was written.
 pub type Ending = (Result<Served, ServeFault>, Vec<u8>);
+
+/// An answer of this status to so many accepted requests.
+pub fn answer_of(status: u16, accepted: usize) -> Result<Served, ServeFault> {
+    Ok(Served { status, accepted })
+}
 
 /// What the desk answers to these bytes, sent so many a call.
 pub fn answered<D: Desk>(

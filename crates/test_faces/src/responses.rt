@@ -1,12 +1,15 @@
 //! Answers from outside, and that each call can succeed.
-use crate::cases::{Answer, FAULTY_AMONG_THREE, LACKING, NO_ROUTE, NONE_DONE, OK, answer_text};
-use mds_batch::{EventItem, ItemFault, Member, VehicleItem};
+use crate::cases::{
+    Answer, FAULTY_AMONG_THREE, LACKING_AT_0, LACKING_AT_2, NO_ROUTE, NONE_DONE, WAKE_AND_REST,
+    answer_text, tables_of,
+};
+use mds_batch::{EventItem, ItemFault, Member};
 use mds_core::{Event, Outcome, Position, Refusal, Reply};
 use mds_request::{HttpFault, Plan};
 use mds_response::{Found, bytes_of, memory_bytes, status_of};
-use mds_table::{Row, State};
+use mds_table::State;
 use std::alloc::{AllocError, Global};
-use test_fixtures::{A, DROP_OFF, E1, E2, Lack, event_of, fence, key, type_of};
+use test_fixtures::{A, DROP_OFF, E1, E2, Lack, event_of, fence, key};
 
 /// What becomes of an item.
 #[derive(Clone, Copy)]
@@ -24,89 +27,49 @@ const NO_DEVICE: Item = Item::Faulty(ItemFault::Missing(Member::DeviceId));
 #[derive(Clone, Copy)]
 enum Case {
     Fault(HttpFault),
-    /// A POST of registrations.
-    Vehicles(&'static [Item]),
     /// A POST of events.
     Events(&'static [Item]),
-    /// So many of the two events of A.
-    History(usize),
+    /// The two events of A.
+    History,
 }
 
 /// What is found, and the answer.
-const ANSWERS: &[(Case, Answer)] = &[
+const ANSWERS: &[(Case, Answer)] = rows! {
     (Case::Fault(HttpFault::NotFound), NO_ROUTE),
     (Case::Events(&[]), NONE_DONE),
-    (
-        Case::Events(&[Item::Done, NO_DEVICE, Item::Done]),
-        FAULTY_AMONG_THREE,
-    ),
-    (Case::Vehicles(&[Item::Out]), LACKING_AT_0),
-    (
-        Case::Events(&[NO_DEVICE, Item::Done, Item::Out, NO_DEVICE, Item::Out]),
-        LACKING_AT_2,
-    ),
-    (
-        Case::Vehicles(&[NO_DEVICE, NO_DEVICE, Item::Out]),
-        LACKING_AT_2,
-    ),
-    (Case::History(2), TWO_EVENTS),
-];
+    (Case::Events(&[Item::Done, NO_DEVICE, Item::Done]), FAULTY_AMONG_THREE),
+    (Case::Events(&[Item::Out]), LACKING_AT_0),
+    (Case::Events(&[NO_DEVICE, Item::Done, Item::Out, NO_DEVICE, Item::Out]), LACKING_AT_2),
+    (Case::Events(&[NO_DEVICE, NO_DEVICE, Item::Out]), LACKING_AT_2),
+    (Case::History, TWO_EVENTS),
+};
 
-const LACKING_AT_0: Answer = (LACKING, "", r#"{"error":"out_of_memory","index":0}"#);
-
-const LACKING_AT_2: Answer = (LACKING, "", r#"{"error":"out_of_memory","index":2}"#);
-
-const TWO_EVENTS: Answer = (
-    OK,
-    "",
-    r#"{"events":[{"device_id":"00000000-0000-4000-8000-00000000000a","event_id":"00000000-0000-4000-8000-0000000000e1","event_types":["provider_drop_off"],"location_e7":null,"provider_id":"00000000-0000-4000-8000-000000000001","timestamp":1000,"vehicle_state":"available"},{"device_id":"00000000-0000-4000-8000-00000000000a","event_id":"00000000-0000-4000-8000-0000000000e2","event_types":["battery_low","x_1"],"location_e7":{"lat":-900000000,"lng":-1},"provider_id":"00000000-0000-4000-8000-000000000001","timestamp":9007199254740991,"vehicle_state":"non_operational"}]}"#,
+const TWO_EVENTS: Answer = ok!(
+    r#"{"events":[{"device_id":"00000000-0000-4000-8000-00000000000a","event_id":"00000000-0000-4000-8000-0000000000e1","event_types":["provider_drop_off"],"location_e7":null,"provider_id":"00000000-0000-4000-8000-000000000001","timestamp":1000,"vehicle_state":"available"},{"device_id":"00000000-0000-4000-8000-00000000000a","event_id":"00000000-0000-4000-8000-0000000000e2","event_types":["battery_low","x_1"],"location_e7":{"lat":-900000000,"lng":-1},"provider_id":"00000000-0000-4000-8000-000000000001","timestamp":9007199254740991,"vehicle_state":"non_operational"}]}"#
 );
 
 /// Adds an item, again where its growth is refused.
 fn pushed<T: Drop>(items: &mut Vec<T>, item: T) -> Result<(), AllocError> {
-    if items.reserve(1).is_err() {
-        items.reserve(1)?;
-    }
+    again!(items.reserve(1))?;
     Ok(items.push(item)?)
 }
 
-/// The event e1 of A, put on the street at time 1000, or the event e2, of two types, at the latest time and a position south
-/// west of the origin.
-fn event(is_second: bool) -> Result<Event, Lack> {
-    let event = if is_second {
-        let position = Position::new(-900_000_000, -1);
-        let state = State::NonOperational;
-        event_of(
-            A,
-            E2,
-            &["battery_low", "x_1"],
-            state,
-            9_007_199_254_740_991,
-            position,
-        )
-    } else {
-        event_of(A, E1, DROP_OFF, State::Available, 1000, None)
-    };
-    event.ok_or(Lack::Case)
+/// The event e1 of A, put on the street at time 1000.
+fn first_event() -> Result<Event, Lack> {
+    event_of(A, E1, DROP_OFF, State::Available, 1000, None).ok_or(Lack::Case)
 }
 
-/// A POST of as many registrations or faults.
-fn vehicles(alloc: Global, items: &[Item]) -> Result<Plan, AllocError> {
-    let mut vehicles = Vec::new(alloc);
-    for item in items {
-        let vehicle = match item {
-            Item::Faulty(fault) => VehicleItem::Fault(*fault),
-            _ => VehicleItem::Vehicle(key(A)),
-        };
-        pushed(&mut vehicles, vehicle)?;
-    }
-    Ok(Plan::Vehicles(vehicles))
+/// The event e2 of A, of two types, at the latest time and a position south west of the origin.
+fn last_event() -> Result<Event, Lack> {
+    let (types, position) = (&["battery_low", "x_1"], Position::new(-900_000_000, -1));
+    let time = 9_007_199_254_740_991;
+    event_of(A, E2, types, State::NonOperational, time, position).ok_or(Lack::Case)
 }
 
 /// A POST of as many events or faults.
 fn events(alloc: Global, items: &[Item]) -> Result<Plan, Lack> {
     let mut events = Vec::new(alloc);
-    let first = event(false)?;
+    let first = first_event()?;
     for item in items {
         let event = match item {
             Item::Faulty(fault) => EventItem::Fault(*fault),
@@ -135,22 +98,17 @@ fn replies(alloc: Global, items: &[Item]) -> Result<Found, AllocError> {
     Ok(Found::Replies(replies))
 }
 
-/// So many of the two events.
-fn history(alloc: Global, count: usize) -> Result<Found, Lack> {
-    let mut events = Vec::new(alloc);
-    for at in 0..count {
-        pushed(&mut events, event(at == 1)?)?;
-    }
-    Ok(Found::History(Some(events)))
-}
-
 /// What is asked for, and what is found.
 fn asked_and_found(alloc: Global, case: Case) -> Result<(Plan, Found), Lack> {
     Ok(match case {
         Case::Fault(fault) => (Plan::Fixed(fault), Found::Nothing),
-        Case::Vehicles(items) => (vehicles(alloc, items)?, replies(alloc, items)?),
         Case::Events(items) => (events(alloc, items)?, replies(alloc, items)?),
-        Case::History(count) => (Plan::History(key(A)), history(alloc, count)?),
+        Case::History => {
+            let mut events = Vec::new(alloc);
+            pushed(&mut events, first_event()?)?;
+            pushed(&mut events, last_event()?)?;
+            (Plan::History(key(A)), Found::History(Some(events)))
+        }
     })
 }
 
@@ -172,46 +130,33 @@ fn answers_are_these(rt: HostRuntime) {
     assert_eq!(rt; first_other(rt.alloc(), ANSWERS), Ok(None));
 }
 
-/// A table of one row from one state to the other.
-fn rows(alloc: Global, kind: &str, from: State, to: State) -> Result<Vec<Row>, AllocError> {
-    let mut rows = Vec::new(alloc);
-    let kind = type_of(kind);
-    pushed(&mut rows, Row { from, kind, to })?;
-    Ok(rows)
-}
-
 /// Two tables of one row each.
-fn tables(alloc: Global) -> Result<(Plan, Found), AllocError> {
-    let mut tables = Vec::new(alloc);
-    let first = rows(alloc, "wake", State::Removed, State::Available)?;
-    pushed(&mut tables, (0, first))?;
-    let second = rows(alloc, "rest", State::Available, State::Removed)?;
-    pushed(&mut tables, (2000, second))?;
-    Ok((Plan::Rows, Found::Rows(tables)))
+fn tables(alloc: Global) -> Result<(Plan, Found), Lack> {
+    let tables = tables_of(alloc, WAKE_AND_REST)?;
+    let mut listed = Vec::new(alloc);
+    pushed(&mut listed, (0, again!(tables.at(0).rows(alloc))?))?;
+    pushed(&mut listed, (2000, again!(tables.at(2000).rows(alloc))?))?;
+    Ok((Plan::Rows, Found::Rows(listed)))
 }
 
 /// How many bytes the answer has, made again where there was no memory for it.
 fn length(alloc: Global, asked_and_found: (Plan, Found)) -> Result<usize, AllocError> {
     let (plan, found) = asked_and_found;
-    let bytes = match bytes_of(alloc, &plan, &found) {
-        Ok(bytes) => bytes,
-        Err(_) => bytes_of(alloc, &plan, &found)?,
-    };
-    Ok(bytes.len())
+    Ok(again!(bytes_of(alloc, &plan, &found))?.len())
 }
 
 /// The lengths of the answers by a fault, of two events, to a batch of which an item is refused and one faulty, and of two
 /// tables.
 fn lengths(alloc: Global) -> Result<[usize; 4], Lack> {
     let fault = Case::Fault(HttpFault::NotFound);
-    let batch = Case::Events(&[
+    let items = &[
         Item::Refused(Refusal::Repeated),
         Item::Faulty(ItemFault::NotObject),
-    ]);
+    ];
     Ok([
         length(alloc, asked_and_found(alloc, fault)?)?,
-        length(alloc, asked_and_found(alloc, Case::History(2))?)?,
-        length(alloc, asked_and_found(alloc, batch)?)?,
+        length(alloc, asked_and_found(alloc, Case::History)?)?,
+        length(alloc, asked_and_found(alloc, Case::Events(items))?)?,
         length(alloc, tables(alloc)?)?,
     ])
 }
@@ -237,17 +182,18 @@ fn statuses(batch: &Plan, replies: &Found) -> [u16; 5] {
     ]
 }
 
-/// What is told between two fences of two registrations, of which the other one found no memory: the statuses, how many were
-/// accepted, the fixed answer, and whether there was no memory for the bytes just where growths were refused.
-type Quiet = ([u16; 5], usize, &'static [u8], bool);
+/// What is told between two fences of two events, of which the other one found no memory: the statuses, how many were
+/// accepted, the fixed answer and its length, and whether there was no memory for the bytes just where growths were
+/// refused.
+type Quiet = ([u16; 5], usize, (&'static [u8], usize), bool);
 
 fn told_quietly(alloc: Global) -> Result<Quiet, Lack> {
-    let (batch, replies) = asked_and_found(alloc, Case::Vehicles(&[Item::Done, Item::Out]))?;
+    let (batch, replies) = asked_and_found(alloc, Case::Events(&[Item::Done, Item::Out]))?;
     let _begun = fence(alloc);
     let statuses = statuses(&batch, &replies);
     let accepted = replies.accepted();
     let lacks = bytes_of(alloc, &batch, &replies).is_err();
-    let fixed = memory_bytes();
+    let fixed = (memory_bytes(), memory_bytes().len());
     let ended = fence(alloc).is_err();
     Ok((statuses, accepted, fixed, lacks == ended))
 }
@@ -255,14 +201,6 @@ fn told_quietly(alloc: Global) -> Result<Quiet, Lack> {
 /// The fixed answer of status 503 is had without memory, where there is none for the bytes of another one.
 #[test]
 fn lack_is_answered_with_every_growth_refused(rt: HostRuntime) {
-    let statuses = [503, 404, 404, 200, 413];
-    assert_eq!(rt;
-        told_quietly(rt.alloc()),
-        Ok((statuses, 1, NO_MEMORY, true))
-    );
-}
-
-#[test]
-fn answer_without_memory(rt: HostRuntime) {
-    assert_eq!(rt; (memory_bytes(), memory_bytes().len()), (NO_MEMORY, 74));
+    let told = ([503, 404, 404, 200, 413], 1, (NO_MEMORY, 74), true);
+    assert_eq!(rt; told_quietly(rt.alloc()), Ok(told));
 }

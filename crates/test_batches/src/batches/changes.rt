@@ -1,5 +1,5 @@
 //! The event with pieces changed: what is read of its members, or the first fault.
-use super::{BERLIN, EVENT, Place, report, text_of};
+use super::{BERLIN, EVENT, Place, report};
 use mds_batch::ItemFault::{self, Bad, Missing};
 use mds_batch::Member::{
     self, DeviceId, EventId, EventTypes, LocationE7, ProviderId, Timestamp, VehicleState,
@@ -13,19 +13,14 @@ type Read = Result<(u64, Place), ItemFault>;
 /// What is read of the event where what stands before an arrow is changed into what is behind it, a line each.
 type Change = (Read, &'static str);
 
-const CHANGES: &[Change] = &[
-    (
-        Err(Bad(EventTypes)),
-        r#""trip_end","battery_low","trip_end"→
+const CHANGES: &[Change] = rows! {
+    (Err(Bad(EventTypes)), r#""trip_end","battery_low","trip_end"→
 battery_low→battery-low
 battery_low→abcdefghijklmnopqrstuvwxyz_012893
 battery_low→
-battery_low→Battery"#,
-    ),
+battery_low→Battery"#),
     // the last of several counts, and nothing stays of those before
-    (
-        Ok((1000, BERLIN)),
-        r#""event_types":→"event_types":["a"],"event_types":
+    (Ok((1000, BERLIN)), r#""event_types":→"event_types":["a"],"event_types":
 "event_types":→"event_types":[],"event_types":
 "event_types":→"event_types":[7],"event_types":
 "event_types":→"event_types":["a",7,"b"],"event_types":
@@ -35,23 +30,17 @@ battery_low→Battery"#,
 "lat":→"lat":null,"lat":
 "lat":→"lng":{"lat":7},"\u006Cat":
 "location_e7":→"location_e7":{"lat":null},"location_e7":
-"location_e7":→"location":{"lat":1.5,"lng":2},"publication_time":1700000000500,"battery_percent":88,"trip_ids":[],"location_e7":"#,
-    ),
-    (
-        Err(Bad(Timestamp)),
-        r#"1000→9007199254740992
+"location_e7":→"location":{"lat":1.5,"lng":2},"publication_time":1700000000500,"battery_percent":88,"trip_ids":[],"location_e7":"#),
+    (Err(Bad(Timestamp)), r#"1000→9007199254740992
 1000→18446744073709552616
 1000→1000.0
 1000→-1
 1000→1000,"timestamp":-1
-1000,"location_e7":→1e3,"location_e7":7,"x":"#,
-    ),
+1000,"location_e7":→1e3,"location_e7":7,"x":"#),
     (Ok((0, BERLIN)), "1000→0"),
     (Ok((9007199254740991, BERLIN)), "1000→9007199254740991"),
     (Ok((2000, BERLIN)), "1000→-1,\"timestamp\":2000"),
-    (
-        Err(Bad(LocationE7)),
-        r#"525200000→900000001
+    (Err(Bad(LocationE7)), r#"525200000→900000001
 525200000→-900000001
 525200000→9223372036854775808
 525200000→1.0
@@ -67,46 +56,22 @@ battery_low→Battery"#,
 "lng"→"x":0,"l\u0061t":1.5,"lng"
 134050000→134050000,"lng":1800000001
 134050000}→134050000},"location_e7":{}
-,"lng"→},"location_e7":{"lng""#,
-    ),
-    (
-        Ok((1000, Some((0, 134050000)))),
-        r#""lng"→"l\u0061t":0,"lng""#,
-    ),
-    (
-        Ok((1000, Some((525200000, -1)))),
-        r#"134050000→-0,"lng":"0","lng":-1"#,
-    ),
-    (
-        Ok((1000, Some((1, 2)))),
-        r#""lat":525200000,"lng":134050000→"lng":2,"lat":1
-134050000}→134050000},"location_e7":{"lat":1,"lng":2}"#,
-    ),
-    (
-        Ok((1000, Some((900000000, 1800000000)))),
-        r#"525200000,"lng":134050000→900000000,"lng":1800000000"#,
-    ),
-    (
-        Ok((1000, Some((-900000000, -1800000000)))),
-        r#"525200000,"lng":134050000→-900000000,"lng":-1800000000"#,
-    ),
+,"lng"→},"location_e7":{"lng""#),
+    (Ok((1000, Some((0, 134050000)))), r#""lng"→"l\u0061t":0,"lng""#),
+    (Ok((1000, Some((525200000, -1)))), r#"134050000→-0,"lng":"0","lng":-1"#),
+    (Ok((1000, Some((1, 2)))), r#""lat":525200000,"lng":134050000→"lng":2,"lat":1
+134050000}→134050000},"location_e7":{"lat":1,"lng":2}"#),
+    (Ok((1000, Some((900000000, 1800000000)))), r#"525200000,"lng":134050000→900000000,"lng":1800000000"#),
+    (Ok((1000, Some((-900000000, -1800000000)))), r#"525200000,"lng":134050000→-900000000,"lng":-1800000000"#),
     // no position, and other members in its place
-    (
-        Ok((1000, None)),
-        r#""location_e7":→"location_e7":null,"x":
+    (Ok((1000, None)), r#""location_e7":→"location_e7":null,"x":
 "location_e7":→"location":
-"location_e7":→"publication_time":1700000000500,"battery_percent":88,"trip_ids":[],"location":"#,
-    ),
+"location_e7":→"publication_time":1700000000500,"battery_percent":88,"trip_ids":[],"location":"#),
     // the first of several faults
     (Err(Missing(ProviderId)), "_id→_ids"),
     (Err(Missing(EventId)), "event_id→id"),
-    (
-        Err(Bad(VehicleState)),
-        r#""on_trip","event_types"→"flying","types""#,
-    ),
-];
-
-const HERE: &str = r#"{"lat":525200000,"lng":134050000}"#;
+    (Err(Bad(VehicleState)), r#""on_trip","event_types"→"flying","types""#),
+};
 
 /// An item, if there is one, or why there are none.
 type Item = Result<Option<EventItem>, BatchFault>;
@@ -162,7 +127,7 @@ fn types_in(item: &Item) -> Result<Option<usize>, BatchFault> {
 
 /// The same of the event with so many types of this name between its first and its last.
 fn type_count(alloc: Global, name: &str, times: usize) -> Result<Option<usize>, BatchFault> {
-    let Ok(types) = text_of(alloc, &[(name, times)]) else {
+    let Ok(types) = name.repeat(alloc, times) else {
         return Err(BatchFault::Memory);
     };
     let text = EVENT.replace(alloc, "\"battery_low\",", types.as_str());
@@ -184,50 +149,15 @@ fn most_types(rt: HostRuntime) {
 /// A member of the event, its name with escapes, its value, and a value that is bad.
 type Told = (Member, &'static str, &'static str, &'static str);
 
-const MEMBERS: &[Told] = &[
-    (
-        ProviderId,
-        r"\u0070rovider_id",
-        r#""00000000-0000-4000-8000-000000000001""#,
-        "null",
-    ),
-    (
-        DeviceId,
-        r"device_i\u0064",
-        r#""00000000-0000-4000-8000-00000000000a""#,
-        r#""a""#,
-    ),
-    (
-        EventId,
-        r"event\u005fid",
-        r#""00000000-0000-4000-8000-0000000000e1""#,
-        "{}",
-    ),
-    (
-        VehicleState,
-        r"vehicle\u005F\u0073tate",
-        r#""on_trip""#,
-        r#""flying""#,
-    ),
-    (
-        EventTypes,
-        r"\u0065vent_types",
-        r#"["trip_end","battery_low","trip_end"]"#,
-        "[]",
-    ),
-    (
-        Timestamp,
-        r"\u0074\u0069\u006d\u0065\u0073\u0074\u0061\u006D\u0070",
-        "1000",
-        "1e3",
-    ),
-    (
-        LocationE7,
-        r"location_e\u0037",
-        HERE,
-        "[525200000,134050000]",
-    ),
-];
+const MEMBERS: &[Told] = rows! {
+    (ProviderId, r"\u0070rovider_id", r#""00000000-0000-4000-8000-000000000001""#, "null"),
+    (DeviceId, r"device_i\u0064", r#""00000000-0000-4000-8000-00000000000a""#, r#""a""#),
+    (EventId, r"event\u005fid", r#""00000000-0000-4000-8000-0000000000e1""#, "{}"),
+    (VehicleState, r"vehicle\u005F\u0073tate", r#""on_trip""#, r#""flying""#),
+    (EventTypes, r"\u0065vent_types", r#"["trip_end","battery_low","trip_end"]"#, "[]"),
+    (Timestamp, r"\u0074\u0069\u006d\u0065\u0073\u0074\u0061\u006D\u0070", "1000", "1e3"),
+    (LocationE7, r"location_e\u0037", r#"{"lat":525200000,"lng":134050000}"#, "[525200000,134050000]"),
+};
 
 /// What becomes of the event where a member stands in another way.
 #[derive(Clone, Copy)]
@@ -243,48 +173,28 @@ enum Becomes {
 
 /// Ways in which a member stands, with a bar between: `@` is its name, `%` that with escapes, `<` that without its last letter,
 /// `$` its value and `!` the bad one.
-const WAYS: &[(&str, Becomes)] = &[
+const WAYS: &[(&str, Becomes)] = rows! {
     (r#""%":$"#, Becomes::Same),
     // the last of several counts
-    (r#""@":!,"@":$|"%":!,"@":$"#, Becomes::Same),
-    (
-        r#""@":$,"@":!,"x":0,"@":$|"@":$,"%":!,"x":0,"@":$"#,
-        Becomes::Same,
-    ),
-    (r#""@":$,"@":!|"@":$,"%":!"#, Becomes::Faulty),
-    (
-        r#""@":!,"@":$,"x":0,"@":!|"%":!,"@":$,"x":0,"%":!"#,
-        Becomes::Faulty,
-    ),
+    (r#""@":!,"@":$|"%":!,"@":$|"@":$,"@":!,"x":0,"@":$|"@":$,"%":!,"x":0,"@":$"#, Becomes::Same),
+    (r#""@":$,"@":!|"@":$,"%":!|"@":!,"@":$,"x":0,"@":!|"%":!,"@":$,"x":0,"%":!"#, Becomes::Faulty),
     // other names
-    (r#""<":$|"@s":$|"x@":$|" @":$|"@ ":$"#, Becomes::Without),
-    (r#""@\u0000":$|"\u0000@":$|"@\\":$"#, Becomes::Without),
+    (r#""<":$|"@s":$|"x@":$|" @":$|"@ ":$|"@\u0000":$|"\u0000@":$|"@\\":$"#, Becomes::Without),
     // no names
-    (
-        r#""@\ud800":$|"@\udc00":$|"@\udc00\ud800":$"#,
-        Becomes::NoBatch,
-    ),
-    (r#""@\u12":$|"@\x41":$|"@\":$|"@":"":$"#, Becomes::NoBatch),
+    (r#""@\ud800":$|"@\udc00":$|"@\udc00\ud800":$|"@\u12":$|"@\x41":$|"@\":$|"@":"":$"#, Becomes::NoBatch),
     ("\"@\n\":$|\"@\0\":$", Becomes::NoBatch),
-];
+};
 
 /// The text of a way in which a member stands.
 fn way_of(alloc: Global, told: &Told, way: &str) -> Result<String, AllocError> {
     let (member, escaped, value, bad) = told;
     let name = member.name();
     let most = name.get(..name.len().saturating_sub(1)).unwrap_or("");
-    let mut text = String::new(alloc);
-    for letter in way.chars() {
-        match letter {
-            '@' => text.push_str(name)?,
-            '%' => text.push_str(escaped)?,
-            '<' => text.push_str(most)?,
-            '$' => text.push_str(value)?,
-            '!' => text.push_str(bad)?,
-            other => text.push(other)?,
-        }
-    }
-    Ok(text)
+    let text = way.replace(alloc, "@", name)?;
+    let text = text.replace(alloc, "%", escaped)?;
+    let text = text.replace(alloc, "<", most)?;
+    let text = text.replace(alloc, "$", value)?;
+    text.replace(alloc, "!", bad)
 }
 
 /// What is read of the event where a member stands in this way.

@@ -46,22 +46,16 @@ type Case = (
 );
 
 /// The fault of the whole comes behind the items: the taker has those before it.
-const CASES: &[Case] = &[
+const CASES: &[Case] = rows! {
     ((&[("[0,{},[]]", 1)], 3), (Ok(()), 3)),
     ((&[("[]", 1)], 0), (Ok(()), 0)),
     ((&[("[0,{},[]]", 1)], 2), (Err(BatchFault::Memory), 2)),
     ((&[("[0,{},[]]", 1)], 0), (Err(BatchFault::Memory), 0)),
-    (
-        (&[("[", 1), ("0,", MAX_ITEMS), ("0]", 1)], MAX_ITEMS),
-        (Err(BatchFault::TooMany), MAX_ITEMS),
-    ),
-    (
-        (&[("[", 1), ("0,", 3), ("]", 1)], 9),
-        (Err(BatchFault::NotJson), 3),
-    ),
+    ((&[("[", 1), ("0,", MAX_ITEMS), ("0]", 1)], MAX_ITEMS), (Err(BatchFault::TooMany), MAX_ITEMS)),
+    ((&[("[", 1), ("0,", 3), ("]", 1)], 9), (Err(BatchFault::NotJson), 3)),
     ((&[("[0][", 1)], 9), (Err(BatchFault::NotJson), 1)),
     ((&[("\"000\"", 1)], 9), (Err(BatchFault::NotList), 0)),
-];
+};
 
 /// The first case that ends otherwise, and how.
 fn first_other(

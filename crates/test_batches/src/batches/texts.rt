@@ -6,31 +6,11 @@ use std::alloc::{AllocError, Global};
 /// What a text is: how many items it lists, or why none; and the fault of the item that it is itself.
 type Text = (Result<usize, BatchFault>, Result<ItemFault, BatchFault>);
 
-/// Texts, with a bar between, and what each is.
-const TEXTS: &[(&str, Text)] = &[
-    ("[]| [ ] \n|\t\r\n [\t\r\n ]\t\r\n ", (Ok(0), NO_OBJECT)),
-    ("{}| {} \r\n", (Ok(1), NO_PROVIDER)),
-    ("[{}]|[[]]", (Ok(1), NO_OBJECT)),
-    ("[null,{}]", (Ok(2), NO_OBJECT)),
-    ("7|null|-0|1e308", (Err(BatchFault::NotList), NO_OBJECT)),
-    (
-        "\"[]\"|\"{}\"|\"\\u0000\"",
-        (Err(BatchFault::NotList), NO_OBJECT),
-    ),
-    // no values, and what is no blank
-    ("| \t\r\n|{|\"[]|[{}|[1,]|[1e999]|1e309", NO_JSON),
-    (
-        "\u{feff}[]|\u{a0}[]|\u{c}[]|[]\0|// c\n[]|[]/**/|[]#",
-        NO_JSON,
-    ),
-    // more or less than one value
-    ("[] []|[][]|{}{}|{} {}|[]1|[]7|1 2|[],|{},|,[]", NO_JSON),
-    ("[]]|{}}|{}]|{]|\"a\":1|'[]'", NO_JSON),
-];
-
 const NO_OBJECT: Result<ItemFault, BatchFault> = Ok(ItemFault::NotObject);
 
 const NO_PROVIDER: Result<ItemFault, BatchFault> = Ok(ItemFault::Missing(Member::ProviderId));
+
+const NO_LIST: Text = (Err(BatchFault::NotList), NO_OBJECT);
 
 const NO_JSON: Text = (Err(BatchFault::NotJson), Err(BatchFault::NotJson));
 
@@ -38,37 +18,34 @@ const TOO_LONG: Text = (Err(BatchFault::TooLong), Err(BatchFault::TooLong));
 
 const TOO_MANY: Text = (Err(BatchFault::TooMany), NO_OBJECT);
 
-/// Pieces of a text with how often each stands, and what it is.
-const LONG_TEXTS: &[(&[(&str, usize)], Text)] = &[
+/// Pieces with how often each stands, and what each of the texts is that they make, with a bar between.
+type Texts = (&'static [(&'static str, usize)], Text);
+
+const TEXTS: &[Texts] = rows! {
+    (&[("[]| [ ] \n|\t\r\n [\t\r\n ]\t\r\n ", 1)], (Ok(0), NO_OBJECT)),
+    (&[("{}| {} \r\n", 1)], (Ok(1), NO_PROVIDER)),
+    (&[("[{}]|[[]]", 1)], (Ok(1), NO_OBJECT)),
+    (&[("[null,{}]", 1)], (Ok(2), NO_OBJECT)),
+    (&[("7|null|-0|1e308|\"[]\"|\"{}\"|\"\\u0000\"", 1)], NO_LIST),
+    // no values, and what is no blank
+    (&[("| \t\r\n|{|\"[]|[{}|[1,]|[1e999]|1e309|\u{feff}[]|\u{a0}[]|\u{c}[]|[]\0|// c\n[]|[]/**/|[]#", 1)], NO_JSON),
+    // more or less than one value
+    (&[("[] []|[][]|{}{}|{} {}|[]1|[]7|1 2|[],|{},|,[]|[]]|{}}|{}]|{]|\"a\":1|'[]'", 1)], NO_JSON),
     // deepest nesting
     (&[("[", 127), ("]", 127)], (Ok(1), NO_OBJECT)),
     (&[("[", 128), ("]", 128)], NO_JSON),
-    (
-        &[("{\"x\":", 1), ("[", 126), ("]", 126), ("}", 1)],
-        (Ok(1), NO_PROVIDER),
-    ),
-    (&[("{\"x\":", 1), ("[", 127), ("]", 127), ("}", 1)], NO_JSON),
-    (&[("[", 1_000_000)], NO_JSON),
-    (&[("{\"x\":", 500_000)], NO_JSON),
+    (&[("{\"x\":", 1), ("[", 126), ("]", 126), ("}", 1)], (Ok(1), NO_PROVIDER)),
+    (&[("{\"x\":", 1), ("[", 127), ("]", 127), ("}|", 1), ("[", 1_000_000), ("|", 1), ("{\"x\":", 500_000)], NO_JSON),
     // most items
-    (&[("[", 1), ("0,", 9999), ("0]", 1)], (Ok(10000), NO_OBJECT)),
-    (
-        &[("[", 1), ("{},", 9999), ("{}]", 1)],
-        (Ok(10000), NO_OBJECT),
-    ),
-    (&[("[", 1), ("0,", 10000), ("0]", 1)], TOO_MANY),
-    (&[("[", 1), ("[{}],", 10000), ("{}]", 1)], TOO_MANY),
-    (&[("[", 1), ("0,", 10000), ("0]]", 1)], NO_JSON),
-    (&[("[", 1), ("0,", 10000), ("1e309]", 1)], NO_JSON),
-    (&[("[", 1), ("{},", 10000), ("{}", 1)], NO_JSON),
+    (&[("[", 1), ("0,", 9999), ("0]|[", 1), ("{},", 9999), ("{}]", 1)], (Ok(10000), NO_OBJECT)),
+    (&[("[", 1), ("0,", 10000), ("0]|[", 1), ("[{}],", 10000), ("{}]", 1)], TOO_MANY),
+    (&[("[", 1), ("0,", 10000), ("0]]|[", 1), ("0,", 10000), ("1e309]|[", 1), ("{},", 10000), ("{}", 1)], NO_JSON),
     // most bytes
     (&[("[]", 1), (" ", 4194302)], (Ok(0), NO_OBJECT)),
     (&[("{}", 1), (" ", 4194302)], (Ok(1), NO_PROVIDER)),
-    (&[("[]", 1), (" ", 4194303)], TOO_LONG),
     (&[(" ", 4194304)], NO_JSON),
-    (&[(" ", 4194305)], TOO_LONG),
-    (&[("\0", 4194305)], TOO_LONG),
-];
+    (&[("[]", 1), (" ", 4194303), ("|", 1), (" ", 4194305), ("|", 1), ("\0", 4194305)], TOO_LONG),
+};
 
 /// What is read of a text: as batches, and as an item.
 type Found = (Firsts, Result<Option<ItemFault>, BatchFault>);
@@ -99,33 +76,22 @@ fn is_as(found: &Found, text: &Text) -> bool {
     item && count_of(vehicles) == text.0 && count_of(events) == text.0
 }
 
-/// The first text that is another one, and what is read of it.
-fn first_other(alloc: Global, texts: &[(&str, Text)]) -> Option<(usize, Found)> {
-    for (place, (row, expected)) in texts.iter().enumerate() {
-        for text in row.split('|') {
-            let found = found(alloc, text.as_bytes());
-            if !is_as(&found, expected) {
-                return Some((place, found));
-            }
+/// What is read of the first of these texts that is another one.
+fn first_other_of(alloc: Global, texts: &str, expected: &Text) -> Option<Found> {
+    for text in texts.split('|') {
+        let found = found(alloc, text.as_bytes());
+        if !is_as(&found, expected) {
+            return Some(found);
         }
     }
     None
 }
 
-#[test]
-fn texts(rt: HostRuntime) {
-    assert_eq!(rt; first_other(rt.alloc(), TEXTS), None);
-}
-
-/// The same of texts in pieces.
-fn first_other_long(
-    alloc: Global,
-    texts: &[(&[(&str, usize)], Text)],
-) -> Result<Option<(usize, Found)>, AllocError> {
-    for (place, (pieces, expected)) in texts.iter().enumerate() {
-        let text = text_of(alloc, pieces)?;
-        let found = found(alloc, text.as_bytes());
-        if !is_as(&found, expected) {
+/// The first row with another text, and what is read of that.
+fn first_other(alloc: Global, rows: &[Texts]) -> Result<Option<(usize, Found)>, AllocError> {
+    for (place, (pieces, expected)) in rows.iter().enumerate() {
+        let texts = text_of(alloc, pieces)?;
+        if let Some(found) = first_other_of(alloc, texts.as_str(), expected) {
             return Ok(Some((place, found)));
         }
     }
@@ -133,83 +99,8 @@ fn first_other_long(
 }
 
 #[test]
-fn long_texts(rt: HostRuntime) {
-    assert_eq!(rt; first_other_long(rt.alloc(), LONG_TEXTS), Ok(None));
-}
-
-/// Bytes that are no UTF-8: continuations alone, long forms, surrogates, past the last character, and cut ones.
-const NO_UTF8: &[&[u8]] = &[
-    b"\x80",
-    b"\xbf",
-    b"\xc0\x80",
-    b"\xc1\xbf",
-    b"\xc3",
-    b"\xc3(",
-    b"\xe0\x9f\xbf",
-    b"\xe2\x82",
-    b"\xed\xa0\x80",
-    b"\xed\xbf\xbf",
-    b"\xf0\x8f\xbf\xbf",
-    b"\xf0\x9f\x98",
-    b"\xf4\x90\x80\x80",
-    b"\xf5\x80\x80\x80",
-    b"\xfe",
-    b"\xff",
-];
-
-/// Texts of one item, in two parts, between which bytes stand.
-const HALVES: &[(&[u8], &[u8])] = &[
-    (b"[\"", b"\"]"),
-    (b"{\"", b"\":0}"),
-    (b"[{\"provider_id\":\"\\n", b"x\"}]"),
-];
-
-/// What is read with these bytes in the middle.
-fn found_with(alloc: Global, halves: &(&[u8], &[u8]), bytes: &[u8]) -> Result<Found, AllocError> {
-    let mut text = Vec::from_slice(alloc, halves.0)?;
-    text.extend_from_slice(bytes)?;
-    text.extend_from_slice(halves.1)?;
-    Ok(found(alloc, text.as_slice()))
-}
-
-/// The first bytes with which there is a text, and what is read of it.
-fn first_read(
-    alloc: Global,
-    halves: &[(&[u8], &[u8])],
-    between: &[&[u8]],
-) -> Result<Option<(usize, Found)>, AllocError> {
-    for halves in halves {
-        for (place, bytes) in between.iter().enumerate() {
-            let found = found_with(alloc, halves, bytes)?;
-            if !is_as(&found, &NO_JSON) {
-                return Ok(Some((place, found)));
-            }
-        }
-    }
-    Ok(None)
-}
-
-#[test]
-fn no_characters(rt: HostRuntime) {
-    assert_eq!(rt; first_read(rt.alloc(), HALVES, NO_UTF8), Ok(None));
-}
-
-/// Whether so many bytes that are no UTF-8 are this text.
-fn are_as(alloc: Global, count: usize, text: &Text) -> Result<bool, AllocError> {
-    let bytes = vec![in alloc; 0xff; count]?;
-    Ok(is_as(&found(alloc, bytes.as_slice()), text))
-}
-
-#[test]
-fn length_is_looked_at_first(rt: HostRuntime) {
-    let long = are_as(rt.alloc(), 4194305, &TOO_LONG);
-    let most = are_as(rt.alloc(), 4194304, &NO_JSON);
-    assert_eq!(rt; (long, most), (Ok(true), Ok(true)));
-}
-
-/// The item that a reader reads.
-fn read_by(reader: &mut ItemReader, text: &str) -> Result<EventItem, BatchFault> {
-    Ok(*reader.read(text.as_bytes())?)
+fn texts_are_these(rt: HostRuntime) {
+    assert_eq!(rt; first_other(rt.alloc(), TEXTS), Ok(None));
 }
 
 /// The event, read again where there was no memory.
@@ -220,11 +111,16 @@ fn item_again(alloc: Global) -> Result<EventItem, BatchFault> {
     }
 }
 
+/// The event that a reader reads.
+fn read_by(reader: &mut ItemReader) -> Result<EventItem, BatchFault> {
+    Ok(*reader.read(EVENT.as_bytes())?)
+}
+
 /// The event, read again by the same reader where there was no memory.
 fn read_again(alloc: Global) -> Result<EventItem, BatchFault> {
     let mut reader = ItemReader::new(alloc);
-    match read_by(&mut reader, EVENT) {
-        Err(BatchFault::Memory) => read_by(&mut reader, EVENT),
+    match read_by(&mut reader) {
+        Err(BatchFault::Memory) => read_by(&mut reader),
         other => other,
     }
 }

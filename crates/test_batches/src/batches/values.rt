@@ -18,7 +18,7 @@ const KEY: &str =
 const OTHERS: &str =
     r#""event_id":"00000000-0000-4000-8000-0000000000e1","vehicle_state":"on_trip","event_types":["a"],"timestamp":0"#;
 
-const PLACES: &[Place] = &[
+const PLACES: &[Place] = rows! {
     // no object, and an object of which nothing is asked for
     ("[@]", 1, Some(NotObject)),
     (r#"{"x":@}"#, 1, Some(Missing(ProviderId))),
@@ -33,25 +33,13 @@ const PLACES: &[Place] = &[
     (r#"[{%,#,"event_id":@}]"#, 2, Some(Bad(EventId))),
     (r#"{%,#,"vehicle_state":@}"#, 1, Some(Bad(VehicleState))),
     (r#"{%,#,"event_types":@}"#, 1, Some(Bad(EventTypes))),
-    (
-        r#"[{%,#,"event_types":["b",@,"c"]}]"#,
-        3,
-        Some(Bad(EventTypes)),
-    ),
+    (r#"[{%,#,"event_types":["b",@,"c"]}]"#, 3, Some(Bad(EventTypes))),
     (r#"{%,#,"timestamp":@}"#, 1, Some(Bad(Timestamp))),
     (r#"{%,#,"location_e7":@}"#, 1, Some(Bad(LocationE7))),
-    (
-        r#"[{%,#,"location_e7":{"lat":@,"lng":0}}]"#,
-        3,
-        Some(Bad(LocationE7)),
-    ),
-    (
-        r#"{%,#,"location_e7":{"lat":0,"lng":@}}"#,
-        2,
-        Some(Bad(LocationE7)),
-    ),
+    (r#"[{%,#,"location_e7":{"lat":@,"lng":0}}]"#, 3, Some(Bad(LocationE7))),
+    (r#"{%,#,"location_e7":{"lat":0,"lng":@}}"#, 2, Some(Bad(LocationE7))),
     (r#"{%,#,"location_e7":{"lat":0,"x":@,"lng":0}}"#, 2, None),
-];
+};
 
 /// Values, with a bar between, of which no member has one in the form that it asks for.
 const VALUES: &[&str] = &[
@@ -151,13 +139,10 @@ fn first_other(
 }
 
 #[test]
-fn values(rt: HostRuntime) {
-    assert_eq!(rt; first_other(rt.alloc(), PLACES, VALUES, true), Ok(None));
-}
-
-#[test]
-fn no_values(rt: HostRuntime) {
-    assert_eq!(rt; first_other(rt.alloc(), PLACES, NO_VALUES, false), Ok(None));
+fn values_in_each_place(rt: HostRuntime) {
+    let values = first_other(rt.alloc(), PLACES, VALUES, true);
+    let no_values = first_other(rt.alloc(), PLACES, NO_VALUES, false);
+    assert_eq!(rt; [values, no_values], [Ok(None), Ok(None)]);
 }
 
 /// A list of this many levels, every other one an object.

@@ -1,18 +1,15 @@
 //! The worked answers, each asked of a fleet.
 use super::{Exchange, answered, first_other};
 use crate::cases::{
-    A_IS_AVAILABLE, Answer, BAD_LENGTH, CODED, CUT_SHORT, EMPTY, EVENTS_OF_A, FAULTY_AMONG_THREE,
-    GET_ONLY, NO_LENGTH, NO_ROUTE, NONE_DONE, NOT_JSON, NOT_LIST, OK, ONE_DONE, POST_ONLY, THREE,
-    TOO_LONG, TWO_DONE, UNKNOWN, WAKE_AND_REST, tables_of,
+    Answer, BAD_LENGTH, CODED, CUT_SHORT, EMPTY, FAULTY_AMONG_THREE, GET_ONLY, NO_LENGTH, NO_ROUTE,
+    NONE_DONE, NOT_JSON, NOT_LIST, POST_ONLY, PROFILE, THREE, TOO_LONG, UNKNOWN, WAKE_AND_REST,
+    tables_of,
 };
 use mds_core::Fleet;
 use mds_face::Face;
 use std::alloc::Global;
 use std::str::from_utf8;
-use test_fixtures::{Lack, profile};
-
-/// The file of no tables: the profile, from 0 on.
-pub const PROFILE: &str = "";
+use test_fixtures::Lack;
 
 /// A registration of A, and registrations of A and B.
 const A_REGISTERS: &str =
@@ -41,10 +38,26 @@ const LIST_A: &str =
 const LIST_B: &str =
     "GET /vehicles/00000000-0000-4000-8000-000000000001/00000000-0000-4000-8000-00000000000b/events HTTP/1.1\r\n\r\n";
 
-const B_IS_AVAILABLE: Answer = (
-    OK,
-    "",
-    r#"{"device_id":"00000000-0000-4000-8000-00000000000b","events":1,"last":1000,"location_e7":null,"provider_id":"00000000-0000-4000-8000-000000000001","vehicle_state":"available"}"#,
+/// One item, or each of two, accepted; and A registered already.
+const ONE_DONE: Answer = ok!(r#"{"failures":[],"success":1,"total":1}"#);
+
+const TWO_DONE: Answer = ok!(r#"{"failures":[],"success":2,"total":2}"#);
+
+const AGAIN: Answer = ok!(
+    r#"{"failures":[{"error":"already_registered","index":0}],"success":0,"total":1}"#
+);
+
+/// What is seen of A and of B, once their one event was accepted, and the events of A then.
+const A_IS_AVAILABLE: Answer = ok!(
+    r#"{"device_id":"00000000-0000-4000-8000-00000000000a","events":1,"last":1000,"location_e7":null,"provider_id":"00000000-0000-4000-8000-000000000001","vehicle_state":"available"}"#
+);
+
+const B_IS_AVAILABLE: Answer = ok!(
+    r#"{"device_id":"00000000-0000-4000-8000-00000000000b","events":1,"last":1000,"location_e7":null,"provider_id":"00000000-0000-4000-8000-000000000001","vehicle_state":"available"}"#
+);
+
+const EVENTS_OF_A: Answer = ok!(
+    r#"{"events":[{"device_id":"00000000-0000-4000-8000-00000000000a","event_id":"00000000-0000-4000-8000-0000000000e1","event_types":["provider_drop_off"],"location_e7":null,"provider_id":"00000000-0000-4000-8000-000000000001","timestamp":1000,"vehicle_state":"available"}]}"#
 );
 
 /// One faulty item among three: what is asked in turn, and what is answered.
@@ -69,33 +82,22 @@ const ROUND_THE_START: &str =
 \"event_id\":\"00000000-0000-4000-8000-0000000000e1\",\"vehicle_state\":\"available\",\"event_types\":[\"wake\"],\"timestamp\":1000}]";
 
 /// Two of those events are refused; A rests then.
-const TWO_REFUSED: Answer = (
-    OK,
-    "",
-    r#"{"failures":[{"at":0,"error":"no_chain","held":"available","index":1},{"at":0,"error":"no_chain","held":"removed","index":3}],"success":3,"total":5}"#,
+const TWO_REFUSED: Answer = ok!(
+    r#"{"failures":[{"at":0,"error":"no_chain","held":"available","index":1},{"at":0,"error":"no_chain","held":"removed","index":3}],"success":3,"total":5}"#
 );
 
-const A_IS_REMOVED: Answer = (
-    OK,
-    "",
-    r#"{"device_id":"00000000-0000-4000-8000-00000000000a","events":2,"last":2000,"location_e7":null,"provider_id":"00000000-0000-4000-8000-000000000001","vehicle_state":"removed"}"#,
+const A_IS_REMOVED: Answer = ok!(
+    r#"{"device_id":"00000000-0000-4000-8000-00000000000a","events":2,"last":2000,"location_e7":null,"provider_id":"00000000-0000-4000-8000-000000000001","vehicle_state":"removed"}"#
 );
 
 /// Registrations, those events, the tables and where A and B stand.
 pub const TWO_IN_TURN: &[Exchange] = &[
     (BOTH_REGISTER, TWO_DONE),
     (ROUND_THE_START, TWO_REFUSED),
-    ("GET /table HTTP/1.1\r\n\r\n", (OK, "", WAKE_AND_REST)),
+    ("GET /table HTTP/1.1\r\n\r\n", ok!(WAKE_AND_REST)),
     (LOOK_AT_A, A_IS_REMOVED),
     (LOOK_AT_B, B_IS_AVAILABLE),
 ];
-
-/// A is registered already.
-const AGAIN: Answer = (
-    OK,
-    "",
-    r#"{"failures":[{"error":"already_registered","index":0}],"success":0,"total":1}"#,
-);
 
 /// Lists, one within the other, as many as there may be and one more; the first is no vehicle.
 const DEEP: &str =
@@ -104,14 +106,13 @@ const DEEP: &str =
 const TOO_DEEP: &str =
     "POST /vehicles HTTP/1.1\r\nContent-Length: 256\r\n\r\n[[[[[[[[[[[[[[[[[[[[[[[[[[[[[[[[[[[[[[[[[[[[[[[[[[[[[[[[[[[[[[[[[[[[[[[[[[[[[[[[[[[[[[[[[[[[[[[[[[[[[[[[[[[[[[[[[[[[[[[[[[[[[[[[]]]]]]]]]]]]]]]]]]]]]]]]]]]]]]]]]]]]]]]]]]]]]]]]]]]]]]]]]]]]]]]]]]]]]]]]]]]]]]]]]]]]]]]]]]]]]]]]]]]]]]]]]]]]]]]]]]]]]]]]]]]]]]]]";
 
-const NO_OBJECT: Answer = (
-    OK,
-    "",
-    r#"{"failures":[{"error":"not_object","index":0}],"success":0,"total":1}"#,
+const NO_OBJECT: Answer = ok!(
+    r#"{"failures":[{"error":"not_object","index":0}],"success":0,"total":1}"#
 );
 
-/// Vehicles: the empty batch, registering twice, the worked answers to looks, and deep nesting.
-const OF_VEHICLES: &[Exchange] = &[
+/// The empty batch, registering twice, the worked answers to looks, and deep nesting; and requests that ask for
+/// nothing: no route, another method, lengths, bodies that are no batch, and broken requests.
+const ONE_AFTER_THE_OTHER: &[Exchange] = rows! {
     (EMPTY, NONE_DONE),
     (A_REGISTERS, ONE_DONE),
     (A_REGISTERS, AGAIN),
@@ -122,97 +123,55 @@ const OF_VEHICLES: &[Exchange] = &[
     (LIST_B, UNKNOWN),
     (DEEP, NO_OBJECT),
     (TOO_DEEP, NOT_JSON),
-];
-
-/// Requests that ask for nothing: no route, another method, lengths, bodies that are no batch, and broken requests.
-const OF_NOTHING: &[Exchange] = &[
-    (
-        "GET /vehicles/00000000-0000-4000-8000-000000000001/x HTTP/1.1\r\n\r\n",
-        NO_ROUTE,
-    ),
+    ("GET /vehicles/00000000-0000-4000-8000-000000000001/x HTTP/1.1\r\n\r\n", NO_ROUTE),
     ("GET /vehicles/ HTTP/1.1\r\n\r\n", NO_ROUTE),
     ("DELETE /events HTTP/1.1\r\n\r\n", POST_ONLY),
-    (
-        "POST /table HTTP/1.1\r\nContent-Length: 2\r\n\r\n[]",
-        GET_ONLY,
-    ),
+    ("POST /table HTTP/1.1\r\nContent-Length: 2\r\n\r\n[]", GET_ONLY),
     ("POST /events HTTP/1.1\r\n\r\n", NO_LENGTH),
-    (
-        "POST /events HTTP/1.1\r\nContent-Length: 2\r\ncontent-length: 2\r\n\r\n[]",
-        BAD_LENGTH,
-    ),
-    (
-        "POST /events HTTP/1.1\r\nContent-Length: 12x\r\n\r\n[]",
-        BAD_LENGTH,
-    ),
-    (
-        "POST /events HTTP/1.1\r\nContent-Length: 4194305\r\n\r\n[]",
-        TOO_LONG,
-    ),
-    (
-        "POST /events HTTP/1.1\r\nContent-Length: 1\r\n\r\n7",
-        NOT_LIST,
-    ),
-    (
-        "POST /events HTTP/1.1\r\nContent-Length: 4\r\n\r\n[1,2",
-        NOT_JSON,
-    ),
-    (
-        "POST /events HTTP/1.1\r\nContent-Length: 2\r\n\r\n[",
-        CUT_SHORT,
-    ),
-    (
-        "POST /events HTTP/1.1\r\nTransfer-Encoding: chunked\r\n\r\n",
-        CODED,
-    ),
-];
+    ("POST /events HTTP/1.1\r\nContent-Length: 2\r\ncontent-length: 2\r\n\r\n[]", BAD_LENGTH),
+    ("POST /events HTTP/1.1\r\nContent-Length: 12x\r\n\r\n[]", BAD_LENGTH),
+    ("POST /events HTTP/1.1\r\nContent-Length: 4194305\r\n\r\n[]", TOO_LONG),
+    ("POST /events HTTP/1.1\r\nContent-Length: 1\r\n\r\n7", NOT_LIST),
+    ("POST /events HTTP/1.1\r\nContent-Length: 4\r\n\r\n[1,2", NOT_JSON),
+    ("POST /events HTTP/1.1\r\nContent-Length: 2\r\n\r\n[", CUT_SHORT),
+    ("POST /events HTTP/1.1\r\nTransfer-Encoding: chunked\r\n\r\n", CODED),
+};
 
-/// The name of a talk, the file of its tables, what is asked in turn, and what is answered.
-type Talk = (&'static str, &'static str, &'static [Exchange]);
+/// The file of a fleet's tables, what is asked in turn, and what is answered.
+type Talk = (&'static str, &'static [Exchange]);
 
-const TALKS: &[Talk] = &[
-    ("of vehicles", PROFILE, OF_VEHICLES),
-    ("of nothing", PROFILE, OF_NOTHING),
-    ("one faulty item among three", PROFILE, AMONG_THREE),
-    ("two tables", WAKE_AND_REST, TWO_IN_TURN),
-];
+const TALKS: &[Talk] = rows! {
+    (PROFILE, ONE_AFTER_THE_OTHER),
+    (PROFILE, AMONG_THREE),
+    (WAKE_AND_REST, TWO_IN_TURN),
+};
 
-/// A fleet over the tables of this file, or over the profile.
+/// A fleet over the tables of this file.
 pub fn fleet_over(alloc: Global, file: &str) -> Result<Fleet, Lack> {
-    let tables = if file.is_empty() {
-        profile(alloc)?
-    } else {
-        tables_of(alloc, file)?
-    };
-    Ok(Fleet::open(alloc, tables))
+    Ok(Fleet::open(alloc, tables_of(alloc, file)?))
 }
 
-/// The first talk in which a fleet answers otherwise, and the place there.
+/// The first talk in which a fleet answers otherwise what comes so many bytes a call, and the place there.
 fn first_other_talk(
     alloc: Global,
     talks: &[Talk],
     piece: usize,
-) -> Result<Option<(&'static str, usize)>, Lack> {
+) -> Result<Option<(usize, usize)>, Lack> {
     let face = Face::open(alloc)?;
-    for (name, file, exchanges) in talks {
+    for (talk, (file, exchanges)) in talks.iter().enumerate() {
         let mut fleet = fleet_over(alloc, file)?;
         if let Some(place) = first_other(alloc, &face, &mut fleet, exchanges, piece)? {
-            return Ok(Some((*name, place)));
+            return Ok(Some((talk, place)));
         }
     }
     Ok(None)
 }
 
-/// What comes at once, and what comes byte by byte.
 #[test]
 fn worked_answers(rt: HostRuntime) {
-    assert_eq!(rt;
-        [
-            first_other_talk(rt.alloc(), TALKS, usize::MAX),
-            first_other_talk(rt.alloc(), TALKS, 1)
-        ],
-        [Ok(None), Ok(None)]
-    );
+    let at_once = first_other_talk(rt.alloc(), TALKS, usize::MAX);
+    let byte_by_byte = first_other_talk(rt.alloc(), TALKS, 1);
+    assert_eq!(rt; [at_once, byte_by_byte], [Ok(None), Ok(None)]);
 }
 
 /// How the answer of the profile ends its head, and begins its body.
@@ -230,7 +189,7 @@ fn profile_told(alloc: Global) -> Result<(bool, usize, bool), Lack> {
     let begins = text.starts_with("HTTP/1.1 200 OK\r\n") && text.contains(FIRST_ROW);
     let (_, body) = text.split_once("\r\n\r\n").unwrap_or(("", ""));
     let rows = tables_of(alloc, body)?.at(0).rows(alloc)?;
-    let expected = profile(alloc)?.at(0).rows(alloc)?;
+    let expected = tables_of(alloc, PROFILE)?.at(0).rows(alloc)?;
     Ok((begins, rows.len(), rows.as_slice() == expected.as_slice()))
 }
 

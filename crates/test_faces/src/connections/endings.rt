@@ -1,13 +1,13 @@
 //! Readers and writers that fail, end or are interrupted: what is told, what is written, and how many calls it takes.
-use super::answers::{PROFILE, fleet_over};
-use super::{Client, Last, Peer, client_of, peer_of};
+use super::answers::fleet_over;
+use super::{Client, Last, answer_of, client_of, peer_of};
 use crate::cases::{
     Answer, BAD_HEAD, CODED, CUT_SHORT, EMPTY, NO_LENGTH, NO_ROUTE, NONE_DONE, NOT_JSON, POST_ONLY,
-    TOO_LONG, answer_text,
+    PROFILE, TOO_LONG, answer_text,
 };
 use mds_core::Fleet;
-use mds_face::{Face, ServeFault, Served, memory_bytes, serve_one};
-use std::alloc::Global;
+use mds_face::{Face, ServeFault, Served, serve_one};
+use std::alloc::{AllocError, Global};
 use test_fixtures::Lack;
 
 /// The bytes that a client sends, with so many times a letter or a space behind them, how many a call, and what it does then;
@@ -42,10 +42,8 @@ const WAYS: &[Way] = &[
     (BODY, (" ", 39_997), WHOLE, Last::Ends, CUT_SHORT, 4, 0),
     (LONGEST_BODY, BARE, WHOLE, Last::Ends, CUT_SHORT, 2, 0),
     ("", ("a", 16_385), WHOLE, Last::Fails, BAD_HEAD, 1, 1),
+    ("", ("a", 16_385), 1, Last::Fails, BAD_HEAD, 16_384, 1),
 ];
-
-/// No head is longer than 16384 bytes.
-const LONG_HEADS: &[Way] = &[("", ("a", 16_385), 1, Last::Fails, BAD_HEAD, 16_384, 1)];
 
 const NOWHERE: &str = "\r\n\nGET /nothing HTTP/1.1\nHost: city\n\nGET";
 
@@ -65,25 +63,50 @@ const BODY: &str = "POST /events HTTP/1.1\r\nContent-Length: 40000\r\n\r\n[]";
 
 const LONGEST_BODY: &str = "POST /events HTTP/1.1\r\nContent-Length: 4194304\r\n\r\n[]";
 
-/// What comes of a connection: what is told, and how many calls of `read` and of `write` were made.
-type Came = (Result<Served, ServeFault>, (u32, u32));
+/// What comes of a connection: what is told, how many calls of `read` and of `write` were made, what was written, and
+/// how many bytes the client has left.
+type Came = (Result<Served, ServeFault>, (u32, u32), Vec<u8>, usize);
+
+/// The routes, and a fleet that has taken nothing in.
+type Server = (Face, Fleet);
+
+fn server_of(alloc: Global) -> Result<Server, Lack> {
+    Ok((Face::open(alloc)?, fleet_over(alloc, PROFILE)?))
+}
+
+/// What comes of this client's connection, where so many bytes of the answer are taken, and then this is done.
+fn came_of(
+    alloc: Global,
+    server: &mut Server,
+    mut client: Client<'_>,
+    room: usize,
+    last: Last,
+) -> Result<Came, AllocError> {
+    let mut peer = peer_of(alloc)?;
+    peer.room = room;
+    peer.last = last;
+    let told = serve_one(alloc, &server.0, &mut client, &mut peer, &mut server.1);
+    Ok((
+        told,
+        (client.reads, peer.writes),
+        peer.taken,
+        client.bytes.len(),
+    ))
+}
 
 /// The place of the first way of which something else comes, and what.
 fn first_other(alloc: Global, ways: &[Way]) -> Result<Option<(usize, Came)>, Lack> {
-    let face = Face::open(alloc)?;
-    let mut fleet = fleet_over(alloc, PROFILE)?;
+    let mut server = server_of(alloc)?;
     for (place, way) in ways.iter().enumerate() {
         let (front, (filling, times), piece, last, answer, reads, left) = *way;
         let mut bytes = filling.repeat(alloc, times)?;
         bytes.insert_str(0, front)?;
         let expected = answer_text(alloc, answer)?;
-        let mut client = client_of(bytes.as_bytes(), piece, last);
-        let mut peer = peer_of(alloc)?;
-        let served = serve_one(alloc, &face, &mut client, &mut peer, &mut fleet);
-        let is_it = peer.taken.as_slice() == expected.as_bytes();
-        let calls = (client.reads, peer.writes);
-        if !is_it || served.is_err() || calls != (reads, 1) || client.bytes.len() != left {
-            return Ok(Some((place, (served, calls))));
+        let client = client_of(bytes.as_bytes(), piece, last);
+        let came = came_of(alloc, &mut server, client, WHOLE, Last::Ends)?;
+        let is_it = came.0.is_ok() && came.2.as_slice() == expected.as_bytes();
+        if !is_it || (came.1, came.3) != ((reads, 1), left) {
+            return Ok(Some((place, came)));
         }
     }
     Ok(None)
@@ -94,145 +117,99 @@ fn ways_that_connections_end(rt: HostRuntime) {
     assert_eq!(rt; first_other(rt.alloc(), WAYS), Ok(None));
 }
 
-#[test]
-fn long_heads_byte_by_byte(rt: HostRuntime) {
-    assert_eq!(rt; first_other(rt.alloc(), LONG_HEADS), Ok(None));
-}
-
-/// What comes of a connection between these two, and how many bytes were written.
-fn came_of(
+/// What is told, the calls, and how many bytes are written, where a client sends this, so many bytes a call, and
+/// takes so many; each side is then interrupted again and again.
+fn turns_of(
     alloc: Global,
-    mut client: Client<'_>,
+    front: &str,
+    piece: usize,
     room: usize,
-    last: Last,
-) -> Result<(Came, usize), Lack> {
-    let face = Face::open(alloc)?;
-    let mut fleet = fleet_over(alloc, PROFILE)?;
-    let mut peer = peer_of(alloc)?;
-    peer.room = room;
-    peer.last = last;
-    let served = serve_one(alloc, &face, &mut client, &mut peer, &mut fleet);
-    Ok(((served, (client.reads, peer.writes)), peer.taken.len()))
+) -> Result<(Result<Served, ServeFault>, (u32, u32), usize), Lack> {
+    let mut server = server_of(alloc)?;
+    let client = client_of(front.as_bytes(), piece, Last::Pauses);
+    let (told, calls, taken, _) = came_of(alloc, &mut server, client, room, Last::Pauses)?;
+    Ok((told, calls, taken.len()))
 }
 
-/// A client that sends this, byte by byte, and is interrupted then again and again.
-fn pausing(front: &str) -> Client<'_> {
-    client_of(front.as_bytes(), 1, Last::Pauses)
-}
-
+/// Turns run out in a head, in a body, whose calls count together with those of the head, and in an answer.
 #[test]
 fn turns_run_out(rt: HostRuntime) {
-    let whole = client_of(EMPTY.as_bytes(), 46, Last::Ends);
-    let out_of_turns = Err(ServeFault::TooManyTurns { sent: 0 });
-    assert_eq!(rt;
-        [
-            came_of(rt.alloc(), pausing(""), WHOLE, Last::Ends),
-            came_of(rt.alloc(), whole, 0, Last::Pauses)
-        ],
-        [
-            Ok(((out_of_turns, (5_000_000, 0)), 0)),
-            Ok(((out_of_turns, (1, 5_000_000)), 0))
-        ]
-    );
+    let body = "POST /events HTTP/1.1\r\nContent-Length: 2\r\n\r\n[";
+    let found = [
+        turns_of(rt.alloc(), "", 1, WHOLE),
+        turns_of(rt.alloc(), body, 1, WHOLE),
+        turns_of(rt.alloc(), EMPTY, 46, 0),
+    ];
+    let told = Err(ServeFault::TooManyTurns { sent: 0 });
+    let reads = Ok((told, (5_000_000, 0), 0));
+    assert_eq!(rt; found, [reads, reads, Ok((told, (1, 5_000_000), 0))]);
 }
 
-/// Calls of the body count together with those of the head.
-#[test]
-fn turns_run_out_in_a_body(rt: HostRuntime) {
-    let front = "POST /events HTTP/1.1\r\nContent-Length: 2\r\n\r\n[";
-    let out_of_turns = Err(ServeFault::TooManyTurns { sent: 0 });
-    assert_eq!(rt;
-        came_of(rt.alloc(), pausing(front), WHOLE, Last::Ends),
-        Ok(((out_of_turns, (5_000_000, 0)), 0))
-    );
-}
-
-/// What is told, and the length of an answer and of the one where there is no memory.
-#[test]
-fn answer_lengths(rt: HostRuntime) {
-    let whole = Ok(Served {
-        status: 200,
-        accepted: 0,
-    });
-    let client = client_of(EMPTY.as_bytes(), 46, Last::Ends);
-    assert_eq!(rt;
-        (
-            came_of(rt.alloc(), client, WHOLE, Last::Ends),
-            memory_bytes().len()
-        ),
-        (Ok(((whole, (1, 1)), 127)), 74)
-    );
-}
-
-/// What is told where the client of the empty batch fails or ends behind so many bytes, and the answer, if there is one.
-fn expected_behind(count: usize, last: Last) -> (Result<Served, ServeFault>, Option<Answer>) {
-    if last == Last::Fails {
-        return (Err(ServeFault::Read), None);
-    }
-    let refused = Ok(Served {
-        status: 400,
-        accepted: 0,
-    });
-    let answer = if count < 44 { BAD_HEAD } else { CUT_SHORT };
-    (refused, Some(answer))
-}
-
-/// The first number of bytes, sent one by one, behind which something else is told or written.
-fn first_other_read(alloc: Global, last: Last) -> Result<Option<usize>, Lack> {
-    let face = Face::open(alloc)?;
-    let mut fleet = fleet_over(alloc, PROFILE)?;
-    for count in 0..46 {
+/// The first number of bytes of the empty batch, from this one on, behind which something else than this is told or
+/// written, where they come one by one, and the client then fails or ends.
+fn first_other_read(
+    alloc: Global,
+    from: usize,
+    last: Last,
+    told: Result<Served, ServeFault>,
+    answer: Option<Answer>,
+) -> Result<Option<usize>, Lack> {
+    let mut server = server_of(alloc)?;
+    let expected = match answer {
+        Some(answer) => answer_text(alloc, answer)?,
+        None => String::new(alloc),
+    };
+    for count in from..47 {
         let front = EMPTY.as_bytes().get(..count).unwrap_or(b"none");
-        let (told, answer) = expected_behind(count, last);
-        let expected = match answer {
-            Some(answer) => answer_text(alloc, answer)?,
-            None => String::new(alloc),
-        };
-        let mut client = client_of(front, 1, last);
-        let mut peer = peer_of(alloc)?;
-        let served = serve_one(alloc, &face, &mut client, &mut peer, &mut fleet);
-        if served != told || peer.taken.as_slice() != expected.as_bytes() {
+        let client = client_of(front, 1, last);
+        let came = came_of(alloc, &mut server, client, WHOLE, Last::Ends)?;
+        if came.0 != told || came.2.as_slice() != expected.as_bytes() {
             return Ok(Some(count));
         }
     }
     Ok(None)
 }
 
+/// The request has 46 bytes, of which 44 are its head.
 #[test]
 fn reads_that_fail_or_end(rt: HostRuntime) {
+    let failed = first_other_read(rt.alloc(), 0, Last::Fails, Err(ServeFault::Read), None);
+    let no_head = first_other_read(rt.alloc(), 0, Last::Ends, answer_of(400, 0), Some(BAD_HEAD));
+    let no_body = first_other_read(
+        rt.alloc(),
+        44,
+        Last::Ends,
+        answer_of(400, 0),
+        Some(CUT_SHORT),
+    );
     assert_eq!(rt;
-        [
-            first_other_read(rt.alloc(), Last::Fails),
-            first_other_read(rt.alloc(), Last::Ends)
-        ],
-        [Ok(None), Ok(None)]
+        [failed, no_head, no_body],
+        [Ok(Some(46)), Ok(Some(44)), Ok(Some(46))]
     );
 }
 
-/// The first number of bytes of an answer of which something else is told or written, where the peer takes no more.
-fn first_other_write(alloc: Global, last: Last) -> Result<Option<usize>, Lack> {
-    let face = Face::open(alloc)?;
-    let mut fleet = fleet_over(alloc, PROFILE)?;
-    for sent in 0..127 {
-        let mut client = client_of(EMPTY.as_bytes(), 46, Last::Ends);
-        let mut peer = peer_of(alloc)?;
-        peer.room = sent;
-        peer.last = last;
-        let told = serve_one(alloc, &face, &mut client, &mut peer, &mut fleet);
-        if told != Err(ServeFault::Write { sent }) || peer.taken.len() != sent {
-            return Ok(Some(sent));
+/// How many bytes of an answer the peer has to take before it does this, so that anything but a fault of a write
+/// behind them is told; and what is told then.
+fn first_other_write(
+    alloc: Global,
+    last: Last,
+) -> Result<Option<(usize, Result<Served, ServeFault>)>, Lack> {
+    let mut server = server_of(alloc)?;
+    for sent in 0..200 {
+        let client = client_of(EMPTY.as_bytes(), 46, Last::Ends);
+        let (told, _, taken, _) = came_of(alloc, &mut server, client, sent, last)?;
+        if told != Err(ServeFault::Write { sent }) || taken.len() != sent {
+            return Ok(Some((sent, told)));
         }
     }
     Ok(None)
 }
 
+/// The answer has 127 bytes.
 #[test]
 fn writes_that_fail(rt: HostRuntime) {
-    assert_eq!(rt;
-        [
-            first_other_write(rt.alloc(), Last::Fails),
-            first_other_write(rt.alloc(), Last::Ends)
-        ],
-        [Ok(None), Ok(None)]
-    );
+    let failed = first_other_write(rt.alloc(), Last::Fails);
+    let refused = first_other_write(rt.alloc(), Last::Ends);
+    let whole = Ok(Some((127, answer_of(200, 0))));
+    assert_eq!(rt; [failed, refused], [whole, whole]);
 }

@@ -2,38 +2,26 @@
 ghost use Rattle.std.specs.Prelude.{◌≡◌, IfSome};
 
 use super::answers::fleet_over;
-use super::{Last, Peer, answered, client_of, peer_of};
-use crate::cases::{THREE, WAKE_AND_REST};
+use super::{Last, Peer, answer_of, answered, client_of, peer_of};
+use crate::cases::{Answer, LACKING_AT_2, PROFILE, THREE, answer_text};
 use mds_core::{Event, Fleet, Key, Reply, Request};
 use mds_face::{Desk, Face, Plan, ServeFault, Served, memory_bytes, read_plan, serve_one};
-use mds_io::ReadError;
 use mds_table::{Row, State};
 use std::alloc::{AllocError, Global};
-use test_fixtures::{A, B, Lack, key, profile_again};
+use test_fixtures::{A, B, Lack, key};
 
 /// Registers a vehicle, where memory allows at once or at a second try.
 pub fn register(fleet: &mut Fleet, device: u64) -> Result<Reply, AllocError> {
     let request = Request::Register(key(device));
-    match fleet.step(&request) {
-        Ok(reply) => Ok(reply),
-        Err(AllocError) => fleet.step(&request),
-    }
+    again!(fleet.step(&request))
 }
 
 /// A fleet in which A and B are registered, and the routes.
-fn registered(alloc: Global) -> Result<(Fleet, Face), AllocError> {
-    let mut fleet = Fleet::open(alloc, profile_again(alloc)?);
+fn registered(alloc: Global) -> Result<(Fleet, Face), Lack> {
+    let mut fleet = fleet_over(alloc, PROFILE)?;
     register(&mut fleet, A)?;
     register(&mut fleet, B)?;
-    Ok((fleet, routes(alloc)?))
-}
-
-/// The routes, where memory allows at once or at a second try.
-pub fn routes(alloc: Global) -> Result<Face, AllocError> {
-    match Face::open(alloc) {
-        Ok(face) => Ok(face),
-        Err(_) => Face::open(alloc),
-    }
+    Ok((fleet, again!(Face::open(alloc))?))
 }
 
 /// A fleet that finds no memory once so many requests were put to it.
@@ -81,33 +69,26 @@ fn held(fleet: &Fleet, device: u64) -> Option<State> {
     Some(fleet.standing(&key(device))?.state)
 }
 
-/// The answer to the batch of three items that finds no memory for its last one.
-const PARTIAL: &[u8] =
-    b"HTTP/1.1 503 Service Unavailable\r\ncontent-type: application/json\r\ncontent-length: 35\r\nconnection: close\r\n\r\n{\"error\":\"out_of_memory\",\"index\":2}";
-
 /// What is told of a batch which finds no memory behind its first event, whether that is its answer, and the states of A and
 /// of B then.
 type Partial = (Result<Served, ServeFault>, bool, [Option<State>; 2]);
 
-fn partial_batch(alloc: Global) -> Result<Partial, AllocError> {
+fn partial_batch(alloc: Global, answer: Answer) -> Result<Partial, Lack> {
     let (mut fleet, face) = registered(alloc)?;
     let mut desk = Wanting {
         fleet: &mut fleet,
         left: 1,
     };
     let (served, written) = answered(alloc, &face, &mut desk, THREE.as_bytes(), usize::MAX)?;
-    let is_partial = written.as_slice() == PARTIAL;
+    let is_partial = written.as_slice() == answer_text(alloc, answer)?.as_bytes();
     Ok((served, is_partial, [held(&fleet, A), held(&fleet, B)]))
 }
 
 #[test]
 fn refused_growth_inside_a_batch(rt: HostRuntime) {
-    let served = Ok(Served {
-        status: 503,
-        accepted: 1,
-    });
     let states = [Some(State::Available), Some(State::Removed)];
-    assert_eq!(rt; partial_batch(rt.alloc()), Ok((served, true, states)));
+    let told = (answer_of(503, 1), true, states);
+    assert_eq!(rt; partial_batch(rt.alloc(), LACKING_AT_2), Ok(told));
 }
 
 /// What a GET asks for that finds no memory.
@@ -118,10 +99,7 @@ const LOOKS: &[&str] = &[
 ];
 
 /// The first of these that isn't answered by the fixed answer where a fleet finds no memory.
-fn first_other_look(
-    alloc: Global,
-    looks: &[&'static str],
-) -> Result<Option<&'static str>, AllocError> {
+fn first_other_look(alloc: Global, looks: &[&'static str]) -> Result<Option<&'static str>, Lack> {
     let (mut fleet, face) = registered(alloc)?;
     let mut desk = Wanting {
         fleet: &mut fleet,
@@ -171,23 +149,15 @@ fn stands(told: Told) -> bool {
     }
 }
 
-/// An answer of status 200 to so many accepted requests.
-pub fn whole(accepted: usize) -> Result<Served, ServeFault> {
-    Ok(Served {
-        status: 200,
-        accepted,
-    })
-}
-
 /// Whether what was told of the batch stands; whether the same request is then answered whole, where it wasn't before; and the
 /// states of A and of B at last.
-fn twice_told(alloc: Global) -> Result<(bool, bool, [Option<State>; 2]), AllocError> {
+fn twice_told(alloc: Global) -> Result<(bool, bool, [Option<State>; 2]), Lack> {
     let (mut fleet, face) = registered(alloc)?;
     let first = told_of(alloc, &face, &mut fleet, THREE.as_bytes(), peer_of(alloc)?);
-    let mut is_whole = first.0 == whole(2);
+    let mut is_whole = first.0 == answer_of(200, 2);
     if !is_whole {
         let again = told_of(alloc, &face, &mut fleet, THREE.as_bytes(), peer_of(alloc)?);
-        is_whole = (again.0, again.2) == (whole(4usize.saturating_sub(first.2)), 4);
+        is_whole = (again.0, again.2) == (answer_of(200, 4usize.saturating_sub(first.2)), 4);
     }
     Ok((stands(first), is_whole, [held(&fleet, A), held(&fleet, B)]))
 }
@@ -199,36 +169,14 @@ fn calls_stand_after_a_refused_growth(rt: HostRuntime) {
     assert_eq!(rt; twice_told(rt.alloc()), Ok((true, true, states)));
 }
 
-/// What is told of two tables at once, or at a second time where there was no memory at the first.
-fn tables_told(alloc: Global) -> Result<Option<Told>, Lack> {
-    let mut fleet = fleet_over(alloc, WAKE_AND_REST)?;
-    let face = routes(alloc)?;
-    let request = b"GET /table HTTP/1.1\r\n\r\n";
-    let first = told_of(alloc, &face, &mut fleet, request, peer_of(alloc)?);
-    match first.0 {
-        Ok(_) => Ok(Some(first)),
-        Err(_) if first != (Err(ServeFault::Memory { sent: 74 }), 74, 0) => Ok(None),
-        Err(_) => Ok(Some(told_of(alloc, &face, &mut fleet, request, peer_of(alloc)?))),
-    }
-}
-
-#[test]
-fn tables_are_told_after_a_refused_growth(rt: HostRuntime) {
-    assert_eq!(rt; tables_told(rt.alloc()), Ok(Some((whole(0), 256, 0))));
-}
-
 /// How many events the batch reports, faulty items among them, read again where there was no memory to read it.
 fn reported(alloc: Global) -> Result<Option<usize>, Lack> {
-    let face = routes(alloc)?;
-    let (mut once, mut again) = (
-        client_of(THREE.as_bytes(), 16, Last::Ends),
-        client_of(THREE.as_bytes(), 16, Last::Ends),
-    );
-    let plan = match read_plan(alloc, &face, &mut once) {
-        Err(ReadError::Memory) => read_plan(alloc, &face, &mut again),
-        read => read,
-    };
-    match plan {
+    let face = again!(Face::open(alloc))?;
+    match again!(read_plan(
+        alloc,
+        &face,
+        &mut client_of(THREE.as_bytes(), 16, Last::Ends)
+    )) {
         Ok(Plan::Events(items)) => Ok(Some(items.len())),
         _ => Ok(None),
     }

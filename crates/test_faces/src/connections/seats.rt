@@ -1,54 +1,38 @@
 //! Calls of a desk, and exchanges with a caller's seat at a book.
 ghost use Rattle.std.specs.Prelude.{◌≡◌};
 
-use super::answers::{AMONG_THREE, PROFILE, TWO_IN_TURN};
-use super::growths::routes;
+use super::answers::{AMONG_THREE, TWO_IN_TURN, fleet_over};
 use super::{Exchange, first_other};
-use crate::cases::{WAKE_AND_REST, tables_of};
+use crate::cases::{PROFILE, WAKE_AND_REST, tables_of};
 use mds_book::{Book, Keep, Seat, ShardLedger};
-use mds_core::{Fleet, Outcome, Reply};
-use mds_face::{Desk, SeatDesk};
+use mds_core::{Outcome, Reply};
+use mds_face::{Desk, Face, SeatDesk};
 use mds_table::{State, Tables};
-use std::alloc::{AllocError, Global};
+use std::alloc::Global;
 use std::hash::RandomState;
 use std::marker::Brand;
 use std::random::RandomSource;
 use std::sync::Wait;
 use std::sync::ledger::Blank;
-use test_fixtures::{A, Ask, E1, Lack, key, profile_again, request_of};
+use test_fixtures::{A, Ask, E1, Lack, key, request_of};
 
 /// The reply to a request, made again where there was no memory.
 fn reply_to<D: Desk>(desk: &mut D, asked: &Ask) -> Result<Reply, Lack> {
     let request = request_of(asked).ok_or(Lack::Case)?;
-    match desk.call(&request) {
-        Ok(reply) => Ok(reply),
-        Err(_) => Ok(desk.call(&request)?),
-    }
+    Ok(again!(desk.call(&request))?)
 }
 
 /// What a desk tells: two replies, how many events A has then, and the start of the last table with the number of its rows.
 type Told = ([Reply; 2], Option<usize>, Option<(u64, usize)>);
 
-/// How many events A has, where it is registered.
-fn event_count<D: Desk>(desk: &mut D) -> Result<Option<usize>, AllocError> {
-    let found = match desk.events(&key(A)) {
-        Ok(found) => found,
-        Err(_) => desk.events(&key(A))?,
-    };
-    Ok(found.map(|events| events.len()))
-}
-
 /// What a desk tells of a registration of A and its first event, each call made again where there was no memory.
 fn told_at<D: Desk>(desk: &mut D) -> Result<Told, Lack> {
     let first = reply_to(desk, &Ask::Register(A))?;
     let second = reply_to(desk, &Ask::Report(A, E1, &["wake"], State::Available, 1000))?;
-    let count = event_count(desk)?;
-    let tables = match desk.rows() {
-        Ok(tables) => tables,
-        Err(_) => desk.rows()?,
-    };
+    let events = again!(desk.events(&key(A)))?;
+    let tables = again!(desk.rows())?;
     let last = tables.last().map(|last| (last.0, last.1.len()));
-    Ok(([first, second], count, last))
+    Ok(([first, second], events.map(|events| events.len()), last))
 }
 
 /// What a desk over the two tables is to tell.
@@ -62,7 +46,7 @@ fn whole() -> Told {
 
 /// What a fleet over the two tables tells.
 fn told_at_a_fleet(alloc: Global) -> Result<Told, Lack> {
-    told_at(&mut Fleet::open(alloc, tables_of(alloc, WAKE_AND_REST)?))
+    told_at(&mut fleet_over(alloc, WAKE_AND_REST)?)
 }
 
 #[test]
@@ -91,7 +75,7 @@ fn seen_at<L: ShardLedger, M: ShardLedger, R: Wait>(
     if exchanges.is_empty() {
         return Ok((None, Some(told_at(&mut desk)?)));
     }
-    let face = routes(alloc)?;
+    let face = again!(Face::open(alloc))?;
     Ok((first_other(alloc, &face, &mut desk, exchanges, 16)?, None))
 }
 
@@ -126,11 +110,7 @@ fn seen_over<R: Wait + RandomSource>(
     file: &str,
     exchanges: &[Exchange],
 ) -> Result<Seen, Lack> {
-    let tables = if file.is_empty() {
-        profile_again(alloc)?
-    } else {
-        tables_of(alloc, file)?
-    };
+    let tables = tables_of(alloc, file)?;
     let (Ok(one), Ok(other)) = (RandomState::new(rt), RandomState::new(rt)) else {
         return Err(Lack::Case);
     };
