@@ -2,7 +2,7 @@
 use Rattle.std.proofs.Common.{◌≡◌, ℕ, zero, suc, ◌<◌, ◌==◌, ◌⊎◌, inl, inr, Bool, true, false, List, [], ◌∷◌, ◌++◌, length, slice_set, None, refl, sym, ap, ◌∙◌, subst, arith, length-append}
 use Rattle.std.proofs.lemmas.List.{append-nil}
 use prog.Atomic.{either}
-use Rattle.logbook.specs.Pages.{Cell, cell, Nib, no_nib, may_write, keeps, gives, adds, step, Moves}
+use Rattle.logbook.specs.Pages.{Cell, cell, Nib, no_nib, may_write, gives, adds, step, Moves}
 use Rattle.mds_log.specs.Marks.{Has, HasNot, IsRolled, MakesMark, Retires}
 use Rattle.mds_log.proofs.Lists.{prefix_get, get_last}
 use Rattle.mds_log.proofs.Cells.{home_set, home_more, set_here, set_length, head_set, head_more}
