@@ -151,8 +151,8 @@ impl<J: Logged> Model for Front<J> {
         × (front.seen.book ≡ J.log) };
 }
 
-/// The one that adds to a log, and so knows all of it. Contracts see it as the acceptances in the log. At run time it is
-/// a word and their number.
+/// The one that adds to a log, and so knows all of it. Contracts see it as the acceptances in the log. At run time it
+/// is a word and their number.
 #[derive(Drop)]
 pub struct Keeper<J: Logged> {
     head: Word<Entry, u64, LogRule>,
@@ -314,8 +314,8 @@ impl<J: Logged> Keeper<J> {
         pen
     }
 
-    /// Adds a request that was accepted, under the mark of the caller that asked, at the cost of two atomic instructions
-    /// on the keeper's own word.
+    /// Adds a request that was accepted, under the mark of the caller that asked, at the cost of two atomic
+    /// instructions on the keeper's own word.
     #[tactic(auto, using(crate::proofs::Lists::acceptances_push))]
     pub fn add<K: Marked>(&mut self, mark: &Mark<K>, request: &Request)
         requires room { length self.old < 2 ^ 63 }

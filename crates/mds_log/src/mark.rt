@@ -94,8 +94,8 @@ impl Model for BlankMarks {
     ghost invariant = { λ blank. (blank.head ≡ head_of blank.seen.book) × (blank.seen.log ≡ []) };
 }
 
-/// The mark of one caller: no other has its number. Contracts see it as this number, which exists in the proofs alone. It
-/// has no bytes.
+/// The mark of one caller: no other has its number. Contracts see it as this number, which exists in the proofs alone.
+/// It has no bytes.
 #[derive(Drop)]
 pub struct Mark<J: Marked> {
     pub(crate) pen: Pen,
@@ -113,8 +113,8 @@ impl<J: Marked> Model for Mark<J> {
     ghost invariant = { λ mark. (mark.pen.book ≡ J.marks) × (mark.pen.nib.right ≡ may_write) };
 }
 
-/// Makes marks and takes them back. Contracts see it as the numbers of the marks that were handed back. At run time it is
-/// a word.
+/// Makes marks and takes them back. Contracts see it as the numbers of the marks that were handed back. At run time it
+/// is a word.
 #[derive(Drop)]
 pub struct Marks<J: Marked> {
     head: Word<u64, u64, MarkRule>,
