@@ -1,0 +1,4 @@
+pub mod Lists
+pub mod Cells
+pub mod Steps
+pub mod Retiring
