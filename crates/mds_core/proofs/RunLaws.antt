@@ -12,7 +12,7 @@ use Rattle.mds_core.specs.declared.reply.Outcome.TheVariants.{Done, Seen, Refuse
 use Rattle.mds_core.specs.declared.reply.Reply.{Reply}
 use Rattle.mds_core.specs.Reported.{Reported}
 use Rattle.mds_core.specs.History.{requests_of, key_of, same_key, state_of}
-use Rattle.mds_core.specs.Answer.{Gives, next}
+use Rattle.mds_core.specs.Answer.{Answers, Gives, next}
 use Rattle.mds_core.specs.Run.{IsRun}
 use Rattle.mds_core.specs.Lawful.{IsLawful}
 use Rattle.mds_core.specs.Headline.{is_done, done_of, IsDoneExactly, AcceptsExactly}
@@ -67,6 +67,11 @@ done_exactly tables before (Report event) outcome gives =
 done_exactly tables before (Look key) outcome gives =
     let P : Outcome → Type 0 = λ o. Gives tables (requests_of before key) (Look key) o in
     λ done. subst P done gives
+
+-- so it is of an answer
+pub answer_exactly : (tables : Tables) (history : List Request) (request : Request) (reply : Reply) → Answers tables history request reply
+    → IsDoneExactly tables history request reply.outcome
+answer_exactly tables history request reply answers = done_exactly tables history request reply.outcome answers.outcome
 
 -- the next history, and then what was answered Done of the rest
 next-done_of : (old : List Request) (request : Request) (reply : Reply) (rest : List (Request × Reply))

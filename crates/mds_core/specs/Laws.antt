@@ -13,7 +13,7 @@ use Rattle.mds_core.specs.History.{key_of, requests_of, same_key, state_of}
 use Rattle.mds_core.specs.Answer.{Answers, IsOutcomeFor, next}
 use Rattle.mds_core.specs.Run.{IsRun}
 use Rattle.mds_core.specs.Lawful.{IsLawful}
-use Rattle.mds_core.specs.Headline.{AcceptsExactly}
+use Rattle.mds_core.specs.Headline.{AcceptsExactly, IsDoneExactly}
 
 -- a request has one outcome, by the accepted requests of its vehicle alone
 abbrev pub DependsOnOwn : Type 0
@@ -28,6 +28,12 @@ AnswersAreOne = (tables : Tables) (history : List Request) (request : Request) (
 -- an answer has an outcome that there is for such a request
 abbrev pub AnswersAreOfTheirKind : Type 0
 AnswersAreOfTheirKind = (tables : Tables) (history : List Request) (request : Request) (reply : Reply) → Answers tables history request reply → IsOutcomeFor request reply.outcome
+
+-- an answer is Done exactly where the request is acceptable after the history
+abbrev pub AnswersAcceptExactly : Type 0
+AnswersAcceptExactly =
+    (tables : Tables) (history : List Request) (request : Request) (reply : Reply) → Answers tables history request reply
+    → IsDoneExactly tables history request reply.outcome
 
 -- a list of requests has one run
 abbrev pub RunsAreOne : Type 0

@@ -1,6 +1,6 @@
 //! What holds of the definitions alone: of the answers, the histories and the runs, whoever computes them. Each law is
 //! a function that does nothing; its contract is the law.
-ghost use Rattle.mds_core.specs.Laws.{DependsOnOwn, AnswersAreOne, AnswersAreOfTheirKind, RunsAreOne, KeepsOthers, RunsAreLawful, JoinsApart, RunsAcceptExactly, LawfulHistoriesRun, HoldsReported, SchedulesAgree};
+ghost use Rattle.mds_core.specs.Laws.{DependsOnOwn, AnswersAreOne, AnswersAreOfTheirKind, AnswersAcceptExactly, RunsAreOne, KeepsOthers, RunsAreLawful, JoinsApart, RunsAcceptExactly, LawfulHistoriesRun, HoldsReported, SchedulesAgree};
 
 /// Histories that agree on a vehicle give its requests the same outcomes.
 #[tactic(auto, using(crate::proofs::Outcomes::same_outcome))]
@@ -19,6 +19,13 @@ pub fn answers_are_one()
 #[tactic(auto, using(crate::proofs::OfTheirKind::given_is_for))]
 pub fn answers_are_of_their_kind()
     ensures { AnswersAreOfTheirKind }
+{}
+
+/// The answer to a request after a history is `Done` exactly where the request is acceptable after it: a registration where the
+/// history has nothing of its vehicle, an event where it is acceptable to its vehicle's own list, and a look never.
+#[tactic(auto, using(crate::proofs::RunLaws::answer_exactly))]
+pub fn answers_accept_exactly()
+    ensures { AnswersAcceptExactly }
 {}
 
 /// Two runs of a list of requests have the same replies and leave the same history.
