@@ -1,5 +1,6 @@
 -- Beginnings of lists.
 use Rattle.std.proofs.Common.{◌≡◌, ℕ, zero, suc, ◌+◌, ◌<◌, ◌≤◌, ◌⊎◌, inl, inr, List, [], ◌∷◌, ◌++◌, length, map, Some, slice_get, refl, ap, sym, ◌∙◌, arith, append_assoc, length-append}
+use Rattle.std.proofs.lemmas.Bool.{cases_lt}
 use Rattle.std.proofs.lemmas.List.{append-nil}
 use mathlib.Core.List.{IsPrefix}
 use Rattle.mds_log.specs.declared.entry.Entry.{Entry}
@@ -20,6 +21,13 @@ prefix_shorter (x ∷ xs) (y ∷ ys) (z ∷ zs) p q le =
     let heads : x ≡ y = cc (p.1, q.1) in
     let rest = prefix_shorter xs ys zs (p.0, cc (p.1)) (q.0, cc (q.1)) (omega arith) in
     (rest.0, cc (heads, rest.1))
+
+-- of two beginnings of one list, one begins the other
+pub one_begins_other : {A : Type 0} (xs ys zs : List A) → IsPrefix xs zs → IsPrefix ys zs → IsPrefix xs ys ⊎ IsPrefix ys xs
+one_begins_other xs ys zs first second = by_length (cases_lt (length xs) (length ys)) where
+  by_length : (length xs < length ys) ⊎ (length ys ≤ length xs) → IsPrefix xs ys ⊎ IsPrefix ys xs
+  by_length (inl shorter) = inl (prefix_shorter xs ys zs first second (omega arith))
+  by_length (inr longer) = inr (prefix_shorter ys xs zs second first longer)
 
 -- a beginning as long as the whole is the whole
 pub prefix_whole : {A : Type 0} (xs ys : List A) → IsPrefix xs ys → length ys ≤ length xs → xs ≡ ys
@@ -81,3 +89,9 @@ acceptances_push (first ∷ entries) entry some = mapped entries where
   mapped : (xs : List Entry) → map acceptance_of (xs ++ entry ∷ []) ≡ map acceptance_of xs ++ acceptance_of entry ∷ []
   mapped [] = refl
   mapped (x ∷ xs) = ap (λ w. acceptance_of x ∷ w) (mapped xs)
+
+-- of two logs of which one begins the other, so do the acceptances
+pub acceptances_order : (xs ys : List Entry) → IsPrefix xs ys ⊎ IsPrefix ys xs
+    → IsPrefix (acceptances xs) (acceptances ys) ⊎ IsPrefix (acceptances ys) (acceptances xs)
+acceptances_order xs ys (inl begins) = inl (acceptances_prefix xs ys begins)
+acceptances_order xs ys (inr begins) = inr (acceptances_prefix ys xs begins)

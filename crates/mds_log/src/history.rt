@@ -1,5 +1,5 @@
 //! The log, its keeper, and what others have seen of it.
-ghost use Rattle.std.specs.Prelude.{◌≡◌, ◌<◌, ◌≤◌, ◌++◌, ◌∷◌, ◌^◌, [], length, IfSome};
+ghost use Rattle.std.specs.Prelude.{◌≡◌, ◌<◌, ◌≤◌, ◌⊎◌, ◌++◌, ◌∷◌, ◌^◌, [], length, IfSome};
 ghost use mathlib.Core.List.{IsPrefix};
 ghost use Rattle.logbook.specs.Pages.{may_write};
 
@@ -230,6 +230,14 @@ impl<J: Logged> Front<J> {
             seen: self.seen.again(),
             of: PhantomData,
         }
+    }
+
+    /// Tells that of two fronts of a log one is a beginning of the other. It does nothing at run time.
+    pub fn tell_order(&self, other: &Front<J>)
+        ensures { IsPrefix self.now other.now ⊎ IsPrefix other.now self.now }
+    {
+        let mut both = self.seen.again();
+        both.learn(&other.seen);
     }
 }
 
