@@ -17,7 +17,7 @@ TESTED = {
     ("mds_steps", "test_rules", "least_chain_succeeds_after_a_refused_growth"): ["least_chain"],
     ("mds_core", "test_rules", "fleet_calls_succeed_after_a_refused_growth"): ["Fleet::step", "Fleet::events", "run"],
     ("mds_shard", "test_books", "step_succeeds_after_a_refused_growth"): ["Shard::step", "Shard::events"],
-    ("mds_book", "mds_book", "calls_succeed_after_a_refused_growth"): ["Book::open", "Book::call", "Book::vehicle_events"],
+    ("mds_book", "test_books", "calls_succeed_after_a_refused_growth"): ["Book::open", "Book::call", "Book::vehicle_events", "Book::seat_events"],
     ("mds_book", "mds_book", "slot_steps_after_a_refused_growth"): ["Slot::step"],
     ("mds_io", "test_batches", "calls_succeed_after_a_refused_growth"): [
         "read_front",
@@ -138,7 +138,7 @@ QUIET = {
     ],
     ("mds_settle", "test_books", "lawful_cases_with_every_growth_refused"): ["judge", "judge_lawful", "NoteList::notes"],
     ("mds_gate", "test_books", "the_open_gate_is_passed_with_every_growth_refused"): ["Gate::enter", "Gate::leave"],
-    ("mds_book", "mds_book", "books_are_told_of_with_every_growth_refused"): [
+    ("mds_book", "test_books", "books_are_told_of_with_every_growth_refused"): [
         "Book::call",
         "Book::shard_of",
         "Book::tables",
@@ -146,9 +146,6 @@ QUIET = {
         "Seat::accepted",
         "Seat::notes",
         "reconcile",
-        "Gathered::history",
-        "Gathered::notes",
-        "Gathered::tables",
         "Settled::history",
         "Settled::notes",
         "Settled::tables",

@@ -1,2 +1,10 @@
 pub mod Slots
 pub mod Apart
+pub mod Trues
+pub mod Once
+pub mod Retired
+pub mod Called
+pub mod Listed
+pub mod Accounts
+pub mod Gathers
+pub mod SightLaws

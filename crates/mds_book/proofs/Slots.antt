@@ -1,12 +1,19 @@
--- How the history of a shard of a book goes on.
-use Rattle.std.proofs.Common.{◌≡◌, ℕ, ◌+◌, List, [], ◌∷◌, length, arith, length-append}
+-- How the history of a shard of a book goes on, and its log with it.
+use Rattle.std.proofs.Common.{◌≡◌, ℕ, ◌+◌, List, [], ◌∷◌, length, refl, ap, sym, subst, ◌∙◌, arith, length-append}
+use Rattle.std.proofs.lemmas.List.{map-append}
 use Rattle.std.proofs.lemmas.List.Elements.{All-push}
+use Rattle.mds_table.specs.Tables.{Tables}
 use Rattle.mds_core.specs.declared.request.Request.{Request}
+use Rattle.mds_core.specs.declared.reply.Reply.{Reply}
 use Rattle.mds_core.specs.declared.reply.Outcome.{Outcome}
 use Rattle.mds_core.specs.declared.reply.Outcome.TheVariants.{Done, Seen, Refused}
 use Rattle.mds_core.specs.History.{key_of}
+use Rattle.mds_core.specs.Headline.{is_done}
+use Rattle.mds_core.specs.Machine.{Machine, Steps}
 use Rattle.mds_core.specs.Answer.{next}
+use Rattle.mds_log.specs.Log.{Acceptance, requests}
 use Rattle.mds_book.specs.Shards.{shard_of, AreOfShard, count_of}
+use Rattle.mds_book.specs.Sights.{after}
 
 -- it is longer by one where a request was accepted
 pub length-next : (history : List Request) (request : Request) (outcome : Outcome) → length (next history request outcome) ≡ length history + count_of outcome
@@ -21,5 +28,29 @@ of_shard_next number history request Done all is = All-push (λ r. shard_of (key
 of_shard_next number history request (Seen standing) all is = all
 of_shard_next number history request (Refused refusal) all is = all
 
--- both, for a search
+-- the log after a call asks for the history after it
+pub requests_after : (log : List Acceptance) (mark : ℕ) (request : Request) (outcome : Outcome)
+    → requests (after log mark request (is_done outcome)) ≡ next (requests log) request outcome
+requests_after log mark request Done = map-append (λ (one : Acceptance). one.request) log (record { seat = mark; request = request } ∷ [])
+requests_after log mark request (Seen standing) = refl
+requests_after log mark request (Refused refusal) = refl
+
+-- what stands behind a lock stays so by a step
+pub slot_next : (tables : Tables) (number : ℕ) (old new : Machine) (total grown : ℕ) (log longer : List Acceptance) (mark : ℕ) (request : Request) (reply : Reply)
+    → Steps old request reply new → old.tables ≡ tables → AreOfShard number old.history → total ≡ length old.history → requests log ≡ old.history
+    → shard_of (key_of request) ≡ number → grown ≡ total + count_of reply.outcome → longer ≡ after log mark request (is_done reply.outcome)
+    → (new.tables ≡ tables) × AreOfShard number new.history × (grown ≡ length new.history) × (requests longer ≡ new.history)
+slot_next tables number old new total grown log longer mark request reply step is all counted whole here more goes_on =
+    let of_shard : AreOfShard number (next old.history request reply.outcome) = of_shard_next number old.history request reply.outcome all here in
+    let long : length new.history ≡ length (next old.history request reply.outcome) = ap length step.history in
+    let asked : requests longer ≡ next (requests log) request reply.outcome =
+    ap (λ (w : List Acceptance). requests w) goes_on ∙ requests_after log mark request reply.outcome in
+    let same : next (requests log) request reply.outcome ≡ next old.history request reply.outcome = ap (λ (w : List Request). next w request reply.outcome) whole in (
+      step.tables ∙ is,
+      subst (AreOfShard number) (sym step.history) of_shard,
+      omega (arith, long, length-next old.history request reply.outcome),
+      asked ∙ (same ∙ sym step.history),
+    )
+
+-- the lemmas on the history, for a search
 pub ruleset slot_steps = (length-next, of_shard_next)

@@ -10,12 +10,20 @@ use Rattle.mds_core.specs.Reported.{Reported}
 use Rattle.mds_core.specs.Machine.{Machine, events_in}
 use Rattle.mds_core.specs.Lawful.{IsLawful}
 use Rattle.mds_core.specs.Answer.{Answers}
+use Rattle.logbook.specs.Pages.{Book}
 use Rattle.mds_book.specs.Shards.{shard_of, AreOfShard}
 
 -- the tables of the book, and the number of its seats
 pub record Opened : Type 0 where
   pub tables : Tables
   pub seats : ℕ
+
+-- which ledger, log and marks the blank of a shard is, and into how many parts its ledger is cut
+pub record Blanked : Type 0 where
+  pub name : ℕ
+  pub parts : ℕ
+  pub log : Book
+  pub marks : Book
 
 -- the most seats of a book, and so the most workers that serve it
 abbrev pub max_seats : ℕ

@@ -5,3 +5,6 @@ pub mod Books
 pub mod Gathering
 pub mod Settling
 pub mod Reconciled
+pub mod Sights
+pub mod Retired
+pub mod Laws

@@ -1,21 +1,31 @@
 -- What a caller's seat knows.
-use Rattle.std.specs.Prelude.{ℕ, ◌+◌, ◌==◌, ◌||◌, ◌++◌, ◌∷◌, [], List, Bool, true, false, if◌then◌else◌}
+use Rattle.std.specs.Prelude.{◌≡◌, ℕ, ◌+◌, ◌==◌, ◌||◌, ◌++◌, ◌∷◌, [], List, Bool, Option, true, false, if◌then◌else◌}
+use mathlib.Core.List.{IsPrefix}
+use Rattle.mds_table.specs.Tables.{Tables}
+use Rattle.mds_core.specs.declared.key.Key.{Key}
 use Rattle.mds_core.specs.declared.request.Request.{Request}
 use Rattle.mds_core.specs.declared.request.Request.TheVariants.{Register, Report, Look}
 use Rattle.mds_core.specs.declared.reply.Reply.{Reply}
+use Rattle.mds_core.specs.Reported.{Reported}
+use Rattle.mds_core.specs.Machine.{events_in}
 use Rattle.mds_core.specs.History.{key_of}
 use Rattle.mds_core.specs.Headline.{is_done}
+use Rattle.mds_core.specs.Lawful.{IsLawful}
+use Rattle.mds_core.specs.Answer.{Answers, next}
 use Rattle.mds_settle.specs.declared.note.Note.{Note}
 use Rattle.mds_book.specs.declared.seat.Keep.{Keep}
 use Rattle.mds_book.specs.declared.seat.Keep.TheVariants.{All, Accepted}
-use Rattle.mds_book.specs.Shards.{shard_of, count_of}
+use Rattle.mds_book.specs.Shards.{shard_of, AreOfShard, count_of}
 
--- how many of the seat's calls were accepted in each shard, its notes, and whether it notes every call or the accepted ones
+-- how many of the seat's calls were accepted in each shard, its notes, whether it notes every call or the accepted ones, and
+-- what it saw of each shard's history
 pub record Seated : Type 0 where
   pub first : ℕ
   pub second : ℕ
   pub notes : List Note
   pub keeps_all : Bool
+  pub first_seen : List Request
+  pub second_seen : List Request
 
 -- which calls are noted
 abbrev pub keeps_all : Keep → Bool
@@ -24,11 +34,15 @@ keeps_all Accepted = false
 
 -- a seat that was told nothing
 abbrev pub fresh : Bool → Seated
-fresh all = record { first = 0; second = 0; notes = []; keeps_all = all }
+fresh all = record { first = 0; second = 0; notes = []; keeps_all = all; first_seen = []; second_seen = [] }
 
 -- how many of the seat's calls were accepted in this shard; none in a shard that isn't there
 abbrev pub accepted_in : Seated → ℕ → ℕ
 accepted_in seat shard = if shard == 0 then seat.first else (if shard == 1 then seat.second else 0)
+
+-- what the seat saw of the history of this shard; nothing of a shard that isn't there
+abbrev pub seen_in : Seated → ℕ → List Request
+seen_in seat shard = if shard == 0 then seat.first_seen else (if shard == 1 then seat.second_seen else [])
 
 -- what a shard's count rises by, for a call in the shard of this number
 abbrev pub rises : ℕ → ℕ → Reply → ℕ
@@ -38,14 +52,52 @@ rises shard number reply = if shard == number then count_of reply.outcome else 0
 abbrev pub noted : Bool → Request → Reply → List Note
 noted all request reply = if all || is_done reply.outcome then record { shard = shard_of (key_of request); request = request; reply = reply } ∷ [] else []
 
--- the seat after a call: only the count of the vehicle's shard rises, and the note stands behind the others
-abbrev pub after_call : Seated → Request → Reply → Seated
-after_call seat request reply = record {
+-- what a seat has seen of a shard after a call in the shard of this number, whose history was `before`
+abbrev pub sees : ℕ → ℕ → List Request → Request → Reply → List Request → List Request
+sees shard number before request reply old = if shard == number then next before request reply.outcome else old
+
+-- the seat after a call that was answered after the history `before`: only the count of the vehicle's shard rises, the note
+-- stands behind the others, and the seat has seen that shard's history with what the call added
+abbrev pub after_call : Seated → List Request → Request → Reply → Seated
+after_call seat before request reply = record {
   first = seat.first + rises 0 (shard_of (key_of request)) reply;
   second = seat.second + rises 1 (shard_of (key_of request)) reply;
   notes = seat.notes ++ noted seat.keeps_all request reply;
   keeps_all = seat.keeps_all;
+  first_seen = sees 0 (shard_of (key_of request)) before request reply seat.first_seen;
+  second_seen = sees 1 (shard_of (key_of request)) before request reply seat.second_seen;
 }
+
+-- a call of a seat: the reply is the answer after the history of the vehicle's shard before the call, which begins with all that
+-- the seat had seen of it; the seat has then seen that history, with its own request at the end where it was accepted
+pub record IsCalled (tables : Tables) (old : Seated) (request : Request) (reply : Reply) (new : Seated) : Type 0 where
+  pub before : List Request
+  pub seen : IsPrefix (seen_in old (shard_of (key_of request))) before
+  pub lawful : IsLawful tables before
+  pub of_shard : AreOfShard (shard_of (key_of request)) before
+  pub answer : Answers tables before request reply
+  pub seat : new ≡ after_call old before request reply
+
+-- the seat after it has seen the history of the shard of this number
+abbrev pub after_sight : Seated → ℕ → List Request → Seated
+after_sight seat number before = record {
+  first = seat.first;
+  second = seat.second;
+  notes = seat.notes;
+  keeps_all = seat.keeps_all;
+  first_seen = if 0 == number then before else seat.first_seen;
+  second_seen = if 1 == number then before else seat.second_seen;
+}
+
+-- a list of a vehicle's events for a seat: they are those of the shard's history then, which begins with all that the seat had
+-- seen of it; the seat has then seen that history
+pub record IsListed (tables : Tables) (old : Seated) (key : Key) (found : Option (List Reported)) (new : Seated) : Type 0 where
+  pub before : List Request
+  pub seen : IsPrefix (seen_in old (shard_of key)) before
+  pub lawful : IsLawful tables before
+  pub of_shard : AreOfShard (shard_of key) before
+  pub events : found ≡ events_in before key
+  pub seat : new ≡ after_sight old (shard_of key) before
 
 -- the request is a look
 abbrev pub is_look : Request → Bool

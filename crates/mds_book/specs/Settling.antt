@@ -1,5 +1,6 @@
 -- What settling a book tells.
-use Rattle.std.specs.Prelude.{ℕ, zero, suc, List}
+use Rattle.std.specs.Prelude.{ℕ, zero, suc, List, All}
+use mathlib.Core.List.{IsPrefix}
 use Rattle.mds_core.specs.declared.request.Request.{Request}
 use Rattle.mds_settle.specs.Settled.{IsSettled}
 use Rattle.mds_settle.specs.Faults.{IsLeastFault}
@@ -18,6 +19,11 @@ IsTornAt all shard history place = IsLeastFault all.tables shard history (λ (se
 pub record IsSettledBook (all : Collected) : Type 0 where
   pub first : AreFitting all 0 all.first
   pub second : AreFitting all 1 all.second
+
+-- what each seat saw while the book was in use is a beginning of what the shards hold
+pub record AreBeginnings (all : Collected) : Type 0 where
+  pub first : All (λ seat. IsPrefix seat.first_seen all.first) all.seats
+  pub second : All (λ seat. IsPrefix seat.second_seen all.second) all.seats
 
 -- this is the least shard whose history the notes don't fit, and its least place
 abbrev pub IsTorn : Collected → ℕ → ℕ → Type 0

@@ -1,16 +1,19 @@
 //! The shards under their locks, and the calls that take them.
-ghost use Rattle.std.specs.Prelude.{◌≡◌, ◌↔◌, ◌<◌, ◌≤◌, ◌+◌, true, false, Err, Some, replicate, IsOk, IfOk, OnErr, option_map};
+ghost use Rattle.std.specs.Prelude.{◌≡◌, ◌↔◌, ◌<◌, ◌≤◌, ◌+◌, ◌++◌, ◌||◌, true, false, Err, Some, replicate, vec_len, vec_capacity, IsOk, IfOk, OnErr, option_map};
 ghost use Rattle.std.specs.Fn.{FnOnceReturnsAt};
 ghost use Rattle.mds_core.specs.History.{key_of};
 ghost use Rattle.mds_core.specs.Headline.{is_done as outcome_is_done};
 ghost use Rattle.mds_book.specs.Shards.{shard_of as number_of, count_of};
-ghost use Rattle.mds_book.specs.Seats.{fresh, keeps_all, is_look, accepted_in, after_call};
-ghost use Rattle.mds_book.specs.Books.{IsBadCount, IsAnswered, GivesEvents, SeesShard, open_fault_text};
+ghost use Rattle.mds_book.specs.Seats.{fresh, keeps_all, is_look, accepted_in, noted, IsCalled, IsListed};
+ghost use Rattle.mds_book.specs.Sights.{IsSeenWhole, IsStepped};
+ghost use Rattle.mds_book.specs.Books.{IsBadCount, GivesEvents, SeesShard, open_fault_text};
 
-use crate::seat::Part;
+use crate::gathered::Account;
+use crate::seat::Parts;
 use crate::slot::shard_of;
-use crate::{Keep, Seat, ShardLedger, Slot};
+use crate::{Blank, Keep, Part, Seat, ShardLedger, Slot};
 use mds_core::{Event, Key, Outcome, Reply, Request};
+use mds_log::Marks;
 use mds_settle::Note;
 use mds_shard::Shard;
 use mds_table::Tables;
@@ -20,7 +23,6 @@ use std::fmt;
 use std::hash::RandomState;
 use std::marker::Model;
 use std::slice::from_ref;
-use std::sync::ledger::{Blank, Share};
 use std::sync::{Mutex, Wait};
 
 /// The most seats of a book, and so the most workers that serve it: more threads than a city's machine has processors gain
@@ -56,10 +58,14 @@ pub struct Book<L: ShardLedger, M: ShardLedger> {
     pub(crate) seats: usize,
     pub(crate) first: Mutex<Slot<L, 0>>,
     pub(crate) second: Mutex<Slot<M, 1>>,
+    pub(crate) first_marks: Marks<L>,
+    pub(crate) second_marks: Marks<M>,
+    // Room for what is left of the seats, so that settling takes no memory.
+    pub(crate) room: Vec<Account<L, M>>,
 }
 
 impl<L: ShardLedger, M: ShardLedger> Model for Book<L, M> {
-    ghost use Rattle.std.specs.Prelude.{◌≡◌, ◌<◌};
+    ghost use Rattle.std.specs.Prelude.{◌≡◌, ◌<◌, ◌≤◌, vec_len, vec_capacity};
     ghost use Rattle.mds_book.specs.Books.{Opened};
 
     ghost Value = { Opened };
@@ -67,10 +73,11 @@ impl<L: ShardLedger, M: ShardLedger> Model for Book<L, M> {
     ghost view = { λ book. record { tables = book.tables; seats = book.seats } };
 
     ghost invariant = { λ book. (book.tables ≡ L.tables) × (book.tables ≡ M.tables)
-        × (book.seats ≡ L.parts) × (book.seats ≡ M.parts) × (0 < book.seats) };
+        × (book.seats ≡ L.parts) × (book.seats ≡ M.parts) × (0 < book.seats)
+        × (vec_len book.room ≡ 0) × (book.seats ≤ vec_capacity book.room) };
 }
 
-/// Seats that were told nothing, so many of them, each with a part of each ledger.
+/// Seats that were told nothing, so many of them, each with a part of each shard.
 ///
 /// # Errors
 ///
@@ -79,21 +86,74 @@ fn seats_of<L: ShardLedger, M: ShardLedger>(
     alloc: Global,
     count: usize,
     keep: Keep,
-    mut first: Share<L>,
-    mut second: Share<M>,
+    first: &mut Parts<L>,
+    second: &mut Parts<M>,
 ) -> Result<Vec<Seat<L, M>>, AllocError>
-    requires first { (first.parts ≡ count) × (first.amount ≡ 0) }
-    requires second { (second.parts ≡ count) × (second.amount ≡ 0) }
+    requires first { first.old.share.parts ≡ count }
+    requires second { second.old.share.parts ≡ count }
     ensures { IfOk result (λ seats. seats.items ≡ replicate count (fresh (keeps_all keep))) }
 {
     let mut seats = Vec::with_capacity(alloc, count)?;
     for _ in 0..count {
-        seats.push(Seat::of(alloc, keep, &mut first, &mut second))?;
+        seats.push(Seat::of(alloc, keep, first, second))?;
     }
     Ok(seats)
 }
 
-/// Answers a request in the shard behind this lock, with a seat's part of its ledger. Only the step is made under the lock.
+/// The shard of this number with nothing accepted, and what the seats' parts of it are made of.
+///
+/// # Errors
+///
+/// `AllocError` where there is no memory for the tables.
+fn opened<L: ShardLedger, const N: usize>(
+    alloc: Global,
+    tables: &Tables,
+    blank: Blank,
+    hasher: RandomState,
+) -> Result<(Slot<L, N>, Parts<L>), AllocError>
+    requires ledger { (blank.name ≡ L.name) × (blank.parts ≡ L.parts) }
+    requires log { (blank.log ≡ L.log) × (blank.marks ≡ L.marks) }
+    requires tables { tables.now ≡ L.tables }
+    ensures parts { IfOk result (λ opened. opened.1.share.parts ≡ L.parts) }
+{
+    let Blank { ledger, log, marks } = blank;
+    let copied = tables.copy(alloc)?;
+    let Some((slot, share, front)) = Slot::open(alloc, copied, ledger, log, hasher) else {
+        return Err(AllocError);
+    };
+    let parts = Parts {
+        share,
+        front,
+        marks: marks.named::<L>(),
+    };
+    Ok((slot, parts))
+}
+
+/// Seats that were told nothing, so many of them, and room for what is left of them once they are settled.
+///
+/// # Errors
+///
+/// `AllocError` where there is no memory for them.
+fn places_of<L: ShardLedger, M: ShardLedger>(
+    alloc: Global,
+    count: usize,
+    keep: Keep,
+    first: &mut Parts<L>,
+    second: &mut Parts<M>,
+) -> Result<(Vec<Seat<L, M>>, Vec<Account<L, M>>), AllocError>
+    requires first { first.old.share.parts ≡ count }
+    requires second { second.old.share.parts ≡ count }
+    ensures seats { IfOk result (λ places.
+        places.0.items ≡ replicate count (fresh (keeps_all keep))) }
+    ensures empty { IfOk result (λ places. vec_len places.1 ≡ 0) }
+    ensures room { IfOk result (λ places. count ≤ vec_capacity places.1) }
+{
+    let seats = seats_of(alloc, count, keep, first, second)?;
+    let room = Vec::with_capacity(alloc, count)?;
+    Ok((seats, room))
+}
+
+/// Answers a request in the shard behind this lock, for a seat with this part of it. Only the step is made under the lock.
 ///
 /// # Errors
 ///
@@ -105,21 +165,53 @@ fn step_in<R: Wait, L: ShardLedger, const N: usize>(
     request: &Request,
 ) -> Result<Reply, AllocError>
     requires { number_of (key_of request.now) ≡ N }
-    ensures reply { IfOk result (IsAnswered L.tables N request.now) }
+    ensures stepped { IfOk result (λ reply. IsStepped L.tables N part.old.front part.old.mark
+        request.now reply part.new.front) }
     ensures count { IfOk result (λ reply.
         part.new.count ≡ part.old.count + count_of reply.outcome) }
     ensures place { IfOk result (λ reply. part.old.count ≤ reply.place) }
-    ensures unchanged { OnErr result (part.new.count ≡ part.old.count) }
+    ensures mark { part.new.mark ≡ part.old.mark }
+    ensures count_unchanged { OnErr result (part.new.count ≡ part.old.count) }
+    ensures front_unchanged { OnErr result (part.new.front ≡ part.old.front) }
     ensures look { is_look request.now ≡ true → IsOk result }
 {
-    let Part { share, count } = part;
-    let Ok(reply) = slot.lock(rt).step(share, request) else {
-        return Err(AllocError);
-    };
-    if let Outcome::Done = reply.outcome {
-        *count += 1;
+    slot.lock(rt).step(part, request)
+}
+
+/// Makes room for the note of a call that may be noted.
+///
+/// # Errors
+///
+/// `AllocError` where there is no memory for it.
+fn make_room(notes: &mut Vec<Note>, may_note: bool) -> Result<(), AllocError>
+    ensures items { notes.new.items ≡ notes.old.items }
+    ensures room { IsOk result → may_note ≡ true → vec_len notes.new < vec_capacity notes.new }
+    ensures none { may_note ≡ false → IsOk result }
+{
+    if may_note {
+        notes.reserve(1)?;
     }
-    Ok(reply)
+    Ok(())
+}
+
+/// Notes a call, where every call is noted or it was accepted.
+fn note_call(notes: &mut Vec<Note>, keeps_all: bool, shard: usize, request: &Request, reply: &Reply)
+    requires shard { shard ≡ number_of (key_of request.now) }
+    requires room { (keeps_all || outcome_is_done reply.now.outcome) ≡ true
+        → vec_len notes.old < vec_capacity notes.old }
+    ensures { notes.new.items ≡ notes.old.items ++ noted keeps_all request.now reply.now }
+{
+    if !keeps_all && !is_done(reply) {
+        return;
+    }
+    let note = Note {
+        shard,
+        request: *request,
+        reply: *reply,
+    };
+    let Ok(()) = notes.extend_from_slice(from_ref(&note)) else {
+        unreachable!();
+    };
 }
 
 /// The events of a vehicle in the shard behind this lock.
@@ -140,6 +232,32 @@ fn events_in<R: Wait, L: ShardLedger, const N: usize>(
     slot.lock(rt).shard().events(alloc, key)
 }
 
+/// The events of a vehicle in the shard behind this lock, for a seat with this part of it, which has then seen all that the
+/// shard had accepted.
+///
+/// # Errors
+///
+/// `AllocError` where there is no memory for the list; the part is as it was then.
+fn list_in<R: Wait, L: ShardLedger, const N: usize>(
+    rt: &R,
+    alloc: Global,
+    slot: &Mutex<Slot<L, N>>,
+    part: &mut Part<L>,
+    key: &Key,
+) -> Result<Option<Vec<Event>>, AllocError>
+    requires { number_of key.now ≡ N }
+    ensures listed { IfOk result (λ found. IsSeenWhole L.tables N part.old.front key.now
+        (option_map (λ events. events.items) found) part.new.front) }
+    ensures count { part.new.count ≡ part.old.count }
+    ensures mark { part.new.mark ≡ part.old.mark }
+    ensures unchanged { OnErr result (part.new.front ≡ part.old.front) }
+{
+    let mut slot = slot.lock(rt);
+    let found = slot.shard().events(alloc, key)?;
+    slot.see(part);
+    Ok(found)
+}
+
 /// What a function answers on the shard behind this lock.
 fn with_slot<R: Wait, L: ShardLedger, const N: usize, X, F: FnOnce(&Shard) -> X>(
     rt: &R,
@@ -153,8 +271,8 @@ fn with_slot<R: Wait, L: ShardLedger, const N: usize, X, F: FnOnce(&Shard) -> X>
 }
 
 impl<L: ShardLedger, M: ShardLedger> Book<L, M> {
-    /// A book over the tables with nothing accepted, and its seats, 1 to [`MAX_SEATS`], which were told nothing. Each ledger
-    /// is handed in blank, cut into a part for each seat. Each shard hashes by the hasher in its place.
+    /// A book over the tables with nothing accepted, and its seats, 1 to [`MAX_SEATS`], which were told nothing. What each
+    /// shard is opened from is handed in blank, with a part for each seat. Each shard hashes by the hasher in its place.
     ///
     /// # Errors
     ///
@@ -172,6 +290,8 @@ impl<L: ShardLedger, M: ShardLedger> Book<L, M> {
         requires first { (first.name ≡ L.name) × (first.parts ≡ L.parts) × (first.parts ≡ seats) }
         requires second { (second.name ≡ M.name) × (second.parts ≡ M.parts)
             × (second.parts ≡ seats) }
+        requires first_log { (first.log ≡ L.log) × (first.marks ≡ L.marks) }
+        requires second_log { (second.log ≡ M.log) × (second.marks ≡ M.marks) }
         requires tables { (tables ≡ L.tables) × (tables ≡ M.tables) }
         ensures book { IfOk result (λ opened.
             opened.0 ≡ record { tables = tables; seats = seats }) }
@@ -205,6 +325,8 @@ impl<L: ShardLedger, M: ShardLedger> Book<L, M> {
         requires first { (first.name ≡ L.name) × (first.parts ≡ L.parts) × (first.parts ≡ seats) }
         requires second { (second.name ≡ M.name) × (second.parts ≡ M.parts)
             × (second.parts ≡ seats) }
+        requires first_log { (first.log ≡ L.log) × (first.marks ≡ L.marks) }
+        requires second_log { (second.log ≡ M.log) × (second.marks ≡ M.marks) }
         requires tables { (tables ≡ L.tables) × (tables ≡ M.tables) }
         requires some { 0 < seats }
         ensures book { IfOk result (λ opened.
@@ -213,21 +335,73 @@ impl<L: ShardLedger, M: ShardLedger> Book<L, M> {
             opened.1.items ≡ replicate seats (fresh (keeps_all keep))) }
     {
         let [first_hasher, second_hasher] = hashers;
-        let (first_slot, first_all) = Slot::open(alloc, tables.copy(alloc)?, first, first_hasher);
-        let (second_slot, second_all) = Slot::open(
+        let (first_slot, ones) = opened(alloc, &tables, first, first_hasher)?;
+        let (second_slot, others) = opened(alloc, &tables, second, second_hasher)?;
+        Book::seated(
             alloc,
-            tables.copy(alloc)?,
-            second,
-            second_hasher,
-        );
-        let list = seats_of(alloc, seats, keep, first_all, second_all)?;
-        let book = Book {
             tables,
             seats,
-            first: Mutex::new(first_slot),
-            second: Mutex::new(second_slot),
-        };
+            keep,
+            first_slot,
+            ones,
+            second_slot,
+            others,
+        )
+    }
+
+    /// A book of these shards, and its seats, each with a part of each shard.
+    ///
+    /// # Errors
+    ///
+    /// `AllocError` where there is no memory.
+    fn seated(
+        alloc: Global,
+        tables: Tables,
+        seats: usize,
+        keep: Keep,
+        first: Slot<L, 0>,
+        mut ones: Parts<L>,
+        second: Slot<M, 1>,
+        mut others: Parts<M>,
+    ) -> Result<(Book<L, M>, Vec<Seat<L, M>>), AllocError>
+        requires first { (ones.share.parts ≡ seats) × (L.parts ≡ seats) }
+        requires second { (others.share.parts ≡ seats) × (M.parts ≡ seats) }
+        requires tables { (tables ≡ L.tables) × (tables ≡ M.tables) }
+        requires some { 0 < seats }
+        ensures book { IfOk result (λ opened.
+            opened.0 ≡ record { tables = tables; seats = seats }) }
+        ensures seats { IfOk result (λ opened.
+            opened.1.items ≡ replicate seats (fresh (keeps_all keep))) }
+    {
+        let (list, room) = places_of(alloc, seats, keep, &mut ones, &mut others)?;
+        let book = Book::of(tables, seats, first, second, ones.marks, others.marks, room);
         Ok((book, list))
+    }
+
+    /// A book of these shards, for so many seats.
+    fn of(
+        tables: Tables,
+        seats: usize,
+        first: Slot<L, 0>,
+        second: Slot<M, 1>,
+        first_marks: Marks<L>,
+        second_marks: Marks<M>,
+        room: Vec<Account<L, M>>,
+    ) -> Book<L, M>
+        requires tables { (tables ≡ L.tables) × (tables ≡ M.tables) }
+        requires seats { (seats ≡ L.parts) × (seats ≡ M.parts) × (0 < seats) }
+        requires room { (vec_len room ≡ 0) × (seats ≤ vec_capacity room) }
+        ensures { result ≡ record { tables = tables; seats = seats } }
+    {
+        Book {
+            tables,
+            seats,
+            first: Mutex::new(first),
+            second: Mutex::new(second),
+            first_marks,
+            second_marks,
+            room,
+        }
     }
 
     /// The tables of the book, which judge each event by the one in force at its time.
@@ -245,9 +419,9 @@ impl<L: ShardLedger, M: ShardLedger> Book<L, M> {
         shard_of(key)
     }
 
-    /// Answers a request, in the shard of its vehicle, for a caller's seat. The seat's count of the shard rises by one
-    /// exactly where the request is accepted, and the call is noted where the seat keeps such calls. It waits for the
-    /// shard's lock.
+    /// Answers a request, in the shard of its vehicle, for a caller's seat. The reply is the answer after all that the shard had
+    /// accepted then, and so after all that the seat had seen of it. The seat's count of the shard rises by one exactly where
+    /// the request is accepted, and the call is noted where the seat keeps such calls. It waits for the shard's lock.
     ///
     /// # Errors
     ///
@@ -259,31 +433,67 @@ impl<L: ShardLedger, M: ShardLedger> Book<L, M> {
         seat: &mut Seat<L, M>,
         request: &Request,
     ) -> Result<Reply, AllocError>
-        ensures seat { IfOk result (λ reply. seat.new ≡ after_call seat.old request.now reply) }
+        ensures called { IfOk result (λ reply.
+            IsCalled self.now.tables seat.old request.now reply seat.new) }
         ensures place { IfOk result (λ reply.
             accepted_in seat.old (number_of (key_of request.now)) ≤ reply.place) }
-        ensures reply { IfOk result
-            (IsAnswered self.now.tables (number_of (key_of request.now)) request.now) }
         ensures unchanged { OnErr result (seat.new ≡ seat.old) }
         ensures look { is_look request.now ≡ true → seat.old.keeps_all ≡ false → IsOk result }
     {
-        if seat.may_note(request) {
-            seat.notes.reserve(1)?;
-        }
-        let shard = shard_of(request.key());
-        let reply = if shard == 0 {
-            step_in(rt, &self.first, &mut seat.first, request)?
+        if shard_of(request.key()) == 0 {
+            self.call_first(rt, seat, request)
         } else {
-            step_in(rt, &self.second, &mut seat.second, request)?
-        };
-        if seat.keeps_all || is_done(&reply) {
-            let note = Note {
-                shard,
-                request: *request,
-                reply,
-            };
-            seat.notes.extend_from_slice(from_ref(&note))?;
+            self.call_second(rt, seat, request)
         }
+    }
+
+    /// Answers a request about a vehicle of the first shard.
+    ///
+    /// # Errors
+    ///
+    /// As [`Book::call`].
+    fn call_first<R: Wait>(
+        &self,
+        rt: &R,
+        seat: &mut Seat<L, M>,
+        request: &Request,
+    ) -> Result<Reply, AllocError>
+        requires { number_of (key_of request.now) ≡ 0 }
+        ensures called { IfOk result (λ reply.
+            IsCalled self.now.tables seat.old request.now reply seat.new) }
+        ensures place { IfOk result (λ reply. seat.old.first ≤ reply.place) }
+        ensures unchanged { OnErr result (seat.new ≡ seat.old) }
+        ensures look { is_look request.now ≡ true → seat.old.keeps_all ≡ false → IsOk result }
+    {
+        let may_note = seat.may_note(request);
+        make_room(&mut seat.notes, may_note)?;
+        let reply = step_in(rt, &self.first, &mut seat.first, request)?;
+        note_call(&mut seat.notes, seat.keeps_all, 0, request, &reply);
+        Ok(reply)
+    }
+
+    /// Answers a request about a vehicle of the second shard.
+    ///
+    /// # Errors
+    ///
+    /// As [`Book::call`].
+    fn call_second<R: Wait>(
+        &self,
+        rt: &R,
+        seat: &mut Seat<L, M>,
+        request: &Request,
+    ) -> Result<Reply, AllocError>
+        requires { number_of (key_of request.now) ≡ 1 }
+        ensures called { IfOk result (λ reply.
+            IsCalled self.now.tables seat.old request.now reply seat.new) }
+        ensures place { IfOk result (λ reply. seat.old.second ≤ reply.place) }
+        ensures unchanged { OnErr result (seat.new ≡ seat.old) }
+        ensures look { is_look request.now ≡ true → seat.old.keeps_all ≡ false → IsOk result }
+    {
+        let may_note = seat.may_note(request);
+        make_room(&mut seat.notes, may_note)?;
+        let reply = step_in(rt, &self.second, &mut seat.second, request)?;
+        note_call(&mut seat.notes, seat.keeps_all, 1, request, &reply);
         Ok(reply)
     }
 
@@ -307,6 +517,73 @@ impl<L: ShardLedger, M: ShardLedger> Book<L, M> {
         } else {
             events_in(rt, alloc, &self.second, key)
         }
+    }
+
+    /// The accepted events of the vehicle in their order, or `None` where it isn't registered, for a caller's seat: those of the
+    /// shard's history at a moment that is not before what the seat had seen. The seat has then seen that history. It waits for
+    /// the shard's lock.
+    ///
+    /// # Errors
+    ///
+    /// `AllocError` where there is no memory for the list; the seat is as it was then.
+    pub fn seat_events<R: Wait>(
+        &self,
+        rt: &R,
+        alloc: Global,
+        seat: &mut Seat<L, M>,
+        key: &Key,
+    ) -> Result<Option<Vec<Event>>, AllocError>
+        ensures listed { IfOk result (λ found. IsListed self.now.tables seat.old key.now
+            (option_map (λ events. events.items) found) seat.new) }
+        ensures unchanged { OnErr result (seat.new ≡ seat.old) }
+    {
+        if shard_of(key) == 0 {
+            self.list_first(rt, alloc, seat, key)
+        } else {
+            self.list_second(rt, alloc, seat, key)
+        }
+    }
+
+    /// The events of a vehicle of the first shard, as [`Book::seat_events`].
+    ///
+    /// # Errors
+    ///
+    /// As there.
+    fn list_first<R: Wait>(
+        &self,
+        rt: &R,
+        alloc: Global,
+        seat: &mut Seat<L, M>,
+        key: &Key,
+    ) -> Result<Option<Vec<Event>>, AllocError>
+        requires { number_of key.now ≡ 0 }
+        ensures listed { IfOk result (λ found. IsListed self.now.tables seat.old key.now
+            (option_map (λ events. events.items) found) seat.new) }
+        ensures unchanged { OnErr result (seat.new ≡ seat.old) }
+    {
+        let found = list_in(rt, alloc, &self.first, &mut seat.first, key)?;
+        Ok(found)
+    }
+
+    /// The events of a vehicle of the second shard, as [`Book::seat_events`].
+    ///
+    /// # Errors
+    ///
+    /// As there.
+    fn list_second<R: Wait>(
+        &self,
+        rt: &R,
+        alloc: Global,
+        seat: &mut Seat<L, M>,
+        key: &Key,
+    ) -> Result<Option<Vec<Event>>, AllocError>
+        requires { number_of key.now ≡ 1 }
+        ensures listed { IfOk result (λ found. IsListed self.now.tables seat.old key.now
+            (option_map (λ events. events.items) found) seat.new) }
+        ensures unchanged { OnErr result (seat.new ≡ seat.old) }
+    {
+        let found = list_in(rt, alloc, &self.second, &mut seat.second, key)?;
+        Ok(found)
     }
 
     /// What a function answers on the shard of this number, while it is locked. It waits for the shard's lock; a call on

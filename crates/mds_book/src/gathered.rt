@@ -1,16 +1,42 @@
 //! What is left of a book once all its seats came back.
-ghost use Rattle.std.specs.Prelude.{◌≡◌, ◌+◌, length, MatchOption, MatchResult};
+ghost use Rattle.std.specs.Prelude.{◌≡◌, ◌+◌, length};
 ghost use Rattle.std.specs.Option.{option_copied};
-ghost use Rattle.mds_settle.specs.Settled.{IsSettled};
-ghost use Rattle.mds_settle.specs.Faults.{IsLeastFault};
 ghost use Rattle.mds_book.specs.Gathering.{IsWhole, history_of, notes_of};
-ghost use Rattle.mds_book.specs.Settling.{IsSettledBook, IsTorn};
+ghost use Rattle.mds_book.specs.Settling.{IsSettledBook};
 
-use crate::{Seat, ShardLedger, Slot};
+use crate::{ShardLedger, Slot};
 use mds_core::Request;
-use mds_settle::{Note, NoteList, judge_lawful};
+use mds_log::Front;
+use mds_settle::Note;
 use mds_table::Tables;
 use std::marker::Model;
+
+/// What is left of a seat that was handed back: its counts, its notes, and what it saw of each shard.
+#[derive(Drop)]
+pub(crate) struct Account<L: ShardLedger, M: ShardLedger> {
+    pub(crate) first: u64,
+    pub(crate) second: u64,
+    pub(crate) notes: Vec<Note>,
+    pub(crate) keeps_all: bool,
+    pub(crate) first_front: Front<L>,
+    pub(crate) second_front: Front<M>,
+}
+
+impl<L: ShardLedger, M: ShardLedger> Model for Account<L, M> {
+    ghost use Rattle.mds_log.specs.Log.{requests};
+    ghost use Rattle.mds_book.specs.Seats.{Seated};
+
+    ghost Value = { Seated };
+
+    ghost view = { λ account. record {
+      first = account.first;
+      second = account.second;
+      notes = account.notes.items;
+      keeps_all = account.keeps_all;
+      first_seen = requests account.first_front;
+      second_seen = requests account.second_front;
+    } };
+}
 
 /// The histories of both shards, and the notes of all seats, with nothing judged. What the seats counted is what the
 /// histories hold.
@@ -19,7 +45,7 @@ pub struct Gathered<L: ShardLedger, M: ShardLedger> {
     pub(crate) tables: Tables,
     pub(crate) first: Slot<L, 0>,
     pub(crate) second: Slot<M, 1>,
-    pub(crate) seats: Vec<Seat<L, M>>,
+    pub(crate) seats: Vec<Account<L, M>>,
 }
 
 impl<L: ShardLedger, M: ShardLedger> Model for Gathered<L, M> {
@@ -40,7 +66,7 @@ impl<L: ShardLedger, M: ShardLedger> Model for Gathered<L, M> {
         × (length all.second.history ≡ sum_by (λ seat. seat.second) all.seats.items) };
 }
 
-/// What is left of a book whose seats all came back with notes that fit. The histories are the order in which the
+/// What is left of a book whose seats all came back. Their notes fit the histories. The histories are the order in which the
 /// accepted calls took place, shard by shard; each was noted once, and stands in its caller's order.
 #[derive(Drop)]
 pub struct Settled<L: ShardLedger, M: ShardLedger> {
@@ -56,23 +82,6 @@ impl<L: ShardLedger, M: ShardLedger> Model for Settled<L, M> {
     ghost view = { λ settled. settled.gathered };
 
     ghost invariant = { λ settled. IsSettledBook settled.gathered };
-}
-
-/// Judges callers' notes beside the history of one shard.
-///
-/// # Errors
-///
-/// The least place at which they don't fit it.
-fn judged<L: ShardLedger, const N: usize, S: NoteList>(
-    slot: &Slot<L, N>,
-    seats: &[S],
-) -> Result<(), usize>
-    ensures { MatchResult result
-        (λ _. IsSettled L.tables N slot.now.history S.seen seats.now)
-        (IsLeastFault L.tables N slot.now.history S.seen seats.now) }
-{
-    let shard = slot.shard();
-    judge_lawful(shard.tables(), N, shard.history(), seats)
 }
 
 impl<L: ShardLedger, M: ShardLedger> Gathered<L, M> {
@@ -92,7 +101,7 @@ impl<L: ShardLedger, M: ShardLedger> Gathered<L, M> {
         ensures { option_copied result ≡ notes_of self.now seat }
     {
         match self.seats.get(seat) {
-            Some(seat) => Some(seat.notes()),
+            Some(account) => Some(account.notes.as_slice()),
             None => None,
         }
     }
@@ -111,19 +120,6 @@ impl<L: ShardLedger, M: ShardLedger> Gathered<L, M> {
         // These calls' contracts say it of each history.
         let _ = self.first.shard();
         let _ = self.second.shard();
-    }
-
-    /// The least shard whose history the notes don't fit, with the least place there; `None` where they fit both.
-    pub(crate) fn torn(&self) -> Option<(usize, usize)>
-        ensures { MatchOption result (IsSettledBook self.now) (λ at. IsTorn self.now at.0 at.1) }
-    {
-        if let Err(place) = judged(&self.first, &self.seats) {
-            return Some((0, place));
-        }
-        match judged(&self.second, &self.seats) {
-            Err(place) => Some((1, place)),
-            Ok(()) => None,
-        }
     }
 }
 

@@ -1,19 +1,23 @@
-//! Shards under locks: what many callers share, a seat for each of them, and the ledgers that count what was accepted.
-//! Once all seats came back, the book is settled: their notes are judged beside what the shards hold.
+//! Shards under locks: what many callers share, a seat for each of them, the ledgers that count what was accepted, and the
+//! logs by which a contract can name what a shard had accepted when it answered. Once all seats came back, the book is
+//! settled: their notes fit what the shards hold.
 #![tactic(auto)]
 
+mod blank;
 mod book;
 mod gathered;
+pub mod laws;
 mod seat;
 mod settling;
 mod slot;
 #[cfg(test)]
 mod tests;
 
+pub use blank::Blank;
 pub use book::{Book, MAX_SEATS, OpenFault};
 pub use gathered::{Gathered, Settled};
 pub use mds_gate::{Gate, OpenGate};
 pub use mds_settle::{Note, NoteList, judge};
-pub use seat::{Keep, Seat};
+pub use seat::{Keep, Part, Seat};
 pub use settling::{SettleFault, reconcile};
 pub use slot::{ShardLedger, Slot};

@@ -1,13 +1,18 @@
-//! What a caller holds: its share of each ledger, and the notes of its calls.
-ghost use Rattle.std.specs.Prelude.{◌≡◌, ◌≤◌, ◌+◌, ◌||◌, not};
+//! What a caller holds: its part of each shard, and the notes of its calls.
+ghost use Rattle.std.specs.Prelude.{◌≡◌, ◌<◌, ◌≤◌, ◌+◌, ◌^◌, ◌||◌, [], length, not};
+ghost use mathlib.Core.List.{IsPrefix};
+ghost use Rattle.mds_core.specs.Headline.{is_done};
+ghost use Rattle.mds_book.specs.Shards.{count_of};
 ghost use Rattle.mds_book.specs.Seats.{accepted_in, is_look, fresh, keeps_all};
+ghost use Rattle.mds_book.specs.Sights.{after};
 
 use crate::ShardLedger;
-use mds_core::Request;
+use mds_core::{Outcome, Request};
+use mds_log::{Front, Keeper, Mark, Marks};
 use mds_settle::{Note, NoteList};
 use std::alloc::Global;
 use std::marker::Model;
-use std::sync::ledger::{Ledger, Share};
+use std::sync::ledger::{Book, Share};
 
 /// Which of its calls a seat notes.
 #[derive(Clone, Copy, Debug, PartialEq, Eq)]
@@ -18,17 +23,30 @@ pub enum Keep {
     Accepted,
 }
 
-/// A seat's part of the ledger of one shard, and the number that it stands for.
+/// What a seat has of one shard: a part of its ledger, the number that it stands for, what the seat saw of the log, and the
+/// seat's mark there.
 #[derive(Drop)]
-pub(crate) struct Part<L: Ledger> {
+pub struct Part<L: ShardLedger> {
     pub(crate) share: Share<L>,
     pub(crate) count: u64,
+    pub(crate) front: Front<L>,
+    pub(crate) mark: Mark<L>,
     ghost one_part: { share.parts ≡ 1 },
     ghost counted: { share.amount ≡ count },
 }
 
-/// What a caller holds of the book of its type: how many of its calls were accepted in each shard, and the notes of its
-/// calls in their order.
+/// What the parts of a shard are made of: the share that has all parts left, a front that has seen nothing, and the marks.
+#[derive(Drop)]
+pub(crate) struct Parts<L: ShardLedger> {
+    pub(crate) share: Share<L>,
+    pub(crate) front: Front<L>,
+    pub(crate) marks: Marks<L>,
+    ghost amount: { share.amount ≡ 0 },
+    ghost unseen: { front ≡ [] },
+}
+
+/// What a caller holds of the book of its type: its part of each shard, and the notes of its calls in their order. Each note is
+/// true to what the seat saw of the shards.
 #[derive(Drop)]
 pub struct Seat<L: ShardLedger, M: ShardLedger> {
     pub(crate) first: Part<L>,
@@ -38,7 +56,9 @@ pub struct Seat<L: ShardLedger, M: ShardLedger> {
 }
 
 impl<L: ShardLedger, M: ShardLedger> Model for Seat<L, M> {
+    ghost use Rattle.mds_log.specs.Log.{requests};
     ghost use Rattle.mds_book.specs.Seats.{Seated};
+    ghost use Rattle.mds_book.specs.Sights.{AreTrue};
 
     ghost Value = { Seated };
 
@@ -47,42 +67,94 @@ impl<L: ShardLedger, M: ShardLedger> Model for Seat<L, M> {
       second = seat.second.count;
       notes = seat.notes.items;
       keeps_all = seat.keeps_all;
+      first_seen = requests seat.first.front;
+      second_seen = requests seat.second.front;
     } };
+
+    ghost invariant = { λ seat.
+        AreTrue L.tables 0 seat.first.front seat.first.mark seat.notes.items seat.first.count
+        × AreTrue M.tables 1 seat.second.front seat.second.mark seat.notes.items seat.second.count };
 }
 
-impl<L: Ledger> Part<L> {
-    /// One part of the ledger, cut off from a share of more, with nothing counted.
-    pub(crate) fn of(rest: &mut Share<L>) -> Part<L>
-        requires parts { 1 ≤ rest.old.parts }
-        requires amount { rest.old.amount ≡ 0 }
+impl<L: ShardLedger> Parts<L> {
+    /// One part, with a mark of its own, nothing counted and nothing seen.
+    pub(crate) fn cut(&mut self) -> Part<L>
+        requires { 1 ≤ self.old.share.parts }
         ensures count { result.count ≡ 0 }
-        ensures parts { rest.new.parts + 1 ≡ rest.old.parts }
-        ensures amount { rest.new.amount ≡ 0 }
+        ensures front { result.front ≡ [] }
+        ensures parts { self.new.share.parts + 1 ≡ self.old.share.parts }
     {
         Part {
-            share: rest.split_off(1, 0),
+            share: self.share.split_off(1, 0),
             count: 0,
+            front: self.front.again(),
+            mark: self.marks.mark(),
+        }
+    }
+}
+
+impl<L: ShardLedger> Part<L> {
+    /// Tells that the part's count is no more than what the ledger has counted. It changes nothing.
+    pub(crate) fn audit(&mut self, accepted: &mut Book<L>)
+        ensures count { self.new.count ≡ self.old.count }
+        ensures front { self.new.front ≡ self.old.front }
+        ensures mark { self.new.mark ≡ self.old.mark }
+        ensures total { accepted.new.total ≡ accepted.old.total }
+        ensures bound { self.old.count ≤ accepted.old.total }
+    {
+        accepted.audit(&mut self.share);
+    }
+
+    /// Sees the whole log, and where a request was accepted counts it and adds it to the log.
+    pub(crate) fn keep(
+        &mut self,
+        accepted: &mut Book<L>,
+        keeper: &mut Keeper<L>,
+        request: &Request,
+        outcome: &Outcome,
+    )
+        requires room { length keeper.old < 2 ^ 63 }
+        requires bound { self.old.count ≤ length keeper.old }
+        ensures count { self.new.count ≡ self.old.count + count_of outcome.now }
+        ensures total { accepted.new.total ≡ accepted.old.total + count_of outcome.now }
+        ensures seen { IsPrefix self.old.front keeper.old }
+        ensures log { keeper.new ≡ after keeper.old self.old.mark request.now (is_done outcome.now) }
+        ensures front { self.new.front ≡ keeper.new }
+        ensures mark { self.new.mark ≡ self.old.mark }
+    {
+        let Part {
+            share,
+            count,
+            front,
+            mark,
+        } = self;
+        keeper.show(front);
+        if let Outcome::Done = outcome {
+            accepted.add(share, 1);
+            keeper.add(mark, request);
+            *front = keeper.front();
+            *count += 1;
         }
     }
 }
 
 impl<L: ShardLedger, M: ShardLedger> Seat<L, M> {
-    /// A seat that was told nothing, with a part of each ledger.
+    /// A seat that was told nothing, with a part of each shard.
     pub(crate) fn of(
         alloc: Global,
         keep: Keep,
-        first: &mut Share<L>,
-        second: &mut Share<M>,
+        first: &mut Parts<L>,
+        second: &mut Parts<M>,
     ) -> Seat<L, M>
-        requires first { (1 ≤ first.old.parts) × (first.old.amount ≡ 0) }
-        requires second { (1 ≤ second.old.parts) × (second.old.amount ≡ 0) }
+        requires first { 1 ≤ first.old.share.parts }
+        requires second { 1 ≤ second.old.share.parts }
         ensures seat { result ≡ fresh (keeps_all keep) }
-        ensures first { (first.new.parts + 1 ≡ first.old.parts) × (first.new.amount ≡ 0) }
-        ensures second { (second.new.parts + 1 ≡ second.old.parts) × (second.new.amount ≡ 0) }
+        ensures first { first.new.share.parts + 1 ≡ first.old.share.parts }
+        ensures second { second.new.share.parts + 1 ≡ second.old.share.parts }
     {
         Seat {
-            first: Part::of(first),
-            second: Part::of(second),
+            first: first.cut(),
+            second: second.cut(),
             notes: Vec::new(alloc),
             keeps_all: keep == Keep::All,
         }

@@ -1,10 +1,16 @@
-//! Settling: what the seats noted against what the shards hold.
-ghost use Rattle.std.specs.Prelude.{◌≡◌, ◌≢◌, ◌+◌, ◌<◌, length, vec_len, sum_by};
+//! Settling: the seats are handed back beside what the shards hold.
+ghost use Rattle.std.specs.Prelude.{◌≡◌, ◌≢◌, ◌+◌, ◌<◌, ◌≤◌, ◌++◌, ◌∷◌, [], length, vec_len, vec_capacity, sum_by};
+ghost use mathlib.Core.List.{IsPrefix};
+ghost use Rattle.mds_log.specs.Log.{requests};
+ghost use Rattle.mds_log.specs.Marks.{Has, HasNot};
 ghost use Rattle.mds_book.specs.Gathering.{IsGathered};
 ghost use Rattle.mds_book.specs.Reconciled.{IsReconciled};
+ghost use Rattle.mds_book.specs.Retired.{AreRetired, IsRetired};
+ghost use Rattle.mds_book.specs.Settling.{AreBeginnings, IsSettledBook};
 
-use crate::seat::Part;
-use crate::{Book, Gathered, Seat, Settled, ShardLedger, Slot};
+use crate::gathered::Account;
+use crate::{Book, Gathered, Part, Seat, Settled, ShardLedger, Slot};
+use mds_log::{Front, Marks};
 use std::sync::ledger::Share;
 
 /// Why a book isn't settled.
@@ -84,10 +90,14 @@ fn count_seats<L: ShardLedger, M: ShardLedger>(
     let Part {
         share: one_share,
         count: one_count,
+        front: _,
+        mark: _,
     } = one;
     let Part {
         share: other_share,
         count: other_count,
+        front: _,
+        mark: _,
     } = other;
     let (one_held, other_held) = (*one_count, *other_count);
     one_share.give(ones, 1, one_held);
@@ -97,42 +107,152 @@ fn count_seats<L: ShardLedger, M: ShardLedger>(
     others.give(other_share, 1, other_held);
 }
 
+/// A shard that is settled: what stood behind its lock, a front of its whole log, and the marks that were handed back.
+#[derive(Drop)]
+struct Closing<L: ShardLedger, const N: usize> {
+    slot: Slot<L, N>,
+    log: Front<L>,
+    marks: Marks<L>,
+    ghost whole: { requests log ≡ slot.history },
+}
+
+impl<L: ShardLedger, const N: usize> Closing<L, N> {
+    /// A shard whose lock was opened.
+    fn of(slot: Slot<L, N>, marks: Marks<L>) -> Closing<L, N>
+        ensures slot { result.slot ≡ slot }
+        ensures marks { result.marks ≡ marks }
+    {
+        let log = slot.log();
+        Closing { slot, log, marks }
+    }
+
+    /// Takes a seat's part of the shard back, with its mark, and hands out its count and what it saw: a beginning of the log.
+    fn retire(&mut self, part: Part<L>) -> (u64, Front<L>)
+        ensures slot { self.new.slot ≡ self.old.slot }
+        ensures log { self.new.log ≡ self.old.log }
+        ensures count { result.0 ≡ part.count }
+        ensures front { result.1 ≡ part.front }
+        ensures seen { IsPrefix part.front self.old.log }
+        ensures fresh { HasNot self.old.marks part.mark }
+        ensures here { Has self.new.marks part.mark }
+        ensures begins { IsPrefix self.old.marks self.new.marks }
+    {
+        let Part {
+            share: _,
+            count,
+            front,
+            mark,
+        } = part;
+        self.slot.show(&self.log, &front);
+        self.marks.retire(mark);
+        (count, front)
+    }
+}
+
+/// Takes a seat back beside both shards.
+fn retire<L: ShardLedger, M: ShardLedger>(
+    first: &mut Closing<L, 0>,
+    second: &mut Closing<M, 1>,
+    seat: Seat<L, M>,
+) -> Account<L, M>
+    ensures slots { (first.new.slot ≡ first.old.slot) × (second.new.slot ≡ second.old.slot) }
+    ensures logs { (first.new.log ≡ first.old.log) × (second.new.log ≡ second.old.log) }
+    ensures account { result ≡ seat }
+    ensures first { IsRetired L.tables 0 first.old.log first.old.marks result first.new.marks }
+    ensures second { IsRetired M.tables 1 second.old.log second.old.marks result second.new.marks }
+{
+    let Seat {
+        first: one,
+        second: other,
+        notes,
+        keeps_all,
+    } = seat;
+    let (first_count, first_front) = first.retire(one);
+    let (second_count, second_front) = second.retire(other);
+    Account {
+        first: first_count,
+        second: second_count,
+        notes,
+        keeps_all,
+        first_front,
+        second_front,
+    }
+}
+
+/// Puts an account behind the others, where there is room for it.
+fn put<L: ShardLedger, M: ShardLedger>(room: &mut Vec<Account<L, M>>, account: Account<L, M>)
+    requires { vec_len room.old < vec_capacity room.old }
+    ensures items { room.new.items ≡ room.old.items ++ account ∷ [] }
+    ensures len { vec_len room.new ≡ vec_len room.old + 1 }
+    ensures capacity { vec_capacity room.old ≤ vec_capacity room.new }
+{
+    let Ok(()) = room.push(account) else {
+        unreachable!();
+    };
+}
+
+/// Takes all seats back beside both shards, into room that was made when the book was opened.
+fn retire_all<L: ShardLedger, M: ShardLedger>(
+    first: &mut Closing<L, 0>,
+    second: &mut Closing<M, 1>,
+    mut room: Vec<Account<L, M>>,
+    seats: Vec<Seat<L, M>>,
+) -> Vec<Account<L, M>>
+    requires room { (vec_len room ≡ 0) × (vec_len seats ≤ vec_capacity room) }
+    ensures slots { (first.new.slot ≡ first.old.slot) × (second.new.slot ≡ second.old.slot) }
+    ensures logs { (first.new.log ≡ first.old.log) × (second.new.log ≡ second.old.log) }
+    ensures seats { result.items ≡ seats.items }
+    ensures first { AreRetired L.tables 0 first.new.log first.new.marks result.items }
+    ensures second { AreRetired M.tables 1 second.new.log second.new.marks result.items }
+{
+    for seat in seats {
+        let account = retire(first, second, seat);
+        put(&mut room, account);
+    }
+    room
+}
+
 impl<L: ShardLedger, M: ShardLedger> Book<L, M> {
-    /// Opens the locks of a book all of whose seats are handed in.
+    /// Opens the locks of a book all of whose seats are handed in, and takes the seats back.
     fn gather(self, mut seats: Vec<Seat<L, M>>) -> Gathered<L, M>
         requires { vec_len seats ≡ self.seats }
-        ensures { IsGathered self seats.items result }
+        ensures gathered { IsGathered self seats.items result }
+        ensures settled { IsSettledBook result }
+        ensures beginnings { AreBeginnings result }
     {
         let Book {
             tables,
             seats: _,
             first,
             second,
+            first_marks,
+            second_marks,
+            room,
         } = self;
-        let mut first = first.into_inner();
-        let mut second = second.into_inner();
-        count_all(&mut first, &mut second, seats.as_mut_slice());
+        let mut first = Closing::of(first.into_inner(), first_marks);
+        let mut second = Closing::of(second.into_inner(), second_marks);
+        count_all(&mut first.slot, &mut second.slot, seats.as_mut_slice());
+        let accounts = retire_all(&mut first, &mut second, room, seats);
         let gathered = Gathered {
             tables,
-            first,
-            second,
-            seats,
+            first: first.slot,
+            second: second.slot,
+            seats: accounts,
         };
         gathered.tell();
         gathered
     }
 }
 
-/// Settles a book: opens its locks, and judges the notes of its seats, all of them, beside the histories. It takes no
-/// memory.
+/// Settles a book: opens its locks, and takes back its seats, all of them. It takes no memory.
 ///
-/// Where it succeeds, each accepted call stands once in its shard's history, in its caller's order, and each reply that
-/// was noted is the answer after the entries before it. The histories have no vehicle in common.
+/// Each accepted call stands once in its shard's history, in its caller's order, and each reply that was noted is the answer
+/// after the entries before it. What a seat saw of a shard while the book was in use is a beginning of the shard's history.
+/// The histories have no vehicle in common.
 ///
 /// # Errors
 ///
-/// [`SettleFault::Missing`] where the seats aren't all seats of the book, and else [`SettleFault::Torn`] where the notes
-/// don't fit the history of a shard.
+/// [`SettleFault::Missing`] where the seats aren't all seats of the book. [`SettleFault::Torn`] never comes.
 pub fn reconcile<L: ShardLedger, M: ShardLedger>(
     book: Book<L, M>,
     seats: Vec<Seat<L, M>>,
@@ -142,13 +262,5 @@ pub fn reconcile<L: ShardLedger, M: ShardLedger>(
     if seats.len() != book.seats {
         return Err(SettleFault::Missing { book, seats });
     }
-    let gathered = book.gather(seats);
-    match gathered.torn() {
-        None => Ok(Settled::of(gathered)),
-        Some((shard, place)) => Err(SettleFault::Torn {
-            shard,
-            place,
-            gathered,
-        }),
-    }
+    Ok(Settled::of(book.gather(seats)))
 }

@@ -1,11 +1,16 @@
-//! What stands behind a lock: a shard, and the ledger that counts what it accepted.
-ghost use Rattle.std.specs.Prelude.{◌≡◌, [], length, ◌<◌, ◌≤◌, ◌+◌, ◌^◌, IfOk, OnErr};
+//! What stands behind a lock: a shard, the ledger that counts what it accepted, and the keeper of its log.
+ghost use Rattle.std.specs.Prelude.{◌≡◌, [], length, ◌<◌, ◌≤◌, ◌+◌, ◌^◌, IfOk, IfSome, OnErr};
 ghost use Rattle.mds_core.specs.History.{key_of};
 ghost use Rattle.mds_core.specs.Machine.{Steps, LacksMemory};
 ghost use Rattle.mds_core.specs.Lawful.{IsLawful};
+ghost use mathlib.Core.List.{IsPrefix};
+ghost use Rattle.mds_log.specs.Log.{requests};
 ghost use Rattle.mds_book.specs.Shards.{shard_of as number_of, AreOfShard, count_of};
+ghost use Rattle.mds_book.specs.Sights.{IsShown};
 
-use mds_core::{Key, Outcome, Reply, Request};
+use crate::Part;
+use mds_core::{Key, Reply, Request};
+use mds_log::{BlankLog, Front, Keeper, Logged, Marked};
 use mds_shard::Shard;
 use mds_table::Tables;
 use std::alloc::{AllocError, Global};
@@ -13,8 +18,9 @@ use std::hash::RandomState;
 use std::marker::{Brand, Model};
 use std::sync::ledger::{Blank, Book, Ledger, Share};
 
-/// A ledger that counts what a shard accepted, cut into a part for each seat of the book.
-pub trait ShardLedger: Ledger {
+/// A ledger that counts what a shard accepted, cut into a part for each seat of the book, with the names of the shard's log and of
+/// the seats' marks in it.
+pub trait ShardLedger: Ledger + Logged + Marked {
     ghost use Rattle.std.specs.Prelude.{List};
     ghost use Rattle.mds_table.specs.Tables.{Tables};
 
@@ -36,29 +42,19 @@ pub(crate) fn shard_of(key: &Key) -> usize
     (key.device.as_u128() % 2) as usize
 }
 
-/// Moves one into the share, in the ledger, where a request was accepted.
-fn count<L: Ledger>(accepted: &mut Book<L>, share: &mut Share<L>, outcome: &Outcome)
-    requires { 0 < share.old.parts }
-    ensures total { accepted.new.total ≡ accepted.old.total + count_of outcome.now }
-    ensures amount { share.new.amount ≡ share.old.amount + count_of outcome.now }
-    ensures parts { share.new.parts ≡ share.old.parts }
-{
-    if let Outcome::Done = outcome {
-        accepted.add(share, 1);
-    }
-}
-
-/// What stands behind a lock of a book: the shard of number `N`, whose vehicles all have this number, and the ledger that
-/// has counted each request that it accepted.
+/// What stands behind a lock of a book: the shard of number `N`, whose vehicles all have this number, the ledger that
+/// has counted each request that it accepted, and the keeper of the log that has them all.
 #[derive(Drop)]
 pub struct Slot<L: ShardLedger, const N: usize> {
     shard: Shard,
     accepted: Book<L>,
+    keeper: Keeper<L>,
 }
 
 impl<L: ShardLedger, const N: usize> Model for Slot<L, N> {
     ghost use Rattle.std.specs.Prelude.{◌≡◌, length};
     ghost use Rattle.mds_core.specs.Machine.{Machine};
+    ghost use Rattle.mds_log.specs.Log.{requests};
     ghost use Rattle.mds_book.specs.Shards.{AreOfShard};
 
     ghost Value = { Machine };
@@ -67,26 +63,37 @@ impl<L: ShardLedger, const N: usize> Model for Slot<L, N> {
 
     ghost invariant = { λ slot. (slot.shard.tables ≡ L.tables)
         × AreOfShard N slot.shard.history
-        × (slot.accepted.total ≡ length slot.shard.history) };
+        × (slot.accepted.total ≡ length slot.shard.history)
+        × (requests slot.keeper ≡ slot.shard.history) };
 }
 
 impl<L: ShardLedger, const N: usize> Slot<L, N> {
-    /// A slot with nothing accepted, and the share of its ledger that has every part.
+    /// A slot with nothing accepted, the share of its ledger that has every part, and a front that has seen nothing of its
+    /// log. `None` would mean that another has written to the log: nobody does.
     pub(crate) fn open(
         alloc: Global,
         tables: Tables,
-        blank: Blank,
+        ledger: Blank,
+        log: BlankLog,
         hasher: RandomState,
-    ) -> (Slot<L, N>, Share<L>)
-        requires blank { (blank.name ≡ L.name) × (blank.parts ≡ L.parts) }
+    ) -> Option<(Slot<L, N>, Share<L>, Front<L>)>
+        requires ledger { (ledger.name ≡ L.name) × (ledger.parts ≡ L.parts) }
+        requires log { log ≡ L.log }
         requires tables { tables ≡ L.tables }
-        ensures slot { result.0 ≡ record { tables = tables; history = [] } }
-        ensures parts { result.1.parts ≡ L.parts }
-        ensures amount { result.1.amount ≡ 0 }
+        ensures slot { IfSome result (λ opened. opened.0 ≡ record { tables = tables; history = [] }) }
+        ensures parts { IfSome result (λ opened. opened.1.parts ≡ L.parts) }
+        ensures amount { IfSome result (λ opened. opened.1.amount ≡ 0) }
+        ensures front { IfSome result (λ opened. opened.2 ≡ []) }
     {
-        let (accepted, all) = blank.open::<L>();
+        let (keeper, front) = log.named::<L>()?;
+        let (accepted, all) = ledger.open::<L>();
         let shard = Shard::open(alloc, tables, hasher);
-        (Slot { shard, accepted }, all)
+        let slot = Slot {
+            shard,
+            accepted,
+            keeper,
+        };
+        Some((slot, all, front))
     }
 
     /// The shard.
@@ -112,36 +119,76 @@ impl<L: ShardLedger, const N: usize> Slot<L, N> {
         self.accepted.audit(all);
     }
 
-    /// Answers a request about a vehicle of this shard, as [`Shard::step`] does. Exactly where it is accepted, the ledger
-    /// moves one into the share that is handed in, a seat's in this shard.
+    /// A front that has seen the whole log.
+    pub(crate) fn log(&self) -> Front<L>
+        ensures { requests result ≡ self.now.history }
+    {
+        self.keeper.front()
+    }
+
+    /// Tells that a front has seen a beginning of the log, of which `whole` has seen all. It changes nothing.
+    pub(crate) fn show(&mut self, whole: &Front<L>, front: &Front<L>)
+        requires whole { length whole.now ≡ length self.old.history }
+        ensures slot { self.new ≡ self.old }
+        ensures begins { IsPrefix front.now whole.now }
+    {
+        // This call's contract says that the history is no longer than a list can be.
+        let _ = self.shard.len();
+        self.keeper.tell_whole(whole);
+        let mut shown = front.again();
+        self.keeper.show(&mut shown);
+    }
+
+    /// Lets a seat's part see the whole log. Nothing else changes.
+    pub(crate) fn see(&mut self, part: &mut Part<L>)
+        ensures slot { self.new ≡ self.old }
+        ensures begins { IsPrefix part.old.front part.new.front }
+        ensures whole { requests part.new.front ≡ self.old.history }
+        ensures count { part.new.count ≡ part.old.count }
+        ensures mark { part.new.mark ≡ part.old.mark }
+    {
+        // This call's contract says that the history is no longer than a list can be.
+        let _ = self.shard.len();
+        self.keeper.show(&mut part.front);
+    }
+
+    /// Answers a request about a vehicle of this shard, as [`Shard::step`] does, for a seat with this part of the shard. The
+    /// part has then seen all that the shard had accepted. Exactly where the request is accepted, the ledger moves one into the
+    /// part's share, and the request is added to the log under the part's mark.
     ///
     /// # Errors
     ///
     /// `AllocError` where the request would be accepted and there is no memory to keep it; nothing has changed then.
     #[tactic(auto, using(crate::proofs::Slots::slot_steps))]
-    pub fn step(&mut self, share: &mut Share<L>, request: &Request) -> Result<Reply, AllocError>
-        requires part { 0 < share.old.parts }
+    pub fn step(&mut self, part: &mut Part<L>, request: &Request) -> Result<Reply, AllocError>
         requires number { number_of (key_of request.now) ≡ N }
         ensures step { IfOk result (λ reply. Steps self.old request.now reply self.new) }
         ensures tables { self.old.tables ≡ L.tables }
         ensures lawful { IsLawful self.old.tables self.old.history }
         ensures of_shard { AreOfShard N self.old.history }
-        ensures share { IfOk result (λ reply.
-            share.new.amount ≡ share.old.amount + count_of reply.outcome) }
-        ensures place { IfOk result (λ reply. share.old.amount ≤ reply.place) }
+        ensures count { IfOk result (λ reply.
+            part.new.count ≡ part.old.count + count_of reply.outcome) }
+        ensures place { IfOk result (λ reply. part.old.count ≤ reply.place) }
+        ensures shown { IfOk result (λ reply. IsShown part.old.front self.old.history part.old.mark
+            request.now reply part.new.front) }
+        ensures mark { part.new.mark ≡ part.old.mark }
         ensures room { IfOk result (λ reply. reply.place + 1 < 2 ^ 64) }
-        ensures parts { share.new.parts ≡ share.old.parts }
         ensures memory { OnErr result (LacksMemory self.old request.now self.new) }
-        ensures share_unchanged { OnErr result (share.new.amount ≡ share.old.amount) }
+        ensures count_unchanged { OnErr result (part.new.count ≡ part.old.count) }
+        ensures front_unchanged { OnErr result (part.new.front ≡ part.old.front) }
     {
-        let Slot { shard, accepted } = self;
-        // The contracts of these calls say that the history is lawful, and that the share is no more than its length.
+        let Slot {
+            shard,
+            accepted,
+            keeper,
+        } = self;
+        // The contracts of these calls say that the history is lawful, and that the part's count is no more than its length.
         let _ = shard.len();
-        accepted.audit(share);
+        part.audit(accepted);
         let Ok(reply) = shard.step(request) else {
             return Err(AllocError);
         };
-        count(accepted, share, &reply.outcome);
+        part.keep(accepted, keeper, request, &reply.outcome);
         Ok(reply)
     }
 }

@@ -165,6 +165,8 @@ where
     P::Out: Send,
     requires first { (opening.first.name ≡ L.name) × (opening.first.parts ≡ L.parts) }
     requires second { (opening.second.name ≡ M.name) × (opening.second.parts ≡ M.parts) }
+    requires first_log { (opening.first.log ≡ L.log) × (opening.first.marks ≡ L.marks) }
+    requires second_log { (opening.second.log ≡ M.log) × (opening.second.marks ≡ M.marks) }
     requires parts { (opening.first.parts ≡ opening.seats)
         × (opening.second.parts ≡ opening.seats) }
     requires tables { (opening.tables ≡ L.tables) × (opening.tables ≡ M.tables) }

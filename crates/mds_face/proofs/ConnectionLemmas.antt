@@ -14,7 +14,7 @@ use Rattle.mds_face.specs.declared.connection.ServeFault.{ServeFault}
 use Rattle.mds_face.specs.declared.connection.ServeFault.TheVariants.{Read, Write, Memory, TooManyTurns}
 use Rattle.mds_face.specs.Serving.{Finds, IsAnsweredWhole, IsAsked, IsServed, IsUnwritten, Stops, StopsAsked}
 
-module _ {S : Type 0} (Calls : S → Request → Option Reply → S → Type 0) (GivesEvents : S → Key → Option (List Reported) → Type 0) (GivesRows : S → Tables → Type 0) where
+module _ {S : Type 0} (Calls : S → Request → Option Reply → S → Type 0) (GivesEvents : S → Key → Option (List Reported) → S → Type 0) (GivesRows : S → Tables → Type 0) where
   -- an answer that wasn't written whole stops the connection after what was found
   pub stops_unwritten : (what : Asked) (old new : S) (found : Finding) (written_old written_new : Option (List ℕ)) (fault : ServeFault)
       → Finds Calls GivesEvents GivesRows old what found new → IsUnwritten (answer_text (answer_to what found)) written_old written_new fault

@@ -40,8 +40,9 @@ IsUnwritten text old new (Write sent) = IsUnfinished text old new sent
 IsUnwritten text old new (Memory sent) = ⊥
 IsUnwritten text old new (TooManyTurns sent) = IsUnfinished text old new sent
 
--- of a desk: by which reply a request leads from a state to the next, and which events and tables it gives in a state
-module _ {S : Type 0} (Calls : S → Request → Option Reply → S → Type 0) (GivesEvents : S → Key → Option (List Reported) → Type 0) (GivesRows : S → Tables → Type 0) where
+-- of a desk: by which reply a request leads from a state to the next, by which events of a vehicle a question for them does, and
+-- which tables it gives in a state
+module _ {S : Type 0} (Calls : S → Request → Option Reply → S → Type 0) (GivesEvents : S → Key → Option (List Reported) → S → Type 0) (GivesRows : S → Tables → Type 0) where
   -- what is asked for is put to the desk, and this is found: a POST's items that aren't faults, one by one and in order, up to the
   -- first that finds no memory; or what a GET looks at
   abbrev pub Finds : S → Asked → Finding → S → Type 0
@@ -49,7 +50,7 @@ module _ {S : Type 0} (Calls : S → Request → Option Reply → S → Type 0) 
   Finds old (asked.Vehicles items) (finding.Replies replies) new = AreCalls Calls old (filter_map registration_of items) replies new
   Finds old (asked.Events items) (finding.Replies replies) new = AreCalls Calls old (filter_map report_in items) replies new
   Finds old (asked.One key) (finding.One reply) new = Calls old (Look key) (Some reply) new
-  Finds old (asked.History key) (finding.History events) new = GivesEvents old key events × (new ≡ old)
+  Finds old (asked.History key) (finding.History events) new = GivesEvents old key events new
   Finds old asked.Rows (finding.Rows tables) new = GivesRows old tables × (new ≡ old)
   -- nothing of another kind is found
   Finds old what found new = ⊥

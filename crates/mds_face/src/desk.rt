@@ -2,7 +2,7 @@
 ghost use Rattle.std.specs.Prelude.{◌≡◌, Some, None, IfOk, OnErr, MatchResult, option_map};
 ghost use Rattle.mds_core.specs.Answer.{IsOutcomeFor};
 ghost use Rattle.mds_core.specs.Machine.{events_in};
-ghost use Rattle.mds_book.specs.Books.{GivesEvents};
+ghost use Rattle.mds_book.specs.Seats.{IsListed};
 ghost use Rattle.mds_response.specs.Found.{tables_of};
 ghost use Rattle.mds_face.specs.Desk.{FleetCalls};
 ghost use Rattle.mds_face.specs.Seats.{SeatCalls};
@@ -27,8 +27,8 @@ pub trait Desk {
     /// From a state, a request leads by its reply to the next; by none where there was no memory.
     ghost calls: { Self → Asked → Option Replied → Self → Type 0 };
 
-    /// In a state, these are a vehicle's accepted events; none where it isn't registered.
-    ghost gives_events: { Self → About → Option (List Reported) → Type 0 };
+    /// From a state, a question for a vehicle's accepted events leads by them to the next; none where it isn't registered.
+    ghost gives_events: { Self → About → Option (List Reported) → Self → Type 0 };
 
     /// In a state, these are the tables.
     ghost gives_rows: { Self → Timed → Type 0 };
@@ -42,15 +42,15 @@ pub trait Desk {
         ensures { MatchResult result (λ reply. calls self.old request.now (Some reply) self.new)
             (λ _. calls self.old request.now None self.new) };
 
-    /// The accepted events of a vehicle in their order, or `None` where it isn't registered. They leave the desk as it was.
+    /// The accepted events of a vehicle in their order, or `None` where it isn't registered.
     ///
     /// # Errors
     ///
-    /// `AllocError` where there is no memory for the list.
+    /// `AllocError` where there is no memory for the list; the desk is as it was then.
     fn events(&mut self, key: &Key) -> Result<Option<Vec<Event>>, AllocError>
         ensures events { IfOk result (λ events.
-            gives_events self.old key.now (option_map (λ v. v.items) events)) }
-        ensures unchanged { self.new ≡ self.old };
+            gives_events self.old key.now (option_map (λ v. v.items) events) self.new) }
+        ensures unchanged { OnErr result (self.new ≡ self.old) };
 
     /// The tables in order of time: each one's starting time, in milliseconds since the Unix epoch, and its rows in their
     /// order. They leave the desk as it was.
@@ -76,7 +76,7 @@ impl Desk for Fleet {
 
     ghost calls = { FleetCalls };
 
-    ghost gives_events = { λ fleet key found. found ≡ events_in fleet.history key };
+    ghost gives_events = { λ old key found new. (found ≡ events_in old.history key) × (new ≡ old) };
 
     ghost gives_rows = { λ fleet tables. tables ≡ fleet.tables };
 
@@ -131,27 +131,29 @@ impl<R: Wait, L: ShardLedger, M: ShardLedger> Desk for SeatDesk<'_, R, L, M> {
     ghost use Rattle.std.specs.Prelude.{◌≡◌};
     ghost use Rattle.mds_core.specs.History.{key_of, requests_of};
     ghost use Rattle.mds_core.proofs.OfTheirKind.{given_is_for};
-    ghost use Rattle.mds_book.specs.Books.{GivesEvents};
+    ghost use Rattle.mds_book.specs.Seats.{IsListed};
     ghost use Rattle.mds_face.specs.Seats.{SeatCalls};
 
     ghost calls = { λ old request reply new. (new.book ≡ old.book)
         × (new.seat.ghost_name ≡ old.seat.ghost_name)
         × SeatCalls old.book.now.tables old.seat.now request reply new.seat.now };
 
-    ghost gives_events = { λ desk. GivesEvents desk.book.now.tables };
+    ghost gives_events = { λ old key found new. (new.book ≡ old.book)
+        × (new.seat.ghost_name ≡ old.seat.ghost_name)
+        × IsListed old.book.now.tables old.seat.now key found new.seat.now };
 
     ghost gives_rows = { λ desk tables. tables ≡ desk.book.now.tables };
 
-    ghost of_its_kind = { λ old request reply new calls. let answered = calls.2.0 in
-        given_is_for old.book.now.tables (requests_of answered.history (key_of request)) request
-        reply.outcome (answered.answer).outcome };
+    ghost of_its_kind = { λ old request reply new calls. let called = calls.2.0 in
+        given_is_for old.book.now.tables (requests_of called.before (key_of request)) request
+        reply.outcome (called.answer).outcome };
 
     fn call(&mut self, request: &Request) -> Result<Reply, AllocError> {
         self.book.call(self.rt, self.seat, request)
     }
 
     fn events(&mut self, key: &Key) -> Result<Option<Vec<Event>>, AllocError> {
-        self.book.vehicle_events(self.rt, self.alloc, key)
+        self.book.seat_events(self.rt, self.alloc, self.seat, key)
     }
 
     fn rows(&mut self) -> Result<Vec<(u64, Vec<Row>)>, AllocError> {

@@ -35,10 +35,10 @@ left tables count seats all are gathered = record {
   whole = gathered.whole;
 }
 
--- a book of the workers' seats that was settled, or is torn, ended so
+-- a book of the workers' seats that was settled ended so
 pub ended : (tables : Tables) (count : ℕ) (seats : List Seated) (came : Result Collected Stop) → AreWorkers count seats
     → IsSettledEnd (record { tables = tables; seats = count }) seats came → IsEnded tables count came
-ended tables count seats (Ok all) are settled = (left tables count seats all are settled.0, settled.1)
+ended tables count seats (Ok all) are settled = (left tables count seats all are settled.0, settled.1, settled.2)
 ended tables count seats (Err Memory) are settled = tt
 ended tables count seats (Err Accept) are settled = tt
-ended tables count seats (Err (Torn shard place)) are settled = (settled.0, left tables count seats settled.0 are settled.1, settled.2)
+ended tables count seats (Err (Torn shard place)) are settled = absurd settled

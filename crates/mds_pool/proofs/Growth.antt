@@ -20,9 +20,10 @@ use Rattle.mds_face.specs.Desk.{AreCalls}
 use Rattle.mds_face.specs.Serving.{Finds, FindsNoMemory, IsServed, Stops, StopsAsked, StopsUnread}
 
 -- of a desk as in the contract of one connection, and of what grows by each call and in two steps where it does in each
-module _ {S : Type 0} (Calls : S → Request → Option Reply → S → Type 0) (GivesEvents : S → Key → Option (List Reported) → Type 0) (GivesRows : S → Tables → Type 0)
+module _ {S : Type 0} (Calls : S → Request → Option Reply → S → Type 0) (GivesEvents : S → Key → Option (List Reported) → S → Type 0) (GivesRows : S → Tables → Type 0)
     (Grows : S → S → Type 0) (stays : (s : S) → Grows s s) (twice : (a b c : S) → Grows a b → Grows b c → Grows a c)
-    (called : (old : S) (request : Request) (reply : Option Reply) (new : S) → Calls old request reply new → Grows old new) where
+    (called : (old : S) (request : Request) (reply : Option Reply) (new : S) → Calls old request reply new → Grows old new)
+    (listed : (old : S) (key : Key) (events : Option (List Reported)) (new : S) → GivesEvents old key events new → Grows old new) where
   pub same_grows : (old new : S) → new ≡ old → Grows old new
   same_grows old new same = subst (λ s. Grows old s) (sym same) (stays old)
 
@@ -38,7 +39,7 @@ module _ {S : Type 0} (Calls : S → Request → Option Reply → S → Type 0) 
   finds_grow (asked.Vehicles items) (finding.Replies replies) old new finds = calls_grow (filter_map registration_of items) replies old new finds
   finds_grow (asked.Events items) (finding.Replies replies) old new finds = calls_grow (filter_map report_in items) replies old new finds
   finds_grow (asked.One key) (finding.One reply) old new finds = called old (Look key) (Some reply) new finds
-  finds_grow (asked.History key) (finding.History events) old new finds = same_grows old new finds.1
+  finds_grow (asked.History key) (finding.History events) old new finds = listed old key events new finds
   finds_grow asked.Rows (finding.Rows tables) old new finds = same_grows old new finds.1
   finds_grow what found old new finds = absurd (assumption finds)
 

@@ -5,15 +5,15 @@ use Rattle.mds_table.specs.Tables.{Tables}
 use Rattle.mds_book.specs.Books.{Opened}
 use Rattle.mds_book.specs.Seats.{Seated}
 use Rattle.mds_book.specs.Gathering.{Collected, IsGathered, IsWhole}
-use Rattle.mds_book.specs.Settling.{IsSettledBook, IsTorn}
+use Rattle.mds_book.specs.Settling.{AreBeginnings, IsSettledBook}
 use Rattle.mds_pool.specs.declared.serving.Stop.{Stop}
 use Rattle.mds_pool.specs.declared.serving.Stop.TheVariants.{Torn}
 
--- what settling a book all of whose seats are handed in came to: the settled book, or the place at which what they held is torn
+-- what settling a book all of whose seats are handed in came to: the settled book, in which what each seat saw of a shard is a
+-- beginning of the shard's history
 abbrev pub IsSettledEnd : Opened → List Seated → Result Collected Stop → Type 0
-IsSettledEnd book seats (Ok all) = IsGathered book seats all × IsSettledBook all
-IsSettledEnd book seats (Err (Torn shard place)) = (all : Collected) × IsGathered book seats all × IsTorn all shard place
--- all of the seats are handed in, and settling takes no memory and no connection
+IsSettledEnd book seats (Ok all) = IsGathered book seats all × IsSettledBook all × AreBeginnings all
+-- all of the seats are handed in, their notes fit, and settling takes no memory and no connection
 IsSettledEnd book seats (Err stop) = ⊥
 
 -- the seats are so many, and note the calls that were accepted
@@ -26,9 +26,9 @@ pub record IsLeft (over : Tables) (count : ℕ) (all : Collected) : Type 0 where
   pub workers : AreWorkers count all.seats
   pub whole : IsWhole all
 
--- what serving with these tables and so many workers came to: the settled book, or the place at which what was left is torn; or it
--- stopped before
+-- what serving with these tables and so many workers came to: the settled book, in which what each seat saw of a shard is a
+-- beginning of the shard's history; or it stopped before. That notes don't fit never comes
 abbrev pub IsEnded : Tables → ℕ → Result Collected Stop → Type 0
-IsEnded tables workers (Ok all) = IsLeft tables workers all × IsSettledBook all
-IsEnded tables workers (Err (Torn shard place)) = (all : Collected) × IsLeft tables workers all × IsTorn all shard place
+IsEnded tables workers (Ok all) = IsLeft tables workers all × IsSettledBook all × AreBeginnings all
+IsEnded tables workers (Err (Torn shard place)) = ⊥
 IsEnded tables workers (Err stop) = Unit {0}

@@ -147,6 +147,7 @@ impl<R: Wait, P: Port, L: ShardLedger, M: ShardLedger, G: Gate> Workers<'_, R, P
     /// # Errors
     ///
     /// [`PortFault`] where it could take no further connection: it ended there.
+    #[tactic(auto, using(crate::proofs::SeatGrowth::seat_growth))]
     fn work(&self, seat: &mut Seat<L, M>, worker: usize) -> Result<usize, PortFault>
         ensures grown { HasGrown seat.old seat.new }
         ensures each { IfOk result (λ answered. answered ≡ self.now.each) }

@@ -6,14 +6,13 @@ ghost use Rattle.mds_pool.specs.Serving.{IsEnded, IsSettledEnd};
 use crate::pool::{PoolCause, serve};
 use crate::port::Port;
 use mds_book::{
-    Book, Keep, OpenFault, OpenGate, Seat, SettleFault, Settled, ShardLedger, reconcile,
+    Blank, Book, Keep, OpenFault, OpenGate, Seat, SettleFault, Settled, ShardLedger, reconcile,
 };
 use mds_face::Face;
 use mds_table::Tables;
 use std::alloc::Global;
 use std::hash::RandomState;
 use std::sync::Wait;
-use std::sync::ledger::Blank;
 use std::thread::Threads;
 
 /// Why no settled book was handed out.
@@ -23,7 +22,7 @@ pub enum Stop {
     Memory,
     /// A worker could take no further connection. Nothing was settled.
     Accept,
-    /// The notes don't fit the history of a shard.
+    /// The notes don't fit the history of a shard. It never comes.
     Torn {
         /// The number of the least such shard.
         shard: usize,
@@ -39,9 +38,9 @@ pub struct NewBook {
     pub tables: Tables,
     /// The number of its seats.
     pub seats: usize,
-    /// The ledger of the first shard, blank, cut into a part for each seat.
+    /// What the first shard is opened from, with a part for each seat.
     pub first: Blank,
-    /// The ledger of the second shard, likewise.
+    /// What the second shard is opened from, likewise.
     pub second: Blank,
     /// What each shard hashes by.
     pub hashers: [RandomState; 2],
@@ -82,6 +81,8 @@ where
     P::Out: Send,
     requires first { (opening.first.name ≡ L.name) × (opening.first.parts ≡ L.parts) }
     requires second { (opening.second.name ≡ M.name) × (opening.second.parts ≡ M.parts) }
+    requires first_log { (opening.first.log ≡ L.log) × (opening.first.marks ≡ L.marks) }
+    requires second_log { (opening.second.log ≡ M.log) × (opening.second.marks ≡ M.marks) }
     requires parts { (opening.first.parts ≡ opening.seats)
         × (opening.second.parts ≡ opening.seats) }
     requires tables { (opening.tables ≡ L.tables) × (opening.tables ≡ M.tables) }
@@ -124,7 +125,7 @@ where
 ///
 /// # Errors
 ///
-/// [`Stop::Torn`] where the notes don't fit the history of a shard.
+/// None comes: the notes fit the histories.
 fn settle<L: ShardLedger, M: ShardLedger>(
     book: Book<L, M>,
     seats: Vec<Seat<L, M>>,

@@ -1,4 +1,5 @@
-//! Tests of what many callers share: the shards, what their callers note and how it is judged, and the open gate.
+//! Tests of what many callers share: the shards, the books over them, what their callers note and how it is judged, and the
+//! open gate.
 #![tactic(auto)]
 
 /// The rows of a table of cases, one to a line.
@@ -7,6 +8,8 @@ macro_rules! rows {
     ($($row:expr),* $(,)?) => { &[$($row),*] };
 }
 
+#[cfg(test)]
+mod books;
 #[cfg(test)]
 mod gates;
 #[cfg(test)]

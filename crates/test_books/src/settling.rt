@@ -9,10 +9,10 @@ use std::alloc::Global;
 use test_fixtures::{Ask, Lack, request_of};
 
 /// A note: the shard that was asked, what was asked, and the place and the outcome of the reply.
-type Noted = (usize, Ask, usize, Outcome);
+pub type Noted = (usize, Ask, usize, Outcome);
 
 /// Puts the note behind the others.
-fn put(notes: &mut Vec<Note>, noted: &Noted) -> Result<(), Lack> {
+pub fn put(notes: &mut Vec<Note>, noted: &Noted) -> Result<(), Lack> {
     let (shard, asked, place, outcome) = noted;
     let request = request_of(asked).ok_or(Lack::Case)?;
     let reply = Reply {

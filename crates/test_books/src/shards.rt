@@ -1,6 +1,6 @@
 //! What no clause says: the worked cases, that each call can succeed, and that a shard with many vehicles does what a
 //! fleet does.
-mod cases;
+pub mod cases;
 mod many;
 mod refused;
 
@@ -12,7 +12,7 @@ use std::random::RandomSource;
 use test_fixtures::{Lack, request_of};
 
 /// A hasher of the runtime.
-fn hasher<R: RandomSource>(rt: &R) -> Result<RandomState, Lack> {
+pub fn hasher<R: RandomSource>(rt: &R) -> Result<RandomState, Lack> {
     RandomState::new(rt).map_err(|_| Lack::Case)
 }
 

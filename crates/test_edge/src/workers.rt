@@ -4,7 +4,7 @@ mod gates;
 ghost use Rattle.std.specs.Prelude.{◌≡◌, IfOk};
 ghost use Rattle.mds_book.specs.Books.{IsSeatCount};
 
-use mds_book::{Book, Gate, Keep, OpenGate, ShardLedger, reconcile};
+use mds_book::{Book, Gate, Keep, OpenGate, Seat, ShardLedger, reconcile};
 use mds_face::Face;
 use mds_pool::{Ending, NewBook, PoolCause, Port, PortFault, Stop, serve, serve_and_settle};
 use std::alloc::Global;
@@ -119,10 +119,13 @@ where
     P::Out: Send,
     requires first { (opening.first.name ≡ L.name) × (opening.first.parts ≡ L.parts) }
     requires second { (opening.second.name ≡ M.name) × (opening.second.parts ≡ M.parts) }
+    requires first_log { (opening.first.log ≡ L.log) × (opening.first.marks ≡ L.marks) }
+    requires second_log { (opening.second.log ≡ M.log) × (opening.second.marks ≡ M.marks) }
     requires parts { (opening.first.parts ≡ opening.seats)
         × (opening.second.parts ≡ opening.seats) }
     requires tables { (opening.tables ≡ L.tables) × (opening.tables ≡ M.tables) }
 {
+    let face = routes(alloc)?;
     let NewBook {
         tables,
         seats,
@@ -130,15 +133,63 @@ where
         second,
         hashers,
     } = opening;
-    let opened = Book::<L, M>::open(alloc, tables, seats, Keep::Accepted, first, second, hashers);
-    let Ok((book, mut list)) = opened else {
-        return Err(Lack::Memory);
-    };
-    let face = routes(alloc)?;
+    match Book::<L, M>::open(alloc, tables, seats, Keep::Accepted, first, second, hashers) {
+        Ok((book, list)) => Ok(served_at(rt, alloc, port, gate, turns, &face, book, list)),
+        Err(_) => Err(Lack::Memory),
+    }
+}
+
+/// Serves the port with these seats of the book, and settles it.
+fn served_at<
+    R: Threads + Wait + Sync,
+    P: Port + Sync,
+    G: Gate + Sync,
+    L: ShardLedger + Send + Sync,
+    M: ShardLedger + Send + Sync,
+>(
+    rt: &R,
+    alloc: Global,
+    port: &P,
+    gate: &G,
+    turns: Turns,
+    face: &Face,
+    book: Book<L, M>,
+    list: Vec<Seat<L, M>>,
+) -> Came
+where
+    P::In: Send,
+    P::Out: Send,
+{
+    let (failed, list) = served_in_rounds(rt, alloc, port, gate, turns, face, &book, list);
+    let count = list.len();
+    (failed, count, accepted_in(book, list))
+}
+
+/// Serves the port in rounds, between two fences: whether a connection could not be taken, and the seats.
+fn served_in_rounds<
+    R: Threads + Wait + Sync,
+    P: Port + Sync,
+    G: Gate + Sync,
+    L: ShardLedger + Send + Sync,
+    M: ShardLedger + Send + Sync,
+>(
+    rt: &R,
+    alloc: Global,
+    port: &P,
+    gate: &G,
+    turns: Turns,
+    face: &Face,
+    book: &Book<L, M>,
+    mut list: Vec<Seat<L, M>>,
+) -> (bool, Vec<Seat<L, M>>)
+where
+    P::In: Send,
+    P::Out: Send,
+{
     let mut failed = false;
     let _begun = fence(alloc);
     for _ in 0..turns.rounds {
-        list = match serve(rt, alloc, &face, port, &book, list, turns.each, gate) {
+        list = match serve(rt, alloc, face, port, book, list, turns.each, gate) {
             Ok(back) => back,
             Err(fault) => {
                 failed = failed || fault.cause == PoolCause::Accept;
@@ -147,12 +198,18 @@ where
         };
     }
     let _ended = fence(alloc);
-    let count = list.len();
-    let accepted = match reconcile(book, list) {
+    (failed, list)
+}
+
+/// How many requests the settled book accepted, if it is settled.
+fn accepted_in<L: ShardLedger, M: ShardLedger>(
+    book: Book<L, M>,
+    list: Vec<Seat<L, M>>,
+) -> Option<u128> {
+    match reconcile(book, list) {
         Ok(settled) => Some(settled.accepted()),
         Err(_) => None,
-    };
-    Ok((failed, count, accepted))
+    }
 }
 
 /// What a book over the profile is opened with.
@@ -301,6 +358,8 @@ where
     P::Out: Send,
     requires first { (opening.first.name ≡ L.name) × (opening.first.parts ≡ L.parts) }
     requires second { (opening.second.name ≡ M.name) × (opening.second.parts ≡ M.parts) }
+    requires first_log { (opening.first.log ≡ L.log) × (opening.first.marks ≡ L.marks) }
+    requires second_log { (opening.second.log ≡ M.log) × (opening.second.marks ≡ M.marks) }
     requires parts { (opening.first.parts ≡ opening.seats)
         × (opening.second.parts ≡ opening.seats) }
     requires tables { (opening.tables ≡ L.tables) × (opening.tables ≡ M.tables) }

@@ -15,7 +15,7 @@ use test_fixtures::Ask::{Look, Register, Report};
 use test_fixtures::{A, C, DROP_OFF, E0, E1, E2, E3, E4, Lack, key, profile, request_of};
 
 /// A name, a file of tables or `None` for the profile, steps, and where vehicles stand after them.
-type Case = (
+pub type Case = (
     &'static str,
     Option<&'static str>,
     &'static [Step],
@@ -50,7 +50,7 @@ const FULL: &str = "battery_charged";
 const FIRST_EVENT: &[Step] =
     rows! { (Register(A), 0, Done), (DROPPED_OFF, 1, Done), (Look(A), 2, Seen(AVAILABLE)) };
 
-const CASES: &[Case] = rows! {
+pub const CASES: &[Case] = rows! {
     ("first event", PROFILE, FIRST_EVENT, &[(A, Some(AVAILABLE)), (C, None)]),
     ("trip ends with a low battery", PROFILE, &[
         (Register(A), 0, Done),

@@ -40,7 +40,7 @@ impl Desk for Wanting<'_> {
     ghost calls = { λ old request reply new.
         IfSome reply (Answers old.fleet.now.tables old.fleet.now.history request) };
 
-    ghost gives_events = { λ desk key events. Unit {0} };
+    ghost gives_events = { λ old key events new. Unit {0} };
 
     ghost gives_rows = { λ desk tables. Unit {0} };
 

@@ -4,7 +4,7 @@ ghost use Rattle.std.specs.Prelude.{◌≡◌};
 use super::answers::{AMONG_THREE, TWO_IN_TURN, fleet_over};
 use super::{Exchange, first_other};
 use crate::cases::{PROFILE, WAKE_AND_REST, tables_of};
-use mds_book::{Book, Keep, Seat, ShardLedger};
+use mds_book::{Blank, Book, Keep, Seat, ShardLedger};
 use mds_core::{Outcome, Reply};
 use mds_face::{Desk, Face, SeatDesk};
 use mds_table::{State, Tables};
@@ -13,7 +13,6 @@ use std::hash::RandomState;
 use std::marker::Brand;
 use std::random::RandomSource;
 use std::sync::Wait;
-use std::sync::ledger::Blank;
 use test_fixtures::{A, Ask, E1, Lack, key, request_of};
 
 /// The reply to a request, made again where there was no memory.
@@ -91,6 +90,8 @@ fn seen_in<L: ShardLedger, M: ShardLedger, R: Wait>(
 ) -> Result<Seen, Lack>
     requires first { (first.name ≡ L.name) × (first.parts ≡ L.parts) × (first.parts ≡ 1) }
     requires second { (second.name ≡ M.name) × (second.parts ≡ M.parts) × (second.parts ≡ 1) }
+    requires first_log { (first.log ≡ L.log) × (first.marks ≡ L.marks) }
+    requires second_log { (second.log ≡ M.log) × (second.marks ≡ M.marks) }
     requires tables { (tables ≡ L.tables) × (tables ≡ M.tables) }
 {
     let opened = Book::<L, M>::open(alloc, tables, 1, Keep::All, first, second, hashers);

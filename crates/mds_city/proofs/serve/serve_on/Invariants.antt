@@ -11,3 +11,15 @@ ghosts-serve_book-M-Ledger g a = record { name = a.opening.second.name; parts = 
 
 abbrev pub ghosts-serve_book-M-ShardLedger : goal.ghosts-serve_book-M-ShardLedger
 ghosts-serve_book-M-ShardLedger g a = record { tables = a.opening.tables }
+
+abbrev pub ghosts-serve_book-L-Logged : goal.ghosts-serve_book-L-Logged
+ghosts-serve_book-L-Logged g a = record { log = a.opening.first.log }
+
+abbrev pub ghosts-serve_book-L-Marked : goal.ghosts-serve_book-L-Marked
+ghosts-serve_book-L-Marked g a = record { marks = a.opening.first.marks }
+
+abbrev pub ghosts-serve_book-M-Logged : goal.ghosts-serve_book-M-Logged
+ghosts-serve_book-M-Logged g a = record { log = a.opening.second.log }
+
+abbrev pub ghosts-serve_book-M-Marked : goal.ghosts-serve_book-M-Marked
+ghosts-serve_book-M-Marked g a = record { marks = a.opening.second.marks }

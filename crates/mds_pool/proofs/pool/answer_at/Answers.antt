@@ -1,7 +1,7 @@
 use Rattle.std.proofs.Common.{◌≡◌, ◌∙◌, refl}
 use Rattle.mds_face.specs.Seats.{HasGrown}
 use Rattle.mds_pool.proofs.Growth.{connection_grows}
-use Rattle.mds_pool.proofs.SeatGrowth.{seat_stays, seat_twice, seat_called}
+use Rattle.mds_pool.proofs.SeatGrowth.{seat_stays, seat_twice, seat_called, seat_listed}
 use Rattle.mds_pool.proofs.pool.answer_at.Goals as goal
 
 pub returns : goal.returns
@@ -10,5 +10,6 @@ returns g c =
     (λ desk. (refl, seat_stays desk.seat.now))
     (λ old middle new one two. (two.0 ∙ one.0, seat_twice old.seat.now middle.seat.now new.seat.now one.1 two.1))
     (λ old request reply new calls. (calls.1, seat_called old.book.now.tables old.seat.now request reply new.seat.now calls.2))
+    (λ old key events new lists. (lists.1, seat_listed old.book.now.tables old.seat.now key events new.seat.now lists.2))
     _ _ _ _ _ c.serve_one-served.result c.serve_one-served.ensures.served c.serve_one-served.ensures.stopped in
     record { same_seat = both.0; grown = both.1 }

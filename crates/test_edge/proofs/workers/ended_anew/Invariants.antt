@@ -11,3 +11,15 @@ ghosts-ended-M-Ledger g a = record { name = a.opening.second.name; parts = a.ope
 
 abbrev pub ghosts-ended-M-ShardLedger : goal.ghosts-ended-M-ShardLedger
 ghosts-ended-M-ShardLedger g a = record { tables = a.opening.tables }
+
+abbrev pub ghosts-ended-L-Logged : goal.ghosts-ended-L-Logged
+ghosts-ended-L-Logged g a = record { log = a.opening.first.log }
+
+abbrev pub ghosts-ended-L-Marked : goal.ghosts-ended-L-Marked
+ghosts-ended-L-Marked g a = record { marks = a.opening.first.marks }
+
+abbrev pub ghosts-ended-M-Logged : goal.ghosts-ended-M-Logged
+ghosts-ended-M-Logged g a = record { log = a.opening.second.log }
+
+abbrev pub ghosts-ended-M-Marked : goal.ghosts-ended-M-Marked
+ghosts-ended-M-Marked g a = record { marks = a.opening.second.marks }

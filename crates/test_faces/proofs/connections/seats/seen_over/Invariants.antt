@@ -11,3 +11,15 @@ ghosts-seen_in-M-Ledger g a = record { name = a.second.name; parts = a.second.pa
 
 abbrev pub ghosts-seen_in-M-ShardLedger : goal.ghosts-seen_in-M-ShardLedger
 ghosts-seen_in-M-ShardLedger g a = record { tables = a.tables }
+
+abbrev pub ghosts-seen_in-L-Logged : goal.ghosts-seen_in-L-Logged
+ghosts-seen_in-L-Logged g a = record { log = a.first.log }
+
+abbrev pub ghosts-seen_in-L-Marked : goal.ghosts-seen_in-L-Marked
+ghosts-seen_in-L-Marked g a = record { marks = a.first.marks }
+
+abbrev pub ghosts-seen_in-M-Logged : goal.ghosts-seen_in-M-Logged
+ghosts-seen_in-M-Logged g a = record { log = a.second.log }
+
+abbrev pub ghosts-seen_in-M-Marked : goal.ghosts-seen_in-M-Marked
+ghosts-seen_in-M-Marked g a = record { marks = a.second.marks }
