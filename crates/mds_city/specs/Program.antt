@@ -82,7 +82,7 @@ module _ {O F : Type 0} (opens : O → List ℕ → Option F → Type 0) (files 
     -- what a command did: it read the files that it names, and came to these
     abbrev pub Carries : Command → Status → Option (List ℕ) → Option (List ℕ) → Option (List ℕ) → Option (List ℕ) → Type 0
     Carries (Serve port each workers path) ended out out_new faults faults_new =
-        (table : Option (Source F)) × IsFileNamed (option_map (λ named. named.now) path) table × CameToServe listens files port file_bytes table workers ended out out_new faults faults_new
+        (table : Option (Source F)) × IsFileNamed (option_map (λ named. named.now) path) table × CameToServe listens files port file_bytes table workers each ended out out_new faults faults_new
     Carries (Table path) ended out out_new faults faults_new =
         (table : Option (Source F)) × IsFileNamed (option_map (λ named. named.now) path) table × CameToTable file_bytes table ended out out_new faults faults_new
     Carries (Replay file path any lines workers) ended out out_new faults faults_new =

@@ -4,8 +4,7 @@ use Rattle.std.specs.Io.KnownBytes.{Appends, Keeps}
 use Rattle.mds_table.specs.Tables.{Tables}
 use Rattle.mds_io.specs.Page.{AppendsFront, with_newline}
 use Rattle.mds_city.specs.Torn.{torn_text}
-use Rattle.mds_book.specs.Gathering.{Collected}
-use Rattle.mds_pool.specs.Serving.{IsEnded}
+use Rattle.mds_pool.specs.Serving.{AtEnd, IsEnded}
 use Rattle.mds_pool.specs.declared.serving.Stop.{Stop}
 use Rattle.mds_pool.specs.declared.serving.Stop.TheVariants as stop
 use Rattle.mds_commands.specs.declared.source.Source.{Source}
@@ -42,19 +41,19 @@ SaysAccepted accepted ended out out_new faults faults_new =
     × (IsTold Output ended faults faults_new ⊎ IsTold Memory ended faults faults_new))
 
 -- what was printed and told of how serving ended: how many requests the settled book accepted, in both shards; else nothing, and why
-abbrev pub IsSaid : Result Collected Stop → Status → Option (List ℕ) → Option (List ℕ) → Option (List ℕ) → Option (List ℕ) → Type 0
-IsSaid (Ok all) ended out out_new faults faults_new =
-    SaysAccepted (length all.first + length all.second) ended out out_new faults faults_new
+abbrev pub IsSaid : Result AtEnd Stop → Status → Option (List ℕ) → Option (List ℕ) → Option (List ℕ) → Option (List ℕ) → Type 0
+IsSaid (Ok book) ended out out_new faults faults_new =
+    SaysAccepted (length book.all.first + length book.all.second) ended out out_new faults faults_new
 IsSaid (Err stop.Memory) ended out out_new faults faults_new = Keeps out out_new × IsTold Memory ended faults faults_new
 IsSaid (Err stop.Accept) ended out out_new faults faults_new =
     Keeps out out_new × (IsTold Socket ended faults faults_new ⊎ IsTold Memory ended faults faults_new)
 IsSaid (Err (stop.Torn shard place)) ended out out_new faults faults_new =
     Keeps out out_new × TellsTorn shard place ended faults faults_new
 
--- serving with these tables and so many workers ended in some way, and that was said
-abbrev pub Serves : Tables → ℕ → Status → Option (List ℕ) → Option (List ℕ) → Option (List ℕ) → Option (List ℕ) → Type 0
-Serves tables workers ended out out_new faults faults_new =
-    (came : Result Collected Stop) × IsEnded tables workers came × IsSaid came ended out out_new faults faults_new
+-- serving with these tables, and so many workers that were to answer so many connections each, ended in some way, and that was said
+abbrev pub Serves : Tables → ℕ → ℕ → Status → Option (List ℕ) → Option (List ℕ) → Option (List ℕ) → Option (List ℕ) → Type 0
+Serves tables workers each ended out out_new faults faults_new =
+    (came : Result AtEnd Stop) × IsEnded tables workers each came × IsSaid came ended out out_new faults faults_new
 
 -- of the command: the relation of a host and a number asked for to what listens and its port's number, the host, and the number; the
 -- known bytes of a table file's reader, and the table file if one is given
@@ -78,12 +77,14 @@ module _ {H L T : Type 0} (listens : H → ℕ → L → ℕ → Type 0) (host :
   StopsBefore Output out out_new = PrintsListening out out_new
   StopsBefore Memory out out_new = Keeps out out_new ⊎ PrintsListening out out_new
 
-  -- the tables were had, and the line that says where the server listens went out
-  abbrev pub Listened : Tables → Option (List ℕ) → Option (List ℕ) → Type 0
-  Listened tables out out_new = HasTablesIn table_bytes table tables × ((port : ℕ) × IsPort port × Appends out out_new (with_newline (listening_line port)))
+  -- the tables were had, and the line went out that says where this listens
+  abbrev pub Listened : Tables → L → Option (List ℕ) → Option (List ℕ) → Type 0
+  Listened tables listening out out_new =
+      HasTablesIn table_bytes table tables × ((port : ℕ) × listens host number listening port × Appends out out_new (with_newline (listening_line port)))
 
   -- what the command came to: nothing was served, for a problem that was told; or it was served, after the first line
-  abbrev pub CameToServe : ℕ → Status → Option (List ℕ) → Option (List ℕ) → Option (List ℕ) → Option (List ℕ) → Type 0
-  CameToServe workers ended out out_new faults faults_new =
+  abbrev pub CameToServe : ℕ → ℕ → Status → Option (List ℕ) → Option (List ℕ) → Option (List ℕ) → Option (List ℕ) → Type 0
+  CameToServe workers each ended out out_new faults faults_new =
       ((problem : Problem) × StopsBefore problem out out_new × IsTold problem ended faults faults_new)
-      ⊎ ((tables : Tables) × (out_then : Option (List ℕ)) × Listened tables out out_then × Serves tables workers ended out_then out_new faults faults_new)
+      ⊎ ((tables : Tables) × (listening : L) × (out_then : Option (List ℕ))
+      × Listened tables listening out out_then × Serves tables workers each ended out_then out_new faults faults_new)

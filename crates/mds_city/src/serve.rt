@@ -5,10 +5,10 @@ ghost use Rattle.mds_city.specs.Serve.{CameToServe, IsSaid, Listened, SaysAccept
 
 use crate::page::{AcceptedLine, ListeningLine, print_line};
 use crate::torn::torn_line;
-use mds_book::{Settled, ShardLedger};
+use mds_book::ShardLedger;
 use mds_commands::{Problem, Source, Status, tables_in, tell};
 use mds_io::write_all_of;
-use mds_pool::{NewBook, Port, Stop, serve_and_settle};
+use mds_pool::{FinalBook, NewBook, Port, Stop, serve_and_settle};
 use mds_table::Tables;
 use std::alloc::Global;
 use std::hash::RandomState;
@@ -68,11 +68,12 @@ pub fn serve_at<
     faults: &mut E,
 ) -> Status
     requires { IsSeatCount asked.workers }
-    ensures { CameToServe H.listens host.now asked.port T.remaining table.entry asked.workers result
+    ensures { CameToServe H.listens host.now asked.port T.remaining table.entry
+        asked.workers asked.each result
         (W.contents out.old) (W.contents out.new) (E.contents faults.old) (E.contents faults.new) }
 {
-    let (tables, hashers, listening) = match begun(rt, alloc, host, table, asked.port, out) {
-        Ok(begun) => begun,
+    let (tables, hashers, listening) = match begin(rt, alloc, host, table, asked.port, out) {
+        Ok(had) => had,
         Err(problem) => return tell(alloc, faults, problem),
     };
     serve_on(
@@ -88,8 +89,8 @@ pub fn serve_at<
     )
 }
 
-/// The tables, a hasher for each shard, and what listens at the port, once it is printed where.
-fn begun<'a, R: RandomSource, H: Listens, T: Read + Drop, W: Write>(
+/// Begins to serve: has the tables, a hasher for each shard, and what listens at the port, and prints where that is.
+fn begin<'a, R: RandomSource, H: Listens, T: Read + Drop, W: Write>(
     rt: &R,
     alloc: Global,
     host: &H,
@@ -97,8 +98,8 @@ fn begun<'a, R: RandomSource, H: Listens, T: Read + Drop, W: Write>(
     number: u16,
     out: &mut W,
 ) -> Result<(Tables, [RandomState; 2], H::Listening), Problem<'a>>
-    ensures ok { IfOk result (λ begun. Listened H.listens host.now number T.remaining table.entry
-        begun.0 (W.contents out.old) (W.contents out.new)) }
+    ensures ok { IfOk result (λ had. Listened H.listens host.now number T.remaining table.entry
+        had.0 had.2 (W.contents out.old) (W.contents out.new)) }
     ensures err { IfErr result (λ problem.
         StopsBefore H.listens host.now number T.remaining table.entry problem
         (W.contents out.old) (W.contents out.new)) }
@@ -116,9 +117,9 @@ fn begun<'a, R: RandomSource, H: Listens, T: Read + Drop, W: Write>(
 
 /// Serves connections of a port over these tables, with a new book of so many seats, 1 to [`mds_book::MAX_SEATS`], each of
 /// which answers so many of them; the book's shards hash by these hashers. At the end it settles the book, and prints how
-/// many requests were accepted. It answers the status that the program ends with: `Done`; `Torn` where the notes of the
-/// accepted requests don't fit the histories; `Fault` where no further connection could be taken, or an output failed;
-/// `NoMemory` for want of memory. What isn't `Done` is told to `faults` in one line.
+/// many requests were accepted. It answers the status that the program ends with: `Done`; `Fault` where no further connection
+/// could be taken, or an output failed; `NoMemory` for want of memory; `Torn` never comes. What isn't `Done` is told to `faults`
+/// in one line.
 pub fn serve_on<R: Threads + Wait + Sync, P: Port + Sync, W: Write, E: Write>(
     rt: &R,
     alloc: Global,
@@ -134,7 +135,7 @@ where
     P::In: Send,
     P::Out: Send,
     requires { IsSeatCount seats }
-    ensures { Serves tables seats result
+    ensures { Serves tables seats each result
         (W.contents out.old) (W.contents out.new) (E.contents faults.old) (E.contents faults.new) }
 {
     let opening = NewBook::of(tables, seats, hashers);
@@ -171,7 +172,7 @@ where
         × (opening.second.parts ≡ opening.seats) }
     requires tables { (opening.tables ≡ L.tables) × (opening.tables ≡ M.tables) }
     requires seats { IsSeatCount opening.seats }
-    ensures { Serves opening.tables opening.seats result
+    ensures { Serves opening.tables opening.seats each result
         (W.contents out.old) (W.contents out.new) (E.contents faults.old) (E.contents faults.new) }
 {
     let ended = serve_and_settle::<R, P, L, M>(rt, alloc, opening, port, each);
@@ -181,7 +182,7 @@ where
 /// Prints how many requests a settled book accepted, or tells why there is none.
 fn say<L: ShardLedger, M: ShardLedger, W: Write, E: Write>(
     alloc: Global,
-    ended: Result<Settled<L, M>, Stop>,
+    ended: Result<FinalBook<L, M>, Stop>,
     out: &mut W,
     faults: &mut E,
 ) -> Status
@@ -189,7 +190,7 @@ fn say<L: ShardLedger, M: ShardLedger, W: Write, E: Write>(
         (W.contents out.old) (W.contents out.new) (E.contents faults.old) (E.contents faults.new) }
 {
     match ended {
-        Ok(settled) => say_accepted(alloc, settled.accepted(), out, faults),
+        Ok(book) => say_accepted(alloc, book.settled.accepted(), out, faults),
         Err(Stop::Memory) => tell(alloc, faults, Problem::Memory),
         Err(Stop::Accept) => tell(alloc, faults, Problem::Socket),
         Err(Stop::Torn { shard, place }) => torn_to(faults, shard, place),

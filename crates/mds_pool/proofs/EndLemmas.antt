@@ -1,6 +1,6 @@
 -- What workers leave.
 use Rattle.std.proofs.Common.{◌≡◌, ◌∙◌, ◌<◌, ℕ, List, length, false, refl, subst, slice_index_or, sym}
-use Rattle.std.specs.Prelude.{Result, Ok, Err, replicate}
+use Rattle.std.specs.Prelude.{Ok, replicate}
 use Rattle.std.specs.List.{All, AllZip}
 use Rattle.std.proofs.lemmas.List.{length-replicate}
 use Rattle.std.proofs.lemmas.List.Elements.{All-replicate, AllZip-get_or}
@@ -9,8 +9,6 @@ use Rattle.mds_table.specs.Tables.{Tables}
 use Rattle.mds_book.specs.Seats.{Seated, fresh}
 use Rattle.mds_book.specs.Gathering.{Collected, IsGathered}
 use Rattle.mds_face.specs.Seats.{HasGrown}
-use Rattle.mds_pool.specs.declared.serving.Stop.{Stop}
-use Rattle.mds_pool.specs.declared.serving.Stop.TheVariants.{Memory, Accept, Torn}
 use Rattle.mds_pool.specs.Serving.{AreWorkers, IsEnded, IsLeft, IsSettledEnd}
 
 -- seats that were told nothing, and have grown since, are as many, and note what they noted
@@ -35,10 +33,8 @@ left tables count seats all are gathered = record {
   whole = gathered.whole;
 }
 
--- a book of the workers' seats that was settled ended so
-pub ended : (tables : Tables) (count : ℕ) (seats : List Seated) (came : Result Collected Stop) → AreWorkers count seats
-    → IsSettledEnd (record { tables = tables; seats = count }) seats came → IsEnded tables count came
-ended tables count seats (Ok all) are settled = (left tables count seats all are settled.0, settled.1, settled.2)
-ended tables count seats (Err Memory) are settled = tt
-ended tables count seats (Err Accept) are settled = tt
-ended tables count seats (Err (Torn shard place)) are settled = absurd settled
+-- serving ended so, where the workers answered so many connections each, and the book of their seats was settled
+pub ended : (tables : Tables) (count each : ℕ) (seats : List Seated) (all : Collected) (answered : List ℕ) → AreWorkers count seats
+    → IsSettledEnd (record { tables = tables; seats = count }) seats (Ok all) → answered ≡ replicate count each
+    → IsEnded tables count each (Ok (record { all = all; answered = answered }))
+ended tables count each seats all answered are settled whole = (left tables count seats all are settled.0, settled.1, settled.2, whole)

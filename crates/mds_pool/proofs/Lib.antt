@@ -2,4 +2,5 @@
 pub mod EndLemmas
 pub mod Growth
 pub mod Places
+pub mod Rounds
 pub mod SeatGrowth

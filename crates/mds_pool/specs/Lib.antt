@@ -1,3 +1,4 @@
 -- Definitions that the contracts cite.
 pub mod Pool
 pub mod Serving
+pub mod Workers

@@ -1,5 +1,5 @@
 -- What serving a port came to.
-use Rattle.std.specs.Prelude.{◌≡◌, ℕ, List, length, false, Result, Ok, Err}
+use Rattle.std.specs.Prelude.{◌≡◌, ℕ, List, length, replicate, false, Result, Ok, Err}
 use Rattle.std.specs.List.{All}
 use Rattle.mds_table.specs.Tables.{Tables}
 use Rattle.mds_book.specs.Books.{Opened}
@@ -26,9 +26,19 @@ pub record IsLeft (over : Tables) (count : ℕ) (all : Collected) : Type 0 where
   pub workers : AreWorkers count all.seats
   pub whole : IsWhole all
 
--- what serving with these tables and so many workers came to: the settled book, in which what each seat saw of a shard is a
--- beginning of the shard's history; or it stopped before. That notes don't fit never comes
-abbrev pub IsEnded : Tables → ℕ → Result Collected Stop → Type 0
-IsEnded tables workers (Ok all) = IsLeft tables workers all × IsSettledBook all × AreBeginnings all
-IsEnded tables workers (Err (Torn shard place)) = ⊥
-IsEnded tables workers (Err stop) = Unit {0}
+-- a settled book, and how many connections each of its workers answered
+pub record AtEnd : Type 0 where
+  pub all : Collected
+  pub answered : List ℕ
+
+-- what serving with these tables, and so many workers that were to answer so many connections each, came to: they answered them,
+-- and the book is settled, in which what each seat saw of a shard is a beginning of the shard's history; or it stopped before. That
+-- notes don't fit never comes
+abbrev pub IsEnded : Tables → ℕ → ℕ → Result AtEnd Stop → Type 0
+IsEnded tables workers each (Ok ended) =
+    IsLeft tables workers ended.all
+    × IsSettledBook ended.all
+    × AreBeginnings ended.all
+    × (ended.answered ≡ replicate workers each)
+IsEnded tables workers each (Err (Torn shard place)) = ⊥
+IsEnded tables workers each (Err stop) = Unit {0}

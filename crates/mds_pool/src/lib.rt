@@ -2,10 +2,13 @@
 //! a port, from its opening to its settling.
 #![tactic(auto)]
 
+mod answering;
 mod pool;
 mod port;
 mod serving;
+mod worker;
 
+pub use answering::AnswerCount;
 pub use pool::{PoolCause, PoolFault, serve};
 pub use port::{Ending, Port, PortFault};
-pub use serving::{NewBook, Stop, serve_and_settle};
+pub use serving::{FinalBook, NewBook, Stop, serve_and_settle};

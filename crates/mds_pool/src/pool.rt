@@ -1,28 +1,27 @@
 //! Workers that answer the connections of a port.
-ghost use Rattle.std.specs.Prelude.{◌≡◌, ◌<◌, ◌↔◌, length, Some, IfOk, IfErr, IsOk, IsOkAnd, vec_len};
+ghost use Rattle.std.specs.Prelude.{◌≡◌, ◌<◌, false, length, replicate, Some, IfOk, IfErr, IsOk, vec_len};
 ghost use Rattle.std.specs.List.{AllZip};
 ghost use Rattle.mds_face.specs.Seats.{HasGrown};
 ghost use Rattle.mds_pool.specs.Pool.{pool_cause_text};
+ghost use Rattle.mds_pool.specs.Workers.{HasWorked};
 
-use crate::{Ending, Port, PortFault};
+use crate::answering::{Answer, answer_at};
+use crate::worker::{Round, Shift, Worker, workers_at};
+use crate::{AnswerCount, Port};
 use mds_book::{Book, Gate, Seat, ShardLedger};
-use mds_face::{Face, SeatDesk, ServeFault, Served, serve_one};
+use mds_face::{Face, SeatDesk};
 use std::alloc::Global;
 use std::fmt;
 use std::io::{Read, Write};
 use std::sync::Wait;
-use std::sync::atomic::{AtomicBool, Ordering};
 use std::thread::{self, Threads};
-
-/// The status of an answer to a request that was read to its end and granted (RFC 9110, section 15.3.1).
-const OK: u16 = 200;
 
 /// Why workers didn't answer all connections that they were to answer.
 #[derive(Clone, Copy, Debug, PartialEq, Eq)]
 pub enum PoolCause {
-    /// There was no memory for the workers: kept for a pool that takes memory for them, which this one doesn't.
+    /// There was no memory for the workers. None was made, and no connection was taken.
     Memory,
-    /// A worker could take no further connection.
+    /// A worker could take no further connection, and answered fewer than it was to.
     Accept,
 }
 
@@ -53,8 +52,8 @@ pub struct PoolFault<L: ShardLedger, M: ShardLedger> {
 ///
 /// # Errors
 ///
-/// [`PoolFault`] by [`PoolCause::Accept`] where a worker could take no further connection: that worker ended there, and the
-/// others went on. The seats come back as at an `Ok`.
+/// [`PoolFault`] by [`PoolCause::Memory`] where there is no memory for the workers, before any connection is taken; and by
+/// [`PoolCause::Accept`] where a worker could take no further connection: that worker ended there, and the others went on.
 pub fn serve<
     R: Threads + Wait + Sync,
     P: Port + Sync,
@@ -67,7 +66,7 @@ pub fn serve<
     face: &Face,
     port: &P,
     book: &Book<L, M>,
-    mut seats: Vec<Seat<L, M>>,
+    seats: Vec<Seat<L, M>>,
     each: usize,
     gate: &G,
 ) -> Result<Vec<Seat<L, M>>, PoolFault<L, M>>
@@ -76,50 +75,93 @@ where
     P::Out: Send,
     ensures ok { IfOk result (λ back. AllZip HasGrown seats.items back.items) }
     ensures err { IfErr result (λ fault. AllZip HasGrown seats.items fault.seats.items) }
-    ensures cause { IfErr result (λ fault. fault.cause ≡ PoolCause.Accept) }
+    ensures memory { IfErr result (λ fault. fault.cause ≡ PoolCause.Memory
+        → fault.seats.items ≡ seats.items) }
     ensures none { vec_len seats ≡ 0 → IsOk result }
 {
     if seats.is_empty() {
         return Ok(seats);
     }
-    let workers = Workers {
+    match serve_round(rt, alloc, face, port, book, seats, each, gate) {
+        Ok(round) => {
+            if round.failed {
+                return Err(PoolFault {
+                    cause: PoolCause::Accept,
+                    seats: round.seats,
+                });
+            }
+            Ok(round.seats)
+        }
+        Err(seats) => Err(PoolFault {
+            cause: PoolCause::Memory,
+            seats,
+        }),
+    }
+}
+
+/// As [`serve`], of at least one seat. It hands out how many connections each worker answered, and whether the port failed one.
+///
+/// # Errors
+///
+/// The seats, where there is no memory for the workers and for what they come to.
+pub(crate) fn serve_round<
+    R: Threads + Wait + Sync,
+    P: Port + Sync,
+    L: ShardLedger + Send + Sync,
+    M: ShardLedger + Send + Sync,
+    G: Gate + Sync,
+>(
+    rt: &R,
+    alloc: Global,
+    face: &Face,
+    port: &P,
+    book: &Book<L, M>,
+    seats: Vec<Seat<L, M>>,
+    each: usize,
+    gate: &G,
+) -> Result<Round<L, M>, Vec<Seat<L, M>>>
+where
+    P::In: Send,
+    P::Out: Send,
+    requires { 0 < vec_len seats }
+    ensures grown { IfOk result (λ round. AllZip HasGrown seats.items round.seats.items) }
+    ensures answered { IfOk result (λ round. round.failed ≡ false
+        → round.answered.items ≡ replicate (vec_len seats) each) }
+    ensures memory { IfErr result (λ back. back.items ≡ seats.items) }
+{
+    let count = seats.len();
+    let room: Result<Vec<Worker<L, M>>, _> = Vec::with_capacity(alloc, count);
+    let back: Result<Vec<Seat<L, M>>, _> = Vec::with_capacity(alloc, count);
+    let answered: Result<Vec<AnswerCount>, _> = Vec::with_capacity(alloc, count);
+    let (Ok(room), Ok(back), Ok(answered)) = (room, back, answered) else {
+        return Err(seats);
+    };
+    let crew = Crew {
         rt,
         alloc,
         face,
         port,
         book,
-        each,
         gate,
-        accept_failed: AtomicBool::new(false),
     };
-    workers.answer_all(seats.as_mut_slice());
-    if workers.accept_failed.load(Ordering::SeqCst) {
-        return Err(PoolFault {
-            cause: PoolCause::Accept,
-            seats,
-        });
-    }
-    Ok(seats)
+    let workers = crew.work_through(workers_at(seats, room), each);
+    Ok(Round::of(workers, back, answered))
 }
 
 /// What the workers of a port share.
 #[derive(Drop)]
-struct Workers<'a, R: Wait, P: Port, L: ShardLedger, M: ShardLedger, G: Gate> {
+struct Crew<'a, R: Wait, P: Port, L: ShardLedger, M: ShardLedger, G: Gate> {
     rt: &'a R,
     alloc: Global,
     face: &'a Face,
     port: &'a P,
     book: &'a Book<L, M>,
-    /// How many connections each worker answers.
-    each: usize,
     gate: &'a G,
-    /// Whether a worker could take no further connection.
-    accept_failed: AtomicBool,
 }
 
-impl<R: Wait, P: Port, L: ShardLedger, M: ShardLedger, G: Gate> Workers<'_, R, P, L, M, G> {
-    /// Runs a worker for each seat. Where one could take no further connection, `accept_failed` is set.
-    fn answer_all(&self, seats: &mut [Seat<L, M>])
+impl<R: Wait, P: Port, L: ShardLedger, M: ShardLedger, G: Gate> Crew<'_, R, P, L, M, G> {
+    /// Lets each worker answer so many connections, all workers at once, and hands the workers back.
+    fn work_through(&self, mut workers: Vec<Worker<L, M>>, each: usize) -> Vec<Worker<L, M>>
     where
         R: Threads + Sync,
         P: Sync,
@@ -128,43 +170,65 @@ impl<R: Wait, P: Port, L: ShardLedger, M: ShardLedger, G: Gate> Workers<'_, R, P
         L: Send + Sync,
         M: Send + Sync,
         G: Sync,
-        requires { 0 < length seats.old }
-        ensures { AllZip HasGrown seats.old seats.new }
+        requires { 0 < vec_len workers }
+        ensures items { AllZip (HasWorked each) workers.items result.items }
+        ensures len { vec_len result ≡ vec_len workers }
     {
-        let workers = seats.len();
-        let job = |worker: usize, seat: &mut Seat<L, M>|
-            ensures { HasGrown seat.old seat.new }
-        {
-            if self.work(seat, worker).is_err() {
-                self.accept_failed.store(true, Ordering::SeqCst);
-            }
-        };
-        thread::for_each_mut(self.rt, seats, workers, &job);
+        self.work_all(workers.as_mut_slice(), each);
+        workers
     }
 
-    /// One worker: takes so many connections and answers them for its seat. It counts those that it answered.
-    ///
-    /// # Errors
-    ///
-    /// [`PortFault`] where it could take no further connection: it ended there.
-    #[tactic(auto, using(crate::proofs::SeatGrowth::seat_growth))]
-    fn work(&self, seat: &mut Seat<L, M>, worker: usize) -> Result<usize, PortFault>
-        ensures grown { HasGrown seat.old seat.new }
-        ensures each { IfOk result (λ answered. answered ≡ self.now.each) }
+    /// The same of a slice of workers.
+    fn work_all(&self, workers: &mut [Worker<L, M>], each: usize)
+    where
+        R: Threads + Sync,
+        P: Sync,
+        P::In: Send,
+        P::Out: Send,
+        L: Send + Sync,
+        M: Send + Sync,
+        G: Sync,
+        requires { 0 < length workers.old }
+        ensures { AllZip (HasWorked each) workers.old workers.new }
     {
-        let mut answered = 0;
-        for nth in 0..self.each {
-            let (input, output) = self.port.accept()?;
-            self.gate.enter(worker, nth);
-            self.answer(seat, input, output);
-            self.gate.leave(worker, nth);
-            answered += 1;
+        let count = workers.len();
+        let job = |number: usize, worker: &mut Worker<L, M>|
+            ensures { HasWorked each worker.old worker.new }
+        {
+            worker.shift = self.work(&mut worker.seat, number, each);
+        };
+        thread::for_each_mut(self.rt, workers, count, &job);
+    }
+
+    /// One worker's work: it takes so many connections and answers them for its seat. Where it can take no further one it ends.
+    #[tactic(auto, using(crate::proofs::SeatGrowth::seat_growth))]
+    fn work(&self, seat: &mut Seat<L, M>, number: usize, each: usize) -> Shift
+        ensures grown { HasGrown seat.old seat.new }
+        ensures each { result.fault ≡ None → result.answered ≡ each }
+    {
+        let mut answered = AnswerCount::none();
+        for nth in 0..each {
+            let (input, output) = match self.port.accept() {
+                Ok(ends) => ends,
+                Err(fault) => {
+                    return Shift {
+                        answered,
+                        fault: Some(fault),
+                    };
+                }
+            };
+            self.gate.enter(number, nth);
+            answered.add(self.answer(seat, input, output));
+            self.gate.leave(number, nth);
         }
-        Ok(answered)
+        Shift {
+            answered,
+            fault: None,
+        }
     }
 
     /// Answers a connection for a seat, and ends it.
-    fn answer(&self, seat: &mut Seat<L, M>, mut input: P::In, mut output: P::Out)
+    fn answer(&self, seat: &mut Seat<L, M>, mut input: P::In, mut output: P::Out) -> Answer
         ensures { HasGrown seat.old seat.new }
     {
         let mut desk = SeatDesk {
@@ -173,38 +237,28 @@ impl<R: Wait, P: Port, L: ShardLedger, M: ShardLedger, G: Gate> Workers<'_, R, P
             book: self.book,
             seat,
         };
-        let ending = answer_at(self.alloc, self.face, &mut input, &mut output, &mut desk);
+        let answer = answer_at_seat(self.alloc, self.face, &mut input, &mut output, &mut desk);
         let SeatDesk {
             alloc: _,
             rt: _,
             book: _,
             seat: _,
         } = desk;
-        self.port.end(input, output, ending);
+        self.port.end(input, output, answer.ending());
+        answer
     }
 }
 
-/// Answers a connection at a seat's desk: how it ends. One that ends with a fault counts as answered.
-fn answer_at<R: Wait, I: Read, O: Write, L: ShardLedger, M: ShardLedger>(
+/// Answers a connection at a seat's desk.
+fn answer_at_seat<R: Wait, I: Read, O: Write, L: ShardLedger, M: ShardLedger>(
     alloc: Global,
     face: &Face,
     input: &mut I,
     output: &mut O,
     desk: &mut SeatDesk<'_, R, L, M>,
-) -> Ending
+) -> Answer
     ensures same_seat { desk.new.seat.ghost_name ≡ desk.old.seat.ghost_name }
     ensures grown { HasGrown desk.old.seat.now desk.new.seat.now }
 {
-    let served = serve_one(alloc, face, input, output, desk);
-    ending_of(served)
-}
-
-/// How a connection ends that came to this: at once where its request was granted, since it was then read to its end.
-fn ending_of(served: Result<Served, ServeFault>) -> Ending
-    ensures { result ≡ Ending.AtOnce ↔ IsOkAnd served (λ served. served.status ≡ 200) }
-{
-    match served {
-        Ok(Served { status: OK, .. }) => Ending::AtOnce,
-        Ok(_) | Err(_) => Ending::InStages,
-    }
+    answer_at(alloc, face, input, output, desk)
 }

@@ -3,8 +3,8 @@ ghost use Rattle.std.specs.Prelude.{◌≡◌, vec_len};
 ghost use Rattle.mds_book.specs.Books.{IsSeatCount};
 ghost use Rattle.mds_pool.specs.Serving.{IsEnded, IsSettledEnd};
 
-use crate::pool::{PoolCause, serve};
-use crate::port::Port;
+use crate::pool::serve_round;
+use crate::{AnswerCount, Port};
 use mds_book::{
     Blank, Book, Keep, OpenFault, OpenGate, Seat, SettleFault, Settled, ShardLedger, reconcile,
 };
@@ -12,15 +12,17 @@ use mds_face::Face;
 use mds_table::Tables;
 use std::alloc::Global;
 use std::hash::RandomState;
+use std::marker::Model;
 use std::sync::Wait;
 use std::thread::Threads;
 
 /// Why no settled book was handed out.
 #[derive(Clone, Copy, Debug, PartialEq, Eq)]
 pub enum Stop {
-    /// There was no memory to begin.
+    /// There was no memory to begin. No connection was taken.
     Memory,
-    /// A worker could take no further connection. Nothing was settled.
+    /// A worker could take no further connection, and answered fewer than it was to. The others went on to their ends. Nothing
+    /// was settled.
     Accept,
     /// The notes don't fit the history of a shard. It never comes.
     Torn {
@@ -63,9 +65,26 @@ impl NewBook {
     }
 }
 
+/// A settled book, and how many connections each of its workers answered.
+#[derive(Drop)]
+pub struct FinalBook<L: ShardLedger, M: ShardLedger> {
+    /// The settled book. It tells how many requests were accepted in all.
+    pub settled: Settled<L, M>,
+    /// How many connections each worker answered, in the order of the seats.
+    pub answered: Vec<AnswerCount>,
+}
+
+impl<L: ShardLedger, M: ShardLedger> Model for FinalBook<L, M> {
+    ghost use Rattle.mds_pool.specs.Serving.{AtEnd};
+
+    ghost Value = { AtEnd };
+
+    ghost view = { λ book. record { all = book.settled; answered = book.answered.items } };
+}
+
 /// Opens a book and serves a port over it, by as many workers as the book has seats. Each worker answers `each`
-/// connections, and notes the calls that were accepted. At the end the book is settled and handed out: it tells how many
-/// requests were accepted in all.
+/// connections, and notes the calls that were accepted. At the end the book is settled and handed out, with how many
+/// connections each worker answered.
 ///
 /// # Errors
 ///
@@ -75,7 +94,7 @@ pub fn serve_and_settle<
     P: Port + Sync,
     L: ShardLedger + Send + Sync,
     M: ShardLedger + Send + Sync,
->(rt: &R, alloc: Global, opening: NewBook, port: &P, each: usize) -> Result<Settled<L, M>, Stop>
+>(rt: &R, alloc: Global, opening: NewBook, port: &P, each: usize) -> Result<FinalBook<L, M>, Stop>
 where
     P::In: Send,
     P::Out: Send,
@@ -87,7 +106,7 @@ where
         × (opening.second.parts ≡ opening.seats) }
     requires tables { (opening.tables ≡ L.tables) × (opening.tables ≡ M.tables) }
     requires seats { IsSeatCount opening.seats }
-    ensures { IsEnded opening.tables opening.seats result }
+    ensures { IsEnded opening.tables opening.seats each result }
 {
     let NewBook {
         tables,
@@ -112,12 +131,20 @@ where
     let Ok(face) = Face::open(alloc) else {
         return Err(Stop::Memory);
     };
-    match serve(rt, alloc, &face, port, &book, list, each, &OpenGate) {
-        Ok(back) => settle(book, back),
-        Err(fault) => match fault.cause {
-            PoolCause::Memory => Err(Stop::Memory),
-            PoolCause::Accept => Err(Stop::Accept),
-        },
+    match serve_round(rt, alloc, &face, port, &book, list, each, &OpenGate) {
+        Ok(round) => {
+            if round.failed {
+                return Err(Stop::Accept);
+            }
+            match settle(book, round.seats) {
+                Ok(settled) => Ok(FinalBook {
+                    settled,
+                    answered: round.answered,
+                }),
+                Err(stop) => Err(stop),
+            }
+        }
+        Err(_) => Err(Stop::Memory),
     }
 }
 

@@ -86,9 +86,9 @@ impl<'a> Port for Listed<'a> {
     }
 }
 
-/// What serving came to: whether the port failed, how many seats came back, and how many requests were accepted, where their
-/// notes fit.
-type Came = (bool, usize, Option<u128>);
+/// What serving came to: why it ended before its end, if it did; how many seats came back; and how many requests were accepted,
+/// where their notes fit.
+type Came = (Option<PoolCause>, usize, Option<u128>);
 
 /// How a port is served: by so many seats, of which each answers so many connections in each of so many rounds.
 #[derive(Clone, Copy)]
@@ -160,12 +160,13 @@ where
     P::In: Send,
     P::Out: Send,
 {
-    let (failed, list) = served_in_rounds(rt, alloc, port, gate, turns, face, &book, list);
+    let (cause, list) = served_in_rounds(rt, alloc, port, gate, turns, face, &book, list);
     let count = list.len();
-    (failed, count, accepted_in(book, list))
+    (cause, count, accepted_in(book, list))
 }
 
-/// Serves the port in rounds, between two fences: whether a connection could not be taken, and the seats.
+/// Serves the port in rounds, between two fences, each tried again where there was no memory for its workers: why one ended
+/// before its end, if one did, and the seats.
 fn served_in_rounds<
     R: Threads + Wait + Sync,
     P: Port + Sync,
@@ -181,24 +182,53 @@ fn served_in_rounds<
     face: &Face,
     book: &Book<L, M>,
     mut list: Vec<Seat<L, M>>,
-) -> (bool, Vec<Seat<L, M>>)
+) -> (Option<PoolCause>, Vec<Seat<L, M>>)
 where
     P::In: Send,
     P::Out: Send,
 {
-    let mut failed = false;
+    let mut cause = None;
     let _begun = fence(alloc);
     for _ in 0..turns.rounds {
-        list = match serve(rt, alloc, face, port, book, list, turns.each, gate) {
-            Ok(back) => back,
-            Err(fault) => {
-                failed = failed || fault.cause == PoolCause::Accept;
-                fault.seats
-            }
+        let came = served_once(rt, alloc, port, gate, turns.each, face, book, list);
+        let again = came.0 == Some(PoolCause::Memory);
+        let (why, back) = if again {
+            served_once(rt, alloc, port, gate, turns.each, face, book, came.1)
+        } else {
+            came
         };
+        cause = why.or(cause);
+        list = back;
     }
     let _ended = fence(alloc);
-    (failed, list)
+    (cause, list)
+}
+
+/// Serves the port once: why it ended before its end, if it did, and the seats.
+fn served_once<
+    R: Threads + Wait + Sync,
+    P: Port + Sync,
+    G: Gate + Sync,
+    L: ShardLedger + Send + Sync,
+    M: ShardLedger + Send + Sync,
+>(
+    rt: &R,
+    alloc: Global,
+    port: &P,
+    gate: &G,
+    each: usize,
+    face: &Face,
+    book: &Book<L, M>,
+    list: Vec<Seat<L, M>>,
+) -> (Option<PoolCause>, Vec<Seat<L, M>>)
+where
+    P::In: Send,
+    P::Out: Send,
+{
+    match serve(rt, alloc, face, port, book, list, each, gate) {
+        Ok(back) => (None, back),
+        Err(fault) => (Some(fault.cause), fault.seats),
+    }
 }
 
 /// How many requests the settled book accepted, if it is settled.
@@ -276,19 +306,22 @@ fn two_workers_meet(rt: HostRuntime) {
     let came = came_of(&rt, rt.alloc(), &gate, list, once(2, 1));
     assert_eq!(rt;
         (came, gate.gave_up()),
-        (Ok(((false, 2, Some(2)), 2, 2)), false)
+        (Ok(((None, 2, Some(2)), 2, 2)), false)
     );
 }
 
 /// A case: the requests, how many seats there are and how many connections each answers, and what serving comes to.
 type Case = (Requests, usize, usize, (Came, usize, usize));
 
+/// A worker could take no further connection.
+const FAILED: Option<PoolCause> = Some(PoolCause::Accept);
+
 /// No connections; a peer that stops reading; a port that fails at once, and one that fails once its requests are taken.
 const CASES: &[Case] = &[
-    (&[], 1, 0, ((false, 1, Some(0)), 0, 0)),
-    (&[(A, 10), (B, 999)], 1, 2, ((false, 1, Some(2)), 2, 1)),
-    (&[], 1, 1, ((true, 1, Some(0)), 0, 0)),
-    (&[(A, 999), (B, 999)], 2, 2, ((true, 2, Some(2)), 2, 2)),
+    (&[], 1, 0, ((None, 1, Some(0)), 0, 0)),
+    (&[(A, 10), (B, 999)], 1, 2, ((None, 1, Some(2)), 2, 1)),
+    (&[], 1, 1, ((FAILED, 1, Some(0)), 0, 0)),
+    (&[(A, 999), (B, 999)], 2, 2, ((FAILED, 2, Some(2)), 2, 2)),
 ];
 
 /// The place of the first of these cases to which serving doesn't come, if there is one.
@@ -311,11 +344,19 @@ fn connections_come_to_this(rt: HostRuntime) {
     assert_eq!(rt; first_other(&rt, rt.alloc(), CASES), Ok(None));
 }
 
-/// As many workers as there may be, of a port that fails at once.
+/// Whether as many workers as there may be stopped before their ends, at a port that fails at once; and what comes of their seats.
+fn stopped<R: Threads + Wait + RandomSource + Sync>(
+    rt: &R,
+    alloc: Global,
+) -> Result<(bool, usize, Option<u128>), Lack> {
+    let (came, _, _) = came_of(rt, alloc, &OpenGate, &[], once(64, 1))?;
+    Ok((came.0.is_some(), came.1, came.2))
+}
+
+/// With memory the port fails them; without, there are no workers.
 #[test]
 fn seats_come_back_with_every_growth_refused(rt: HostRuntime) {
-    let came = came_of(&rt, rt.alloc(), &OpenGate, &[], once(64, 1));
-    assert_eq!(rt; came, Ok(((true, 64, Some(0)), 0, 0)));
+    assert_eq!(rt; stopped(&rt, rt.alloc()), Ok((true, 64, Some(0))));
 }
 
 /// Registrations of A and of B, and the same again.
@@ -342,17 +383,17 @@ fn served_in_two_rounds<R: Threads + Wait + RandomSource + Sync>(
 fn workers_serve_after_a_refused_growth(rt: HostRuntime) {
     assert_eq!(rt;
         served_in_two_rounds(&rt, rt.alloc()),
-        Ok((false, 2, Some(2)))
+        Ok((None, 2, Some(2)))
     );
 }
 
-/// How many requests a book accepted that served the port, once it is settled.
+/// How many connections each worker of a book answered that served the port, and how many requests the book accepted.
 fn ended<
     R: Threads + Wait + Sync,
     P: Port + Sync,
     L: ShardLedger + Send + Sync,
     M: ShardLedger + Send + Sync,
->(rt: &R, alloc: Global, port: &P, opening: NewBook) -> Result<u128, Stop>
+>(rt: &R, alloc: Global, port: &P, opening: NewBook) -> Result<(usize, usize, u128), Stop>
 where
     P::In: Send,
     P::Out: Send,
@@ -366,7 +407,14 @@ where
     requires seats { IsSeatCount opening.seats }
 {
     match serve_and_settle::<R, P, L, M>(rt, alloc, opening, port, 2) {
-        Ok(settled) => Ok(settled.accepted()),
+        Ok(book) => {
+            let least = book.answered.iter().map(|count| count.get()).min();
+            Ok((
+                book.answered.len(),
+                least.unwrap_or(0),
+                book.settled.accepted(),
+            ))
+        }
         Err(stop) => Err(stop),
     }
 }
@@ -375,7 +423,7 @@ where
 fn ended_anew<R: Threads + Wait + RandomSource + Sync>(
     rt: &R,
     alloc: Global,
-) -> Result<Result<u128, Stop>, Lack> {
+) -> Result<Result<(usize, usize, u128), Stop>, Lack> {
     let (good, at_once) = (AtomicUsize::new(0), AtomicUsize::new(0));
     let port = Listed {
         list: TWICE,
@@ -391,7 +439,7 @@ fn ended_anew<R: Threads + Wait + RandomSource + Sync>(
 fn ended_again<R: Threads + Wait + RandomSource + Sync>(
     rt: &R,
     alloc: Global,
-) -> Result<Result<u128, Stop>, Lack> {
+) -> Result<Result<(usize, usize, u128), Stop>, Lack> {
     match ended_anew(rt, alloc)? {
         Err(Stop::Memory) => ended_anew(rt, alloc),
         ended => Ok(ended),
@@ -400,5 +448,5 @@ fn ended_again<R: Threads + Wait + RandomSource + Sync>(
 
 #[test]
 fn a_book_is_settled_after_a_refused_growth(rt: HostRuntime) {
-    assert_eq!(rt; ended_again(&rt, rt.alloc()), Ok(Ok(2)));
+    assert_eq!(rt; ended_again(&rt, rt.alloc()), Ok(Ok((2, 2, 2))));
 }

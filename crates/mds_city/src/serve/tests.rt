@@ -1,5 +1,5 @@
 //! How serving ends, and what is said of it.
-use super::{Listens, begun, serve_on, torn_to};
+use super::{Listens, begin, serve_on, torn_to};
 use mds_commands::{Problem, Source};
 use mds_pool::{Port, PortFault};
 use mds_table::{Table, Tables};
@@ -135,7 +135,7 @@ fn lacks_random_numbers(alloc: Global) -> bool {
     };
     let mut out = Vec::new(alloc);
     let table: Option<Source<'_, &'static [u8]>> = None;
-    let came = begun(&Drained, alloc, &host, table, 8080, &mut out);
+    let came = begin(&Drained, alloc, &host, table, 8080, &mut out);
     matches!(came, Err(Problem::Random)) && out.is_empty() && !host.is_asked.load(Ordering::SeqCst)
 }
 

@@ -139,8 +139,7 @@ fn steps_of_serving<R: Threads + Wait + RandomSource + Sync>(
     };
     let port = Recorded { record: &record };
     let came = served(rt, alloc, &port, &record, once(WORKERS, EACH))?;
-    let is_whole = came == (false, WORKERS, Some(1))
-        && !record.lacked_memory.load(Ordering::SeqCst);
+    let is_whole = came == (None, WORKERS, Some(1)) && !record.lacked_memory.load(Ordering::SeqCst);
     let steps = record.steps.into_inner();
     let told = (is_always_in_order(&steps), are_all_told(&steps));
     Ok((is_whole, steps.len(), told.0, told.1))

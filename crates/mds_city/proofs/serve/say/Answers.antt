@@ -1,7 +1,7 @@
 use Rattle.std.proofs.Common.{◌≡◌, rules, subst, sym}
 use Rattle.std.specs.Prelude.{Result, Err}
 use Rattle.std.proofs.KnownBytes.{Keeps-refl}
-use Rattle.mds_book.specs.Gathering.{Collected}
+use Rattle.mds_pool.specs.Serving.{AtEnd}
 use Rattle.mds_pool.specs.declared.serving.Stop.{Stop}
 use Rattle.mds_pool.specs.declared.serving.Stop.TheVariants.{Torn}
 use Rattle.mds_city.specs.Serve.{IsSaid}
@@ -12,5 +12,5 @@ returns-in-Err-Torn g c =
     let out = g.W.Write.contents c.args.out.now in
     let faults = g.E.Write.contents in
     let torn : c.args.ended ≡ Err (Torn c.in-Err-Torn.shard c.in-Err-Torn.place) = search rules in
-    subst (λ (ended : Result Collected Stop). IsSaid ended c.torn_to.result out out (faults c.args.faults.now) (faults c.torn_to.new.faults))
+    subst (λ (ended : Result AtEnd Stop). IsSaid ended c.torn_to.result out out (faults c.args.faults.now) (faults c.torn_to.new.faults))
     (sym torn) (Keeps-refl _, c.torn_to.ensures)

@@ -25,7 +25,7 @@ returns-in-Err g c =
       | inl told ↦ inl (c.in-Err.problem, stops, told)
       | inr told ↦ inl (
         Memory,
-        out_before g.H.Listens.listens c.args.host.now c.args.asked.port g.T.Read.remaining c.args.table c.in-Err.problem (g.W.Write.contents c.args.out.now) (g.W.Write.contents c.begun.new.out) stops,
+        out_before g.H.Listens.listens c.args.host.now c.args.asked.port g.T.Read.remaining c.args.table c.in-Err.problem (g.W.Write.contents c.args.out.now) (g.W.Write.contents c.begin.new.out) stops,
         told,
       )
     ]

@@ -1,15 +1,22 @@
-use Rattle.std.proofs.Common.{List, subst}
+use Rattle.std.proofs.Common.{◌≡◌, ◌∙◌, ℕ, List, length, false, ap, arith, subst, vec_len}
+use Rattle.std.specs.Prelude.{replicate}
 use Rattle.std.specs.List.{AllZip}
+use Rattle.std.proofs.lemmas.List.{length-replicate}
 use Rattle.mds_book.specs.Books.{Opened}
-use Rattle.mds_book.specs.Seats.{Seated}
+use Rattle.mds_book.specs.Gathering.{IsGathered}
+use Rattle.mds_book.specs.Seats.{Seated, fresh}
 use Rattle.mds_face.specs.Seats.{HasGrown}
-use Rattle.mds_pool.specs.Serving.{IsSettledEnd}
 use Rattle.mds_pool.proofs.EndLemmas.{ended, workers_grown}
 use Rattle.mds_pool.proofs.serving.serve_and_settle.Goals as goal
 
-pub returns-in-Ok-serve : goal.returns-in-Ok-serve
-returns-in-Ok-serve g c =
-    let back = c.in-Ok-serve.back.items in
-    let grown = subst (λ (old : List Seated). AllZip HasGrown old back) c.in-Ok.ensures.seats c.in-Ok-serve.ensures.ok in
-    let settled = subst (λ (book : Opened). IsSettledEnd book back c.settle.result) c.in-Ok.ensures.book c.settle.ensures in
-    ended c.args.opening.tables c.args.opening.seats back c.settle.result (workers_grown c.args.opening.seats back grown) settled
+pub returns-in-Ok-settle : goal.returns-in-Ok-settle
+returns-in-Ok-settle g c =
+    let back = c.in-Ok-serve_round.round.seats.items in
+    let all = c.in-Ok-settle.settled in
+    let grown = subst (λ (old : List Seated). AllZip HasGrown old back) c.in-Ok.ensures.seats c.in-Ok-serve_round.ensures.grown in
+    let gathered = subst (λ (book : Opened). IsGathered book back all) c.in-Ok.ensures.book c.in-Ok-settle.ensures.0 in
+    let many : vec_len c.in-Ok.opened.1 ≡ c.args.opening.seats =
+    omega (arith, c.in-Ok.opened.1.ok.0, ap length c.in-Ok.ensures.seats, length-replicate c.args.opening.seats (fresh false)) in
+    let whole = c.in-Ok-serve_round.ensures.answered c.if-round.false ∙ ap (λ (n : ℕ). replicate n c.args.each) many in
+    ended c.args.opening.tables c.args.opening.seats c.args.each back all c.in-Ok-serve_round.round.answered.items
+    (workers_grown c.args.opening.seats back grown) (gathered, c.in-Ok-settle.ensures.1, c.in-Ok-settle.ensures.2) whole

@@ -1,0 +1,104 @@
+//! Workers: each with its seat, and with what it came to.
+ghost use Rattle.std.specs.Prelude.{◌≡◌, ◌≤◌, map, vec_len, vec_capacity};
+ghost use Rattle.std.specs.List.{list_any};
+ghost use Rattle.mds_pool.specs.Workers.{AtWork, idle};
+
+use crate::{AnswerCount, PortFault};
+use mds_book::{Seat, ShardLedger};
+use std::marker::Model;
+
+/// What a worker came to: how many connections it answered, and the fault of the port by which it ended before it had answered
+/// all, if there was one.
+#[derive(Drop)]
+pub(crate) struct Shift {
+    pub(crate) answered: AnswerCount,
+    pub(crate) fault: Option<PortFault>,
+}
+
+/// A worker: its seat, and what it came to.
+#[derive(Drop)]
+pub(crate) struct Worker<L: ShardLedger, M: ShardLedger> {
+    pub(crate) seat: Seat<L, M>,
+    pub(crate) shift: Shift,
+}
+
+impl<L: ShardLedger, M: ShardLedger> Model for Worker<L, M> {
+    ghost use Rattle.std.specs.Prelude.{is_some};
+    ghost use Rattle.mds_pool.specs.Workers.{AtWork};
+
+    ghost Value = { AtWork };
+
+    ghost view = { λ worker. record {
+      seat = worker.seat;
+      answered = worker.shift.answered;
+      failed = is_some worker.shift.fault;
+    } };
+}
+
+impl<L: ShardLedger, M: ShardLedger> Worker<L, M> {
+    /// A worker at this seat that has answered no connection.
+    fn at(seat: Seat<L, M>) -> Worker<L, M>
+        ensures { result ≡ idle seat }
+    {
+        let shift = Shift {
+            answered: AnswerCount::none(),
+            fault: None,
+        };
+        Worker { seat, shift }
+    }
+}
+
+/// A worker at each of these seats, in room that was made for them.
+pub(crate) fn workers_at<L: ShardLedger, M: ShardLedger>(
+    seats: Vec<Seat<L, M>>,
+    mut room: Vec<Worker<L, M>>,
+) -> Vec<Worker<L, M>>
+    requires { (vec_len room ≡ 0) × (vec_len seats ≤ vec_capacity room) }
+    ensures { result.items ≡ map idle seats.items }
+{
+    for seat in seats {
+        room.push_reserved(Worker::at(seat));
+    }
+    room
+}
+
+/// What workers came to: their seats, how many connections each answered, and whether the port failed one of them.
+#[derive(Drop)]
+pub(crate) struct Round<L: ShardLedger, M: ShardLedger> {
+    pub(crate) seats: Vec<Seat<L, M>>,
+    pub(crate) answered: Vec<AnswerCount>,
+    pub(crate) failed: bool,
+}
+
+impl<L: ShardLedger, M: ShardLedger> Round<L, M> {
+    /// What these workers came to, in room that was made for it.
+    pub(crate) fn of(
+        workers: Vec<Worker<L, M>>,
+        mut seats: Vec<Seat<L, M>>,
+        mut answered: Vec<AnswerCount>,
+    ) -> Round<L, M>
+        requires seats { (vec_len seats ≡ 0) × (vec_len workers ≤ vec_capacity seats) }
+        requires answered { (vec_len answered ≡ 0) × (vec_len workers ≤ vec_capacity answered) }
+        ensures seats { result.seats.items ≡ map (λ (one : AtWork). one.seat) workers.items }
+        ensures answered { result.answered.items
+            ≡ map (λ (one : AtWork). one.answered) workers.items }
+        ensures failed { result.failed ≡ list_any (λ (one : AtWork). one.failed) workers.items }
+    {
+        let mut failed = false;
+        for worker in workers {
+            let Worker { seat, shift } = worker;
+            let Shift {
+                answered: count,
+                fault,
+            } = shift;
+            seats.push_reserved(seat);
+            answered.push_reserved(count);
+            failed = failed || fault.is_some();
+        }
+        Round {
+            seats,
+            answered,
+            failed,
+        }
+    }
+}
