@@ -150,7 +150,7 @@ fn ask_in_threads<
     thread::for_each_mut(
         rt,
         seats,
-        2,
+        each.len().max(1),
         &|place: usize, seat: &mut Seat<L, M>| {
             if let Some(requests) = each.get(place) {
                 ask(rt, book, seat, requests);

@@ -45,6 +45,17 @@ const CASES: &[Case] = rows! {
         (Report(A, E2, LOW, NonOperational, 999), 2, Refused(Late { last: 1000 })),
         (Report(A, E2, LOW, NonOperational, 1000), 2, Done),
     ], &[]),
+    ("what others did between a seat's own requests", PROFILE, &[
+        (Look(A), 0, Refused(Unregistered)),
+        (DROPPED_OFF, 0, Refused(Unregistered)),
+        (Register(A), 0, Done),
+        (Look(A), 1, Seen(NEW)),
+        (DROPPED_OFF, 1, Done),
+        (Look(A), 2, Seen(AVAILABLE)),
+        (Look(A), 2, Seen(AVAILABLE)),
+        (DROPPED_OFF, 2, Refused(Repeated)),
+        (Register(A), 2, Refused(AlreadyRegistered)),
+    ], &[]),
     ("just before the rules change, as they do, and a vehicle of the other shard before that", WAKE_THEN_REST, &[
         (Register(A), 0, Done),
         (Report(A, E1, &["wake"], Available, 1999), 1, Done),

@@ -1,4 +1,4 @@
-//! Two seats that ask at once, each in a thread of its own.
+//! Seats that ask at once, each in a thread of its own.
 use super::{Asking, Told, told_anew};
 use crate::steps::{
     AVAILABLE, DROPPED_OFF, PROFILE, STUCK_AVAILABLE, STUCK_REMOVED, Step, WAKE_THEN_REST,
@@ -44,7 +44,8 @@ const CASES: &[Case] = rows! {
     ], &[Done, Done, STUCK_AVAILABLE, Done, STUCK_REMOVED, Done, Done], [3, 2], [Some(2), Some(1), None]),
 };
 
-/// What a book of two seats tells of these steps and then of both lists. There was no memory where a call isn't noted.
+/// What a book tells of these steps and then of the lists, of which each seat has one. There was no memory where a call isn't
+/// noted.
 fn told_of<R: Threads + Wait + RandomSource + Sync>(
     rt: &R,
     alloc: Global,
@@ -53,7 +54,7 @@ fn told_of<R: Threads + Wait + RandomSource + Sync>(
     each: &[Vec<Request>],
 ) -> Result<Told, Lack> {
     let asking = Asking {
-        seats: 2,
+        seats: each.len(),
         keep: Keep::All,
         steps,
         each,
@@ -121,23 +122,33 @@ const LOW: (&[&str], State) = (&["battery_low"], NonOperational);
 
 const FULL: (&[&str], State) = (&["battery_charged"], Available);
 
-/// A caller's reports of A by turns, each with an identifier of its own and the caller's.
-fn reports_by(alloc: Global, caller: u8) -> Result<Vec<Request>, Lack> {
+/// A caller's reports of A by turns, each with an identifier of its own and the caller's, and each with a look behind it.
+fn turns_by(alloc: Global, caller: u8, turns: u8) -> Result<Vec<Request>, Lack> {
     let mut requests = Vec::new(alloc);
-    for turn in 0..200u64 {
+    for turn in 0..turns {
         let (types, state) = if turn % 2 == 0 { LOW } else { FULL };
-        let report = Report(A, u64::from(caller) * 1000 + turn, types, state, 1000);
+        let id = u64::from(caller) * 1000 + u64::from(turn);
+        let report = Report(A, id, types, state, 1000);
         requests.push(request_of(&report).ok_or(Lack::Case)?)?;
+        requests.push(request_of(&Look(A)).ok_or(Lack::Case)?)?;
     }
     Ok(requests)
 }
 
-/// Whether a report was accepted, or found no row for its first type.
-fn is_done_or_stuck(note: &Note) -> bool {
-    matches!(
-        note.reply.outcome,
-        Done | Refused(NoChain { held: _, at: 0 })
-    )
+/// Whether each report was accepted or found no row for its first type, and each look shows as many events as were accepted
+/// before it, those of the report before it and of its own among them.
+fn looks_fit(notes: &[Note]) -> bool {
+    let mut least = 0;
+    for note in notes {
+        let place = note.reply.place;
+        match note.reply.outcome {
+            Done => least = place.saturating_add(1),
+            Refused(NoChain { held: _, at: 0 }) => least = place,
+            Seen(standing) if least <= place && standing.events.saturating_add(1) == place => {}
+            _ => return false,
+        }
+    }
+    true
 }
 
 /// Whether the events alternate, beginning with a low battery.
@@ -161,15 +172,18 @@ fn alternate(events: &[Request]) -> bool {
 const BEFORE: &[Step] =
     rows! { (Register(A), 0, Done), (Report(A, E0, DROP_OFF, Available, 1000), 1, Done) };
 
-/// What comes of two callers' turns: how many calls were noted; whether each that was accepted was counted; whether each
-/// report was accepted or found no row; and whether the events alternate.
-fn turns_of_two<R: Threads + Wait + RandomSource + Sync>(
+/// What comes of so many turns of each of so many callers: how many calls were noted; whether each that was accepted was counted;
+/// whether each reply fits; and whether the events alternate.
+fn turns_of<R: Threads + Wait + RandomSource + Sync>(
     rt: &R,
     alloc: Global,
+    callers: u8,
+    turns: u8,
 ) -> Result<(usize, [bool; 3]), Lack> {
     let mut each = Vec::new(alloc);
-    each.push(reports_by(alloc, 1)?)?;
-    each.push(reports_by(alloc, 2)?)?;
+    for caller in 0..callers {
+        each.push(turns_by(alloc, caller, turns)?)?;
+    }
     let told = told_of(rt, alloc, profile(alloc)?, BEFORE, &each)?;
     let done = told
         .notes
@@ -178,7 +192,7 @@ fn turns_of_two<R: Threads + Wait + RandomSource + Sync>(
         .count();
     let facts = [
         told.end.accepted == done as u128,
-        told.notes.iter().all(is_done_or_stuck),
+        looks_fit(&told.notes),
         alternate(told.first.get(2..).ok_or(Lack::Case)?),
     ];
     Ok((told.notes.len(), facts))
@@ -186,5 +200,10 @@ fn turns_of_two<R: Threads + Wait + RandomSource + Sync>(
 
 #[test]
 fn two_threads_on_one_vehicle(rt: HostRuntime) {
-    assert_eq!(rt; turns_of_two(&rt, rt.alloc()), Ok((402, [true; 3])));
+    assert_eq!(rt; turns_of(&rt, rt.alloc(), 2, 200), Ok((802, [true; 3])));
+}
+
+#[test]
+fn sixty_four_threads_on_one_vehicle(rt: HostRuntime) {
+    assert_eq!(rt; turns_of(&rt, rt.alloc(), 64, 8), Ok((1026, [true; 3])));
 }
