@@ -152,6 +152,7 @@ ACCEPTED = [
     {"location_e7": '{"lng": 0, "lat": 52.52, "lat": 0}'},
     {"location": '{"lat": 52.52, "lng": 13.405}', "battery_percent": "88", "trip_ids": "[]"},
     {"publication_time": "1700000000500", "location": "7"},
+    {"event_types": json.dumps(["provider_drop_off"] + 8 * ["battery_low", "battery_charged"])},
     # members written twice, of which the last counts
     {"timestamp": '-1, "timestamp": 3000'},
     {"device_id": f'7, "device_id": "{A}"'},

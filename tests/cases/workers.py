@@ -54,8 +54,9 @@ def shares():
     devices = [identifier(1, number) for number in range(MAX_ITEMS)]
     text = batch(event(device, "e1", "provider_drop_off", "available", 1000) for device in devices)
     vehicles = [(device, "available", 1) for device in devices]
-    more = {"words": "replay --workers 4 -", "name": "as many vehicles as items can be, by 4 workers"}
-    yield replayed(text, ["ok available"] * MAX_ITEMS, vehicles, **more)
+    for count in ("4", "5", "64"):
+        more = {"words": f"replay --workers {count} -", "name": f"as many vehicles as items can be, by {count} workers"}
+        yield replayed(text, ["ok available"] * MAX_ITEMS, vehicles, **more)
 
 
 def workers():

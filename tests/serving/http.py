@@ -128,6 +128,14 @@ def worked():
     faulty = '{"failures":[{"error":"missing_param","index":1,"param":"device_id"}],"success":2,"total":3}'
     posted = Exchange(post("/events", batch(neighbours)), answer(200, faulty))
     yield Talk([registered(A, B), posted, look(A, "available", 1, 1000), look(B, "available", 1, 1000)])
+    ignored = {
+        "location": '{"lat": 52.52, "lng": 13.405}',
+        "publication_time": "1700000000500",
+        "battery_percent": "88",
+        "trip_ids": "[]",
+    }
+    posted = Exchange(post("/events", batch([item(**ignored)])), done(1))
+    yield Talk([registered(A), posted, look(A, "available", 1, 1000)])
     wake = batch([item(event_types='["wake"]')])
     row = '{"rows":[{"from":"removed","to":"available","type":"wake"}]}'
     own = [registered(A), Exchange(post("/events", wake), done(1)), look(A, "available", 1, 1000)]

@@ -14,7 +14,7 @@ from model.http import error
 from model.json_text import compact
 from serving.connections import EVENT, MOST_WORKERS, SMALL_ROOM, long_list, silent
 from serving.http import Exchange, done, look, registered, vehicle
-from serving.server import Server, success_of
+from serving.server import Server, numbered_port, success_of
 from serving.talking import talk_over
 from serving.wire import connect, get, post, read_all
 
@@ -63,9 +63,9 @@ def next_answer(server, least, most):
         yield f"the next client was answered after {seconds:.1f} s, in place of {least} to {most}"
 
 
-def let_go_before_its_answer(program, part, least, most):
+def let_go_before_its_answer(program, part, least, most, port=0):
     """A client that keeps the server waiting for the rest of its request is let go, without an answer."""
-    with Server(program, 2) as server:
+    with Server(program, 2, port=port) as server:
         server.count()
         keeping = connect(server.port)
         keeping.sendall(part)
@@ -87,6 +87,11 @@ def is_over(connection):
 def let_go_in_its_head(program):
     """A client that stops in its head."""
     return let_go_before_its_answer(program, EVENT[:20], *HEAD)
+
+
+def let_go_at_a_port_of_a_number(program):
+    """The same at a port that was asked for by its number."""
+    return let_go_before_its_answer(program, EVENT[:20], *HEAD, port=numbered_port())
 
 
 def let_go_in_its_body(program):
@@ -312,6 +317,7 @@ def short_of_open_files_for_long(program):
 
 LIMITS = [
     let_go_in_its_head,
+    let_go_at_a_port_of_a_number,
     let_go_in_its_body,
     trickling_in_their_heads,
     trickling_in_its_body,

@@ -1,6 +1,7 @@
 """The built server as a process."""
 
 import re
+import socket
 import subprocess
 import tempfile
 from pathlib import Path
@@ -13,6 +14,14 @@ from serving.wire import ask, get
 LISTENING = re.compile(r"listening 127\.0\.0\.1:([0-9]+)\n")
 SECONDS = 120
 """How long a server that has answered all its connections may take to end."""
+
+
+def numbered_port():
+    """The number of a port that was free a moment ago."""
+    with socket.socket() as free:
+        free.setsockopt(socket.SOL_SOCKET, socket.SO_REUSEADDR, 1)
+        free.bind(("127.0.0.1", 0))
+        return free.getsockname()[1]
 
 
 class NotListening(Unwell):

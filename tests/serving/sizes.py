@@ -9,12 +9,13 @@ from concurrent.futures import ThreadPoolExecutor
 from pathlib import Path
 
 from cases.replays import A, P, batch, history, item
+from cases.tables import STATES, TYPES
 from harness.building import loading_client
 from harness.case import MAX_BYTES, lists, padded
 from harness.texts import differing
 from model.http import answer, error
 from model.json_text import compact
-from serving.http import Exchange, done, registered
+from serving.http import Exchange, done, look, registered
 from serving.server import Server
 from serving.settling import settled, taken_at_once
 from serving.talking import talk_over
@@ -56,17 +57,31 @@ def many_connections_of_one_worker(program):
 
 
 def many_calls_of_one_seat(program):
-    """One worker accepts more calls than 16 bits can count, and gives the vehicle's history whole: each event as it was
-    reported, in an answer of 20 MB."""
-    with Server(program, BATCHES + 2) as server:
+    """One worker accepts more calls than 16 bits can count, counts them in a look, and gives the vehicle's history whole: each
+    event as it was reported, in an answer of 20 MB."""
+    with Server(program, BATCHES + 3) as server:
         yield from talk_over(server, registered(A))
         listed = []
         for at in range(BATCHES):
             events = list(history(A, EVENTS * at, EVENTS * (at + 1)))
             yield from talk_over(server, Exchange(post("/events", batch(events)), done(EVENTS)))
             listed += [compact({**json.loads(event), "location_e7": None}) for event in events]
+        last = json.loads(events[-1])
+        yield from talk_over(server, look(A, last["vehicle_state"], BATCHES * EVENTS, last["timestamp"]))
         wanted = answer(200, f'{{"events":[{",".join(listed)}]}}')
         yield from talk_over(server, Exchange(get(f"/vehicles/{P}/{A}/events"), wanted))
+        yield from server.end()
+
+
+def largest_tables(program):
+    """As many tables of as many rows as a table file has room for are given whole."""
+    rows = [
+        {"from": before, "to": after, "type": kind} for kind in TYPES[:64] for before in STATES[:8] for after in STATES[:8]
+    ]
+    count = (MAX_BYTES - 100) // (len(compact(rows)) + 100)
+    tables = compact({"tables": [{"from_time": 1000 * at, "rows": rows} for at in range(count)]})
+    with Server(program, 1, table=tables) as server:
+        yield from talk_over(server, Exchange(get("/table"), answer(200, tables)))
         yield from server.end()
 
 
@@ -134,6 +149,7 @@ def memory_of_deep_values(program):
 SIZES = [
     many_connections_of_one_worker,
     many_calls_of_one_seat,
+    largest_tables,
     many_requests_of_many_seats,
     memory_behind_long_items,
     memory_of_deep_values,

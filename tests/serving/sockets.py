@@ -14,7 +14,7 @@ from harness.case import OUTPUT, RANDOM
 from harness.counting import Skipped, Unwell
 from model.http import error
 from serving.http import Exchange, done, registered
-from serving.server import NotListening, Server
+from serving.server import NotListening, Server, numbered_port
 from serving.talking import talk_over
 from serving.wire import connect, get, post
 
@@ -103,9 +103,19 @@ def is_end_of(number, connection):
 def options_of_a_connection(program):
     """What is written is sent at once. A read waits 10 seconds at first, and no longer until the head is there; then it waits 30.
     A write waits 30."""
+    yield from options_at(program, 0)
+
+
+def options_at_a_port_of_a_number(program):
+    """The same at a port that was asked for by its number."""
+    yield from options_at(program, numbered_port())
+
+
+def options_at(program, port):
+    """What is wrong with the options of the connections of a server at this port, 0 for a free one."""
     if not hasattr(os, "pidfd_open"):
         raise Skipped("no `pidfd_open` here")
-    with Server(program, len(HEADS)) as server:
+    with Server(program, len(HEADS), port=port) as server:
         for head in HEADS:
             server.count()
             with connect(server.port) as connection, taken_by(server, connection) as other:
@@ -158,17 +168,31 @@ def last_line_that_nobody_reads(program):
 
 
 def without_random_numbers(program):
-    """Where the system gives no random numbers it doesn't listen, and tells why; a table file that can't be read is told first."""
+    """Where the system gives no random numbers it doesn't listen, and tells why: before it asks for its port, which another has,
+    and behind a table file that can't be read."""
     shim = built("no-random.so", "tests/no-random.c", "-shared", "-fPIC")
     env = {**os.environ, "LD_PRELOAD": str(shim)}
-    for table, told in ((None, RANDOM), ("[]", "not_rows\n")):
-        try:
-            with Server(program, 1, table=table, env=env):
-                yield "it listened"
-        except NotListening as stopped:
-            status, out, faults = stopped.ended
-            if (status, out) != (3, "") or not faults.endswith(told):
-                yield f"ended with {stopped.ended}, in place of {(3, '', told)}"
+    with socket.create_server(("127.0.0.1", 0)) as other:
+        taken = other.getsockname()[1]
+        for table, port, told in ((None, 0, RANDOM), (None, taken, RANDOM), ("[]", taken, "not_rows\n")):
+            yield from differing_end(program, table, port, told, env)
 
 
-SOCKETS = [at_one_address, options_of_a_connection, last_line_that_nobody_reads, without_random_numbers]
+def differing_end(program, table, port, told, env):
+    """What is wrong with how a server ends that doesn't listen."""
+    try:
+        with Server(program, 1, table=table, env=env, port=port):
+            yield "it listened"
+    except NotListening as stopped:
+        status, out, faults = stopped.ended
+        if (status, out) != (3, "") or not faults.endswith(told):
+            yield f"ended with {stopped.ended}, in place of {(3, '', told)}"
+
+
+SOCKETS = [
+    at_one_address,
+    options_of_a_connection,
+    options_at_a_port_of_a_number,
+    last_line_that_nobody_reads,
+    without_random_numbers,
+]
