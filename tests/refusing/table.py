@@ -48,6 +48,23 @@ TESTED = {
     ("mds_pool", "test_edge", "workers_serve_after_a_refused_growth"): ["serve"],
     ("mds_pool", "test_edge", "a_book_is_settled_after_a_refused_growth"): ["serve_and_settle"],
     ("mds_args", "test_words", "words_are_read_after_a_refused_growth"): ["parse_words"],
+    ("mds_journal", "mds_journal", "lines_are_added_after_a_refused_growth"): [
+        "Group::new",
+        "Group::push",
+        "Memory::new",
+        "read_all",
+        "Journal::append",
+    ],
+    ("mds_journal", "mds_journal", "calls_are_made_after_a_refused_growth"): [
+        "Opening::start",
+        "Opening::next_line",
+        "Opening::finish",
+        "Device::write_at",
+        "Device::sync",
+        "Device::size",
+        "Device::read_at",
+        "Device::cut",
+    ],
 }
 """A library, where its test stands (a crate, and a module of it where more than one has a test of this name), the test, and the
 calls of the library that it makes."""

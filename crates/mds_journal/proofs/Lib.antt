@@ -1,0 +1,10 @@
+pub mod LineLemmas
+pub mod FeedLemmas
+pub mod GroupLemmas
+pub mod CallLemmas
+pub mod MomentLemmas
+pub mod StepLemmas
+pub mod KeptLemmas
+pub mod AppendLemmas
+pub mod ReadingLemmas
+pub mod RepairLemmas

@@ -1,0 +1,18 @@
+use Rattle.std.proofs.Common.{◌≡◌, ◌≤◌, ◌+◌, ◌-◌, length}
+use Rattle.mds_journal.specs.Device.{Untouched}
+use Rattle.mds_journal.specs.Opening.{IsReading, at_hand}
+use Rattle.mds_journal.proofs.opening.Opening.find.Given as goal
+
+abbrev pub invariant-reads : goal.invariant-reads
+invariant-reads g l = record {
+  reading : IsReading g.D.Device.seen g.D.Device.may_leave g.D.Device.may_be_used g.D.Device.is_true l.self;
+  place : l.self.end ≡ l.initial.self.end;
+  limit : l.self.longest ≡ l.initial.self.longest;
+  untouched : g.D.Device.is_true l.self.device
+      → Untouched g.D.Device.seen g.D.Device.may_leave g.D.Device.moment g.D.Device.left_since l.initial.self.device l.self.device;
+  was_true : g.D.Device.is_true l.self.device → g.D.Device.is_true l.initial.self.device;
+  later : g.D.Device.faults l.initial.self.device ≤ g.D.Device.faults l.self.device;
+}
+
+abbrev pub decreases-reads : goal.decreases-reads
+decreases-reads g l = l.self.longest + 2 - length (at_hand l.self)
