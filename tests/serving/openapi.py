@@ -22,6 +22,8 @@ LONG = 1 << 16
 """From how many bytes on an answer is long."""
 END = 1000
 """How many items are looked at from either end of a longer list."""
+INNER_END = 100
+"""The same of a list within a list."""
 
 
 class Description:
@@ -133,12 +135,15 @@ def pattern_of(path):
     return re.compile(re.sub(r"\\\{(\w+)\\\}", r"(?P<\1>[^/]+)", re.escape(path)))
 
 
-def shortened(value):
-    """The members of an answer, with both ends of a list that is longer than they are."""
-    if not isinstance(value, dict):
-        return value
-    is_long = lambda it: isinstance(it, list) and len(it) > 2 * END
-    return {name: it[:END] + it[-END:] if is_long(it) else it for name, it in value.items()}
+def shortened(value, most=END):
+    """A value with both ends of a list that is longer than they are, so many of each; and those of lists within it, which are
+    shorter still."""
+    if isinstance(value, dict):
+        return {name: shortened(it, most) for name, it in value.items()}
+    if isinstance(value, list):
+        ends = value if len(value) <= 2 * most else value[:most] + value[-most:]
+        return [shortened(it, INNER_END) for it in ends]
+    return value
 
 
 def place_of(error):
