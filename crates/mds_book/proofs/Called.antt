@@ -10,8 +10,8 @@ use Rattle.mds_core.specs.Answer.{Answers, next}
 use Rattle.mds_settle.specs.declared.note.Note.{Note}
 use Rattle.mds_log.specs.Log.{Acceptance, requests}
 use Rattle.mds_book.specs.Shards.{shard_of, AreOfShard, count_of}
-use Rattle.mds_book.specs.Seats.{Seated, noted, rises, sees, seen_in, IsCalled}
-use Rattle.mds_book.specs.Sights.{IsStepped, AreTrue}
+use Rattle.mds_book.specs.Seats.{Seated, noted, rises, sees, seen_in, turned, IsCalled}
+use Rattle.mds_book.specs.Sights.{IsStepped, AreTrue, next_turn}
 use Rattle.mds_book.proofs.Slots.{requests_after}
 use Rattle.mds_book.proofs.Trues.{requests_prefix, true_call, true_other}
 
@@ -21,75 +21,79 @@ seen_after : (tables : Tables) (number : ℕ) (old : List Acceptance) (mark : �
 seen_after tables number old mark request reply new step =
     ap (λ (w : List Acceptance). requests w) step.goes_on ∙ requests_after step.log mark request reply.outcome
 
--- a call in the first shard
-pub called_first : (known tables : Tables) (old new : Seated) (log longer : List Acceptance) (mark : ℕ) (request : Request) (reply : Reply)
-    → known ≡ tables → shard_of (key_of request) ≡ 0 → IsStepped tables 0 log mark request reply longer → old.first_seen ≡ requests log → new.first_seen ≡ requests longer
-    → new.first ≡ old.first + count_of reply.outcome → new.second ≡ old.second → new.notes ≡ old.notes ++ noted old.keeps_all request reply
-    → new.keeps_all ≡ old.keeps_all → new.second_seen ≡ old.second_seen → IsCalled known old request reply new
-called_first known tables old new log longer mark request reply is here step saw sees_now first second notes keeps other =
+-- a seat after a call in the shard of this number, whose history was `before`
+abbrev called_seat : ℕ → Seated → List Request → Request → Reply → Seated
+called_seat number seat before request reply = record {
+  first = seat.first + rises 0 number reply;
+  second = seat.second + rises 1 number reply;
+  notes = seat.notes ++ noted seat.keeps_all request reply;
+  keeps_all = seat.keeps_all;
+  first_seen = sees 0 number before request reply seat.first_seen;
+  second_seen = sees 1 number before request reply seat.second_seen;
+  first_turns = turned 0 number seat.first_turns;
+  second_turns = turned 1 number seat.second_turns;
+}
+
+-- a call in the shard of this number
+called_in : (known tables : Tables) (number : ℕ) (old new : Seated) (log longer : List Acceptance) (mark : ℕ) (request : Request) (reply : Reply)
+    → known ≡ tables → shard_of (key_of request) ≡ number → (step : IsStepped tables number log mark request reply longer) → seen_in old number ≡ requests log
+    → new ≡ called_seat number old (requests step.log) request reply → IsCalled known old request reply new
+called_in known tables number old new log longer mark request reply is here step saw seat =
     let before : List Request = requests step.log in
-    let first_is : new.first ≡ old.first + rises 0 (shard_of (key_of request)) reply = first ∙ ap (λ n. old.first + rises 0 n reply) (sym here) in
-    let second_is : new.second ≡ old.second + rises 1 (shard_of (key_of request)) reply =
-    second ∙ (sym (add-zero old.second) ∙ ap (λ n. old.second + rises 1 n reply) (sym here)) in
-    let first_seen_is : new.first_seen ≡ sees 0 (shard_of (key_of request)) before request reply old.first_seen =
-    sees_now ∙ (seen_after tables 0 log mark request reply longer step ∙ ap (λ n. sees 0 n before request reply old.first_seen) (sym here)) in
-    let second_seen_is : new.second_seen ≡ sees 1 (shard_of (key_of request)) before request reply old.second_seen =
-    other ∙ ap (λ n. sees 1 n before request reply old.second_seen) (sym here) in
     let IsLawfulBy : Tables → Type 0 = λ t. IsLawful t before in
     let AnswersBy : Tables → Type 0 = λ t. Answers t before request reply in
     let IsSeen : List Request → Type 0 = λ w. IsPrefix w before in
     let SeenIn : ℕ → Type 0 = λ n. IsPrefix (seen_in old n) before in
     let OfShard : ℕ → Type 0 = λ n. AreOfShard n before in
+    let SeatIn : ℕ → Type 0 = λ n. new ≡ called_seat n old before request reply in
     record {
       before = before;
       seen = subst SeenIn (sym here) (subst IsSeen (sym saw) (requests_prefix log step.log step.seen));
       lawful = subst IsLawfulBy (sym is) step.lawful;
       of_shard = subst OfShard (sym here) step.of_shard;
       answer = subst AnswersBy (sym is) step.answer;
-      seat = λ i. record {
-        first = first_is i;
-        second = second_is i;
-        notes = notes i;
-        keeps_all = keeps i;
-        first_seen = first_seen_is i;
-        second_seen = second_seen_is i;
-      };
+      seat = subst SeatIn (sym here) seat;
     }
+
+-- a call in the first shard
+pub called_first : (known tables : Tables) (old new : Seated) (log longer : List Acceptance) (mark : ℕ) (request : Request) (reply : Reply)
+    → known ≡ tables → shard_of (key_of request) ≡ 0 → IsStepped tables 0 log mark request reply longer → old.first_seen ≡ requests log → new.first_seen ≡ requests longer
+    → new.first ≡ old.first + count_of reply.outcome → new.first_turns ≡ next_turn old.first_turns → new.second ≡ old.second
+    → new.notes ≡ old.notes ++ noted old.keeps_all request reply → new.keeps_all ≡ old.keeps_all → new.second_seen ≡ old.second_seen
+    → new.second_turns ≡ old.second_turns → IsCalled known old request reply new
+called_first known tables old new log longer mark request reply is here step saw sees_now first turn second notes keeps other waits =
+    let second_is : new.second ≡ old.second + 0 = second ∙ sym (add-zero old.second) in
+    let first_seen_is : new.first_seen ≡ next (requests step.log) request reply.outcome = sees_now ∙ seen_after tables 0 log mark request reply longer step in
+    called_in known tables 0 old new log longer mark request reply is here step saw (λ i. record {
+      first = first i;
+      second = second_is i;
+      notes = notes i;
+      keeps_all = keeps i;
+      first_seen = first_seen_is i;
+      second_seen = other i;
+      first_turns = turn i;
+      second_turns = waits i;
+    })
 
 -- a call in the second shard
 pub called_second : (known tables : Tables) (old new : Seated) (log longer : List Acceptance) (mark : ℕ) (request : Request) (reply : Reply)
     → known ≡ tables → shard_of (key_of request) ≡ 1 → IsStepped tables 1 log mark request reply longer → old.second_seen ≡ requests log → new.second_seen ≡ requests longer
-    → new.second ≡ old.second + count_of reply.outcome → new.first ≡ old.first → new.notes ≡ old.notes ++ noted old.keeps_all request reply
-    → new.keeps_all ≡ old.keeps_all → new.first_seen ≡ old.first_seen → IsCalled known old request reply new
-called_second known tables old new log longer mark request reply is here step saw sees_now second first notes keeps other =
-    let before : List Request = requests step.log in
-    let second_is : new.second ≡ old.second + rises 1 (shard_of (key_of request)) reply = second ∙ ap (λ n. old.second + rises 1 n reply) (sym here) in
-    let first_is : new.first ≡ old.first + rises 0 (shard_of (key_of request)) reply =
-    first ∙ (sym (add-zero old.first) ∙ ap (λ n. old.first + rises 0 n reply) (sym here)) in
-    let second_seen_is : new.second_seen ≡ sees 1 (shard_of (key_of request)) before request reply old.second_seen =
-    sees_now ∙ (seen_after tables 1 log mark request reply longer step ∙ ap (λ n. sees 1 n before request reply old.second_seen) (sym here)) in
-    let first_seen_is : new.first_seen ≡ sees 0 (shard_of (key_of request)) before request reply old.first_seen =
-    other ∙ ap (λ n. sees 0 n before request reply old.first_seen) (sym here) in
-    let IsLawfulBy : Tables → Type 0 = λ t. IsLawful t before in
-    let AnswersBy : Tables → Type 0 = λ t. Answers t before request reply in
-    let IsSeen : List Request → Type 0 = λ w. IsPrefix w before in
-    let SeenIn : ℕ → Type 0 = λ n. IsPrefix (seen_in old n) before in
-    let OfShard : ℕ → Type 0 = λ n. AreOfShard n before in
-    record {
-      before = before;
-      seen = subst SeenIn (sym here) (subst IsSeen (sym saw) (requests_prefix log step.log step.seen));
-      lawful = subst IsLawfulBy (sym is) step.lawful;
-      of_shard = subst OfShard (sym here) step.of_shard;
-      answer = subst AnswersBy (sym is) step.answer;
-      seat = λ i. record {
-        first = first_is i;
-        second = second_is i;
-        notes = notes i;
-        keeps_all = keeps i;
-        first_seen = first_seen_is i;
-        second_seen = second_seen_is i;
-      };
-    }
+    → new.second ≡ old.second + count_of reply.outcome → new.second_turns ≡ next_turn old.second_turns → new.first ≡ old.first
+    → new.notes ≡ old.notes ++ noted old.keeps_all request reply → new.keeps_all ≡ old.keeps_all → new.first_seen ≡ old.first_seen
+    → new.first_turns ≡ old.first_turns → IsCalled known old request reply new
+called_second known tables old new log longer mark request reply is here step saw sees_now second turn first notes keeps other waits =
+    let first_is : new.first ≡ old.first + 0 = first ∙ sym (add-zero old.first) in
+    let second_seen_is : new.second_seen ≡ next (requests step.log) request reply.outcome = sees_now ∙ seen_after tables 1 log mark request reply longer step in
+    called_in known tables 1 old new log longer mark request reply is here step saw (λ i. record {
+      first = first_is i;
+      second = second i;
+      notes = notes i;
+      keeps_all = keeps i;
+      first_seen = other i;
+      second_seen = second_seen_is i;
+      first_turns = waits i;
+      second_turns = turn i;
+    })
 
 -- one shard isn't the other
 pub not_one : (number : ℕ) → number ≡ 0 → number ≢ 1

@@ -5,11 +5,9 @@ use Rattle.mds_book.specs.declared.book.OpenFault.TheVariants.{Memory, BadSeats}
 use Rattle.mds_table.specs.Tables.{Tables}
 use Rattle.mds_core.specs.declared.key.Key.{Key}
 use Rattle.mds_core.specs.declared.request.Request.{Request}
-use Rattle.mds_core.specs.declared.reply.Reply.{Reply}
 use Rattle.mds_core.specs.Reported.{Reported}
 use Rattle.mds_core.specs.Machine.{Machine, events_in}
 use Rattle.mds_core.specs.Lawful.{IsLawful}
-use Rattle.mds_core.specs.Answer.{Answers}
 use Rattle.logbook.specs.Pages.{Book}
 use Rattle.mds_book.specs.Shards.{shard_of, AreOfShard}
 
@@ -36,13 +34,6 @@ IsSeatCount seats = (0 < seats) × (seats ≤ max_seats)
 -- a number of seats that it may not have
 abbrev pub IsBadCount : ℕ → Type 0
 IsBadCount seats = (seats ≡ 0) ⊎ (max_seats < seats)
-
--- the reply is the answer after some lawful history of the shard of this number
-pub record IsAnswered (tables : Tables) (number : ℕ) (request : Request) (reply : Reply) : Type 0 where
-  pub history : List Request
-  pub lawful : IsLawful tables history
-  pub of_shard : AreOfShard number history
-  pub answer : Answers tables history request reply
 
 -- the word for a fault
 abbrev pub open_fault_text : OpenFault → List ℕ

@@ -16,9 +16,10 @@ use Rattle.mds_settle.specs.declared.note.Note.{Note}
 use Rattle.mds_book.specs.declared.seat.Keep.{Keep}
 use Rattle.mds_book.specs.declared.seat.Keep.TheVariants.{All, Accepted}
 use Rattle.mds_book.specs.Shards.{shard_of, AreOfShard, count_of}
+use Rattle.mds_book.specs.Sights.{next_turn}
 
--- how many of the seat's calls were accepted in each shard, its notes, whether it notes every call or the accepted ones, and
--- what it saw of each shard's history
+-- how many of the seat's calls were accepted in each shard, its notes, whether it notes every call or the accepted ones,
+-- what it saw of each shard's history, and how many turns it had there
 pub record Seated : Type 0 where
   pub first : ℕ
   pub second : ℕ
@@ -26,6 +27,8 @@ pub record Seated : Type 0 where
   pub keeps_all : Bool
   pub first_seen : List Request
   pub second_seen : List Request
+  pub first_turns : ℕ
+  pub second_turns : ℕ
 
 -- which calls are noted
 abbrev pub keeps_all : Keep → Bool
@@ -34,7 +37,16 @@ keeps_all Accepted = false
 
 -- a seat that was told nothing
 abbrev pub fresh : Bool → Seated
-fresh all = record { first = 0; second = 0; notes = []; keeps_all = all; first_seen = []; second_seen = [] }
+fresh all = record {
+  first = 0;
+  second = 0;
+  notes = [];
+  keeps_all = all;
+  first_seen = [];
+  second_seen = [];
+  first_turns = 0;
+  second_turns = 0;
+}
 
 -- how many of the seat's calls were accepted in this shard; none in a shard that isn't there
 abbrev pub accepted_in : Seated → ℕ → ℕ
@@ -56,8 +68,12 @@ noted all request reply = if all || is_done reply.outcome then record { shard = 
 abbrev pub sees : ℕ → ℕ → List Request → Request → Reply → List Request → List Request
 sees shard number before request reply old = if shard == number then next before request reply.outcome else old
 
+-- the turns that a seat had at a shard, after one in the shard of this number
+abbrev pub turned : ℕ → ℕ → ℕ → ℕ
+turned shard number turns = if shard == number then next_turn turns else turns
+
 -- the seat after a call that was answered after the history `before`: only the count of the vehicle's shard rises, the note
--- stands behind the others, and the seat has seen that shard's history with what the call added
+-- stands behind the others, and the seat had one turn there, and has seen that shard's history with what the call added
 abbrev pub after_call : Seated → List Request → Request → Reply → Seated
 after_call seat before request reply = record {
   first = seat.first + rises 0 (shard_of (key_of request)) reply;
@@ -66,10 +82,13 @@ after_call seat before request reply = record {
   keeps_all = seat.keeps_all;
   first_seen = sees 0 (shard_of (key_of request)) before request reply seat.first_seen;
   second_seen = sees 1 (shard_of (key_of request)) before request reply seat.second_seen;
+  first_turns = turned 0 (shard_of (key_of request)) seat.first_turns;
+  second_turns = turned 1 (shard_of (key_of request)) seat.second_turns;
 }
 
--- a call of a seat: the reply is the answer after the history of the vehicle's shard before the call, which begins with all that
--- the seat had seen of it; the seat has then seen that history, with its own request at the end where it was accepted
+-- a call of a seat, which has one turn at the vehicle's shard: the reply is the answer after the shard's history then, which
+-- begins with all that the seat had seen of it; the seat has then seen that history, with its own request at the end where it
+-- was accepted
 pub record IsCalled (tables : Tables) (old : Seated) (request : Request) (reply : Reply) (new : Seated) : Type 0 where
   pub before : List Request
   pub seen : IsPrefix (seen_in old (shard_of (key_of request))) before
@@ -78,7 +97,7 @@ pub record IsCalled (tables : Tables) (old : Seated) (request : Request) (reply 
   pub answer : Answers tables before request reply
   pub seat : new ≡ after_call old before request reply
 
--- the seat after it has seen the history of the shard of this number
+-- the seat after a turn at the shard of this number, whose history it has then seen
 abbrev pub after_sight : Seated → ℕ → List Request → Seated
 after_sight seat number before = record {
   first = seat.first;
@@ -87,10 +106,12 @@ after_sight seat number before = record {
   keeps_all = seat.keeps_all;
   first_seen = if 0 == number then before else seat.first_seen;
   second_seen = if 1 == number then before else seat.second_seen;
+  first_turns = turned 0 number seat.first_turns;
+  second_turns = turned 1 number seat.second_turns;
 }
 
--- a list of a vehicle's events for a seat: they are those of the shard's history then, which begins with all that the seat had
--- seen of it; the seat has then seen that history
+-- a list of a vehicle's events for a seat, which has one turn at its shard: they are those of the shard's history then, which
+-- begins with all that the seat had seen of it; the seat has then seen that history
 pub record IsListed (tables : Tables) (old : Seated) (key : Key) (found : Option (List Reported)) (new : Seated) : Type 0 where
   pub before : List Request
   pub seen : IsPrefix (seen_in old (shard_of key)) before

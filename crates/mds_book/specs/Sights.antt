@@ -1,5 +1,5 @@
 -- What a seat saw of a shard's log, and how its notes stand to it.
-use Rattle.std.specs.Prelude.{◌≡◌, ℕ, ◌==◌, ◌&&◌, ◌++◌, ◌∷◌, [], List, Bool, Option, true, Some, slice_get, All, AllPairs, count_by, if◌then◌else◌}
+use Rattle.std.specs.Prelude.{◌≡◌, ℕ, ◌+◌, ◌%◌, ◌^◌, ◌==◌, ◌&&◌, ◌++◌, ◌∷◌, [], List, Bool, Option, true, Some, slice_get, All, AllPairs, count_by, if◌then◌else◌}
 use mathlib.Core.List.{IsPrefix}
 use Rattle.mds_table.specs.Tables.{Tables}
 use Rattle.mds_core.specs.declared.key.Key.{Key}
@@ -14,6 +14,15 @@ use Rattle.mds_settle.specs.declared.note.Note.{Note}
 use Rattle.mds_settle.specs.Settled.{HasRightReply, IsInOrder}
 use Rattle.mds_log.specs.Log.{Acceptance, requests}
 use Rattle.mds_book.specs.Shards.{AreOfShard}
+
+-- what a seat saw of a log, and how many turns it had: each showed it the whole log, under the shard's lock
+pub record Sighted : Type 0 where
+  pub seen : List Acceptance
+  pub turns : ℕ
+
+-- one turn more; they are counted in 64 bits
+abbrev pub next_turn : ℕ → ℕ
+next_turn turns = (turns + 1) % 2 ^ 64
 
 -- the log after a call of the seat with this mark
 abbrev pub after : List Acceptance → ℕ → Request → Bool → List Acceptance

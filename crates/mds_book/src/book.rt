@@ -5,7 +5,7 @@ ghost use Rattle.mds_core.specs.History.{key_of};
 ghost use Rattle.mds_core.specs.Headline.{is_done as outcome_is_done};
 ghost use Rattle.mds_book.specs.Shards.{shard_of as number_of, count_of};
 ghost use Rattle.mds_book.specs.Seats.{fresh, keeps_all, is_look, accepted_in, noted, IsCalled, IsListed};
-ghost use Rattle.mds_book.specs.Sights.{IsSeenWhole, IsStepped};
+ghost use Rattle.mds_book.specs.Sights.{IsSeenWhole, IsStepped, next_turn};
 ghost use Rattle.mds_book.specs.Books.{IsBadCount, GivesEvents, SeesShard, open_fault_text};
 
 use crate::gathered::Account;
@@ -104,7 +104,7 @@ fn seats_of<L: ShardLedger, M: ShardLedger>(
 ///
 /// # Errors
 ///
-/// `AllocError` where there is no memory for the tables.
+/// `AllocError` where there is no memory for the tables. It would come too where another had written to the log: nobody does.
 fn opened<L: ShardLedger, const N: usize>(
     alloc: Global,
     tables: &Tables,
@@ -165,14 +165,15 @@ fn step_in<R: Wait, L: ShardLedger, const N: usize>(
     request: &Request,
 ) -> Result<Reply, AllocError>
     requires { number_of (key_of request.now) ≡ N }
-    ensures stepped { IfOk result (λ reply. IsStepped L.tables N part.old.front part.old.mark
-        request.now reply part.new.front) }
+    ensures stepped { IfOk result (λ reply. IsStepped L.tables N part.old.sight.seen part.old.mark
+        request.now reply part.new.sight.seen) }
+    ensures turn { IfOk result (λ reply. part.new.sight.turns ≡ next_turn part.old.sight.turns) }
     ensures count { IfOk result (λ reply.
         part.new.count ≡ part.old.count + count_of reply.outcome) }
     ensures place { IfOk result (λ reply. part.old.count ≤ reply.place) }
     ensures mark { part.new.mark ≡ part.old.mark }
     ensures count_unchanged { OnErr result (part.new.count ≡ part.old.count) }
-    ensures front_unchanged { OnErr result (part.new.front ≡ part.old.front) }
+    ensures sight_unchanged { OnErr result (part.new.sight ≡ part.old.sight) }
     ensures look { is_look request.now ≡ true → IsOk result }
 {
     slot.lock(rt).step(part, request)
@@ -246,11 +247,12 @@ fn list_in<R: Wait, L: ShardLedger, const N: usize>(
     key: &Key,
 ) -> Result<Option<Vec<Event>>, AllocError>
     requires { number_of key.now ≡ N }
-    ensures listed { IfOk result (λ found. IsSeenWhole L.tables N part.old.front key.now
-        (option_map (λ events. events.items) found) part.new.front) }
+    ensures listed { IfOk result (λ found. IsSeenWhole L.tables N part.old.sight.seen key.now
+        (option_map (λ events. events.items) found) part.new.sight.seen) }
+    ensures turn { IfOk result (λ found. part.new.sight.turns ≡ next_turn part.old.sight.turns) }
     ensures count { part.new.count ≡ part.old.count }
     ensures mark { part.new.mark ≡ part.old.mark }
-    ensures unchanged { OnErr result (part.new.front ≡ part.old.front) }
+    ensures unchanged { OnErr result (part.new.sight ≡ part.old.sight) }
 {
     let mut slot = slot.lock(rt);
     let found = slot.shard().events(alloc, key)?;
@@ -277,7 +279,8 @@ impl<L: ShardLedger, M: ShardLedger> Book<L, M> {
     /// # Errors
     ///
     /// [`OpenFault::BadSeats`] where the number of seats isn't 1 to [`MAX_SEATS`], before any growth, and else
-    /// [`OpenFault::Memory`] where there is no memory.
+    /// [`OpenFault::Memory`] where there is no memory. That would come too where another had written to a log of the blanks: nobody
+    /// does, but no contract can say so.
     pub fn open(
         alloc: Global,
         tables: Tables,
@@ -312,7 +315,7 @@ impl<L: ShardLedger, M: ShardLedger> Book<L, M> {
     ///
     /// # Errors
     ///
-    /// `AllocError` where there is no memory.
+    /// `AllocError` as [`Book::open`] tells [`OpenFault::Memory`].
     fn open_all(
         alloc: Global,
         tables: Tables,

@@ -2,11 +2,10 @@
 ghost use Rattle.std.specs.Prelude.{◌≡◌, ◌+◌, length};
 ghost use Rattle.std.specs.Option.{option_copied};
 ghost use Rattle.mds_book.specs.Gathering.{IsWhole, history_of, notes_of};
-ghost use Rattle.mds_book.specs.Settling.{IsSettledBook};
+ghost use Rattle.mds_book.specs.Settling.{AreBeginnings, IsSettledBook};
 
-use crate::{ShardLedger, Slot};
+use crate::{ShardLedger, Sight, Slot};
 use mds_core::Request;
-use mds_log::Front;
 use mds_settle::Note;
 use mds_table::Tables;
 use std::marker::Model;
@@ -18,8 +17,8 @@ pub(crate) struct Account<L: ShardLedger, M: ShardLedger> {
     pub(crate) second: u64,
     pub(crate) notes: Vec<Note>,
     pub(crate) keeps_all: bool,
-    pub(crate) first_front: Front<L>,
-    pub(crate) second_front: Front<M>,
+    pub(crate) first_sight: Sight<L>,
+    pub(crate) second_sight: Sight<M>,
 }
 
 impl<L: ShardLedger, M: ShardLedger> Model for Account<L, M> {
@@ -33,8 +32,10 @@ impl<L: ShardLedger, M: ShardLedger> Model for Account<L, M> {
       second = account.second;
       notes = account.notes.items;
       keeps_all = account.keeps_all;
-      first_seen = requests account.first_front;
-      second_seen = requests account.second_front;
+      first_seen = requests account.first_sight.seen;
+      second_seen = requests account.second_sight.seen;
+      first_turns = account.first_sight.turns;
+      second_turns = account.second_sight.turns;
     } };
 }
 
@@ -66,8 +67,9 @@ impl<L: ShardLedger, M: ShardLedger> Model for Gathered<L, M> {
         × (length all.second.history ≡ sum_by (λ seat. seat.second) all.seats.items) };
 }
 
-/// What is left of a book whose seats all came back. Their notes fit the histories. The histories are the order in which the
-/// accepted calls took place, shard by shard; each was noted once, and stands in its caller's order.
+/// What is left of a book whose seats all came back. Their notes fit the histories, and what each seat saw is a beginning of its
+/// shard's history. The histories are the order in which the accepted calls took place, shard by shard; each was noted once,
+/// and stands in its caller's order.
 #[derive(Drop)]
 pub struct Settled<L: ShardLedger, M: ShardLedger> {
     gathered: Gathered<L, M>,
@@ -75,13 +77,13 @@ pub struct Settled<L: ShardLedger, M: ShardLedger> {
 
 impl<L: ShardLedger, M: ShardLedger> Model for Settled<L, M> {
     ghost use Rattle.mds_book.specs.Gathering.{Collected};
-    ghost use Rattle.mds_book.specs.Settling.{IsSettledBook};
+    ghost use Rattle.mds_book.specs.Settling.{AreBeginnings, IsSettledBook};
 
     ghost Value = { Collected };
 
     ghost view = { λ settled. settled.gathered };
 
-    ghost invariant = { λ settled. IsSettledBook settled.gathered };
+    ghost invariant = { λ settled. IsSettledBook settled.gathered × AreBeginnings settled.gathered };
 }
 
 impl<L: ShardLedger, M: ShardLedger> Gathered<L, M> {
@@ -124,9 +126,10 @@ impl<L: ShardLedger, M: ShardLedger> Gathered<L, M> {
 }
 
 impl<L: ShardLedger, M: ShardLedger> Settled<L, M> {
-    /// All that was gathered, once it is known that the notes fit.
+    /// All that was gathered, once it is known that the notes fit, and that the seats saw beginnings.
     pub(crate) fn of(gathered: Gathered<L, M>) -> Settled<L, M>
-        requires { IsSettledBook gathered }
+        requires settled { IsSettledBook gathered }
+        requires beginnings { AreBeginnings gathered }
         ensures { result ≡ gathered }
     {
         Settled { gathered }
@@ -157,6 +160,7 @@ impl<L: ShardLedger, M: ShardLedger> Settled<L, M> {
     pub fn accepted(&self) -> u128
         ensures total { result ≡ length self.now.first + length self.now.second }
         ensures settled { IsSettledBook self.now }
+        ensures beginnings { AreBeginnings self.now }
         ensures whole { IsWhole self.now }
     {
         self.gathered.tell();

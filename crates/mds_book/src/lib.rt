@@ -9,6 +9,7 @@ mod gathered;
 pub mod laws;
 mod seat;
 mod settling;
+mod sight;
 mod slot;
 #[cfg(test)]
 mod tests;
@@ -20,4 +21,5 @@ pub use mds_gate::{Gate, OpenGate};
 pub use mds_settle::{Note, NoteList, judge};
 pub use seat::{Keep, Part, Seat};
 pub use settling::{SettleFault, reconcile};
+pub use sight::Sight;
 pub use slot::{ShardLedger, Slot};

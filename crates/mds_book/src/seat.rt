@@ -4,9 +4,9 @@ ghost use mathlib.Core.List.{IsPrefix};
 ghost use Rattle.mds_core.specs.Headline.{is_done};
 ghost use Rattle.mds_book.specs.Shards.{count_of};
 ghost use Rattle.mds_book.specs.Seats.{accepted_in, is_look, fresh, keeps_all};
-ghost use Rattle.mds_book.specs.Sights.{after};
+ghost use Rattle.mds_book.specs.Sights.{after, next_turn};
 
-use crate::ShardLedger;
+use crate::{ShardLedger, Sight};
 use mds_core::{Outcome, Request};
 use mds_log::{Front, Keeper, Mark, Marks};
 use mds_settle::{Note, NoteList};
@@ -29,7 +29,7 @@ pub enum Keep {
 pub struct Part<L: ShardLedger> {
     pub(crate) share: Share<L>,
     pub(crate) count: u64,
-    pub(crate) front: Front<L>,
+    pub(crate) sight: Sight<L>,
     pub(crate) mark: Mark<L>,
     ghost one_part: { share.parts ≡ 1 },
     ghost counted: { share.amount ≡ count },
@@ -67,13 +67,15 @@ impl<L: ShardLedger, M: ShardLedger> Model for Seat<L, M> {
       second = seat.second.count;
       notes = seat.notes.items;
       keeps_all = seat.keeps_all;
-      first_seen = requests seat.first.front;
-      second_seen = requests seat.second.front;
+      first_seen = requests seat.first.sight.seen;
+      second_seen = requests seat.second.sight.seen;
+      first_turns = seat.first.sight.turns;
+      second_turns = seat.second.sight.turns;
     } };
 
     ghost invariant = { λ seat.
-        AreTrue L.tables 0 seat.first.front seat.first.mark seat.notes.items seat.first.count
-        × AreTrue M.tables 1 seat.second.front seat.second.mark seat.notes.items seat.second.count };
+        AreTrue L.tables 0 seat.first.sight.seen seat.first.mark seat.notes.items seat.first.count
+        × AreTrue M.tables 1 seat.second.sight.seen seat.second.mark seat.notes.items seat.second.count };
 }
 
 impl<L: ShardLedger> Parts<L> {
@@ -81,13 +83,13 @@ impl<L: ShardLedger> Parts<L> {
     pub(crate) fn cut(&mut self) -> Part<L>
         requires { 1 ≤ self.old.share.parts }
         ensures count { result.count ≡ 0 }
-        ensures front { result.front ≡ [] }
+        ensures sight { result.sight ≡ record { seen = []; turns = 0 } }
         ensures parts { self.new.share.parts + 1 ≡ self.old.share.parts }
     {
         Part {
             share: self.share.split_off(1, 0),
             count: 0,
-            front: self.front.again(),
+            sight: Sight::new(self.front.again()),
             mark: self.marks.mark(),
         }
     }
@@ -97,7 +99,7 @@ impl<L: ShardLedger> Part<L> {
     /// Tells that the part's count is no more than what the ledger has counted. It changes nothing.
     pub(crate) fn audit(&mut self, accepted: &mut Book<L>)
         ensures count { self.new.count ≡ self.old.count }
-        ensures front { self.new.front ≡ self.old.front }
+        ensures sight { self.new.sight ≡ self.old.sight }
         ensures mark { self.new.mark ≡ self.old.mark }
         ensures total { accepted.new.total ≡ accepted.old.total }
         ensures bound { self.old.count ≤ accepted.old.total }
@@ -105,7 +107,7 @@ impl<L: ShardLedger> Part<L> {
         accepted.audit(&mut self.share);
     }
 
-    /// Sees the whole log, and where a request was accepted counts it and adds it to the log.
+    /// Has a turn at the log, and where a request was accepted counts it and adds it to the log.
     pub(crate) fn keep(
         &mut self,
         accepted: &mut Book<L>,
@@ -117,22 +119,22 @@ impl<L: ShardLedger> Part<L> {
         requires bound { self.old.count ≤ length keeper.old }
         ensures count { self.new.count ≡ self.old.count + count_of outcome.now }
         ensures total { accepted.new.total ≡ accepted.old.total + count_of outcome.now }
-        ensures seen { IsPrefix self.old.front keeper.old }
+        ensures seen { IsPrefix self.old.sight.seen keeper.old }
         ensures log { keeper.new ≡ after keeper.old self.old.mark request.now (is_done outcome.now) }
-        ensures front { self.new.front ≡ keeper.new }
+        ensures sight { self.new.sight
+            ≡ record { seen = keeper.new; turns = next_turn self.old.sight.turns } }
         ensures mark { self.new.mark ≡ self.old.mark }
     {
         let Part {
             share,
             count,
-            front,
+            sight,
             mark,
         } = self;
-        keeper.show(front);
+        sight.look(keeper);
         if let Outcome::Done = outcome {
             accepted.add(share, 1);
-            keeper.add(mark, request);
-            *front = keeper.front();
+            sight.add(keeper, mark, request);
             *count += 1;
         }
     }

@@ -9,7 +9,7 @@ ghost use Rattle.mds_book.specs.Retired.{AreRetired, IsRetired};
 ghost use Rattle.mds_book.specs.Settling.{AreBeginnings, IsSettledBook};
 
 use crate::gathered::Account;
-use crate::{Book, Gathered, Part, Seat, Settled, ShardLedger, Slot};
+use crate::{Book, Gathered, Part, Seat, Settled, ShardLedger, Sight, Slot};
 use mds_log::{Front, Marks};
 use std::sync::ledger::Share;
 
@@ -90,13 +90,13 @@ fn count_seats<L: ShardLedger, M: ShardLedger>(
     let Part {
         share: one_share,
         count: one_count,
-        front: _,
+        sight: _,
         mark: _,
     } = one;
     let Part {
         share: other_share,
         count: other_count,
-        front: _,
+        sight: _,
         mark: _,
     } = other;
     let (one_held, other_held) = (*one_count, *other_count);
@@ -127,12 +127,12 @@ impl<L: ShardLedger, const N: usize> Closing<L, N> {
     }
 
     /// Takes a seat's part of the shard back, with its mark, and hands out its count and what it saw: a beginning of the log.
-    fn retire(&mut self, part: Part<L>) -> (u64, Front<L>)
+    fn retire(&mut self, part: Part<L>) -> (u64, Sight<L>)
         ensures slot { self.new.slot ≡ self.old.slot }
         ensures log { self.new.log ≡ self.old.log }
         ensures count { result.0 ≡ part.count }
-        ensures front { result.1 ≡ part.front }
-        ensures seen { IsPrefix part.front self.old.log }
+        ensures sight { result.1 ≡ part.sight }
+        ensures seen { IsPrefix part.sight.seen self.old.log }
         ensures fresh { HasNot self.old.marks part.mark }
         ensures here { Has self.new.marks part.mark }
         ensures begins { IsPrefix self.old.marks self.new.marks }
@@ -140,12 +140,12 @@ impl<L: ShardLedger, const N: usize> Closing<L, N> {
         let Part {
             share: _,
             count,
-            front,
+            sight,
             mark,
         } = part;
-        self.slot.show(&self.log, &front);
+        self.slot.show(&self.log, sight.front());
         self.marks.retire(mark);
-        (count, front)
+        (count, sight)
     }
 }
 
@@ -167,15 +167,15 @@ fn retire<L: ShardLedger, M: ShardLedger>(
         notes,
         keeps_all,
     } = seat;
-    let (first_count, first_front) = first.retire(one);
-    let (second_count, second_front) = second.retire(other);
+    let (first_count, first_sight) = first.retire(one);
+    let (second_count, second_sight) = second.retire(other);
     Account {
         first: first_count,
         second: second_count,
         notes,
         keeps_all,
-        first_front,
-        second_front,
+        first_sight,
+        second_sight,
     }
 }
 

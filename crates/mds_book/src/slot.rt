@@ -6,7 +6,7 @@ ghost use Rattle.mds_core.specs.Lawful.{IsLawful};
 ghost use mathlib.Core.List.{IsPrefix};
 ghost use Rattle.mds_log.specs.Log.{requests};
 ghost use Rattle.mds_book.specs.Shards.{shard_of as number_of, AreOfShard, count_of};
-ghost use Rattle.mds_book.specs.Sights.{IsShown};
+ghost use Rattle.mds_book.specs.Sights.{IsShown, next_turn};
 
 use crate::Part;
 use mds_core::{Key, Reply, Request};
@@ -139,21 +139,22 @@ impl<L: ShardLedger, const N: usize> Slot<L, N> {
         self.keeper.show(&mut shown);
     }
 
-    /// Lets a seat's part see the whole log. Nothing else changes.
+    /// Lets a seat's part have a turn at the log. Nothing else changes.
     pub(crate) fn see(&mut self, part: &mut Part<L>)
         ensures slot { self.new ≡ self.old }
-        ensures begins { IsPrefix part.old.front part.new.front }
-        ensures whole { requests part.new.front ≡ self.old.history }
+        ensures begins { IsPrefix part.old.sight.seen part.new.sight.seen }
+        ensures whole { requests part.new.sight.seen ≡ self.old.history }
+        ensures turn { part.new.sight.turns ≡ next_turn part.old.sight.turns }
         ensures count { part.new.count ≡ part.old.count }
         ensures mark { part.new.mark ≡ part.old.mark }
     {
         // This call's contract says that the history is no longer than a list can be.
         let _ = self.shard.len();
-        self.keeper.show(&mut part.front);
+        part.sight.look(&mut self.keeper);
     }
 
-    /// Answers a request about a vehicle of this shard, as [`Shard::step`] does, for a seat with this part of the shard. The
-    /// part has then seen all that the shard had accepted. Exactly where the request is accepted, the ledger moves one into the
+    /// Answers a request about a vehicle of this shard, as [`Shard::step`] does, for a seat with this part of the shard, which
+    /// has a turn at the log: it has then seen all that the shard had accepted. Exactly where the request is accepted, the ledger moves one into the
     /// part's share, and the request is added to the log under the part's mark.
     ///
     /// # Errors
@@ -169,13 +170,15 @@ impl<L: ShardLedger, const N: usize> Slot<L, N> {
         ensures count { IfOk result (λ reply.
             part.new.count ≡ part.old.count + count_of reply.outcome) }
         ensures place { IfOk result (λ reply. part.old.count ≤ reply.place) }
-        ensures shown { IfOk result (λ reply. IsShown part.old.front self.old.history part.old.mark
-            request.now reply part.new.front) }
+        ensures shown { IfOk result (λ reply. IsShown part.old.sight.seen self.old.history part.old.mark
+            request.now reply part.new.sight.seen) }
+        ensures turn { IfOk result (λ reply.
+            part.new.sight.turns ≡ next_turn part.old.sight.turns) }
         ensures mark { part.new.mark ≡ part.old.mark }
         ensures room { IfOk result (λ reply. reply.place + 1 < 2 ^ 64) }
         ensures memory { OnErr result (LacksMemory self.old request.now self.new) }
         ensures count_unchanged { OnErr result (part.new.count ≡ part.old.count) }
-        ensures front_unchanged { OnErr result (part.new.front ≡ part.old.front) }
+        ensures sight_unchanged { OnErr result (part.new.sight ≡ part.old.sight) }
     {
         let Slot {
             shard,

@@ -1,11 +1,12 @@
 use Rattle.std.proofs.Common.{refl, sym, ap, ◌∙◌}
+use Rattle.mds_book.specs.Sights.{next_turn}
 use Rattle.mds_book.proofs.Listed.{listed_first, true_seen}
 use Rattle.mds_book.proofs.book.Book.list_first.Goals as goal
 
 -- the notes stay true to what the seat has seen of the first shard now, and to the second
 pub invariant_of-seat-2 : goal.invariant_of-seat-2
 invariant_of-seat-2 g c = (
-  true_seen g.L.ShardLedger.tables 0 c.seat.inside.first.front c.list_in.new.part.front c.seat.inside.first.mark c.list_in.new.part.mark c.seat.inside.notes.items
+  true_seen g.L.ShardLedger.tables 0 c.seat.inside.first.sight.seen c.list_in.new.part.sight.seen c.seat.inside.first.mark c.list_in.new.part.mark c.seat.inside.notes.items
       c.seat.inside.first.count c.list_in.new.part.count c.seat.invariant.0 c.in_ok-found.ensures.listed.seen c.list_in.ensures.mark c.list_in.ensures.count,
   c.seat.invariant.1,
 )
@@ -13,7 +14,8 @@ invariant_of-seat-2 g c = (
 pub returns-clause-listed : goal.returns-clause-listed
 returns-clause-listed g c =
     let view = c.seat.view_is in
-    listed_first c.args.self.now.tables g.L.ShardLedger.tables c.args.seat.now _ c.seat.inside.first.front c.list_in.new.part.front c.args.key.now _
+    listed_first c.args.self.now.tables g.L.ShardLedger.tables c.args.seat.now _ c.seat.inside.first.sight.seen c.list_in.new.part.sight.seen c.args.key.now _
     (sym (ap (λ b. b.tables) c.self.view_is) ∙ c.self.invariant.0) c.requires c.in_ok-found.ensures.listed
-    (sym (ap (λ s. s.first_seen) view)) refl
+    (sym (ap (λ s. s.first_seen) view)) refl (c.in_ok-found.ensures.turn ∙ ap (λ s. next_turn s.first_turns) view)
     (c.list_in.ensures.count ∙ ap (λ s. s.first) view) (ap (λ s. s.second) view) (ap (λ s. s.notes) view) (ap (λ s. s.keeps_all) view) (ap (λ s. s.second_seen) view)
+    (ap (λ s. s.second_turns) view)
