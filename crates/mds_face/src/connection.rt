@@ -93,14 +93,15 @@ pub fn serve_one<R: Read, W: Write, D: Desk>(
     ensures no_further { ReadsNoFurther (R.remaining reader.old) (R.remaining reader.new) }
 {
     match read_plan(alloc, face, reader) {
-        Ok(plan) => answer(alloc, writer, desk, &plan),
+        Ok(plan) => answer(alloc, writer, desk, plan),
         Err(ReadError::Memory) => Err(out_of_memory(writer)),
         Err(ReadError::Device) => Err(ServeFault::Read),
         Err(ReadError::TooManyTurns) => Err(ServeFault::TooManyTurns { sent: 0 }),
     }
 }
 
-/// Puts what is asked for to the desk, and writes the answer.
+/// Puts what is asked for to the desk, and writes the answer. What was asked and what was found are let go before that: a client
+/// that reads slowly holds the bytes of its answer, and nothing else.
 ///
 /// # Errors
 ///
@@ -110,21 +111,24 @@ fn answer<W: Write, D: Desk>(
     alloc: Global,
     writer: &mut W,
     desk: &mut D,
-    plan: &Plan,
+    plan: Plan,
 ) -> Result<Served, ServeFault>
     ensures answered { IfOk result (IsAnsweredWhole D.calls D.gives_events D.gives_rows
-        (asked_in plan.now) desk.old desk.new (W.contents writer.old) (W.contents writer.new)) }
+        (asked_in plan) desk.old desk.new (W.contents writer.old) (W.contents writer.new)) }
     ensures stopped { IfErr result (StopsAsked D.calls D.gives_events D.gives_rows
-        (asked_in plan.now) desk.old desk.new (W.contents writer.old) (W.contents writer.new)) }
+        (asked_in plan) desk.old desk.new (W.contents writer.old) (W.contents writer.new)) }
 {
-    let Ok(found) = find(alloc, desk, plan) else {
+    let Ok(found) = find(alloc, desk, &plan) else {
         return Err(out_of_memory(writer));
     };
-    let Ok(bytes) = bytes_of(alloc, plan, &found) else {
+    let Ok(bytes) = bytes_of(alloc, &plan, &found) else {
         return Err(out_of_memory(writer));
     };
+    let served = served_of(&plan, &found);
+    drop(found);
+    drop(plan);
     match write_answer(writer, &bytes) {
-        Ok(()) => Ok(served_of(plan, &found)),
+        Ok(()) => Ok(served),
         Err(fault) => Err(fault),
     }
 }

@@ -1,26 +1,71 @@
-//! One connection's answer, and the count of those that a worker answered.
+//! A connection, from the port that gave it to its answer, and the count of those that a worker answered.
 ghost use Rattle.std.specs.Prelude.{◌≡◌, ◌↔◌, ◌+◌, ◌<◌, ◌^◌, IfOk, IfErr, IsOkAnd};
 ghost use Rattle.mds_face.specs.Reading.{ReadsNoFurther};
 ghost use Rattle.mds_face.specs.Serving.{IsServed, Stops};
 
-use crate::Ending;
+use crate::{Ending, Port, PortFault};
 use mds_face::{Desk, Face, ServeFault, Served, serve_one};
 use std::alloc::Global;
-use std::io::{Read, Write};
 use std::marker::Model;
 
 /// The status of an answer to a request that was read to its end and granted (RFC 9110, section 15.3.1).
 const OK: u16 = 200;
 
-/// That a connection was answered, and what came of it. [`answer_at`] alone makes one.
+/// A connection that was taken from a port, and isn't answered yet. [`Connection::take`] alone makes one, of both ends that the
+/// port gave.
 #[derive(Drop)]
-pub(crate) struct Answer {
+pub(crate) struct Connection<P: Port> {
+    input: P::In,
+    output: P::Out,
+}
+
+/// A connection that was answered, and what came of it. [`Connection::answer_at`] alone makes one.
+#[derive(Drop)]
+pub(crate) struct Answer<P: Port> {
+    input: P::In,
+    output: P::Out,
     served: Result<Served, ServeFault>,
 }
 
-impl Answer {
+impl<P: Port> Connection<P> {
+    /// Waits for the next connection of the port, and takes it.
+    ///
+    /// # Errors
+    ///
+    /// [`PortFault`] where no further connection can be taken.
+    pub(crate) fn take(port: &P) -> Result<Connection<P>, PortFault> {
+        match port.accept() {
+            Ok((input, output)) => Ok(Connection { input, output }),
+            Err(fault) => Err(fault),
+        }
+    }
+
+    /// Answers it at a desk. One that ends with a fault counts as answered.
+    pub(crate) fn answer_at<D: Desk>(self, alloc: Global, face: &Face, desk: &mut D) -> Answer<P>
+        ensures served { IfOk result.served (IsServed D.calls D.gives_events D.gives_rows
+            (P.In.remaining self.input) desk.old desk.new
+            (P.Out.contents self.output) (P.Out.contents result.output)) }
+        ensures stopped { IfErr result.served (Stops D.calls D.gives_events D.gives_rows
+            (P.In.remaining self.input) desk.old desk.new
+            (P.Out.contents self.output) (P.Out.contents result.output)) }
+        ensures no_further { ReadsNoFurther (P.In.remaining self.input) (P.In.remaining result.input) }
+    {
+        let Connection {
+            mut input,
+            mut output,
+        } = self;
+        let served = serve_one(alloc, face, &mut input, &mut output, desk);
+        Answer {
+            input,
+            output,
+            served,
+        }
+    }
+}
+
+impl<P: Port> Answer<P> {
     /// How the connection ends: at once where its request was granted, since it was then read to its end.
-    pub(crate) fn ending(&self) -> Ending
+    fn ending(&self) -> Ending
         ensures { result ≡ Ending.AtOnce
             ↔ IsOkAnd self.now.served (λ served. served.status ≡ 200) }
     {
@@ -29,26 +74,6 @@ impl Answer {
             Ok(_) | Err(_) => Ending::InStages,
         }
     }
-}
-
-/// Answers a connection at a desk. One that ends with a fault counts as answered.
-pub(crate) fn answer_at<I: Read, O: Write, D: Desk>(
-    alloc: Global,
-    face: &Face,
-    input: &mut I,
-    output: &mut O,
-    desk: &mut D,
-) -> Answer
-    ensures served { IfOk result.served (IsServed D.calls D.gives_events D.gives_rows
-        (I.remaining input.old) desk.old desk.new
-        (O.contents output.old) (O.contents output.new)) }
-    ensures stopped { IfErr result.served (Stops D.calls D.gives_events D.gives_rows
-        (I.remaining input.old) desk.old desk.new
-        (O.contents output.old) (O.contents output.new)) }
-    ensures no_further { ReadsNoFurther (I.remaining input.old) (I.remaining input.new) }
-{
-    let served = serve_one(alloc, face, input, output, desk);
-    Answer { served }
 }
 
 /// How many connections a worker answered. It rises by an [`Answer`] alone, and can't be copied.
@@ -73,12 +98,18 @@ impl AnswerCount {
         AnswerCount { answers: 0 }
     }
 
-    /// Counts a connection, by its answer.
-    pub(crate) fn add(&mut self, answer: Answer)
+    /// Ends a connection that was answered, and counts it.
+    pub(crate) fn add<P: Port>(&mut self, port: &P, answer: Answer<P>)
         requires { self.old + 1 < 2 ^ 64 }
         ensures { self.new ≡ self.old + 1 }
     {
-        let Answer { served: _ } = answer;
+        let ending = answer.ending();
+        let Answer {
+            input,
+            output,
+            served: _,
+        } = answer;
+        port.end(input, output, ending);
         self.answers += 1;
     }
 

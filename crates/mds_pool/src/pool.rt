@@ -5,14 +5,13 @@ ghost use Rattle.mds_face.specs.Seats.{HasGrown};
 ghost use Rattle.mds_pool.specs.Pool.{pool_cause_text};
 ghost use Rattle.mds_pool.specs.Workers.{HasWorked};
 
-use crate::answering::{Answer, answer_at};
+use crate::answering::{Answer, Connection};
 use crate::worker::{Round, Shift, Worker, workers_at};
 use crate::{AnswerCount, Port};
 use mds_book::{Book, Gate, Seat, ShardLedger};
 use mds_face::{Face, SeatDesk};
 use std::alloc::Global;
 use std::fmt;
-use std::io::{Read, Write};
 use std::sync::Wait;
 use std::thread::{self, Threads};
 
@@ -208,8 +207,8 @@ impl<R: Wait, P: Port, L: ShardLedger, M: ShardLedger, G: Gate> Crew<'_, R, P, L
     {
         let mut answered = AnswerCount::none();
         for nth in 0..each {
-            let (input, output) = match self.port.accept() {
-                Ok(ends) => ends,
+            let connection = match Connection::take(self.port) {
+                Ok(connection) => connection,
                 Err(fault) => {
                     return Shift {
                         answered,
@@ -218,7 +217,7 @@ impl<R: Wait, P: Port, L: ShardLedger, M: ShardLedger, G: Gate> Crew<'_, R, P, L
                 }
             };
             self.gate.enter(number, nth);
-            answered.add(self.answer(seat, input, output));
+            answered.add(self.port, self.answer(seat, connection));
             self.gate.leave(number, nth);
         }
         Shift {
@@ -227,8 +226,8 @@ impl<R: Wait, P: Port, L: ShardLedger, M: ShardLedger, G: Gate> Crew<'_, R, P, L
         }
     }
 
-    /// Answers a connection for a seat, and ends it.
-    fn answer(&self, seat: &mut Seat<L, M>, mut input: P::In, mut output: P::Out) -> Answer
+    /// Answers a connection for a seat.
+    fn answer(&self, seat: &mut Seat<L, M>, connection: Connection<P>) -> Answer<P>
         ensures { HasGrown seat.old seat.new }
     {
         let mut desk = SeatDesk {
@@ -237,28 +236,26 @@ impl<R: Wait, P: Port, L: ShardLedger, M: ShardLedger, G: Gate> Crew<'_, R, P, L
             book: self.book,
             seat,
         };
-        let answer = answer_at_seat(self.alloc, self.face, &mut input, &mut output, &mut desk);
+        let answer = answer_at_seat(self.alloc, self.face, connection, &mut desk);
         let SeatDesk {
             alloc: _,
             rt: _,
             book: _,
             seat: _,
         } = desk;
-        self.port.end(input, output, answer.ending());
         answer
     }
 }
 
 /// Answers a connection at a seat's desk.
-fn answer_at_seat<R: Wait, I: Read, O: Write, L: ShardLedger, M: ShardLedger>(
+fn answer_at_seat<R: Wait, P: Port, L: ShardLedger, M: ShardLedger>(
     alloc: Global,
     face: &Face,
-    input: &mut I,
-    output: &mut O,
+    connection: Connection<P>,
     desk: &mut SeatDesk<'_, R, L, M>,
-) -> Answer
+) -> Answer<P>
     ensures same_seat { desk.new.seat.ghost_name ≡ desk.old.seat.ghost_name }
     ensures grown { HasGrown desk.old.seat.now desk.new.seat.now }
 {
-    answer_at(alloc, face, input, output, desk)
+    connection.answer_at(alloc, face, desk)
 }
