@@ -3,7 +3,6 @@ mod changes;
 mod quiet;
 mod takers;
 mod texts;
-mod values;
 
 use mds_batch::{
     BatchFault, BatchItem, EventItem, ItemFault, Member, VehicleItem, read_events, read_vehicles,

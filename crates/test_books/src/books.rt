@@ -6,8 +6,6 @@ mod cases;
 mod locks;
 mod threads;
 
-use crate::shards::hasher;
-use crate::steps::{DROPPED_OFF, NEW, Step};
 use mds_book::{
     Blank, Book, Keep, Note, OpenFault, Seat, SettleFault, Settled, ShardLedger, reconcile,
 };
@@ -23,6 +21,7 @@ use std::thread;
 use std::thread::Threads;
 use test_fixtures::Ask::{Look, Register};
 use test_fixtures::{A, B, C, Lack, fence, key, profile_again, request_of};
+use test_steps::{DROPPED_OFF, NEW, Step, hasher};
 
 /// What is asked of a book of so many seats: steps, each by the next seat; then lists, each by a seat and in a thread of its
 /// own; and then steps that take no memory.
@@ -234,15 +233,29 @@ fn settled<L: ShardLedger, M: ShardLedger>(
     }
 }
 
-/// The settled book, once its last seat was left out and missed.
+/// The same, once the first seat was left out and missed; it is the last one then.
+fn missed_first<L: ShardLedger, M: ShardLedger>(
+    back: Option<(Book<L, M>, Vec<Seat<L, M>>)>,
+) -> Option<(Book<L, M>, Vec<Seat<L, M>>)> {
+    let (book, mut seats) = back?;
+    if seats.is_empty() {
+        return None;
+    }
+    let seat = seats.remove(0);
+    joined_again(handed_back(book, seats), seat)
+}
+
+/// The settled book, once each of its seats was left out and missed.
 fn settled_once_missed<L: ShardLedger, M: ShardLedger>(
     book: Book<L, M>,
-    mut seats: Vec<Seat<L, M>>,
+    seats: Vec<Seat<L, M>>,
 ) -> Option<Settled<L, M>> {
-    match seats.pop() {
-        Some(seat) => settled(joined_again(handed_back(book, seats), seat)),
-        None => None,
+    let count = seats.len();
+    let mut back = Some((book, seats));
+    for _ in 0..count {
+        back = missed_first(back);
     }
+    settled(back)
 }
 
 /// How long a list is, if it is there.

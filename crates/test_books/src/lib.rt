@@ -1,5 +1,4 @@
-//! Tests of what many callers share: the shards, the books over them, what their callers note and how it is judged, and the
-//! open gate.
+//! Tests of books: what their seats are told, by turns, in threads and beside a locked shard, and how they end.
 #![tactic(auto)]
 
 /// The rows of a table of cases, one to a line.
@@ -10,11 +9,3 @@ macro_rules! rows {
 
 #[cfg(test)]
 mod books;
-#[cfg(test)]
-mod gates;
-#[cfg(test)]
-mod settling;
-#[cfg(test)]
-mod shards;
-#[cfg(test)]
-mod steps;

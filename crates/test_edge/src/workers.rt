@@ -106,128 +106,101 @@ fn routes(alloc: Global) -> Result<Face, Lack> {
     }
 }
 
-/// Serves the port with a new book, and settles it. It serves between two fences.
-fn served_by<
-    R: Threads + Wait + Sync,
-    P: Port + Sync,
-    G: Gate + Sync,
-    L: ShardLedger + Send + Sync,
-    M: ShardLedger + Send + Sync,
->(rt: &R, alloc: Global, port: &P, gate: &G, turns: Turns, opening: NewBook) -> Result<Came, Lack>
-where
-    P::In: Send,
-    P::Out: Send,
-    requires first { (opening.first.name ≡ L.name) × (opening.first.parts ≡ L.parts) }
-    requires second { (opening.second.name ≡ M.name) × (opening.second.parts ≡ M.parts) }
-    requires first_log { (opening.first.log ≡ L.log) × (opening.first.marks ≡ L.marks) }
-    requires second_log { (opening.second.log ≡ M.log) × (opening.second.marks ≡ M.marks) }
-    requires parts { (opening.first.parts ≡ opening.seats)
-        × (opening.second.parts ≡ opening.seats) }
-    requires tables { (opening.tables ≡ L.tables) × (opening.tables ≡ M.tables) }
-{
-    let face = routes(alloc)?;
-    let NewBook {
-        tables,
-        seats,
-        first,
-        second,
-        hashers,
-    } = opening;
-    match Book::<L, M>::open(alloc, tables, seats, Keep::Accepted, first, second, hashers) {
-        Ok((book, list)) => Ok(served_at(rt, alloc, port, gate, turns, &face, book, list)),
-        Err(_) => Err(Lack::Memory),
-    }
+/// A port, and how it is served.
+#[derive(Drop)]
+struct Pool<'a, R, P, G> {
+    rt: &'a R,
+    alloc: Global,
+    port: &'a P,
+    gate: &'a G,
+    turns: Turns,
 }
 
-/// Serves the port with these seats of the book, and settles it.
-fn served_at<
-    R: Threads + Wait + Sync,
-    P: Port + Sync,
-    G: Gate + Sync,
-    L: ShardLedger + Send + Sync,
-    M: ShardLedger + Send + Sync,
->(
-    rt: &R,
-    alloc: Global,
-    port: &P,
-    gate: &G,
-    turns: Turns,
-    face: &Face,
-    book: Book<L, M>,
-    list: Vec<Seat<L, M>>,
-) -> Came
+impl<R: Threads + Wait + Sync, P: Port + Sync, G: Gate + Sync> Pool<'_, R, P, G>
 where
     P::In: Send,
     P::Out: Send,
 {
-    let (cause, list) = served_in_rounds(rt, alloc, port, gate, turns, face, &book, list);
-    let count = list.len();
-    (cause, count, accepted_in(book, list))
-}
-
-/// Serves the port in rounds, between two fences, each tried again where there was no memory for its workers: why one ended
-/// before its end, if one did, and the seats.
-fn served_in_rounds<
-    R: Threads + Wait + Sync,
-    P: Port + Sync,
-    G: Gate + Sync,
-    L: ShardLedger + Send + Sync,
-    M: ShardLedger + Send + Sync,
->(
-    rt: &R,
-    alloc: Global,
-    port: &P,
-    gate: &G,
-    turns: Turns,
-    face: &Face,
-    book: &Book<L, M>,
-    mut list: Vec<Seat<L, M>>,
-) -> (Option<PoolCause>, Vec<Seat<L, M>>)
-where
-    P::In: Send,
-    P::Out: Send,
-{
-    let mut cause = None;
-    let _begun = fence(alloc);
-    for _ in 0..turns.rounds {
-        let came = served_once(rt, alloc, port, gate, turns.each, face, book, list);
-        let again = came.0 == Some(PoolCause::Memory);
-        let (why, back) = if again {
-            served_once(rt, alloc, port, gate, turns.each, face, book, came.1)
-        } else {
-            came
+    /// Serves the port with a new book, and settles it. It serves between two fences.
+    fn serve_new<L: ShardLedger + Send + Sync, M: ShardLedger + Send + Sync>(
+        &self,
+        opening: NewBook,
+    ) -> Result<Came, Lack>
+        requires first { (opening.first.name ≡ L.name) × (opening.first.parts ≡ L.parts) }
+        requires second { (opening.second.name ≡ M.name) × (opening.second.parts ≡ M.parts) }
+        requires first_log { (opening.first.log ≡ L.log) × (opening.first.marks ≡ L.marks) }
+        requires second_log { (opening.second.log ≡ M.log) × (opening.second.marks ≡ M.marks) }
+        requires parts { (opening.first.parts ≡ opening.seats)
+            × (opening.second.parts ≡ opening.seats) }
+        requires tables { (opening.tables ≡ L.tables) × (opening.tables ≡ M.tables) }
+    {
+        let face = routes(self.alloc)?;
+        let NewBook {
+            tables,
+            seats,
+            first,
+            second,
+            hashers,
+        } = opening;
+        let opened = Book::<L, M>::open(
+            self.alloc,
+            tables,
+            seats,
+            Keep::Accepted,
+            first,
+            second,
+            hashers,
+        );
+        let Ok((book, list)) = opened else {
+            return Err(Lack::Memory);
         };
-        cause = why.or(cause);
-        list = back;
+        let (cause, list) = self.serve_in_rounds(&face, &book, list);
+        let count = list.len();
+        Ok((cause, count, accepted_in(book, list)))
     }
-    let _ended = fence(alloc);
-    (cause, list)
-}
 
-/// Serves the port once: why it ended before its end, if it did, and the seats.
-fn served_once<
-    R: Threads + Wait + Sync,
-    P: Port + Sync,
-    G: Gate + Sync,
-    L: ShardLedger + Send + Sync,
-    M: ShardLedger + Send + Sync,
->(
-    rt: &R,
-    alloc: Global,
-    port: &P,
-    gate: &G,
-    each: usize,
-    face: &Face,
-    book: &Book<L, M>,
-    list: Vec<Seat<L, M>>,
-) -> (Option<PoolCause>, Vec<Seat<L, M>>)
-where
-    P::In: Send,
-    P::Out: Send,
-{
-    match serve(rt, alloc, face, port, book, list, each, gate) {
-        Ok(back) => (None, back),
-        Err(fault) => (Some(fault.cause), fault.seats),
+    /// Serves the port in rounds, between two fences, each tried again where there was no memory for its workers: why one ended
+    /// before its end, if one did, and the seats.
+    fn serve_in_rounds<L: ShardLedger + Send + Sync, M: ShardLedger + Send + Sync>(
+        &self,
+        face: &Face,
+        book: &Book<L, M>,
+        mut list: Vec<Seat<L, M>>,
+    ) -> (Option<PoolCause>, Vec<Seat<L, M>>) {
+        let mut cause = None;
+        let _begun = fence(self.alloc);
+        for _ in 0..self.turns.rounds {
+            let came = self.serve_once(face, book, list);
+            let (why, back) = if came.0 == Some(PoolCause::Memory) {
+                self.serve_once(face, book, came.1)
+            } else {
+                came
+            };
+            cause = why.or(cause);
+            list = back;
+        }
+        let _ended = fence(self.alloc);
+        (cause, list)
+    }
+
+    /// Serves the port once: why it ended before its end, if it did, and the seats.
+    fn serve_once<L: ShardLedger + Send + Sync, M: ShardLedger + Send + Sync>(
+        &self,
+        face: &Face,
+        book: &Book<L, M>,
+        list: Vec<Seat<L, M>>,
+    ) -> (Option<PoolCause>, Vec<Seat<L, M>>) {
+        let Pool {
+            rt,
+            alloc,
+            port,
+            gate,
+            turns,
+        } = self;
+        match serve(*rt, *alloc, face, *port, book, list, turns.each, *gate) {
+            Ok(back) => (None, back),
+            Err(fault) => (Some(fault.cause), fault.seats),
+        }
     }
 }
 
@@ -254,7 +227,7 @@ fn opening<R: RandomSource>(rt: &R, alloc: Global, seats: usize) -> Result<NewBo
     Ok(NewBook::of(profile_again(alloc)?, seats, [one, other]))
 }
 
-/// The same with a book over the profile, with ledgers of its own.
+/// What serving the port comes to, of a book over the profile with ledgers of its own.
 fn served<R: Threads + Wait + RandomSource + Sync, P: Port + Sync, G: Gate + Sync>(
     rt: &R,
     alloc: Global,
@@ -267,10 +240,17 @@ where
     P::Out: Send,
 {
     let opening = opening(rt, alloc, turns.seats)?;
-    served_by::<R, P, G, Brand, Brand>(rt, alloc, port, gate, turns, opening)
+    let pool = Pool {
+        rt,
+        alloc,
+        port,
+        gate,
+        turns,
+    };
+    pool.serve_new::<Brand, Brand>(opening)
 }
 
-/// What serving these requests came to, how many answers of status 200 were begun, and how many connections ended at once.
+/// The same of these requests; how many answers of status 200 were begun; and how many connections ended at once.
 fn came_of<R: Threads + Wait + RandomSource + Sync, G: Gate + Sync>(
     rt: &R,
     alloc: Global,

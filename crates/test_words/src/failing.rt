@@ -1,6 +1,6 @@
 //! Readers and writers that pause, stop and fail.
 use crate::commands::{file, replayed};
-use mds_commands::{Form, Problem, Source, Status, tell};
+use mds_commands::{Form, Problem, Source, Status, table_to, tell};
 use std::alloc::Global;
 use std::cell::Cell;
 use std::io;
@@ -27,16 +27,32 @@ impl Read for Breaks<'_> {
     }
 }
 
-/// A reader whose every call is interrupted, and counted.
+/// A reader and writer whose every call is interrupted, and counted.
 #[derive(Drop)]
 struct Pauses<'a> {
     calls: &'a Cell<u32>,
 }
 
+impl Pauses<'_> {
+    fn pause(&self) -> io::Error {
+        self.calls.set(self.calls.get().saturating_add(1));
+        io::Error::from(ErrorKind::Interrupted)
+    }
+}
+
 impl Read for Pauses<'_> {
     fn read(&mut self, _buf: &mut [u8]) -> io::Result<usize> {
-        self.calls.set(self.calls.get().saturating_add(1));
-        Err(io::Error::from(ErrorKind::Interrupted))
+        Err(self.pause())
+    }
+}
+
+impl Write for Pauses<'_> {
+    fn write(&mut self, _buf: &[u8]) -> io::Result<usize> {
+        Err(self.pause())
+    }
+
+    fn flush(&mut self) -> io::Result<()> {
+        Ok(())
     }
 }
 
@@ -140,6 +156,32 @@ fn file_whose_reads_are_interrupted(rt: HostRuntime) {
         (unread, calls[0].get(), calls[1].get()),
         ((true, true), 5_000_000, 5_000_000)
     );
+}
+
+/// The statuses of a replay whose output is always interrupted, of a print of tables so, and of one whose table file is; each
+/// with how many calls were made.
+fn interrupted<P: Threads + Sync>(rt: &P, alloc: Global) -> [(u8, u32); 3] {
+    let calls = [Cell::new(0), Cell::new(0), Cell::new(0)];
+    let mut faults = Vec::new(alloc);
+    let mut verdicts = Pauses { calls: &calls[0] };
+    let read = file("-", "[]");
+    let replay = replayed(rt, alloc, read, Form::Batch, 1, &mut verdicts, &mut faults);
+    let mut rows = Pauses { calls: &calls[1] };
+    let profile: Option<Source<'_, &[u8]>> = None;
+    let print = table_to(alloc, profile, &mut rows, &mut faults).code();
+    let reader = Some(Pauses { calls: &calls[2] });
+    let table = Source { path: "T", reader };
+    let unread = table_to(alloc, Some(table), &mut Vec::new(alloc), &mut faults).code();
+    [
+        (replay, calls[0].get()),
+        (print, calls[1].get()),
+        (unread, calls[2].get()),
+    ]
+}
+
+#[test]
+fn calls_of_interrupted_devices_run_out(rt: HostRuntime) {
+    assert_eq!(rt; interrupted(&rt, rt.alloc()), [(3, 5_000_000); 3]);
 }
 
 /// The first of so many bytes taken by the output of which a replay isn't told as one whose output failed.

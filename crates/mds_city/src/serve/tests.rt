@@ -56,13 +56,14 @@ const ENDS: &[Case] = &[
     (0, 3, b"", b"mds_city: output\n"),
 ];
 
-/// Whether serving the profile at a port that gives no connection ends so. `None` where it can't begin.
-fn ends_so<R: Threads + Wait + RandomSource + Sync>(
+/// The status of serving the profile at a port that gives no connection, and whether all was printed and told. `None` where it
+/// can't begin.
+fn ended<R: Threads + Wait + RandomSource + Sync>(
     rt: &R,
     alloc: Global,
     case: &Case,
-) -> Option<bool> {
-    let (each, code, printed, told) = *case;
+) -> Option<(u8, bool)> {
+    let (each, _, printed, told) = *case;
     let (mut out, mut faults) = (Expects { rest: printed }, Expects { rest: told });
     let tables = Tables::one(alloc, Table::profile(alloc).ok()?).ok()?;
     let hashers = [RandomState::new(rt).ok()?, RandomState::new(rt).ok()?];
@@ -77,7 +78,20 @@ fn ends_so<R: Threads + Wait + RandomSource + Sync>(
         &mut out,
         &mut faults,
     );
-    Some(status.code() == code && out.rest.is_empty() && faults.rest.is_empty())
+    let is_all = out.rest.is_empty() && faults.rest.is_empty();
+    Some((status.code(), is_all))
+}
+
+/// The same, served again where there was no memory.
+fn ended_again<R: Threads + Wait + RandomSource + Sync>(
+    rt: &R,
+    alloc: Global,
+    case: &Case,
+) -> Option<(u8, bool)> {
+    match ended(rt, alloc, case) {
+        None | Some((4, _)) => ended(rt, alloc, case),
+        first => first,
+    }
 }
 
 /// The place of the first case that doesn't end so.
@@ -87,7 +101,7 @@ fn first_other<R: Threads + Wait + RandomSource + Sync>(
     cases: &[Case],
 ) -> Option<usize> {
     for (at, case) in cases.iter().enumerate() {
-        if ends_so(rt, alloc, case) != Some(true) {
+        if ended(rt, alloc, case) != Some((case.1, true)) {
             return Some(at);
         }
     }
@@ -97,6 +111,12 @@ fn first_other<R: Threads + Wait + RandomSource + Sync>(
 #[test]
 fn no_connections_and_first_accept_fails(rt: HostRuntime) {
     assert_eq!(rt; first_other(&rt, rt.alloc(), ENDS), None);
+}
+
+#[test]
+fn serving_ends_after_a_refused_growth(rt: HostRuntime) {
+    let case = (0, 0, b"accepted 0\n".as_slice(), b"".as_slice());
+    assert_eq!(rt; ended_again(&rt, rt.alloc(), &case), Some((0, true)));
 }
 
 /// What gives no random numbers.
@@ -155,6 +175,30 @@ fn torn(shard: usize, place: usize, rest: &'static [u8]) -> (u8, bool) {
     let mut faults = Expects { rest };
     let status = torn_to(&mut faults, shard, place);
     (status.code(), faults.rest.is_empty())
+}
+
+/// A writer whose every call is interrupted, and counted.
+#[derive(Drop)]
+struct Interrupted {
+    calls: u32,
+}
+
+impl Write for Interrupted {
+    fn write(&mut self, _bytes: &[u8]) -> io::Result<usize> {
+        self.calls = self.calls.saturating_add(1);
+        Err(io::Error::from(ErrorKind::Interrupted))
+    }
+
+    fn flush(&mut self) -> io::Result<()> {
+        Ok(())
+    }
+}
+
+#[test]
+fn calls_of_telling_run_out(rt: HostRuntime) {
+    let mut faults = Interrupted { calls: 0 };
+    let status = torn_to(&mut faults, 1, 2);
+    assert_eq!(rt; (status.code(), faults.calls), (3, 5_000_000));
 }
 
 /// The longest line, too, is told without memory.

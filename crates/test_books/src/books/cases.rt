@@ -1,11 +1,5 @@
 //! The worked cases in books of one seat and of several, each against a fleet.
 use super::{Asking, told_anew};
-use crate::settling::put;
-use crate::shards::cases::{CASES as CASES_OF_SHARDS, Case};
-use crate::steps::{
-    AVAILABLE, DROPPED_OFF, NEW, PROFILE, STUCK_AVAILABLE, STUCK_REMOVED, Step, WAKE_THEN_REST,
-    most_tables, tables_of, turns,
-};
 use mds_book::{Keep, Note};
 use mds_core::Outcome::{Done, Refused, Seen};
 use mds_core::Refusal::{AlreadyRegistered, Late, Repeated, Unregistered};
@@ -18,11 +12,15 @@ use std::sync::Wait;
 use std::thread::Threads;
 use test_fixtures::Ask::{self, Look, Register, Report, ReportAt};
 use test_fixtures::{A, B, DROP_OFF, E0, E1, E2, E3, E4, Lack, request_of};
+use test_steps::{
+    AVAILABLE, CASES as CASES_OF_SHARDS, DROPPED_OFF, NEW, PROFILE, STUCK_AVAILABLE, STUCK_REMOVED,
+    Step, WAKE_THEN_REST, WorkedCase, most_tables, put, tables_of, turns,
+};
 
 const LOW: &[&str] = &["battery_low"];
 
 /// Vehicles of both shards; and what is known of a vehicle whichever seat asks.
-const CASES: &[Case] = rows! {
+const CASES: &[WorkedCase] = rows! {
     ("identifiers per vehicle, of two shards", PROFILE, &[
         (Register(A), 0, Done),
         (Register(B), 0, Done),
@@ -70,7 +68,7 @@ const CASES: &[Case] = rows! {
 /// How many seats take the steps by turns, and what they note.
 type Way = (usize, Keep);
 
-const WAYS: &[Way] = &[(1, Keep::Accepted), (3, Keep::All)];
+const WAYS: &[Way] = &[(1, Keep::Accepted), (1, Keep::All), (3, Keep::All)];
 
 /// The number of the shard that is asked.
 fn shard_of(asked: &Ask) -> usize {
@@ -139,6 +137,7 @@ fn is_so<R: Threads + Wait + RandomSource + Sync>(
     Ok(
         told.shown.others == [None, None]
             && told.notes == notes_of(alloc, steps, way)?
+            && told.shown.lengths == [told.first.len(), told.second.len()]
             && are_of_shard(&told.first, fleet.history(), 0)
             && are_of_shard(&told.second, fleet.history(), 1),
     )
@@ -148,7 +147,7 @@ fn is_so<R: Threads + Wait + RandomSource + Sync>(
 fn first_difference<R: Threads + Wait + RandomSource + Sync>(
     rt: &R,
     alloc: Global,
-    cases: &[Case],
+    cases: &[WorkedCase],
     ways: &[Way],
 ) -> Result<Option<(&'static str, usize)>, Lack> {
     for (name, file, steps, _) in cases {

@@ -1,7 +1,6 @@
 //! Two locks at once: while one shard is locked, a request about a vehicle of the other is answered.
 ghost use Rattle.std.specs.Prelude.{◌≡◌, ◌<◌};
 
-use crate::shards::hasher;
 use mds_book::{Blank, Book, Keep, Seat, ShardLedger};
 use mds_core::Request;
 use mds_shard::Shard;
@@ -16,6 +15,7 @@ use std::thread;
 use std::thread::Threads;
 use std::time::{Clock, Duration};
 use test_fixtures::{A, B, Lack, key, profile};
+use test_steps::hasher;
 
 /// What two threads tell each other.
 #[derive(Drop)]

@@ -1,9 +1,5 @@
 //! Seats that ask at once, each in a thread of its own.
 use super::{Asking, Told, told_anew};
-use crate::steps::{
-    AVAILABLE, DROPPED_OFF, PROFILE, STUCK_AVAILABLE, STUCK_REMOVED, Step, WAKE_THEN_REST,
-    tables_of,
-};
 use mds_book::{Keep, Note};
 use mds_core::Outcome::{self, Done, Refused, Seen};
 use mds_core::Refusal::NoChain;
@@ -17,6 +13,10 @@ use std::thread::Threads;
 use test_fixtures::Ask::{self, Look, Register, Report};
 use test_fixtures::{
     A, B, C, DROP_OFF, E0, E1, E2, E3, E4, Lack, profile, request_of, requests_of,
+};
+use test_steps::{
+    AVAILABLE, DROPPED_OFF, PROFILE, STUCK_AVAILABLE, STUCK_REMOVED, Step, WAKE_THEN_REST,
+    tables_of,
 };
 
 /// A name, a file of tables or `None` for the profile, what each seat asks, and what comes of it, one seat behind the other;
@@ -94,6 +94,8 @@ fn is_so<R: Threads + Wait + RandomSource + Sync>(
     Ok(
         outcomes_in(alloc, &told.notes)?.as_slice() == *outcomes
             && told.shown.lengths == *lengths
+            && told.end.accepted == lengths[0] as u128 + lengths[1] as u128
+            && told.end.histories == [Some(lengths[0]), Some(lengths[1]), None]
             && told.events == *events,
     )
 }

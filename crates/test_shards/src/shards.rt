@@ -1,20 +1,13 @@
 //! What no clause says: the worked cases, that each call can succeed, and that a shard with many vehicles does what a
 //! fleet does.
-pub mod cases;
+mod cases;
 mod many;
 mod refused;
 
-use crate::steps::Step;
 use mds_core::Reply;
 use mds_shard::Shard;
-use std::hash::RandomState;
-use std::random::RandomSource;
 use test_fixtures::{Lack, request_of};
-
-/// A hasher of the runtime.
-pub fn hasher<R: RandomSource>(rt: &R) -> Result<RandomState, Lack> {
-    RandomState::new(rt).map_err(|_| Lack::Case)
-}
+use test_steps::Step;
 
 /// The place of the first step in which the shard replies otherwise.
 fn first_other(shard: &mut Shard, steps: &[Step]) -> Result<Option<usize>, Lack> {

@@ -1,11 +1,6 @@
-//! What no clause says: the worked cases, and that each call can succeed.
-mod cases;
-mod many;
-mod verdicts;
-
+//! Notes of calls, told in a few words.
 use mds_core::{Outcome, Reply};
 use mds_settle::Note;
-use std::alloc::Global;
 use test_fixtures::{Ask, Lack, request_of};
 
 /// A note: the shard that was asked, what was asked, and the place and the outcome of the reply.
@@ -25,13 +20,4 @@ pub fn put(notes: &mut Vec<Note>, noted: &Noted) -> Result<(), Lack> {
         reply,
     })?;
     Ok(())
-}
-
-/// The notes of one caller.
-fn notes_of(alloc: Global, noted: &[Noted]) -> Result<Vec<Note>, Lack> {
-    let mut notes = Vec::with_capacity(alloc, noted.len())?;
-    for one in noted {
-        put(&mut notes, one)?;
-    }
-    Ok(notes)
 }

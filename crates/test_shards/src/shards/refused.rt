@@ -1,7 +1,6 @@
 //! Each call that takes memory, made again where its growth is refused, and the calls that take none, while each
 //! growth is refused (by `tests/refused-growths`).
-use super::{first_other, hasher};
-use crate::steps::{DROPPED_OFF, NEW, Step};
+use super::first_other;
 use mds_core::Outcome::{self, Refused, Seen};
 use mds_core::Refusal::{AlreadyRegistered, Unregistered};
 use mds_core::{Reply, Request, Standing};
@@ -12,6 +11,7 @@ use std::hash::RandomState;
 use std::random::RandomSource;
 use test_fixtures::Ask::{Look, Register};
 use test_fixtures::{A, C, Lack, fence, key, profile, profile_again, request_of};
+use test_steps::{DROPPED_OFF, NEW, Step, hasher};
 
 /// Whether a shard accepts the request at this place; it's asked again where a growth is refused, which changes
 /// nothing.

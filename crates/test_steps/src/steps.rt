@@ -5,6 +5,8 @@ use mds_core::Standing;
 use mds_table::State::{Available, Removed};
 use mds_table::{MAX_TABLES, Tables, TablesFault};
 use std::alloc::{AllocError, Global};
+use std::hash::RandomState;
+use std::random::RandomSource;
 use test_fixtures::Ask::{self, Register, Report};
 use test_fixtures::{A, DROP_OFF, E1, Lack, profile};
 
@@ -97,4 +99,9 @@ pub fn turns(alloc: Global) -> Result<Vec<Step>, AllocError> {
         steps.push((change(start, start).0, place, Done))?;
     }
     Ok(steps)
+}
+
+/// A hasher of the runtime.
+pub fn hasher<R: RandomSource>(rt: &R) -> Result<RandomState, Lack> {
+    RandomState::new(rt).map_err(|_| Lack::Case)
 }

@@ -2,13 +2,13 @@
 ghost use Rattle.mds_core.specs.Lawful.{IsLawful};
 
 use super::cases::{Case, LAWFUL, UNLAWFUL};
-use super::{Noted, notes_of, put};
-use crate::steps::{Step, most_tables, tables_of, turns};
+use super::notes_of;
 use mds_core::{Request, run};
 use mds_settle::{Note, NoteList, judge, judge_lawful};
 use mds_table::Tables;
 use std::alloc::{AllocError, Global};
 use test_fixtures::{Lack, fence, requests_of};
+use test_steps::{Noted, Step, most_tables, put, tables_of, turns};
 
 /// The lists of the callers.
 fn lists_of(alloc: Global, callers: &[&[Noted]]) -> Result<Vec<Vec<Note>>, Lack> {

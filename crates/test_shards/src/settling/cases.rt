@@ -1,13 +1,12 @@
 //! Histories of a shard, what its callers noted, and the place of the fault.
-use super::Noted;
-use crate::steps::{
-    AVAILABLE, DROPPED_OFF, NEW, PROFILE, STUCK_AVAILABLE, STUCK_REMOVED, WAKE_THEN_REST,
-};
 use mds_core::Outcome::{self, Done, Refused, Seen};
 use mds_core::Refusal::{Late, Repeated, Unregistered};
 use mds_table::State::{Available, NonOperational, Removed};
 use test_fixtures::Ask::{self, Look, Register, Report};
 use test_fixtures::{A, B, C, DROP_OFF, E1, E2, E3, E4};
+use test_steps::{
+    AVAILABLE, DROPPED_OFF, NEW, Noted, PROFILE, STUCK_AVAILABLE, STUCK_REMOVED, WAKE_THEN_REST,
+};
 
 /// A name, a file of tables or `None` for the profile, the number of a shard, what it holds, what its callers noted,
 /// and the place of the fault, if there is one.

@@ -1,7 +1,6 @@
 //! A shard of many vehicles against a fleet.
 ghost use Rattle.std.specs.Prelude.{◌<◌};
 
-use super::hasher;
 use mds_core::{Fleet, Outcome, Refusal};
 use mds_shard::Shard;
 use mds_table::State::{self, Available, NonContactable, NonOperational};
@@ -9,6 +8,7 @@ use std::alloc::Global;
 use std::random::RandomSource;
 use test_fixtures::Ask::{self, Look, Register, Report};
 use test_fixtures::{Lack, profile, request_of};
+use test_steps::hasher;
 
 /// How many vehicles are registered first, and then only stand there.
 const BYSTANDERS: u64 = 10_000;
