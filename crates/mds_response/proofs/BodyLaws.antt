@@ -2,8 +2,8 @@
 use Rattle.std.proofs.Common.{◌≡◌, ◌≢◌, ℕ, List, [], ◌∷◌, ◌++◌, Vec, map, length, codes, refl, ap}
 use Rattle.std.proofs.lemmas.List.Folds.{flat_map-map}
 use Rattle.mds_table.specs.declared.row.Row.{Row}
+use Rattle.mds_texts.specs.Json.{◌+++◌, with_commas, table_text}
 use Rattle.mds_response.specs.Found.{tables_of}
-use Rattle.mds_response.specs.Json.{◌+++◌, with_commas, table_text}
 use Rattle.mds_response.specs.Bodies.{tables_body}
 
 -- texts of what the items of a list are taken to

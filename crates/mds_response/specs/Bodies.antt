@@ -3,7 +3,8 @@ use Rattle.std.specs.Prelude.{ℕ, List, [], ◌∷◌, codes, decimal}
 use Rattle.mds_table.specs.Tables.{Tables, rows_of}
 use Rattle.mds_core.specs.Reported.{Reported}
 use Rattle.mds_response.specs.declared.failure.Failure.{Failure}
-use Rattle.mds_response.specs.Json.{◌+++◌, with_commas, event_text, row_text, table_text, failure_text}
+use Rattle.mds_texts.specs.Json.{◌+++◌, with_commas, event_text, row_text, table_text}
+use Rattle.mds_response.specs.Json.{failure_text}
 
 -- the body of a fault of this word
 abbrev pub fault_body : List ℕ → List ℕ

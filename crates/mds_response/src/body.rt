@@ -8,11 +8,12 @@ ghost use Rattle.mds_response.specs.Answer.{answer_to, batch_content, look_conte
 use crate::Found;
 use crate::batch::{answered_items, failures_of};
 use crate::found::accepted;
-use crate::json::{Commas, StandingText};
+use crate::json::StandingText;
 use mds_batch::BatchItem;
 use mds_core::{Event, Key, Refusal, Reply, Standing};
 use mds_request::Plan;
 use mds_table::Row;
+use mds_texts::Commas;
 use std::alloc::{AllocError, Global};
 use std::fmt::Display;
 

@@ -1,56 +1,13 @@
 //! Texts of JSON (RFC 8259).
 ghost use Rattle.std.specs.Prelude.{Some};
 ghost use Rattle.std.specs.Fmt.{DisplaysOnOk};
-ghost use Rattle.mds_response.specs.Json.{with_commas, quoted, time_text, position_text, standing_text, event_text, row_text, table_text, cause_text, failure_text};
+ghost use Rattle.mds_response.specs.Json.{time_text, standing_text, cause_text, failure_text};
 
 use crate::{Cause, Failure};
 use mds_batch::ItemFault;
-use mds_core::{Event, Key, Position, Refusal, Standing};
-use mds_table::{Row, TypeName};
+use mds_core::{Key, Refusal, Standing};
+use mds_texts::{Json, PositionText};
 use std::fmt::{self, Display, Formatter};
-
-/// A value that has a text of JSON.
-pub(crate) trait Json {
-    ghost use Rattle.std.specs.Prelude.{ℕ, List, Some};
-    ghost use Rattle.std.specs.Fmt.{DisplaysOnOk};
-
-    /// Its text.
-    ghost json: { Self → List ℕ };
-
-    /// Writes its text.
-    fn write_json<W: fmt::Write>(&self, f: &mut Formatter<W>) -> fmt::Result
-        ensures { DisplaysOnOk W.write_str_gives f.old result (Some (json self.now)) f.new };
-}
-
-/// Some values, with a comma between.
-#[derive(Clone, Copy)]
-pub(crate) struct Commas<'a, T> {
-    pub items: &'a [T],
-}
-
-impl<T: Json> Display for Commas<'_, T> {
-    ghost output = { λ commas. Some (with_commas T.json commas.items.now) };
-
-    fn fmt<W: fmt::Write>(&self, f: &mut Formatter<W>) -> fmt::Result {
-        let Some((first, rest)) = self.items.split_first() else {
-            return Ok(());
-        };
-        first.write_json(f)?;
-        for item in rest {
-            f.write_str(",")?;
-            item.write_json(f)?;
-        }
-        Ok(())
-    }
-}
-
-impl Json for TypeName {
-    ghost json = { quoted };
-
-    fn write_json<W: fmt::Write>(&self, f: &mut Formatter<W>) -> fmt::Result {
-        write!(f, "\"{self}\"")
-    }
-}
 
 /// A time, or null where there is none.
 #[derive(Clone, Copy)]
@@ -66,25 +23,6 @@ impl Display for TimeText {
             Some(time) => write!(f, "{time}"),
             None => f.write_str("null"),
         }
-    }
-}
-
-/// A position, or null where there is none.
-#[derive(Clone, Copy)]
-struct PositionText {
-    position: Option<Position>,
-}
-
-impl Display for PositionText {
-    ghost output = { λ text. Some (position_text text.position) };
-
-    fn fmt<W: fmt::Write>(&self, f: &mut Formatter<W>) -> fmt::Result {
-        let Some(position) = self.position else {
-            return f.write_str("null");
-        };
-        let lat = position.lat();
-        let lng = position.lng();
-        write!(f, "{{\"lat\":{lat},\"lng\":{lng}}}")
     }
 }
 
@@ -116,56 +54,6 @@ impl Display for StandingText<'_> {
             f,
             ",\"location_e7\":{position},\"provider_id\":\"{provider}\",\"vehicle_state\":\"{state}\"}}"
         )
-    }
-}
-
-impl Json for Event {
-    ghost json = { event_text };
-
-    fn write_json<W: fmt::Write>(&self, f: &mut Formatter<W>) -> fmt::Result {
-        let Key { provider, device } = *self.key();
-        let id = self.id();
-        let state = self.state();
-        let types = Commas {
-            items: self.types(),
-        };
-        let time = self.time();
-        let position = PositionText {
-            position: self.position(),
-        };
-        write!(
-            f,
-            "{{\"device_id\":\"{device}\",\"event_id\":\"{id}\",\"event_types\":[{types}]"
-        )?;
-        write!(
-            f,
-            ",\"location_e7\":{position},\"provider_id\":\"{provider}\",\"timestamp\":{time},\"vehicle_state\":\"{state}\"}}"
-        )
-    }
-}
-
-impl Json for Row {
-    ghost json = { row_text };
-
-    fn write_json<W: fmt::Write>(&self, f: &mut Formatter<W>) -> fmt::Result {
-        let from = self.from;
-        let to = self.to;
-        let kind = &self.kind;
-        write!(
-            f,
-            "{{\"from\":\"{from}\",\"to\":\"{to}\",\"type\":\"{kind}\"}}"
-        )
-    }
-}
-
-/// A table by its starting time and its rows.
-impl Json for (u64, Vec<Row>) {
-    ghost json = { λ table. table_text (table.0, table.1.items) };
-
-    fn write_json<W: fmt::Write>(&self, f: &mut Formatter<W>) -> fmt::Result {
-        let (start, rows) = self;
-        let rows = Commas { items: rows };
-        write!(f, "{{\"from_time\":{start},\"rows\":[{rows}]}}")
     }
 }
 

@@ -1,6 +1,6 @@
 use Rattle.std.proofs.Common.{refl}
 use Rattle.std.proofs.lemmas.Grind.{put_two}
-use Rattle.mds_response.proofs.json.EventJson.write_json.Goals as goal
+use Rattle.mds_texts.proofs.json.EventJson.write_json.Goals as goal
 
 pub returns : goal.returns
 returns g c plain ok =

@@ -1,7 +1,7 @@
 use Rattle.std.proofs.Common.{◌++◌, codes, take}
 use Rattle.std.specs.List.{flat_map}
 use Rattle.std.specs.Fmt.{HasWritten, IsPlainFormatter}
-use Rattle.mds_response.proofs.json.CommasDisplay.fmt.Given as goal
+use Rattle.mds_texts.proofs.json.CommasDisplay.fmt.Given as goal
 
 -- the texts of the items so far are written, each behind a comma
 abbrev pub invariant-loop-item : goal.invariant-loop-item
