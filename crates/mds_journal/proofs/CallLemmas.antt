@@ -20,7 +20,7 @@ contents_stay first (Cut size ∷ earlier) = inl refl
 contents_stay first (Sync ∷ earlier) = refl
 
 -- a write that was done is a torn one
-torn_written : (at : ℕ) (bytes old : List ℕ) → at ≤ length old → Torn at (length bytes) old (take at old ++ bytes ++ drop (at + length bytes) old)
+pub torn_written : (at : ℕ) (bytes old : List ℕ) → at ≤ length old → Torn at (length bytes) old (take at old ++ bytes ++ drop (at + length bytes) old)
 torn_written at bytes old within =
     let rest = drop (at + length bytes) old in
     let front : length (take at old) ≡ at = length-take-le at old within in
@@ -34,7 +34,7 @@ torn_written at bytes old within =
     }
 
 -- a cut that was done is one that was cut off
-cut_done : (size : ℕ) (old : List ℕ) → IsCut size old (take size old)
+pub cut_done : (size : ℕ) (old : List ℕ) → IsCut size old (take size old)
 cut_done size old = record {
   no_shorter = omega (arith, length-take size old);
   front = ap (λ (n : ℕ). take n old) (length-take size old) ∙ take_min size old;

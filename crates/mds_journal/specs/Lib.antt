@@ -6,3 +6,4 @@ pub mod Memory
 pub mod Step
 pub mod Journal
 pub mod Opening
+pub mod Fault

@@ -1,10 +1,11 @@
 -- What is known of a file while its lines are read.
-use Rattle.std.specs.Prelude.{◌≡◌, ◌≢◌, ◌⊎◌, ℕ, ◌+◌, ◌^◌, ◌<◌, ◌≤◌, List, [], ◌∷◌, ◌++◌, length, take, drop, All}
+use Rattle.std.specs.Prelude.{◌≡◌, ◌≢◌, ◌⊎◌, ℕ, ◌+◌, ◌^◌, ◌<◌, ◌≤◌, List, [], ◌∷◌, ◌++◌, length, take, drop, All, Bool, true, false, Result, Ok, Err}
 use Rattle.mds_journal.specs.Lines.{HasNoFeed, recovered, open_lines}
 use Rattle.mds_journal.specs.Device.{Only}
 use Rattle.mds_journal.specs.Journal.{HasShortEnd}
 use Rattle.mds_journal.specs.declared.opening.Found.{Found}
 use Rattle.mds_journal.specs.declared.opening.Found.TheVariants.{Line, Shut, More}
+use Rattle.mds_journal.specs.declared.opening.OpenError.{OpenError}
 use Rattle.mds_journal.specs.declared.opening.Opening.{Opening}
 
 -- the bytes are open lines
@@ -26,6 +27,16 @@ place_of opening = opening.end
 abbrev pub limit_of : {D : Type 0} → Opening D → ℕ
 limit_of opening = opening.longest
 
+-- how many lines were handed out, which is the number of the next
+abbrev pub number_of : {D : Type 0} → Opening D → ℕ
+number_of opening = opening.count
+
+-- how many lines an answer hands out
+abbrev pub lines_in : Result Bool OpenError → ℕ
+lines_in (Ok true) = 1
+lines_in (Ok false) = 0
+lines_in (Err error) = 0
+
 -- what is behind the lines that were handed out
 abbrev pub unread : {D : Type 0} → (D → List ℕ) → Opening D → List ℕ
 unread seen opening = drop opening.end (seen opening.device)
@@ -45,6 +56,7 @@ pub record IsRead {D : Type 0} (seen : D → List ℕ) (may_leave : D → List �
 pub record IsReading {D : Type 0} (seen : D → List ℕ) (may_leave : D → List ℕ → Type 0) (may_be_used is_true : D → Type 0) (opening : Opening D) : Type 0 where
   pub usable : may_be_used opening.device
   pub short : opening.end ≤ 2 ^ 62
+  pub counted : opening.count ≤ opening.end
   pub limit : opening.longest < 2 ^ 62
   pub begins : opening.next ≤ length opening.bytes.items
   pub read : is_true opening.device → IsRead seen may_leave opening

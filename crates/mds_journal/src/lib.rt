@@ -10,10 +10,12 @@
 //!
 //! The disk is a [`Device`], whose contract says what a crash may leave at each moment. No contract can say that a real
 //! file is such a disk. It asks for one premise that not each disk meets: bytes outside the range of a write don't change.
+//! `mds_file` has a device over a file of the system.
 #![tactic(auto)]
 
 mod all;
 mod device;
+mod fault;
 mod group;
 mod journal;
 pub mod laws;
@@ -24,10 +26,8 @@ mod step;
 
 pub use all::read_all;
 pub use device::{Device, DeviceError};
+pub use fault::JournalFault;
 pub use group::{Group, MAX_GROUP_BYTES, PushError};
 pub use journal::{AppendError, Journal};
 pub use memory::Memory;
 pub use opening::{OpenError, Opening};
-
-#[cfg(test)]
-mod tests;

@@ -4,7 +4,7 @@ ghost use Rattle.std.specs.Prelude.{length, IsErrOf, OnOk, OnErr, IfOk, IfErr, M
 ghost use Rattle.mds_journal.specs.Device.{LeavesOnly, Untouched};
 ghost use Rattle.mds_journal.specs.Lines.{recovered};
 ghost use Rattle.mds_journal.specs.Opening.{IsReading, IsTooLong, IsFound, IfMore};
-ghost use Rattle.mds_journal.specs.Opening.{unread, at_hand, place_of, limit_of};
+ghost use Rattle.mds_journal.specs.Opening.{unread, at_hand, place_of, limit_of, number_of, lines_in};
 
 use crate::group::{OPEN_GATE, find_feed};
 use crate::journal::MAX_BYTES;
@@ -48,6 +48,7 @@ pub struct Opening<D: Device> {
     pub(crate) alloc: Global,
     pub(crate) longest: usize,
     pub(crate) end: usize,
+    pub(crate) count: usize,
     pub(crate) bytes: Vec<u8>,
     pub(crate) next: usize,
 }
@@ -69,6 +70,7 @@ impl<D: Device> Opening<D> {
         ensures all { IfOk result (λ opening. D.is_true opening.device
             → unread D.seen opening ≡ D.seen device) }
         ensures limit { IfOk result (λ opening. limit_of opening ≡ longest) }
+        ensures number { IfOk result (λ opening. number_of opening ≡ 0) }
 
         // A crash at any moment leaves what one before might have left.
         ensures any_moment { IfOk result (λ opening. D.is_true opening.device
@@ -87,6 +89,7 @@ impl<D: Device> Opening<D> {
                 alloc,
                 longest,
                 end: 0,
+                count: 0,
                 bytes: Vec::new(alloc),
                 next: 0,
             }),
@@ -118,6 +121,7 @@ impl<D: Device> Opening<D> {
         ensures too_long { IsErrOf result OpenError.TooLong → D.is_true self.new.device
             → IsTooLong (limit_of self.old) (unread D.seen self.old) }
         ensures limit { limit_of self.new ≡ limit_of self.old }
+        ensures number { number_of self.new ≡ number_of self.old + lines_in result }
         ensures untouched { D.is_true self.new.device → Untouched D.seen D.may_leave D.moment
             D.left_since self.old.device self.new.device }
         ensures was_true { D.is_true self.new.device → D.is_true self.old.device }
@@ -134,6 +138,13 @@ impl<D: Device> Opening<D> {
         }
     }
 
+    /// The number of the line that comes next. The first one is 0.
+    pub fn number(&self) -> usize
+        ensures { result ≡ number_of self.now }
+    {
+        self.count
+    }
+
     /// The file, as it is.
     pub fn into_device(self) -> D
         ensures { result ≡ self.device }
@@ -143,6 +154,7 @@ impl<D: Device> Opening<D> {
             alloc: _alloc,
             longest: _longest,
             end: _end,
+            count: _count,
             bytes: _bytes,
             next: _next,
         } = self;
@@ -158,6 +170,7 @@ impl<D: Device> Opening<D> {
             → unread D.seen self.new ≡ at_hand self.new)) }
         ensures end { self.new.end ≡ self.old.end }
         ensures limit { self.new.longest ≡ self.old.longest }
+        ensures number { self.new.count ≡ self.old.count }
         ensures too_long { IsErrOf result OpenError.TooLong → D.is_true self.new.device
             → IsTooLong self.old.longest (unread D.seen self.new) }
         ensures untouched { D.is_true self.new.device → Untouched D.seen D.may_leave D.moment
@@ -197,6 +210,7 @@ impl<D: Device> Opening<D> {
             → unread D.seen self.new ≡ at_hand self.new) }
         ensures end { self.new.end ≡ self.old.end }
         ensures limit { self.new.longest ≡ self.old.longest }
+        ensures number { self.new.count ≡ self.old.count }
         ensures untouched { D.is_true self.new.device → Untouched D.seen D.may_leave D.moment
             D.left_since self.old.device self.new.device }
         ensures was_true { D.is_true self.new.device → D.is_true self.old.device }
@@ -239,6 +253,7 @@ impl<D: Device> Opening<D> {
         ensures within { OnOk result (length line.new.items ≤ self.old.longest) }
         ensures device { self.new.device ≡ self.old.device }
         ensures limit { self.new.longest ≡ self.old.longest }
+        ensures number { self.new.count ≡ self.old.count + lines_in result }
         ensures err { OnErr result (self.new.end ≡ self.old.end) }
         ensures too_long { IsErrOf result OpenError.TooLong → D.is_true self.old.device
             → IsTooLong self.old.longest (unread D.seen self.old) }
@@ -261,6 +276,7 @@ impl<D: Device> Opening<D> {
         }
         self.next += size + 2;
         self.end += size + 2;
+        self.count += 1;
         Ok(true)
     }
 }

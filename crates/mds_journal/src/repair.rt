@@ -54,6 +54,7 @@ impl<D: Device> Opening<D> {
             alloc: _alloc,
             longest: _longest,
             end,
+            count: _count,
             bytes: _bytes,
             next: _next,
         } = self;

@@ -8,6 +8,7 @@ invariant-reads g l = record {
   reading : IsReading g.D.Device.seen g.D.Device.may_leave g.D.Device.may_be_used g.D.Device.is_true l.self;
   place : l.self.end ≡ l.initial.self.end;
   limit : l.self.longest ≡ l.initial.self.longest;
+  number : l.self.count ≡ l.initial.self.count;
   untouched : g.D.Device.is_true l.self.device
       → Untouched g.D.Device.seen g.D.Device.may_leave g.D.Device.moment g.D.Device.left_since l.initial.self.device l.self.device;
   was_true : g.D.Device.is_true l.self.device → g.D.Device.is_true l.initial.self.device;

@@ -7,6 +7,7 @@ pub returns-in-Ok-join-clause-reading : goal.returns-in-Ok-join-clause-reading
 returns-in-Ok-join-clause-reading g c = record {
   usable = c.in-Ok.ensures.usable;
   short = c.requires.reading.short;
+  counted = c.requires.reading.counted;
   limit = c.requires.reading.limit;
   begins = omega arith;
   read = λ is.

@@ -7,6 +7,7 @@ pub returns-in-Ok-clause-reading : goal.returns-in-Ok-clause-reading
 returns-in-Ok-clause-reading g c = record {
   usable = c.in-Ok.ensures.usable;
   short = omega arith;
+  counted = omega arith;
   limit = c.requires.limit;
   begins = omega arith;
   read = λ is.

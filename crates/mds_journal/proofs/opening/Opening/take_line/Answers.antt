@@ -8,6 +8,7 @@ pub returns-clause-reading : goal.returns-clause-reading
 returns-clause-reading g c = record {
   usable = c.requires.reading.usable;
   short = omega (arith, c.if-self-size-gt-MAX_BYTES.false);
+  counted = omega (arith, c.requires.reading.counted);
   limit = c.requires.reading.limit;
   begins = omega (arith, c.requires.room);
   read = λ is.

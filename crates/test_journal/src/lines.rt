@@ -1,5 +1,5 @@
 //! What no clause says: that the calls succeed, and the very bytes.
-use crate::{Device, Group, Memory, Opening, read_all};
+use mds_journal::{Device, Group, JournalFault, Memory, OpenError, Opening, read_all};
 use std::alloc::Global;
 
 /// A file's bytes, the texts that are added to it, and its bytes then.
@@ -94,4 +94,62 @@ fn calls_are_made_after_a_refused_growth(rt: HostRuntime) {
         _ => false,
     };
     assert!(rt; is_so);
+}
+
+/// The lengths of lines that end before, at and behind the end of a piece that is read, and of one over several pieces.
+const LENGTHS: &[u32] = &[65_530, 65_531, 65_532, 65_533, 200_000];
+
+/// A file of a short line, one of so many bytes, and another short one.
+fn long_file(alloc: Global, length: u32) -> Option<Vec<u8>> {
+    let mut file = Vec::from_slice(alloc, b" a\n ").ok()?;
+    file.resize(4 + length as usize, b'x').ok()?;
+    file.extend_from_slice(b"\n bc\n#").ok()?;
+    Some(file)
+}
+
+/// The fault of a file whose second line has more bytes than this.
+fn fault_of(alloc: Global, file: &[u8], longest: u32) -> Option<JournalFault> {
+    let device = Memory::new(alloc, file).ok()?;
+    let Ok(mut opening) = Opening::start(alloc, device, longest as usize) else {
+        return None;
+    };
+    let mut line = Vec::new(alloc);
+    let Ok(true) = opening.next_line(&mut line) else {
+        return None;
+    };
+    match opening.next_line(&mut line) {
+        Err(OpenError::TooLong) => Some(JournalFault::TooLong(opening.number())),
+        _ => None,
+    }
+}
+
+/// The lengths of the lines of such a file, and its fault where one byte less is allowed.
+fn lengths_of(alloc: Global, length: u32) -> Option<(usize, usize, usize, JournalFault)> {
+    let file = long_file(alloc, length)?;
+    let device = Memory::new(alloc, file.as_slice()).ok()?;
+    let Ok((_journal, lines)) = read_all(alloc, device, length as usize) else {
+        return None;
+    };
+    let fault = fault_of(alloc, file.as_slice(), length.saturating_sub(1))?;
+    match lines.as_slice() {
+        [first, second, third] => Some((first.len(), second.len(), third.len(), fault)),
+        _ => None,
+    }
+}
+
+/// The first length of which something else comes, at once and at a second try.
+fn first_other_length(alloc: Global, lengths: &[u32]) -> Option<u32> {
+    for length in lengths {
+        let wanted = (1, *length as usize, 2, JournalFault::TooLong(1));
+        let found = lengths_of(alloc, *length).or_else(|| lengths_of(alloc, *length));
+        if found != Some(wanted) {
+            return Some(*length);
+        }
+    }
+    None
+}
+
+#[test]
+fn long_lines_are_read_after_a_refused_growth(rt: HostRuntime) {
+    assert_eq!(rt; first_other_length(rt.alloc(), LENGTHS), None);
 }

@@ -1,0 +1,9 @@
+//! Tests of journals: over files in memory, over devices that fail, and over files of the system.
+#![tactic(auto)]
+
+#[cfg(test)]
+mod files;
+#[cfg(test)]
+mod frail;
+#[cfg(test)]
+mod lines;
