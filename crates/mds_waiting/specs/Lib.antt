@@ -1,0 +1,3 @@
+-- Definitions that the contracts cite.
+pub mod Least
+pub mod Waiting

@@ -1,0 +1,89 @@
+-- Connections that wait in numbered slots: how much they hold, and when their times are over.
+use Rattle.std.specs.Prelude.{◌≡◌, ◌⊎◌, ℕ, ◌+◌, ◌<◌, ◌≤◌, min, List, [], ◌∷◌, ◌++◌, length, sum_by, count_by, is_some, slice_get, slice_set, All, Option, Some, None, IsSome, vec_len}
+use Rattle.std.specs.Option.{ForSome}
+use Rattle.mds_waiting.specs.declared.waiter.Waiter.{Waiter}
+
+-- the most bytes that are held in all: 64 MiB
+abbrev pub max_held : ℕ
+max_held = 67_108_864
+
+-- the most connections that wait
+abbrev pub max_waiting : ℕ
+max_waiting = 4_096
+
+-- the longest that is waited at a stretch, in milliseconds
+abbrev pub max_wait : ℕ
+max_wait = 1_000
+
+-- by this time, if the clock tells one, that time is over
+abbrev pub IsOver : Option ℕ → ℕ → Type 0
+IsOver None until = Unit {0}
+IsOver (Some now) until = until ≤ now
+
+module _ {S : Type 0} where
+  -- how much a slot's connection counts: its bytes, and no more than all may hold
+  abbrev pub weight : Option (Waiter S) → ℕ
+  weight None = 0
+  weight (Some waiter) = min (vec_len waiter.bytes) max_held
+
+  -- what they hold in all
+  abbrev pub held : List (Option (Waiter S)) → ℕ
+  held slots = sum_by weight slots
+
+  -- there is room for so many bytes more
+  abbrev pub HasRoom : List (Option (Waiter S)) → ℕ → Type 0
+  HasRoom slots count = held slots + min count max_held ≤ max_held
+
+  -- no connection has this key
+  abbrev pub IsVacant : List (Option (Waiter S)) → ℕ → Type 0
+  IsVacant slots key = slice_get slots key ≡ Some None
+
+  -- each key has a connection
+  pub record IsFull (slots : List (Option (Waiter S))) : Type 0 where
+    pub many : length slots ≡ max_waiting
+    pub taken : All IsSome slots
+
+  -- the same connections wait, and there may be one more key
+  abbrev pub SameWaiters : List (Option (Waiter S)) → List (Option (Waiter S)) → Type 0
+  SameWaiters old new = (new ≡ old) ⊎ (new ≡ old ++ None ∷ [])
+
+  -- the slot's connection has time up to then, and no less
+  abbrev pub HasTime : ℕ → Option (Waiter S) → Type 0
+  HasTime time slot = ForSome slot (λ waiter. time ≤ waiter.until)
+
+  -- by this time, if the clock tells one, the time of the slot's connection isn't over
+  abbrev pub IsInTime : Option ℕ → Option (Waiter S) → Type 0
+  IsInTime None slot = slot ≡ None
+  IsInTime (Some now) slot = ForSome slot (λ waiter. now < waiter.until)
+
+  -- a connection whose time is over, and nobody's was over before
+  pub record IsLate (now : Option ℕ) (slots : List (Option (Waiter S))) (key : ℕ) : Type 0 where
+    pub waiter : Waiter S
+    pub there : slice_get slots key ≡ Some (Some waiter)
+    pub over : IsOver now waiter.until
+    pub first : All (HasTime waiter.until) slots
+
+  -- a connection that holds so many bytes or more, and none of those began before it
+  pub record IsEldest (bytes : ℕ) (slots : List (Option (Waiter S))) (key : ℕ) : Type 0 where
+    pub waiter : Waiter S
+    pub there : slice_get slots key ≡ Some (Some waiter)
+    pub holds : bytes ≤ vec_len waiter.bytes
+    pub first : All (λ slot. ForSome slot (λ other. bytes ≤ vec_len other.bytes → waiter.begun ≤ other.begun)) slots
+
+  -- no connection holds so many bytes
+  abbrev pub HoldsFewer : ℕ → Option (Waiter S) → Type 0
+  HoldsFewer bytes slot = ForSome slot (λ waiter. vec_len waiter.bytes < bytes)
+
+  -- the eldest that holds bytes has left, and this was it
+  abbrev pub HasLeft : List (Option (Waiter S)) → List (Option (Waiter S)) → Waiter S → Type 0
+  HasLeft old new waiter = (key : ℕ) × IsEldest 1 old key
+      × (slice_get old key ≡ Some (Some waiter)) × (new ≡ slice_set old key None)
+
+  -- what is kept of the slots: how many connections they have, how much these hold, which is in bounds, and a time before which
+  -- nobody's is over
+  pub record IsKept (slots : List (Option (Waiter S))) (count holding soonest : ℕ) : Type 0 where
+    pub few : length slots ≤ max_waiting
+    pub many : count ≡ count_by is_some slots
+    pub counted : holding ≡ held slots
+    pub bounded : holding ≤ max_held
+    pub punctual : All (HasTime soonest) slots
