@@ -1,10 +1,12 @@
 """The cases of tests/program, by subject."""
 
 from cases.batches import batches, items
+from cases.calls import CALLS
 from cases.commands import commands, examples, orders, paths, spaced_paths, wrong_words
 from cases.debugging import faults, long_sessions, scripts, starts_before_its_script
 from cases.depot import depots
 from cases.helps import help_asked_for
+from cases.largest import largest
 from cases.lines import line_files
 from cases.pictures import PICTURED
 from cases.replays import replays
@@ -12,6 +14,7 @@ from cases.serve import outputs_of_serve, ports, tables_of_serve, words_of_serve
 from cases.streams import memory, output_that_ends_midway, streams
 from cases.tables import table_files
 from cases.timed import changing_tables, tables_files
+from cases.values import values
 from cases.workers import workers
 
 SUBJECTS = [
@@ -28,11 +31,13 @@ SUBJECTS = [
     depots,
     batches,
     items,
+    values,
     replays,
     line_files,
     workers,
     scripts,
     long_sessions,
+    largest,
     faults,
     streams,
     memory,
@@ -42,5 +47,5 @@ SUBJECTS = [
     outputs_of_serve,
 ]
 """What yields cases."""
-INTERPLAYS = [starts_before_its_script, output_that_ends_midway, *PICTURED]
+INTERPLAYS = [starts_before_its_script, output_that_ends_midway, *CALLS, *PICTURED]
 """What runs the program by itself, or a tool, and says what is wrong."""

@@ -121,6 +121,20 @@ WRONG = [
     ["debug", "events.json", P, A, "--lines"],
     ["debug", "events.json", P, A, "--table"],
 ]
+# Words, and what `clap` says of the mistake in them.
+MISTAKES = [
+    ("bogus", "unrecognized subcommand 'bogus'"),
+    ("--bogus", "unexpected argument '--bogus' found"),
+    ("table table.json", "unexpected argument 'table.json' found"),
+    ("table --bogus", "unexpected argument '--bogus' found"),
+    ("replay", "the following required arguments were not provided:\n  <FILE>"),
+    ("serve --port 0", "the following required arguments were not provided:\n  --each <N>"),
+    ("replay events.json --any --any", "the argument '--any' cannot be used multiple times"),
+    ("replay events.json --workers", "a value is required for '--workers <N>' but none was supplied"),
+    ("replay events.json --workers 65", "invalid value '65' for '--workers <N>'"),
+    ("serve --port 65536 --each 1", "invalid value '65536' for '--port <N>'"),
+    ("serve --port 0 --each 1000001", "invalid value '1000001' for '--each <N>'"),
+]
 NO_TEXTS = [
     [b"\xff"],
     [b"tabl\xc3"],
@@ -141,6 +155,9 @@ def wrong_words():
         yield Case(words, status=2, faults=SOME, files=files)
     for words in ("replay", "table table.json", "replay events.json --workers 65"):
         yield Case(words, status=2, faults=MISTAKE, files=files)
+    for words, text in MISTAKES:
+        told_by = rf"error: {re.escape(text)}.*\n\nFor more information, try '--help'\.\n"
+        yield Case(words, status=2, faults=re.compile(told_by, re.S), files=files)
     for words in NO_TEXTS:
         yield Case(words, status=2, faults=NOT_TEXT, files=files)
     for stderr in NO_STREAMS:

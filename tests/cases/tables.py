@@ -45,10 +45,14 @@ PROFILE_ROWS = 74
 EIGHT = " ".join(STATES[:8])
 TYPES = [f"k{number:02}" for number in range(65)]
 MOST_ROWS = [(kind, EIGHT, EIGHT) for kind in TYPES[:64]]
+# All pairs of nine states are 81: 50 types have 4050 rows, and with one more type there would be too many.
+ALL = " ".join(STATES)
+ALL_PAIRS = [(kind, ALL, ALL) for kind in TYPES[:50]]
 MOST_TYPES = [(kind, "removed", "available") for kind in TYPES[:64]]
 ONE_MORE = ("one_more", "removed", "available")
 BAD = ("Bad", "removed", "available")
 WAKE = ("wake", "removed", "available")
+DEPOT = (TYPES[0], "removed", "in_depot")
 
 ONE_ROW = '{"rows": [{"from": "removed", "type": "wake", "to": "available"}]}'
 ONE_ROW_PRINTED = "wake removed available\nrows 1\n"
@@ -118,6 +122,7 @@ FAULTS = [
     bad(entry(from_="null")),
     bad(entry(from_="[]")),
     bad(entry(from_='["removed", 7]')),
+    bad(entry(from_='[["removed"]]')),
     bad(entry(to="[]")),
     bad(entry(to="1")),
     bad(entry(to='["available", "flying"]')),
@@ -126,6 +131,7 @@ FAULTS = [
     bad(entry(type='"trip-end"')),
     bad(entry(type=f'"{"k" * 33}"')),
     bad(entry(type='["wake"]')),
+    ('{"rows": [%s, %s, 7]}' % (entry(), entry(to="null")), "bad_row 1"),
     # of too many, and which of two comes first
     (table_file(MOST_ROWS + [ONE_MORE]), "too_many_rows"),
     (table_file(MOST_ROWS + [ONE_MORE, BAD]), "too_many_rows"),
@@ -133,6 +139,8 @@ FAULTS = [
     (table_file(MOST_TYPES + [ONE_MORE]), "too_many_types"),
     (table_file(MOST_TYPES + [ONE_MORE, BAD]), "too_many_types"),
     (table_file(MOST_TYPES + [BAD, ONE_MORE]), "bad_row 64"),
+    (table_file([*ALL_PAIRS, (TYPES[50], ALL, ALL)]), "too_many_rows"),
+    (table_file([(kind, ALL, ALL) for kind in TYPES[:64]]), "too_many_rows"),
 ]
 
 TWICE, LISTED = '["removed", "removed"]', '["available"]'
@@ -144,6 +152,8 @@ TABLES = [
     ("most rows, the last first", table_file(MOST_ROWS[::-1]), MOST_ROWS),
     ("most rows, some twice", table_file(MOST_ROWS + MOST_ROWS[:2]), MOST_ROWS),
     ("most types", table_file(MOST_TYPES * 2), MOST_TYPES),
+    ("a row more of one of most types", table_file([*MOST_TYPES, DEPOT]), [*MOST_TYPES, DEPOT]),
+    ("all pairs of 50 types, and a row of one more", table_file([*ALL_PAIRS, ONE_MORE]), [*ALL_PAIRS, ONE_MORE]),
     ("most bytes", padded(ONE_ROW, MAX_BYTES), [WAKE]),
     ("`rows` twice", '{"rows": 7, ' + ONE_ROW[1:], [WAKE]),
     ("other members", '{"more": %s, "rows": [%s]}' % (lists(126), entry(more="{}")), [WAKE]),

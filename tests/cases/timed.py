@@ -118,6 +118,7 @@ FAULTS = [
     (listing([timed("5"), "7"]), "first_not_zero"),
     (listing([timed("0"), timed("0", "[]")]), "not_rising 1"),
     (listing([timed("0"), timed("0", "7")]), "bad_entry 1"),
+    (listing([timed("0"), timed("7"), timed("6"), timed("null")]), "not_rising 2"),
     (listing([timed("0"), timed("9", "[7]"), timed("9")]), "table 1 bad_row 0"),
 ]
 

@@ -1,9 +1,12 @@
-"""C files of the repository, each built once, and the growths of memory that one of them refuses."""
+"""C files of the repository, each built once; the growths of memory that one of them refuses, and the calls that another
+counts."""
 
 import os
+import struct
 import subprocess
 import tempfile
 import threading
+from collections import namedtuple
 from pathlib import Path
 
 from harness.counting import ROOT
@@ -49,3 +52,29 @@ class Refusal:
 
     def came(self):
         return self.mark.exists()
+
+
+Counts = namedtuple("Counts", "reads writes bytes ends threads")
+"""Calls of read, calls of write, the bytes that they moved, how often the end was met, and the threads that were made."""
+
+
+class Counting:
+    """Calls on one descriptor that are counted, and the threads that are made. Of so many calls, if a number is given, one moves
+    a byte, and the others are interrupted. As a context it has the environment of the run that it is for."""
+
+    def __init__(self, on=-1, every=0):
+        self.how = {"ON": str(on), "EVERY": str(every)}
+        self.shim = built("count-calls.so", "tests/count-calls.c", "-shared", "-fPIC", "-O1", "-ldl")
+
+    def __enter__(self):
+        self.folder = tempfile.TemporaryDirectory()
+        self.path = Path(self.folder.name, "counts")
+        self.path.write_bytes(bytes(8 * len(Counts._fields)))
+        self.env = {**os.environ, **self.how, "LD_PRELOAD": str(self.shim), "COUNTS": str(self.path)}
+        return self
+
+    def __exit__(self, *_):
+        self.folder.cleanup()
+
+    def counts(self):
+        return Counts(*struct.unpack(f"={len(Counts._fields)}q", self.path.read_bytes()))

@@ -16,7 +16,7 @@ TESTED = {
     ("mds_table", "test_rules", "a_text_is_read_after_a_refused_growth"): ["json::value_of"],
     ("mds_steps", "test_rules", "least_chain_succeeds_after_a_refused_growth"): ["least_chain"],
     ("mds_core", "test_rules", "fleet_calls_succeed_after_a_refused_growth"): ["Fleet::step", "Fleet::events", "run"],
-    ("mds_shard", "test_books", "step_succeeds_after_a_refused_growth"): ["Shard::step", "Shard::events"],
+    ("mds_shard", "test_shards", "step_succeeds_after_a_refused_growth"): ["Shard::step", "Shard::events"],
     ("mds_book", "test_books", "calls_succeed_after_a_refused_growth"): ["Book::open", "Book::call", "Book::vehicle_events", "Book::seat_events"],
     ("mds_book", "mds_book", "slot_steps_after_a_refused_growth"): ["Slot::step"],
     ("mds_io", "test_batches", "calls_succeed_after_a_refused_growth"): [
@@ -47,15 +47,16 @@ TESTED = {
     ("mds_face", "test_faces", "a_seat_answers_after_a_refused_growth"): ["Desk::call", "Desk::events", "Desk::rows"],
     ("mds_pool", "test_edge", "workers_serve_after_a_refused_growth"): ["serve"],
     ("mds_pool", "test_edge", "a_book_is_settled_after_a_refused_growth"): ["serve_and_settle"],
+    ("mds_waiting", "mds_waiting", "a_key_is_found_after_a_refused_growth"): ["Waiting::vacancy"],
     ("mds_args", "test_words", "words_are_read_after_a_refused_growth"): ["parse_words"],
-    ("mds_journal", "mds_journal", "lines_are_added_after_a_refused_growth"): [
+    ("mds_journal", "test_journal", "lines_are_added_after_a_refused_growth"): [
         "Group::new",
         "Group::push",
         "Memory::new",
         "read_all",
         "Journal::append",
     ],
-    ("mds_journal", "mds_journal", "calls_are_made_after_a_refused_growth"): [
+    ("mds_journal", "test_journal", "calls_are_made_after_a_refused_growth"): [
         "Opening::start",
         "Opening::next_line",
         "Opening::finish",
@@ -65,6 +66,7 @@ TESTED = {
         "Device::read_at",
         "Device::cut",
     ],
+    ("mds_file", "test_journal", "a_file_grows_after_a_refused_growth"): ["open_file"],
 }
 """A library, where its test stands (a crate, and a module of it where more than one has a test of this name), the test, and the
 calls of the library that it makes."""
@@ -144,7 +146,7 @@ QUIET = {
         "Request::event",
         "Request::copy",
     ],
-    ("mds_shard", "test_books", "shards_are_told_of_with_every_growth_refused"): [
+    ("mds_shard", "test_shards", "shards_are_told_of_with_every_growth_refused"): [
         "Shard::open",
         "Shard::step",
         "Shard::events",
@@ -153,8 +155,8 @@ QUIET = {
         "Shard::tables",
         "Shard::len",
     ],
-    ("mds_settle", "test_books", "lawful_cases_with_every_growth_refused"): ["judge", "judge_lawful", "NoteList::notes"],
-    ("mds_gate", "test_books", "the_open_gate_is_passed_with_every_growth_refused"): ["Gate::enter", "Gate::leave"],
+    ("mds_settle", "test_shards", "lawful_cases_with_every_growth_refused"): ["judge", "judge_lawful", "NoteList::notes"],
+    ("mds_gate", "test_shards", "the_open_gate_is_passed_with_every_growth_refused"): ["Gate::enter", "Gate::leave"],
     ("mds_book", "test_books", "books_are_told_of_with_every_growth_refused"): [
         "Book::call",
         "Book::shard_of",

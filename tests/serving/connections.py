@@ -14,6 +14,8 @@ from serving.wire import close, connect, get, hang_up, post, read_all
 REGISTER = post("/vehicles", [vehicle()])
 EVENT = post("/events", batch([item()]))
 MOST_WORKERS = 64
+MOST_THROWN_AWAY = 16777216 - HEAD_BYTES
+"""Bytes behind a request that aren't looked at: as many as the server reads, but for what came with the head."""
 SMALL_ROOM = 4096
 """How many bytes of an answer the system takes in for a client that is slow to read it."""
 
@@ -83,8 +85,12 @@ def refused_while_sending(program):
         (get(f"/vehicles/{P}/{A}") + b"x" * 3000000, error(404, "unregistered")),
         (changed() + b"x" * 3000000, EMPTY),
     ]
-    with Server(program, 5 * len(requests), workers=2) as server:
-        for request, wanted in 10 * requests:
+    longest = [
+        (changed(body="0" * MOST_THROWN_AWAY), error(413, "too_long")),
+        (get("/nowhere") + b"x" * MOST_THROWN_AWAY, error(404, "not_found")),
+    ]
+    with Server(program, 5 * len(requests) + len(longest) // 2, workers=2) as server:
+        for request, wanted in 10 * requests + longest:
             for complaint in sent(server, [request], wanted):
                 yield f"{request[:40]!r}, {len(request)} bytes: {complaint}"
         yield from server.end()

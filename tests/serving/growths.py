@@ -22,7 +22,7 @@ def out_of_memory(index):
 
 
 def turns():
-    """Exchanges, and what else may be answered to those that were answered 503 before."""
+    """Exchanges, and what else may be answered where they were answered 503 before: where one of their items stands, where two do."""
     again = [{"error": "already_registered", "index": index} for index in (0, 1)]
     repeated = {"error": "repeated", "index": 0}
     both = registered(A, B)
@@ -40,17 +40,20 @@ ACCEPTED = 3
 
 
 def one_turn(port, exchange, others):
-    """Asks, and once more where there was no memory; how many connections that took, and what was wrong. No answer at all means
-    that the connection couldn't be taken, or that the server ended."""
+    """Asks, and once more where there was no memory; how many connections that took, and what was wrong. Where an item is told that
+    had none, those before it stand, and it and those behind it don't. No answer at all means that the connection couldn't be
+    taken, or that the server ended."""
     found = ask(port, exchange.request)
     if not found:
         raise ConnectionAbortedError
     if found == exchange.answer:
         return 1, []
-    if found not in (FIXED, out_of_memory(0), out_of_memory(1)):
+    stood = [exchange.answer, *others]
+    told = {FIXED: stood, **{out_of_memory(count): [stood[count]] for count in range(len(others))}}
+    if found not in told:
         return 1, [f"{exchange.request[:60]!r} was answered {found!r}"]
     after = ask(port, exchange.request)
-    if after != exchange.answer and after not in others:
+    if after not in told[found]:
         return 2, [f"{exchange.request[:60]!r} was answered {found!r}, and then {after!r}"]
     return 2, []
 

@@ -8,6 +8,7 @@ from cases.depot import DEPOT, STORED
 from cases.replays import RUNS, A, B, P, batch, event, item, second_events
 from cases.tables import ONE_ROW, PROFILE_ROWS
 from cases.timed import CHANGES, CHANGING, MANY_TABLES, MOST_TIME, edges, tables_file
+from cases.values import as_registrations
 from harness.case import MAX_BYTES, MAX_ITEMS, lists, padded, started
 from harness.texts import as_bytes
 from model.http import answer, error
@@ -455,6 +456,9 @@ def items():
         told = failure(fault) if of_vehicle else {"error": "already_registered", "index": 0}
         registrations.append(Exchange(post("/vehicles", item(**change)), done(1, [told]), name=str(change)))
     yield Talk(registrations)
+    texts, faults = zip(*as_registrations())
+    told = failures([fault or "already_registered" for fault in faults])
+    yield Talk([registered(A), Exchange(post("/vehicles", batch(texts)), done(len(texts), told), name="values in each place")])
     for text in NO_OBJECTS:
         told = done(1, [{"error": "not_object", "index": 0}])
         yield Talk([Exchange(post(target, f"[{text}]"), told) for target in ("/events", "/vehicles")])

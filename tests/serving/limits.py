@@ -2,11 +2,14 @@
 
 These tests wait more than they work. So tests/clients runs them beside the others, each in a thread of its own."""
 
+import os
 import socket
 import threading
 import time
+from pathlib import Path
 
 from cases.replays import A, B, P
+from harness.building import built
 from harness.case import SOCKET
 from harness.counting import Unwell
 from harness.texts import differing
@@ -27,11 +30,14 @@ WHOLE = (55, 80)
 """The same for one that goes on sending its request, and for one that goes on taking its answer: 60."""
 WRITING = (25, 80)
 """The same for one that doesn't read a long answer: 30 for each call of `write`, and 60 in all."""
-LAST_READ = (1, 8)
+MOST_BEHIND = 1.5
+"""How many seconds after a late client is let go the next one may be answered. Nothing more is read of the late one: else it
+would be 2 seconds, or 10 where that goes on sending."""
+LAST_READ = (1, 5)
 """The same for a client that sends nothing behind its answer: 2."""
 AT_ITS_END = (-1, 1)
 """The same for one whose request was granted, so that nothing more is expected of it: it isn't waited for."""
-LAST_READS = (8, 20)
+LAST_READS = (8, 16)
 """The same for one that goes on sending: 10, and the read before it."""
 MOST_LAST_SECONDS = 8
 """How long a client may be read from that sends all that it can: the limit of bytes comes first."""
@@ -39,16 +45,52 @@ IDLE = 33
 """How long no client comes, in seconds: longer than the system waits for a connection in one call."""
 OPEN_FILES = 5
 """Standard input, output and error, the listening socket, and one connection."""
-LACK, MOST_LACK = 3, 36
+LACK, MOST_LACK = 15, 36
 """A lack of open files, in seconds, that passes, and one that is longer than the server waits for."""
+WAITS, LONGEST, TOO_LONG = 8640, 29, 31
+"""How many waits of 10 seconds come before a client does, a day of them; and lacks of the two kinds, on a clock that is moved
+on."""
 AT_ONCE = 1 << 16
 SLOW = MOST_WORKERS + 16
 """Clients that send a byte a second: more than there are workers."""
 
 
-def next_answer(server, least, most):
-    """What is wrong with the next client's answer, while another one holds the only worker: it comes so many seconds later."""
+class LetGo(threading.Thread):
+    """Waits until the server lets go of a connection, no sooner than after so many seconds, and keeps when that was."""
+
+    def __init__(self, server, connection, least):
+        super().__init__(daemon=True)
+        ends = (server.port, connection.getsockname()[1])
+        self.row = "{:04X} 0100007F:{:04X} 01 ".format(*ends).encode()
+        """What the system's list of sockets has of the server's end, as long as that is established."""
+        self.server, self.least, self.time = server, least, None
+        self.start()
+
+    def is_held(self):
+        return self.server.child.poll() is None and self.row in Path("/proc/net/tcp").read_bytes()
+
+    def run(self):
+        time.sleep(self.least)
+        # The list may lack a socket, once, where others go while it is read.
+        while self.is_held() or self.is_held():
+            time.sleep(0.2)
+        self.time = time.monotonic()
+
+    def behind(self):
+        """What is wrong with how much later the next client was answered, which was now."""
+        now = time.monotonic()
+        self.join(MOST_LACK)
+        if self.time is None:
+            yield "the next client was answered, and the late one wasn't let go"
+        elif now - self.time > MOST_BEHIND:
+            yield f"the next client was answered {now - self.time:.1f} s after the late one was let go"
+
+
+def next_answer(server, least, most, late=None):
+    """What is wrong with the next client's answer, while another one holds the only worker: it comes so many seconds later; and
+    where that one is late, as soon as it is let go."""
     start = time.monotonic()
+    let_go = LetGo(server, late, least) if late else None
     server.count()
     with connect(server.port) as waiting:
         waiting.settimeout(most)
@@ -57,6 +99,8 @@ def next_answer(server, least, most):
             found = read_all(waiting)
         except socket.timeout:
             raise Unwell(f"the next client had no answer after {most} s") from None
+        if let_go:
+            yield from let_go.behind()
     seconds = time.monotonic() - start
     yield from differing(found, error(404, "not_found"))
     if not least < seconds < most:
@@ -69,7 +113,7 @@ def let_go_before_its_answer(program, part, least, most, port=0):
         server.count()
         keeping = connect(server.port)
         keeping.sendall(part)
-        yield from next_answer(server, least, most)
+        yield from next_answer(server, least, most, keeping)
         if not is_over(keeping):
             yield "something was answered to a request that wasn't whole"
         yield from server.end()
@@ -127,7 +171,7 @@ def let_go_though_they_trickle(program, requests, workers, least, most):
         sender = threading.Thread(target=trickle, args=(slow, over))
         sender.start()
         try:
-            yield from next_answer(server, least, most)
+            yield from next_answer(server, least, most, slow[0][0])
         finally:
             over.set()
             sender.join()
@@ -163,7 +207,7 @@ def with_a_long_answer(program, reading, least, most):
             keeping.sendall(get(f"/vehicles/{P}/{A}/events"))
             reader.start()
             try:
-                yield from next_answer(server, least, most)
+                yield from next_answer(server, least, most, keeping)
             finally:
                 over.set()
                 reader.join()
@@ -280,11 +324,11 @@ def short_of_open_files(program):
         yield from talk_over(server, registered(A))
         server.count(2)
         with connect(server.port) as held, connect(server.port) as waiting:
-            held.sendall(EVENT[:20])
+            held.sendall(EVENT[:-1])
             waiting.sendall(get(f"/vehicles/{P}/{A}"))
             if not silent(waiting, LACK):
                 yield "an answer where no file could be opened for its connection"
-            held.sendall(EVENT[20:])
+            held.sendall(EVENT[-1:])
             found = read_all(held)
             server.count(0, success_of(found))
             yield from differing(found, done(1))
@@ -315,6 +359,28 @@ def short_of_open_files_for_long(program):
             yield f"ended with {ended}, in place of {wanted}"
 
 
+def moved_on(waits=0, lack=0):
+    """The environment of a server for which clients and open files are lacking for so long, on a clock that is moved on."""
+    shim = built("no-client.so", "tests/no-client.c", "-shared", "-fPIC", "-O1", "-ldl")
+    return {**os.environ, "LD_PRELOAD": str(shim), "IDLE": str(waits), "WAIT": "10", "LACK": str(lack)}
+
+
+def idle_for_a_day(program):
+    """A server to which no client comes for a day goes on, and has all its time for a lack of open files behind it."""
+    with Server(program, 2, env=moved_on(WAITS, LONGEST)) as server:
+        yield from talk_over(server, registered(A))
+        yield from talk_over(server, look(A, "removed", 0, None))
+        yield from server.end()
+
+
+def lacking_open_files_for_too_long(program):
+    """A lack of open files that is a little longer than the server waits ends its only worker, and so the server."""
+    with Server(program, 2, env=moved_on(0, TOO_LONG)) as server:
+        ended, wanted = server.ended(), (3, "", SOCKET)
+        if ended != wanted:
+            yield f"ended with {ended}, in place of {wanted}"
+
+
 LIMITS = [
     let_go_in_its_head,
     let_go_at_a_port_of_a_number,
@@ -326,6 +392,8 @@ LIMITS = [
     silent_behind_a_granted_request,
     sending_behind_a_granted_request,
     idle_for_long,
+    idle_for_a_day,
+    lacking_open_files_for_too_long,
     silent_behind_its_answer,
     trickling_behind_its_answer,
     flooding_behind_its_answer,

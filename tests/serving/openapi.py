@@ -22,7 +22,7 @@ LONG = 1 << 16
 """From how many bytes on an answer is long."""
 END = 1000
 """How many items are looked at from either end of a longer list."""
-INNER_END = 100
+INNER_END = 20
 """The same of a list within a list."""
 
 

@@ -1,17 +1,18 @@
 """Numbers past those at which something could end: connections of a worker, accepted calls of a seat, bytes of an answer, and
 bytes of memory."""
 
-import json
 import struct
 import subprocess
 import tempfile
 from concurrent.futures import ThreadPoolExecutor
 from pathlib import Path
 
-from cases.replays import A, P, batch, history, item
-from cases.tables import STATES, TYPES
+from cases.largest import LONG_TYPED, LONG_TYPES, long_events
+from cases.replays import A, P, batch, event, identifier, item, turn
+from cases.tables import MOST_ROWS, STATES, TYPES
+from cases.timed import MOST_TABLES, tables_file
 from harness.building import loading_client
-from harness.case import MAX_BYTES, lists, padded
+from harness.case import MAX_BYTES, MAX_ITEMS, lists, padded
 from harness.texts import differing
 from model.http import answer, error
 from model.json_text import compact
@@ -21,9 +22,9 @@ from serving.settling import settled, taken_at_once
 from serving.talking import talk_over
 from serving.wire import ask, get, post
 
-CONNECTIONS = 65600
+CONNECTIONS = 70000
 CLIENTS = 4
-BATCHES, EVENTS = 7, 10000
+BATCHES = 14
 SEATS, TURNS, ITEMS = 16, 2, 9375
 MOST_SETTLING = 10
 """How many seconds a server may take to settle 300000 accepted requests, and to end."""
@@ -33,6 +34,7 @@ MOST_DEEP = 127
 """How deep lists and objects may be."""
 DEEP_WORKERS, MOST_OF_DEEP = 16, 4 * MAX_BYTES
 """Workers that read deep bodies, and how many bytes each may take."""
+
 
 def files_of_looks(folder):
     """A file of requests for each client, which look at a vehicle."""
@@ -56,32 +58,67 @@ def many_connections_of_one_worker(program):
         yield from server.end()
 
 
+def listed(number, types, state, time, device=A):
+    """An event of the vehicle as the server lists it."""
+    return (
+        f'{{"device_id":"{device}","event_id":"00000000-0000-4000-8000-{number:0>12x}","event_types":{compact(types)},'
+        f'"location_e7":null,"provider_id":"{P}","timestamp":{time},"vehicle_state":"{state}"}}'
+    )
+
+
+def list_of(events):
+    """The exchange that lists the vehicle's events."""
+    return Exchange(get(f"/vehicles/{P}/{A}/events"), answer(200, f'{{"events":[{",".join(events)}]}}'))
+
+
 def many_calls_of_one_seat(program):
-    """One worker accepts more calls than 16 bits can count, counts them in a look, and gives the vehicle's history whole: each
-    event as it was reported, in an answer of 20 MB."""
+    """One worker accepts more calls than 17 bits can count, counts them in a look, and gives the vehicle's history whole: each
+    event as it was reported, in an answer of 36 MB."""
+    count = BATCHES * MAX_ITEMS
+    events = [listed(number, [turn(number)[1]], turn(number)[0], 1000 + number) for number in range(count)]
     with Server(program, BATCHES + 3) as server:
         yield from talk_over(server, registered(A))
-        listed = []
-        for at in range(BATCHES):
-            events = list(history(A, EVENTS * at, EVENTS * (at + 1)))
-            yield from talk_over(server, Exchange(post("/events", batch(events)), done(EVENTS)))
-            listed += [compact({**json.loads(event), "location_e7": None}) for event in events]
-        last = json.loads(events[-1])
-        yield from talk_over(server, look(A, last["vehicle_state"], BATCHES * EVENTS, last["timestamp"]))
-        wanted = answer(200, f'{{"events":[{",".join(listed)}]}}')
-        yield from talk_over(server, Exchange(get(f"/vehicles/{P}/{A}/events"), wanted))
+        for front in range(0, count, MAX_ITEMS):
+            posted = post("/events", batch(events[front : front + MAX_ITEMS]))
+            yield from talk_over(server, Exchange(posted, done(MAX_ITEMS)))
+        yield from talk_over(server, look(A, turn(count - 1)[0], count, 1000 + count - 1))
+        yield from talk_over(server, list_of(events))
+        yield from server.end()
+
+
+def most_items_of_bodies(program):
+    """Bodies of as many registrations, and of as many events, as there may be are accepted whole."""
+    devices = [identifier(1, number) for number in range(MAX_ITEMS)]
+    events = batch(event(device, "e1", "provider_drop_off", "available", 1000) for device in devices)
+    with Server(program, 4) as server:
+        yield from talk_over(server, registered(*devices))
+        yield from talk_over(server, look(devices[-1], "removed", 0, None))
+        yield from talk_over(server, Exchange(post("/events", events), done(MAX_ITEMS)))
+        yield from talk_over(server, look(devices[-1], "available", 1, 1000))
+        yield from server.end()
+
+
+def longest_events(program):
+    """A body of the longest events, as many as it has room for, is accepted whole, and each of them is listed."""
+    events = long_events()
+    count = len(events)
+    with Server(program, 4, table=LONG_TYPED) as server:
+        yield from talk_over(server, registered(A))
+        yield from talk_over(server, Exchange(post("/events", batch(events)), done(count)))
+        yield from talk_over(server, look(A, "available", count, 1000))
+        yield from talk_over(server, list_of(listed(number, LONG_TYPES, "available", 1000) for number in range(count)))
         yield from server.end()
 
 
 def largest_tables(program):
-    """As many tables of as many rows as a table file has room for are given whole."""
-    rows = [
-        {"from": before, "to": after, "type": kind} for kind in TYPES[:64] for before in STATES[:8] for after in STATES[:8]
-    ]
-    count = (MAX_BYTES - 100) // (len(compact(rows)) + 100)
-    tables = compact({"tables": [{"from_time": 1000 * at, "rows": rows} for at in range(count)]})
-    with Server(program, 1, table=tables) as server:
-        yield from talk_over(server, Exchange(get("/table"), answer(200, tables)))
+    """As many tables as there may be, of as many rows each, are given whole."""
+    rows = compact(
+        [{"from": before, "to": after, "type": kind} for kind in TYPES[:64] for before in STATES[:8] for after in STATES[:8]]
+    )
+    starts = range(0, 1000 * MOST_TABLES, 1000)
+    tables = ",".join(f'{{"from_time":{start},"rows":{rows}}}' for start in starts)
+    with Server(program, 1, table=tables_file((start, MOST_ROWS) for start in starts)) as server:
+        yield from talk_over(server, Exchange(get("/table"), answer(200, f'{{"tables":[{tables}]}}')))
         yield from server.end()
 
 
@@ -90,7 +127,6 @@ def many_requests_of_many_seats(program):
     seconds = settled(program, SEATS, TURNS, ITEMS)
     if seconds > MOST_SETTLING:
         yield f"{seconds:.1f} s, in place of {MOST_SETTLING} at most"
-
 
 
 def long_items():
@@ -149,6 +185,8 @@ def memory_of_deep_values(program):
 SIZES = [
     many_connections_of_one_worker,
     many_calls_of_one_seat,
+    most_items_of_bodies,
+    longest_events,
     largest_tables,
     many_requests_of_many_seats,
     memory_behind_long_items,

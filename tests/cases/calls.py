@@ -1,0 +1,171 @@
+"""How often the program reads and writes, how far it reads, how many threads it makes, and output that fails in its middle."""
+
+import os
+import resource
+import signal
+import subprocess
+import tempfile
+from concurrent.futures import ThreadPoolExecutor
+from pathlib import Path
+
+from cases.debugging import BAD, EVENTS, MAX_SCRIPT, NOBODY, SECOND, START, UNKNOWN
+from cases.replays import A, B, P, batch, event, identifier, item
+from cases.streams import LONG, LONG_FILES
+from cases.tables import ONE_ROW, ONE_ROW_PRINTED, PROFILE, table_printed
+from harness.building import Counting
+from harness.case import MAX_BYTES, OUTPUT, Case, cannot_read, not_a_batch, not_a_table
+from harness.running import differences, outcome
+
+MOST_CALLS = 5000000
+EVERY = MOST_CALLS // 5
+"""Of so many calls one moves a byte, and the others are interrupted."""
+INPUT, OUT, FAULTS, FILE = range(4)
+"""The descriptors of the standard streams, and of the first file that is opened."""
+MOVED = MOST_CALLS // EVERY
+FILES = {"events.json": EVENTS, "table.json": ONE_ROW}
+DEBUG = f"debug events.json {P} {A}"
+STARTED = f"events 2 refused 0\n{START}"
+
+# On which descriptor calls are interrupted, and what comes of it: the status, the output and the faults.
+READS = [
+    ("replay -", INPUT, (3, "", cannot_read("-"))),
+    ("replay --lines -", INPUT, (3, "", cannot_read("-"))),
+    ("replay events.json", FILE, (3, "", cannot_read("events.json"))),
+    ("replay --lines events.json", FILE, (3, "", cannot_read("events.json"))),
+    ("table --table table.json", FILE, (3, "", cannot_read("table.json"))),
+    (DEBUG, FILE, (3, "", cannot_read("events.json"))),
+    # a script ends where reading fails: with `next`, which has as many bytes as came
+    (DEBUG, INPUT, (0, STARTED + SECOND, "")),
+]
+WRITES = [
+    ("table", OUT, (3, table_printed(PROFILE)[:MOVED], OUTPUT)),
+    ("replay events.json", OUT, (3, "0 ok non_contactable"[:MOVED], OUTPUT)),
+    (DEBUG, OUT, (3, STARTED[:MOVED], OUTPUT)),
+    ("serve --port 0 --each 0", OUT, (3, "listening"[:MOVED], OUTPUT)),
+    ("replay missing.json", FAULTS, (3, "", cannot_read("missing.json")[:MOVED])),
+    (f"debug events.json {P} {B}", FAULTS, (1, "", NOBODY[:MOVED])),
+    (f"debug events.json {P} x", FAULTS, (2, "", BAD[:MOVED])),
+]
+
+
+def counted(program, case, on=-1, every=0):
+    """What is wrong with the end of a run of the case, and its counts."""
+    with Counting(on, every) as counting:
+        case.env = counting.env
+        return list(differences(case, *outcome(program, case))), counting.counts()
+
+
+def interrupted(program, words, on, end, wanted):
+    """What is wrong with a run where calls on a descriptor are interrupted, and one in so many isn't."""
+    status, out, faults = end
+    case = Case(words, status=status, out=out, faults=faults, given="next\n" * MOVED, files=FILES)
+    wrong, counts = counted(program, case, on, EVERY)
+    wrong += [f"{counts}, in place of {MOST_CALLS} {name}" for name in wanted if getattr(counts, name) != MOST_CALLS]
+    return [f"{words}, descriptor {on} interrupted: {text}" for text in wrong]
+
+
+def interrupted_calls(program):
+    """A file, a script and a line are given up after 5000000 calls, those among them that went well: no sooner, and no later."""
+    runs = [(*it, ["reads"]) for it in READS] + [(*it, ["writes"]) for it in WRITES]
+    with ThreadPoolExecutor(os.cpu_count()) as pool:
+        for wrong in pool.map(lambda it: interrupted(program, *it), runs):
+            yield from wrong
+
+
+LONGER = 100000
+"""By how many bytes a text is longer than what is read of it."""
+SPACES, LINES = " " * (MAX_BYTES + LONGER), "\n" * (MAX_BYTES + LONGER)
+TOO_LONG = (3, "", not_a_batch("too_long"))
+# What is read on a descriptor, how many bytes of it, and what comes of it.
+FAR = [
+    ("replay -", INPUT, SPACES, MAX_BYTES + 1, TOO_LONG),
+    ("replay --lines -", INPUT, LINES, MAX_BYTES + 1, TOO_LONG),
+    ("replay long", FILE, SPACES, MAX_BYTES + 1, TOO_LONG),
+    ("replay --lines long", FILE, LINES, MAX_BYTES + 1, TOO_LONG),
+    ("table --table long", FILE, SPACES, MAX_BYTES + 1, (3, "", not_a_table("too_long"))),
+    (f"debug long {P} {A}", FILE, SPACES, MAX_BYTES + 1, TOO_LONG),
+    (DEBUG, INPUT, "\n" * (MAX_SCRIPT + LONGER), MAX_SCRIPT, (0, STARTED + UNKNOWN * MAX_SCRIPT, "")),
+]
+
+
+# What has an end on a descriptor, and what comes of it: as a terminal, it is asked for its end once.
+SHORT = [
+    ("replay -", INPUT, (0, "accepted 0 refused 0\n", "")),
+    ("replay --lines -", INPUT, (1, "0 fault not_object\naccepted 0 refused 1\n", "")),
+    ("replay short", FILE, (0, "accepted 0 refused 0\n", "")),
+    ("table --table table.json", FILE, (0, ONE_ROW_PRINTED, "")),
+    (DEBUG, INPUT, (0, STARTED + UNKNOWN, "")),
+]
+
+
+def read_so_far(program):
+    """Of a file that is too long one byte more than the limit is read, and of a script as many as it may have. Of others all is
+    read, and their end once."""
+    runs = [(words, on, text, (wanted, 0), end) for words, on, text, wanted, end in FAR]
+    runs += [(words, on, "[]", (len(ONE_ROW if "table" in words else "[]"), 1), end) for words, on, end in SHORT]
+    for words, on, text, wanted, (status, out, faults) in runs:
+        files = {**FILES, "long": text, "short": text}
+        case = Case(words, status=status, out=out, faults=faults, given=text, files=files)
+        wrong, counts = counted(program, case, on)
+        if (counts.bytes, counts.ends) != wanted:
+            wrong.append(f"{counts.bytes} bytes were read, and {counts.ends} ends met, in place of {wanted}")
+        yield from (f"{words}: {complaint}" for complaint in wrong)
+
+
+WORKERS = (1, 2, 4, 5, 64)
+
+
+def threads_of_workers(program):
+    """Each worker of a replay but one is a thread that is made; a replay of lines, and one without the option, makes none."""
+    events = [event(identifier(2, number), "e1", "provider_drop_off", "available", 1000) for number in range(67)]
+    out = [f"{number} ok available\n" for number in range(67)]
+    out += [f"vehicle {P} {identifier(2, number)} available 1\n" for number in range(67)]
+    out = "".join([*out, "accepted 67 refused 0\n"])
+    runs = [(f"replay --workers {count} -", batch(events), count - 1) for count in WORKERS]
+    runs += [("replay -", batch(events), 0), ("replay --lines --workers 64 -", "\n".join(events), 0)]
+    for words, text, wanted in runs:
+        wrong, counts = counted(program, Case(words, out=out, given=text))
+        if counts.threads != wanted:
+            wrong.append(f"{counts.threads} threads were made, in place of {wanted}")
+        yield from (f"{words}: {complaint}" for complaint in wrong)
+
+
+ROOMS = (0, 1, 199, 201, 5000, 16385, 65537)
+"""How many bytes standard output takes until it fails."""
+
+
+def limit(room):
+    """Lets no file grow past so many bytes in the process that is to start."""
+    signal.signal(signal.SIGXFSZ, signal.SIG_IGN)
+    resource.setrlimit(resource.RLIMIT_FSIZE, (room, room))
+
+
+def output_that_is_full(program):
+    """Standard output takes so many bytes and no more: what it took is a front of the whole, and that it failed is told."""
+    with tempfile.TemporaryDirectory() as folder:
+        for name, text in {**LONG_FILES, "one": batch([item()])}.items():
+            Path(folder, name).write_text(text)
+        for words, given in {**LONG, "table": "", "replay one": ""}.items():
+            whole = subprocess.run([program, *words.split()], cwd=folder, input=given.encode(), stdout=subprocess.PIPE).stdout
+            for room in (it for it in ROOMS if it < len(whole)):
+                found = into_a_file(program, words, folder, given, room)
+                if found != (3, whole[:room], OUTPUT.encode()):
+                    yield f"{words}, with room for {room} bytes: {found[0]}, {len(found[1])} bytes, {found[2]!r}"
+
+
+def into_a_file(program, words, folder, given, room):
+    """The status of a run whose output is a file that takes so many bytes, what the file then has, and standard error."""
+    out = Path(folder, "out")
+    with open(out, "wb") as stream:
+        ran = subprocess.run(
+            [program, *words.split()],
+            cwd=folder,
+            input=given.encode(),
+            stdout=stream,
+            stderr=subprocess.PIPE,
+            preexec_fn=lambda: limit(room),
+        )
+    return ran.returncode, out.read_bytes(), ran.stderr
+
+
+CALLS = [interrupted_calls, read_so_far, threads_of_workers, output_that_is_full]

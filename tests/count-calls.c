@@ -1,0 +1,96 @@
+/* Counts the calls of read and of write on one descriptor, the bytes that they move, how often its end is met, and the threads
+   that are made. Loaded before the C library by tests/program; no part of the program.
+
+   COUNTS: a file of five numbers of 8 bytes: calls of read, calls of write, bytes moved, ends, threads. ON: the descriptor. EVERY:
+   where it is given, each call but one in so many is interrupted, and that one moves a byte. */
+#define _GNU_SOURCE
+#include <dlfcn.h>
+#include <errno.h>
+#include <fcntl.h>
+#include <pthread.h>
+#include <stdint.h>
+#include <stdlib.h>
+#include <sys/mman.h>
+#include <unistd.h>
+
+enum { READS, WRITES, BYTES, ENDS, THREADS, NUMBERS };
+
+static int64_t nowhere[NUMBERS], *counts = nowhere;
+static long every;
+static int on = -1;
+
+static long told(const char *name, long otherwise)
+{
+    const char *number = getenv(name);
+    return number ? atol(number) : otherwise;
+}
+
+__attribute__((constructor)) static void ask(void)
+{
+    const char *name = getenv("COUNTS");
+    int file = name ? open(name, O_RDWR) : -1;
+    if (file < 0)
+        return;
+    void *shared = mmap(NULL, sizeof nowhere, PROT_READ | PROT_WRITE, MAP_SHARED, file, 0);
+    close(file);
+    if (shared == MAP_FAILED)
+        return;
+    counts = shared;
+    on = told("ON", -1);
+    every = told("EVERY", 0);
+}
+
+/* How many bytes a call of this kind may move: all, one, or none where it is interrupted. */
+static size_t allowed(int kind, size_t size)
+{
+    int64_t number = __atomic_add_fetch(&counts[kind], 1, __ATOMIC_SEQ_CST);
+    if (every == 0)
+        return size;
+    return size != 0 && number % every == 0;
+}
+
+static ssize_t moved(ssize_t size)
+{
+    if (size > 0)
+        __atomic_add_fetch(&counts[BYTES], size, __ATOMIC_SEQ_CST);
+    if (size == 0)
+        __atomic_add_fetch(&counts[ENDS], 1, __ATOMIC_SEQ_CST);
+    return size;
+}
+
+static ssize_t interrupted(void)
+{
+    errno = EINTR;
+    return -1;
+}
+
+ssize_t read(int file, void *bytes, size_t size)
+{
+    static ssize_t (*next)(int, void *, size_t);
+    if (!next)
+        next = (ssize_t(*)(int, void *, size_t))dlsym(RTLD_NEXT, "read");
+    if (file != on)
+        return next(file, bytes, size);
+    size_t most = allowed(READS, size);
+    return most || !size ? moved(next(file, bytes, most)) : interrupted();
+}
+
+ssize_t write(int file, const void *bytes, size_t size)
+{
+    static ssize_t (*next)(int, const void *, size_t);
+    if (!next)
+        next = (ssize_t(*)(int, const void *, size_t))dlsym(RTLD_NEXT, "write");
+    if (file != on)
+        return next(file, bytes, size);
+    size_t most = allowed(WRITES, size);
+    return most || !size ? moved(next(file, bytes, most)) : interrupted();
+}
+
+int pthread_create(pthread_t *thread, const pthread_attr_t *how, void *(*start)(void *), void *given)
+{
+    static int (*next)(pthread_t *, const pthread_attr_t *, void *(*)(void *), void *);
+    if (!next)
+        next = (int (*)(pthread_t *, const pthread_attr_t *, void *(*)(void *), void *))dlsym(RTLD_NEXT, "pthread_create");
+    __atomic_add_fetch(&counts[THREADS], 1, __ATOMIC_SEQ_CST);
+    return next(thread, how, start, given);
+}

@@ -1,0 +1,45 @@
+"""docs/changing.md: each file that it names is there, and each file that has a name to follow is in its part."""
+
+import re
+
+CHANGING = "docs/changing.md"
+PART = re.compile(r"^## ", re.M)
+CODE = re.compile(r"`([^`\n]+)`")
+FOLLOW = re.compile(r"^Follow ((?:`[^`\n]+`[, and\n]*)+)\.", re.M)
+FILE = re.compile(r"[\w.-]+(?:/[\w.*-]+)*(?:/|\.(?:antt|edit|html|json|md|out|py|rs|rt|script|svg|toml|txt))|[a-z]+/[\w/.-]+")
+
+
+def has(text, name):
+    """Whether a text has a name that isn't a part of a longer one."""
+    return re.search(rf"(?<!\w){re.escape(name)}(?!\w)", text)
+
+
+def paths_in(text):
+    """The files, and the folders with a slash at their end, that a text names."""
+    return [name for name in CODE.findall(text) if FILE.fullmatch(name)]
+
+
+def is_there(path, found):
+    return any(name.startswith(path) for name in found) if path.endswith("/") else path in found
+
+
+def is_in(name, paths):
+    """Whether a file is one of these, or stands in one of these folders."""
+    return any(name.startswith(path) if path.endswith("/") else name == path for path in paths)
+
+
+def unlisted(found):
+    """What is wrong with the page, in words."""
+    whole = found[CHANGING]
+    for path in paths_in(whole):
+        if not is_there(path, found):
+            yield f"{path} isn't there"
+    for part in PART.split(whole)[1:]:
+        title, paths = part.split("\n", 1)[0], paths_in(part)
+        if title.startswith("A ") and not FOLLOW.search(part):
+            yield f"the part `{title}` has no line `Follow ..`"
+        for names in FOLLOW.findall(part):
+            for name, text in sorted(found.items()):
+                named = [it for it in CODE.findall(names) if has(text, it)]
+                if named and name != CHANGING and not is_in(name, paths):
+                    yield f"{name} has {named[0]}, and isn't in the part `{title}`"

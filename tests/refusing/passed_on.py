@@ -1,0 +1,38 @@
+"""Each place that makes a want of memory of a call's refusal, by its file and function: the calls, in their order.
+
+A place that makes one want of another, or of the error of a growth, has no line: its own text says so."""
+
+PASSED_ON = {
+    "mds_book/book.rt": {"opened": ["Slot::open"]},
+    "mds_book/slot.rt": {"Slot::step": ["shard.step"]},
+    "mds_city/program.rt": {"words_of": ["words.collect"]},
+    "mds_commands/print.rt": {"add_table": ["table.rows"]},
+    "mds_commands/problem.rt": {"tell_whole": ["writeln!"]},
+    "mds_face/asking.rt": {"ask_one": ["desk.call"], "ask_all": ["ask_one"]},
+    "mds_face/connection.rt": {"answer": ["find", "bytes_of"]},
+    "mds_io/page.rt": {"add_line": ["writeln!"], "end_page": ["writeln!"]},
+    "mds_io/read.rt": {"read_more": ["bytes.extend_from_slice"]},
+    "mds_journal/all.rt": {"read_lines": ["lines.push"]},
+    "mds_journal/group.rt": {"Group::push": ["add_line"]},
+    "mds_journal/memory.rt": {
+        "Memory::write_at": ["overwrite", "Vec::from_slice", "self.calls.push"],
+        "Memory::cut": ["self.calls.push"],
+        "Memory::sync": ["self.calls.push"],
+    },
+    "mds_journal/opening.rt": {"Opening::read_on": ["join"], "Opening::take_line": ["line.extend_from_slice"]},
+    "mds_lines/lines.rt": {"Lines::take": ["taker.take"]},
+    "mds_lines/reader.rt": {"feed": ["bytes.extend_from_slice"]},
+    "mds_pool/pool.rt": {"serve": ["serve_round"], "serve_round": ["(room, back, answered)"]},
+    "mds_pool/serving.rt": {"serve_and_settle": ["Face::open", "serve_round"]},
+    "mds_request/face.rt": {"add_route": ["router.insert"]},
+    "mds_shard/vehicle.rt": {"keep_name": ["names.insert"], "keep": ["keep_name", "vehicles.insert"]},
+    "mds_table/json.rt": {"value_of": ["Value::from_slice if error.is_memory()"]},
+    "mds_trace/line_replay.rt": {"LineReplay::finish": ["replayer.finish"]},
+}
+
+OTHERWISE = {
+    "mds_book/slot.rt": {"Slot::open": r"\bNone\b"},
+    "mds_face/asking.rt": {"ask_all": r"\b(?:return|break)\b"},
+    "mds_pool/pool.rt": {"serve_round": r"\bErr\b"},
+}
+"""What makes a want where it isn't called one: no slot, fewer replies than were asked for, the seats as they were."""

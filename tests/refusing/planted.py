@@ -1,0 +1,77 @@
+"""Wants of memory that no growth's refusal is behind: a file, a text that stands in it once, and what is put in its place. Each has
+to be told of, else what reads the sources is blind to it."""
+
+from refusing.wants import made_up_in, source_of
+
+PLANTED = [
+    (
+        "mds_book/book.rt",
+        "notes.reserve(1)?;",
+        "notes.reserve(1)?; if notes.len() > 131_072 { return Err(AllocError); }",
+    ),
+    (
+        "mds_book/book.rt",
+        "Ok(opened) => Ok(opened),",
+        "Ok(opened) if seats < 9 => Ok(opened), Ok(_) => Err(OpenFault::Memory),",
+    ),
+    (
+        "mds_book/slot.rt",
+        "let (keeper, front)",
+        "if tables.len() > 3 { return None; } let (keeper, front)",
+    ),
+    (
+        "mds_book/slot.rt",
+        "let Ok(reply) = shard.step(request) else {",
+        "let Ok(reply) = few(shard) else {",
+    ),
+    (
+        "mds_shard/vehicle.rt",
+        "let Ok(_) = names.insert(name)",
+        "let (Ok(_), 0..=999) = (names.insert(name), names.len())",
+    ),
+    (
+        "mds_response/body.rt",
+        "Some(items) => {",
+        "Some(items) if items.len() > 65_535 => Err(AllocError), Some(items) => {",
+    ),
+    (
+        "mds_face/asking.rt",
+        "let Ok(()) = ask_one",
+        "if replies.len() > 5_000 { break; } let Ok(()) = ask_one",
+    ),
+    (
+        "mds_face/connection.rt",
+        "let Ok(bytes) =",
+        "if is_long(&found) { return Err(out_of_memory(writer)); } let Ok(bytes) =",
+    ),
+    (
+        "mds_io/read.rt",
+        "if bytes.extend_from_slice(&room[..count]).is_err()",
+        "if count < 9 || bytes.extend_from_slice(&room[..count]).is_err()",
+    ),
+    (
+        "mds_replay/workers.rt",
+        "let parts = replay_parts",
+        "if workers > 4 { return Err(WithFault::Memory); } let parts = replay_parts",
+    ),
+    (
+        "mds_pool/pool.rt",
+        "let count = seats.len();",
+        "let count = seats.len(); if each > 65_536 { return Err(seats); }",
+    ),
+    (
+        "mds_commands/problem.rt",
+        "Err(_) => Telling {",
+        "_ => Telling {",
+    ),
+]
+
+
+def unseen():
+    """Which of these isn't told of, in words."""
+    for file, old, new in PLANTED:
+        text = source_of(file)
+        if text.count(old) != 1:
+            yield f"{file}: {old!r} isn't in it exactly once"
+        elif not list(made_up_in(file, text.replace(old, new))):
+            yield f"{file}: {new!r} in place of {old!r} isn't told of"

@@ -1,0 +1,103 @@
+"""Vehicles of one half, whose devices' identifiers are even, beside a list that is being made of a vehicle of the other half."""
+
+import os
+import tempfile
+import time
+from pathlib import Path
+
+from cases.replays import A, B, P, batch, event, history, identifier, turn
+from harness.building import built
+from harness.counting import Unwell
+from harness.texts import differing
+from model.http import answer
+from serving.connections import silent
+from serving.http import Exchange, done, look, registered
+from serving.server import Server
+from serving.sizes import listed
+from serving.talking import talk_over
+from serving.wire import connect, get, post, read_all
+
+EVENTS = 1000
+"""Of the vehicles whose lists are made."""
+LEAST = 1000 * EVENTS
+"""A list of so many events takes more bytes than these, and no other growth of these tests does."""
+WORKERS = 4
+SECONDS = 10
+HALVES = [(A, identifier(2, 1)), (B, identifier(2, 2))]
+"""A vehicle of each half, and one of the other half."""
+
+
+class Hold:
+    """Lists that aren't finished as long as it is on. As a context it has the environment of their server."""
+
+    def __enter__(self):
+        self.folder = tempfile.TemporaryDirectory()
+        self.file, self.held = (Path(self.folder.name, name) for name in ("hold", "held"))
+        shim = built("hold-growth.so", "tests/hold-growth.c", "-shared", "-fPIC", "-O1", "-ldl")
+        self.env = {**os.environ, "LD_PRELOAD": str(shim), "LEAST": str(LEAST)}
+        self.env.update({"HOLD": str(self.file), "HELD": str(self.held)})
+        return self
+
+    def __exit__(self, *_):
+        self.folder.cleanup()
+
+    def on(self):
+        self.held.unlink(missing_ok=True)
+        self.file.touch()
+
+    def off(self):
+        self.file.unlink(missing_ok=True)
+
+    def has_begun(self):
+        """Waits until a list isn't finished."""
+        for _ in range(100 * SECONDS):
+            if self.held.exists():
+                return
+            time.sleep(0.01)
+        raise Unwell("no list takes as many bytes as one should")
+
+
+def list_of(device, events):
+    """The exchange that lists these events of a device."""
+    return Exchange(get(f"/vehicles/{P}/{device}/events"), answer(200, f'{{"events":[{",".join(events)}]}}'))
+
+
+def beside(server, hold, device, other):
+    """What is wrong with the answers about another vehicle while the list of a device is made: they come, and one about that
+    device comes only behind it."""
+    state, last = turn(EVENTS - 1)[0], 1000 + EVENTS - 1
+    texts = [listed(number, [turn(number)[1]], turn(number)[0], 1000 + number, device) for number in range(EVENTS)]
+    whole, same = list_of(device, texts), look(device, state, EVENTS, last)
+    server.count(2)
+    hold.on()
+    with connect(server.port) as listing, connect(server.port) as waiting:
+        try:
+            listing.sendall(whole.request)
+            hold.has_begun()
+            waiting.sendall(same.request)
+            yield from talk_over(server, look(other, "removed", 0, None))
+            reported = event(other, "e1", "provider_drop_off", "available", 1000)
+            yield from talk_over(server, Exchange(post("/events", reported), done(1)))
+            yield from talk_over(server, look(other, "available", 1, 1000))
+            yield from talk_over(server, list_of(other, [listed(0xE1, ["provider_drop_off"], "available", 1000, other)]))
+            if not silent(waiting, 0):
+                yield f"a look at {device} was answered while its half was locked"
+        finally:
+            hold.off()
+        yield from differing(read_all(listing), whole.answer)
+        yield from differing(read_all(waiting), same.answer)
+
+
+def two_halves(program):
+    """While the list of a vehicle is made, vehicles of the other half are looked at, reported and listed, both ways."""
+    with Hold() as hold, Server(program, 5, workers=WORKERS, env=hold.env) as server:
+        yield from talk_over(server, registered(*[device for half in HALVES for device in half]))
+        for device, _ in HALVES:
+            events = batch(history(device, 0, EVENTS))
+            yield from talk_over(server, Exchange(post("/events", events), done(EVENTS)))
+        for device, other in HALVES:
+            yield from beside(server, hold, device, other)
+        yield from server.end()
+
+
+LOCKS = [two_halves]
