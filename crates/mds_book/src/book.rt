@@ -116,15 +116,9 @@ fn opened<L: ShardLedger, const N: usize>(
     requires tables { tables.now ≡ L.tables }
     ensures parts { IfOk result (λ opened. opened.1.share.parts ≡ L.parts) }
 {
-    let Blank { ledger, log, marks } = blank;
     let copied = tables.copy(alloc)?;
-    let Some((slot, share, front)) = Slot::open(alloc, copied, ledger, log, hasher) else {
+    let Some((slot, parts)) = Slot::open(alloc, copied, blank, hasher) else {
         return Err(AllocError);
-    };
-    let parts = Parts {
-        share,
-        front,
-        marks: marks.named::<L>(),
     };
     Ok((slot, parts))
 }

@@ -11,8 +11,6 @@ mod seat;
 mod settling;
 mod sight;
 mod slot;
-#[cfg(test)]
-mod tests;
 
 pub use blank::Blank;
 pub use book::{Book, MAX_SEATS, OpenFault};

@@ -8,15 +8,16 @@ ghost use Rattle.mds_log.specs.Log.{requests};
 ghost use Rattle.mds_book.specs.Shards.{shard_of as number_of, AreOfShard, count_of};
 ghost use Rattle.mds_book.specs.Sights.{IsShown, next_turn};
 
-use crate::Part;
+use crate::seat::Parts;
+use crate::{Blank, Part};
 use mds_core::{Key, Reply, Request};
-use mds_log::{BlankLog, Front, Keeper, Logged, Marked};
+use mds_log::{Front, Keeper, Logged, Marked};
 use mds_shard::Shard;
 use mds_table::Tables;
 use std::alloc::{AllocError, Global};
 use std::hash::RandomState;
 use std::marker::{Brand, Model};
-use std::sync::ledger::{Blank, Book, Ledger, Share};
+use std::sync::ledger::{Book, Ledger, Share};
 
 /// A ledger that counts what a shard accepted, cut into a part for each seat of the book, with the names of the shard's log and of
 /// the seats' marks in it.
@@ -68,32 +69,53 @@ impl<L: ShardLedger, const N: usize> Model for Slot<L, N> {
 }
 
 impl<L: ShardLedger, const N: usize> Slot<L, N> {
-    /// A slot with nothing accepted, the share of its ledger that has every part, and a front that has seen nothing of its
-    /// log. `None` would mean that another has written to the log: nobody does.
+    /// A slot with nothing accepted, and what the seats' parts of it are made of. `None` would mean that another has written to
+    /// its log: nobody does.
     pub(crate) fn open(
         alloc: Global,
         tables: Tables,
-        ledger: Blank,
-        log: BlankLog,
+        blank: Blank,
         hasher: RandomState,
-    ) -> Option<(Slot<L, N>, Share<L>, Front<L>)>
-        requires ledger { (ledger.name ≡ L.name) × (ledger.parts ≡ L.parts) }
-        requires log { log ≡ L.log }
+    ) -> Option<(Slot<L, N>, Parts<L>)>
+        requires ledger { (blank.name ≡ L.name) × (blank.parts ≡ L.parts) }
+        requires log { (blank.log ≡ L.log) × (blank.marks ≡ L.marks) }
         requires tables { tables ≡ L.tables }
         ensures slot { IfSome result (λ opened. opened.0 ≡ record { tables = tables; history = [] }) }
-        ensures parts { IfSome result (λ opened. opened.1.parts ≡ L.parts) }
-        ensures amount { IfSome result (λ opened. opened.1.amount ≡ 0) }
-        ensures front { IfSome result (λ opened. opened.2 ≡ []) }
+        ensures parts { IfSome result (λ opened. opened.1.share.parts ≡ L.parts) }
     {
+        let Blank { ledger, log, marks } = blank;
         let (keeper, front) = log.named::<L>()?;
-        let (accepted, all) = ledger.open::<L>();
-        let shard = Shard::open(alloc, tables, hasher);
+        let (accepted, share) = ledger.open::<L>();
         let slot = Slot {
-            shard,
+            shard: Shard::open(alloc, tables, hasher),
             accepted,
             keeper,
         };
-        Some((slot, all, front))
+        let parts = Parts {
+            share,
+            front,
+            marks: marks.named::<L>(),
+        };
+        Some((slot, parts))
+    }
+
+    /// A slot of no book, with nothing accepted, and its one part, which has seen nothing. `None` would mean that another has
+    /// written to its log: nobody does.
+    pub fn single(
+        alloc: Global,
+        tables: Tables,
+        blank: Blank,
+        hasher: RandomState,
+    ) -> Option<(Slot<L, N>, Part<L>)>
+        requires ledger { (blank.name ≡ L.name) × (blank.parts ≡ L.parts) × (blank.parts ≡ 1) }
+        requires log { (blank.log ≡ L.log) × (blank.marks ≡ L.marks) }
+        requires tables { tables ≡ L.tables }
+        ensures slot { IfSome result (λ opened. opened.0 ≡ record { tables = tables; history = [] }) }
+        ensures count { IfSome result (λ opened. opened.1.count ≡ 0) }
+        ensures sight { IfSome result (λ opened. opened.1.sight ≡ record { seen = []; turns = 0 }) }
+    {
+        let (slot, mut parts) = Slot::open(alloc, tables, blank, hasher)?;
+        Some((slot, parts.cut()))
     }
 
     /// The shard.

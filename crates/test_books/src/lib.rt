@@ -1,4 +1,5 @@
-//! Tests of books: what their seats are told, by turns, in threads and beside a locked shard, and how they end.
+//! Tests of books: what their seats are told, by turns, in threads and beside a locked shard, and how they end; and of slots
+//! by themselves.
 #![tactic(auto)]
 
 /// The rows of a table of cases, one to a line.
@@ -9,3 +10,5 @@ macro_rules! rows {
 
 #[cfg(test)]
 mod books;
+#[cfg(test)]
+mod slots;

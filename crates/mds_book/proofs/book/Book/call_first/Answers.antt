@@ -1,4 +1,4 @@
-use Rattle.std.proofs.Common.{◌≡◌, ◌+◌, ◌++◌, refl, sym, ap, ◌∙◌}
+use Rattle.std.proofs.Common.{◌≡◌, ◌≤◌, ◌+◌, ◌++◌, refl, sym, ap, subst, ◌∙◌}
 use Rattle.mds_core.specs.History.{key_of}
 use Rattle.mds_book.specs.Shards.{shard_of, count_of}
 use Rattle.mds_book.specs.Seats.{noted}
@@ -31,3 +31,8 @@ returns-clause-called g c =
     (c.in_ok-reply.ensures.turn ∙ ap (λ s. next_turn s.first_turns) view) (ap (λ s. s.second) view)
     (written ∙ ap (λ s. s.notes ++ noted s.keeps_all c.args.request.now c.in_ok-reply.reply) view) (ap (λ s. s.keeps_all) view) (ap (λ s. s.second_seen) view)
     (ap (λ s. s.second_turns) view)
+
+-- what the seat had counted is what its part had
+pub returns-clause-place : goal.returns-clause-place
+returns-clause-place g c =
+    subst (λ s. s.first ≤ c.in_ok-reply.reply.place) c.seat.view_is c.in_ok-reply.ensures.place

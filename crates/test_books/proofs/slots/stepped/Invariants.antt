@@ -1,4 +1,4 @@
-use Rattle.mds_book.proofs.tests.slots.stepped.Given as goal
+use Rattle.test_books.proofs.slots.stepped.Given as goal
 
 abbrev pub ghosts-steps_in-L-Ledger : goal.ghosts-steps_in-L-Ledger
 ghosts-steps_in-L-Ledger g a = record { name = a.blank.name; parts = a.blank.parts }

@@ -4,17 +4,24 @@ ghost use Rattle.std.specs.Prelude.{◌≡◌};
 ghost use Rattle.mds_core.specs.History.{key_of};
 ghost use Rattle.mds_book.specs.Shards.{shard_of as number_of};
 
-use super::{fence, hasher, key, profile};
-use crate::seat::Parts;
-use crate::slot::shard_of;
-use crate::{Blank, Part, ShardLedger, Slot};
+use mds_book::{Blank, Part, ShardLedger, Slot};
 use mds_core::Outcome::{Done, Refused, Seen};
-use mds_core::{Event, Refusal, Reply, Request, Standing};
-use mds_table::{State, Tables, TypeName};
+use mds_core::{Key, Refusal, Reply, Request};
+use mds_table::Tables;
 use std::alloc::{AllocError, Global};
 use std::hash::RandomState;
 use std::marker::Brand;
 use std::random::RandomSource;
+use test_fixtures::Ask::{Look, Register};
+use test_fixtures::{A, Ask, Lack, fence, profile_again, request_of};
+use test_steps::{AVAILABLE, DROPPED_OFF, hasher};
+
+/// The number of the shard that holds a vehicle.
+fn shard_of(key: &Key) -> usize
+    ensures { result ≡ number_of key.now }
+{
+    (key.device.as_u128() % 2) as usize
+}
 
 /// The reply of a slot to a request about a vehicle of its shard, which is asked again where there was no memory; and whether
 /// that changed nothing.
@@ -65,17 +72,9 @@ fn steps_in<L: ShardLedger>(
     requires logs { (blank.log ≡ L.log) × (blank.marks ≡ L.marks) }
     requires tables { tables ≡ L.tables }
 {
-    let Blank { ledger, log, marks } = blank;
-    let Some((mut slot, share, front)) = Slot::<L, 0>::open(alloc, tables, ledger, log, hasher)
-    else {
+    let Some((mut slot, mut part)) = Slot::<L, 0>::single(alloc, tables, blank, hasher) else {
         return Ok([None, None]);
     };
-    let mut parts = Parts {
-        share,
-        front,
-        marks: marks.named::<L>(),
-    };
-    let mut part = parts.cut();
     let first = two_steps(&mut slot, &mut part, requests)?;
     let _begun = fence(alloc);
     let second = two_steps(&mut slot, &mut part, quiet)?;
@@ -83,31 +82,20 @@ fn steps_in<L: ShardLedger>(
     Ok([first, second])
 }
 
-/// A registration of A, its first event, a look, and the registration again.
-fn asked() -> Option<[Request; 4]> {
-    let types = [TypeName::new("provider_drop_off").ok()?];
-    let id = key().provider;
-    let event = Event::new(key(), id, State::Available, &types, 1000, None).ok()?;
-    let again = Request::Register(key());
-    Some([again, Request::Report(event), Request::Look(key()), again])
+/// The requests that are asked.
+fn both_of(asked: [Ask; 2]) -> Result<[Request; 2], Lack> {
+    let [first, second] = asked;
+    let first = request_of(&first).ok_or(Lack::Case)?;
+    Ok([first, request_of(&second).ok_or(Lack::Case)?])
 }
 
-/// What comes of that with a ledger of its own.
-fn stepped<R: RandomSource>(rt: &R, alloc: Global) -> Result<[Option<Told>; 2], AllocError> {
-    let Some(requests) = asked() else {
-        return Ok([None, None]);
-    };
-    let [first, second, third, fourth] = requests;
-    let (tables, hasher) = (profile(alloc)?, hasher(rt)?);
+/// What comes with a ledger of its own of a registration of A and its first event, and then of a look and the registration again.
+fn stepped<R: RandomSource>(rt: &R, alloc: Global) -> Result<[Option<Told>; 2], Lack> {
+    let requests = both_of([Register(A), DROPPED_OFF])?;
+    let quiet = both_of([Look(A), Register(A)])?;
+    let (tables, hasher) = (profile_again(alloc)?, hasher(rt)?);
     let blank = Blank::new(1);
-    steps_in::<Brand>(
-        alloc,
-        tables,
-        [first, second],
-        [third, fourth],
-        blank,
-        hasher,
-    )
+    Ok(steps_in::<Brand>(alloc, tables, requests, quiet, blank, hasher)?)
 }
 
 /// Two replies, behind which so many requests were accepted, and that refused growths changed nothing.
@@ -119,16 +107,10 @@ fn told(replies: [Reply; 2], length: usize) -> Option<Told> {
 /// What has to come of it.
 fn expected() -> [Option<Told>; 2] {
     let at = |place, outcome| Reply { place, outcome };
-    let standing = Standing {
-        state: State::Available,
-        events: 1,
-        last: Some(1000),
-        position: None,
-    };
     let repeated = Refused(Refusal::AlreadyRegistered);
     [
         told([at(0, Done), at(1, Done)], 2),
-        told([at(2, Seen(standing)), at(2, repeated)], 2),
+        told([at(2, Seen(AVAILABLE)), at(2, repeated)], 2),
     ]
 }
 
