@@ -18,7 +18,7 @@ TESTED = {
     ("mds_core", "test_rules", "fleet_calls_succeed_after_a_refused_growth"): ["Fleet::step", "Fleet::events", "run"],
     ("mds_shard", "test_shards", "step_succeeds_after_a_refused_growth"): ["Shard::step", "Shard::events"],
     ("mds_book", "test_books", "calls_succeed_after_a_refused_growth"): ["Book::open", "Book::call", "Book::vehicle_events", "Book::seat_events"],
-    ("mds_book", "mds_book", "slot_steps_after_a_refused_growth"): ["Slot::step"],
+    ("mds_book", "test_books", "slot_steps_after_a_refused_growth"): ["Slot::step"],
     ("mds_io", "test_batches", "calls_succeed_after_a_refused_growth"): [
         "read_front",
         "read_up_to",
@@ -47,7 +47,7 @@ TESTED = {
     ("mds_face", "test_faces", "a_seat_answers_after_a_refused_growth"): ["Desk::call", "Desk::events", "Desk::rows"],
     ("mds_pool", "test_edge", "workers_serve_after_a_refused_growth"): ["serve"],
     ("mds_pool", "test_edge", "a_book_is_settled_after_a_refused_growth"): ["serve_and_settle"],
-    ("mds_waiting", "mds_waiting", "a_key_is_found_after_a_refused_growth"): ["Waiting::vacancy"],
+    ("mds_waiting", "test_edge", "a_key_is_found_after_a_refused_growth"): ["Waiting::vacancy"],
     ("mds_args", "test_words", "words_are_read_after_a_refused_growth"): ["parse_words"],
     ("mds_journal", "test_journal", "lines_are_added_after_a_refused_growth"): [
         "Group::new",
@@ -170,7 +170,7 @@ QUIET = {
         "Settled::tables",
         "Settled::accepted",
     ],
-    ("mds_book", "mds_book", "slots_are_told_of_with_every_growth_refused"): ["Slot::shard", "Slot::step"],
+    ("mds_book", "test_books", "slots_are_told_of_with_every_growth_refused"): ["Slot::shard", "Slot::step"],
     ("mds_io", "test_batches", "writes_go_out_with_every_growth_refused"): ["write_all_of", "flush_page"],
     ("mds_batch", "test_batches", "items_are_read_again_with_every_growth_refused"): [
         "Member::name",
@@ -235,7 +235,7 @@ QUIET = {
     ("mds_pool", "test_edge", "seats_come_back_with_every_growth_refused"): ["serve"],
     ("mds_socket", "mds_socket", "a_port_is_bound_with_every_growth_refused"): ["SocketPort::bind", "SocketPort::number"],
     ("mds_args", "test_words", "kinds_are_told_with_every_growth_refused"): ["WordsError::kind"],
-    ("mds_city", "mds_city", "torn_is_told_with_every_growth_refused"): ["torn_to"],
+    ("mds_commands", "test_words", "torn_is_told_with_every_growth_refused"): ["torn_to"],
 }
 """The same for calls that it makes without memory: all of a library's, or those that are refused, look at something, or say
 that there is no memory."""

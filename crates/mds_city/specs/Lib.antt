@@ -1,4 +1,3 @@
 -- Definitions that the contracts cite.
 pub mod Program
 pub mod Serve
-pub mod Torn

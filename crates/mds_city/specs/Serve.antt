@@ -1,9 +1,8 @@
 -- What the command that serves does.
-use Rattle.std.specs.Prelude.{◌≡◌, ◌⊎◌, ℕ, ◌<◌, ◌+◌, List, ◌++◌, length, take, codes, decimal, Option, Result, Ok, Err}
+use Rattle.std.specs.Prelude.{◌≡◌, ◌⊎◌, ℕ, ◌+◌, List, ◌++◌, length, codes, decimal, Option, Result, Ok, Err}
 use Rattle.std.specs.Io.KnownBytes.{Appends, Keeps}
 use Rattle.mds_table.specs.Tables.{Tables}
 use Rattle.mds_io.specs.Page.{AppendsFront, with_newline}
-use Rattle.mds_city.specs.Torn.{torn_text}
 use Rattle.mds_pool.specs.Serving.{AtEnd, IsEnded}
 use Rattle.mds_pool.specs.declared.serving.Stop.{Stop}
 use Rattle.mds_pool.specs.declared.serving.Stop.TheVariants as stop
@@ -13,6 +12,7 @@ use Rattle.mds_commands.specs.declared.problem.Problem.TheVariants.{CannotRead, 
 use Rattle.mds_commands.specs.declared.status.Status.{Status}
 use Rattle.mds_commands.specs.declared.status.Status.TheVariants as status
 use Rattle.mds_commands.specs.Problem.{status_of, Tells}
+use Rattle.mds_commands.specs.Torn.{TellsTorn}
 use Rattle.mds_commands.specs.Source.{HasTablesIn, ExplainsTable}
 
 -- the line that says where a server listens
@@ -22,12 +22,6 @@ listening_line port = codes "listening 127.0.0.1:" ++ decimal port
 -- the line that says how many requests a server accepted
 abbrev pub accepted_line : ℕ → List ℕ
 accepted_line accepted = codes "accepted " ++ decimal accepted
-
--- the line of a shard and a place went out whole, or as many of its bytes as the writer took, fewer than all
-abbrev pub TellsTorn : ℕ → ℕ → Status → Option (List ℕ) → Option (List ℕ) → Type 0
-TellsTorn shard place ended old new =
-    ((ended ≡ status.Torn) × Appends old new (torn_text shard place))
-    ⊎ ((ended ≡ status.Fault) × ((sent : ℕ) × (sent < length (torn_text shard place)) × Appends old new (take sent (torn_text shard place))))
 
 -- a problem has this status, and was told
 abbrev pub IsTold : Problem → Status → Option (List ℕ) → Option (List ℕ) → Type 0

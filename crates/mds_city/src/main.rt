@@ -5,7 +5,6 @@
 mod page;
 mod program;
 mod serve;
-mod torn;
 
 use crate::program::{Opens, run, tell_words, words_of};
 use crate::serve::Listens;

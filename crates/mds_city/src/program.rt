@@ -251,6 +251,3 @@ fn file_of<'a, O: Opens>(files: &O, path: &'a str) -> Source<'a, O::File>
         reader: files.open(path),
     }
 }
-
-#[cfg(test)]
-mod tests;

@@ -1,13 +1,11 @@
 //! The command that serves vehicles at a port.
 ghost use Rattle.std.specs.Prelude.{◌≡◌, ℕ, ⊤, IfOk, IfErr, IfSome};
 ghost use Rattle.mds_book.specs.Books.{IsSeatCount};
-ghost use Rattle.mds_city.specs.Serve.{CameToServe, IsSaid, Listened, SaysAccepted, Serves, StopsBefore, TellsTorn};
+ghost use Rattle.mds_city.specs.Serve.{CameToServe, IsSaid, Listened, SaysAccepted, Serves, StopsBefore};
 
 use crate::page::{AcceptedLine, ListeningLine, print_line};
-use crate::torn::torn_line;
 use mds_book::ShardLedger;
-use mds_commands::{Problem, Source, Status, tables_in, tell};
-use mds_io::write_all_of;
+use mds_commands::{Problem, Source, Status, tables_in, tell, torn_to};
 use mds_pool::{FinalBook, NewBook, Port, Stop, serve_and_settle};
 use mds_table::Tables;
 use std::alloc::Global;
@@ -212,18 +210,3 @@ fn say_accepted<W: Write, E: Write>(
         Err(fault) => tell(alloc, faults, Problem::from(fault)),
     }
 }
-
-/// Tells, in one line, the shard, and the place in its history, that notes don't fit. It answers `Torn`, or `Fault` where
-/// the writer failed. It takes no memory.
-pub fn torn_to<E: Write>(faults: &mut E, shard: usize, place: usize) -> Status
-    ensures { TellsTorn shard place result (E.contents faults.old) (E.contents faults.new) }
-{
-    let line = torn_line(shard, place);
-    match write_all_of(faults, line.as_bytes()) {
-        Ok(()) => Status::Torn,
-        Err(_) => Status::Fault,
-    }
-}
-
-#[cfg(test)]
-pub(crate) mod tests;

@@ -6,3 +6,4 @@ pub mod Source
 pub mod Command
 pub mod Debug
 pub mod Stream
+pub mod Torn

@@ -14,9 +14,11 @@ mod rows;
 mod source;
 mod status;
 mod stream;
+mod torn;
 
 pub use commands::{ReplayOptions, replay_to, table_to};
 pub use debug::{Named, debug_to};
 pub use problem::{Problem, tell};
 pub use source::{Form, Source, tables_in};
 pub use status::Status;
+pub use torn::torn_to;

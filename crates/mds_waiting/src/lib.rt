@@ -8,8 +8,6 @@
 
 mod given;
 mod least;
-#[cfg(test)]
-mod tests;
 mod waiter;
 mod waiting;
 

@@ -1,5 +1,7 @@
-//! Tests of workers that serve a port side by side, and of what comes of their connections.
+//! Tests of workers that serve a port side by side, of what comes of their connections, and of connections that wait.
 #![tactic(auto)]
 
+#[cfg(test)]
+mod waiting;
 #[cfg(test)]
 mod workers;

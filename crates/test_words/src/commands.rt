@@ -114,8 +114,8 @@ pub fn file<'a>(path: &'a str, text: &'a str) -> Source<'a, &'a [u8]> {
 
 /// A writer that takes this text alone, and no memory.
 #[derive(Drop)]
-struct Expects<'a> {
-    rest: &'a [u8],
+pub struct Expects<'a> {
+    pub rest: &'a [u8],
 }
 
 impl Write for Expects<'_> {
@@ -135,7 +135,7 @@ impl Write for Expects<'_> {
 }
 
 /// A writer of which this text is expected.
-fn expecting(text: &str) -> Expects<'_> {
+pub fn expecting(text: &str) -> Expects<'_> {
     Expects {
         rest: text.as_bytes(),
     }

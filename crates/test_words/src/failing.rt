@@ -1,6 +1,6 @@
 //! Readers and writers that pause, stop and fail.
 use crate::commands::{file, replayed};
-use mds_commands::{Form, Problem, Source, Status, table_to, tell};
+use mds_commands::{Form, Problem, Source, Status, table_to, tell, torn_to};
 use std::alloc::Global;
 use std::cell::Cell;
 use std::io;
@@ -158,10 +158,10 @@ fn file_whose_reads_are_interrupted(rt: HostRuntime) {
     );
 }
 
-/// The statuses of a replay whose output is always interrupted, of a print of tables so, and of one whose table file is; each
-/// with how many calls were made.
-fn interrupted<P: Threads + Sync>(rt: &P, alloc: Global) -> [(u8, u32); 3] {
-    let calls = [Cell::new(0), Cell::new(0), Cell::new(0)];
+/// The statuses of a replay whose output is always interrupted, of a print of tables so, of one whose table file is, and of
+/// telling where notes don't fit; each with how many calls were made.
+fn interrupted<P: Threads + Sync>(rt: &P, alloc: Global) -> [(u8, u32); 4] {
+    let calls = [Cell::new(0), Cell::new(0), Cell::new(0), Cell::new(0)];
     let mut faults = Vec::new(alloc);
     let mut verdicts = Pauses { calls: &calls[0] };
     let read = file("-", "[]");
@@ -172,16 +172,18 @@ fn interrupted<P: Threads + Sync>(rt: &P, alloc: Global) -> [(u8, u32); 3] {
     let reader = Some(Pauses { calls: &calls[2] });
     let table = Source { path: "T", reader };
     let unread = table_to(alloc, Some(table), &mut Vec::new(alloc), &mut faults).code();
+    let torn = torn_to(&mut Pauses { calls: &calls[3] }, 1, 2).code();
     [
         (replay, calls[0].get()),
         (print, calls[1].get()),
         (unread, calls[2].get()),
+        (torn, calls[3].get()),
     ]
 }
 
 #[test]
 fn calls_of_interrupted_devices_run_out(rt: HostRuntime) {
-    assert_eq!(rt; interrupted(&rt, rt.alloc()), [(3, 5_000_000); 3]);
+    assert_eq!(rt; interrupted(&rt, rt.alloc()), [(3, 5_000_000); 4]);
 }
 
 /// The first of so many bytes taken by the output of which a replay isn't told as one whose output failed.

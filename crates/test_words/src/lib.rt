@@ -6,4 +6,6 @@ mod commands;
 #[cfg(test)]
 mod failing;
 #[cfg(test)]
+mod torn;
+#[cfg(test)]
 mod words;

@@ -1,7 +1,7 @@
 use Rattle.std.proofs.Common.{◌≡◌, ◌<◌, List, ℕ, length, take, inr, refl, rules, subst}
 use Rattle.std.specs.Io.KnownBytes.{Appends}
-use Rattle.mds_city.specs.Torn.{torn_text}
-use Rattle.mds_city.proofs.serve.torn_to.Goals as goal
+use Rattle.mds_commands.specs.Torn.{torn_text}
+use Rattle.mds_commands.proofs.torn.torn_to.Goals as goal
 
 pub returns-in-Err : goal.returns-in-Err
 returns-in-Err g c =

@@ -1,5 +1,5 @@
 //! Connections that wait, put and taken, and growths that are refused.
-use crate::{Given, MAX_WAITING, Waiter, Waiting};
+use mds_waiting::{Given, MAX_WAITING, Waiter, Waiting};
 use std::alloc::{AllocError, Global};
 use std::io::Read;
 

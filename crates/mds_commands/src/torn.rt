@@ -1,16 +1,31 @@
-//! The line that tells where notes don't fit.
+//! What tells where notes don't fit.
 ghost use Rattle.std.specs.Prelude.{◌≡◌, ◌+◌, ◌≤◌, ◌++◌, length, decimal};
 ghost use Rattle.arrayvec.specs.ArrayString.{array_string_len};
-ghost use Rattle.mds_city.specs.Torn.{torn_text};
+ghost use Rattle.mds_commands.specs.Torn.{TellsTorn, torn_text};
 
+use crate::Status;
 use arrayvec::ArrayString;
 use itoa::Buffer;
+use mds_io::write_all_of;
+use std::io::Write;
 
 /// The most bytes of the line: its words, two numbers of at most 20 digits, the space between them and the line feed.
 const MAX_LINE: usize = 57;
 
+/// Tells, in one line, the shard, and the place in its history, that notes don't fit. It answers `Torn`, or `Fault` where
+/// the writer failed. It takes no memory.
+pub fn torn_to<E: Write>(faults: &mut E, shard: usize, place: usize) -> Status
+    ensures { TellsTorn shard place result (E.contents faults.old) (E.contents faults.new) }
+{
+    let line = torn_line(shard, place);
+    match write_all_of(faults, line.as_bytes()) {
+        Ok(()) => Status::Torn,
+        Err(_) => Status::Fault,
+    }
+}
+
 /// The line that names the shard, and the place in its history, that notes don't fit. It takes no memory.
-pub fn torn_line(shard: usize, place: usize) -> ArrayString<57>
+fn torn_line(shard: usize, place: usize) -> ArrayString<57>
     ensures { result.bytes ≡ torn_text shard place }
 {
     let mut line = ArrayString::new();
