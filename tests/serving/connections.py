@@ -1,6 +1,7 @@
 """Connections that are slow, broken, silent, or sent more than is read."""
 
 import select
+import time
 
 from cases.replays import A, B, P, batch, history, identifier, item
 from harness.case import MAX_ITEMS
@@ -18,6 +19,10 @@ MOST_THROWN_AWAY = 16777216 - HEAD_BYTES
 """Bytes behind a request that aren't looked at: as many as the server reads, but for what came with the head."""
 SMALL_ROOM = 4096
 """How many bytes of an answer the system takes in for a client that is slow to read it."""
+KEPT_SECONDS = 8
+"""How long a silent client is kept at least."""
+TRIES = 5
+"""How often something is tried that a busy machine may be too slow for."""
 
 
 def silent(connection, seconds):
@@ -193,13 +198,27 @@ def is_registered(server, device):
 
 def silent_beside_working(program):
     """As many silent clients as there are workers but one: another client is answered by the one that is left. With one more
-    silent client, the next one waits until a silent one has gone on."""
+    silent client, the next one waits until a silent one has gone on. All of it is tried again where it took so long that silent
+    clients may have been let go meanwhile."""
+    for _ in range(TRIES):
+        start = time.monotonic()
+        try:
+            found = list(working_beside_silent(program))
+        except OSError as fault:
+            found = [f"{type(fault).__name__}: {fault}"]
+        if time.monotonic() - start < KEPT_SECONDS:
+            break
+    yield from found
+
+
+def working_beside_silent(program):
+    """What is wrong with the answers, where all of it takes less time than a silent client is kept."""
     request = get(f"/vehicles/{P}/{A}")
-    with Server(program, 20, workers=MOST_WORKERS) as server:
+    with Server(program, 7, workers=MOST_WORKERS) as server:
         quiet = [connect(server.port) for _ in range(MOST_WORKERS - 1)]
         server.count(MOST_WORKERS - 1)
         yield from talk_over(server, registered(A))
-        for _ in range(15):
+        for _ in range(4):
             yield from talk_over(server, look(A, "removed", 0, None))
         quiet.append(connect(server.port))
         with connect(server.port) as waiting:
