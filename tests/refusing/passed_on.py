@@ -20,6 +20,7 @@ PASSED_ON = {
         "Memory::sync": ["self.calls.push"],
     },
     "mds_journal/opening.rt": {"Opening::read_on": ["join"], "Opening::take_line": ["line.extend_from_slice"]},
+    "mds_journal/stream.rt": {"LineStream::read_on": ["join"], "LineStream::take_line": ["line.extend_from_slice"]},
     "mds_lines/lines.rt": {"Lines::take": ["taker.take"]},
     "mds_lines/reader.rt": {"feed": ["bytes.extend_from_slice"]},
     "mds_pool/pool.rt": {"serve": ["serve_round"], "serve_round": ["(room, back, answered)"]},

@@ -56,6 +56,7 @@ TESTED = {
         "read_all",
         "Journal::append",
     ],
+    ("mds_journal", "test_journal", "a_reader_is_read_after_a_refused_growth"): ["LineStream::next_line"],
     ("mds_journal", "test_journal", "calls_are_made_after_a_refused_growth"): [
         "Opening::start",
         "Opening::next_line",

@@ -8,3 +8,4 @@ pub mod KeptLemmas
 pub mod AppendLemmas
 pub mod ReadingLemmas
 pub mod RepairLemmas
+pub mod StreamLemmas

@@ -6,4 +6,5 @@ pub mod Memory
 pub mod Step
 pub mod Journal
 pub mod Opening
+pub mod Stream
 pub mod Fault

@@ -23,6 +23,7 @@ mod memory;
 mod opening;
 mod repair;
 mod step;
+mod stream;
 
 pub use all::read_all;
 pub use device::{Device, DeviceError};
@@ -31,3 +32,4 @@ pub use group::{Group, MAX_GROUP_BYTES, PushError};
 pub use journal::{AppendError, Journal};
 pub use memory::Memory;
 pub use opening::{OpenError, Opening};
+pub use stream::{LineStream, StreamError};

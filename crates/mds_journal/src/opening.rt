@@ -12,7 +12,7 @@ use crate::{Device, DeviceError};
 use std::alloc::{AllocError, Global};
 
 /// How many bytes a read asks for.
-const CHUNK_BYTES: usize = 65_536;
+pub(crate) const CHUNK_BYTES: usize = 65_536;
 
 /// Why a file can't be opened.
 #[derive(Clone, Copy, Debug, PartialEq, Eq)]
@@ -282,7 +282,7 @@ impl<D: Device> Opening<D> {
 }
 
 /// What these bytes say of the line that they begin with.
-fn find_line(bytes: &[u8]) -> Found
+pub(crate) fn find_line(bytes: &[u8]) -> Found
     ensures { IsFound bytes.now result }
 {
     if bytes.is_empty() {
@@ -298,7 +298,7 @@ fn find_line(bytes: &[u8]) -> Found
 }
 
 /// These bytes and then those.
-fn join(alloc: Global, these: &[u8], those: &[u8]) -> Result<Vec<u8>, AllocError>
+pub(crate) fn join(alloc: Global, these: &[u8], those: &[u8]) -> Result<Vec<u8>, AllocError>
     ensures { IfOk result (λ all. all.items ≡ these.now ++ those.now) }
 {
     let mut all = Vec::from_slice(alloc, these)?;

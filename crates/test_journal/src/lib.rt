@@ -7,3 +7,5 @@ mod files;
 mod frail;
 #[cfg(test)]
 mod lines;
+#[cfg(test)]
+mod streams;
