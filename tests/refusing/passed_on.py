@@ -12,6 +12,7 @@ PASSED_ON = {
     "mds_face/connection.rt": {"answer": ["find", "bytes_of"]},
     "mds_io/page.rt": {"add_line": ["writeln!"], "end_page": ["writeln!"]},
     "mds_io/read.rt": {"read_more": ["bytes.extend_from_slice"]},
+    "mds_entries/entry.rt": {"EntryReader::text_of": ["lay_out"]},
     "mds_journal/all.rt": {"read_lines": ["lines.push"]},
     "mds_journal/group.rt": {"Group::push": ["add_line"]},
     "mds_journal/memory.rt": {

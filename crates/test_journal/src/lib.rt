@@ -1,6 +1,8 @@
-//! Tests of journals: over files in memory, over devices that fail, and over files of the system.
+//! Tests of journals: over files in memory, over devices that fail, and over files of the system; of their lines.
 #![tactic(auto)]
 
+#[cfg(test)]
+mod entries;
 #[cfg(test)]
 mod files;
 #[cfg(test)]

@@ -1,0 +1,4 @@
+-- Definitions that the contracts cite.
+pub mod Entry
+pub mod Form
+pub mod Laws
