@@ -197,6 +197,7 @@ QUIET = {
         "Replayer::finish",
         "Verdict::accepts",
     ],
+    ("mds_replay", "test_replays", "a_part_is_within_its_gate_with_every_growth_refused"): ["replay_with"],
     ("mds_replay", "test_replays", "numbers_are_looked_at_with_every_growth_refused"): ["replay_with"],
     ("mds_trace", "test_replays", "sessions_move_with_every_growth_refused"): [
         "Session::place",

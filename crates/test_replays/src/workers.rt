@@ -3,8 +3,8 @@ use crate::replays::five_again;
 use crate::told::{Expected, FIVE, FIVE_REPORT, NOTHING, Told, is_report, items_of};
 use mds_gate::{Gate, OpenGate};
 use mds_replay::{Opening, WithFault, replay_with};
-use std::alloc::Global;
-use std::sync::atomic::{AtomicU64, Ordering};
+use std::alloc::{AllocError, Global};
+use std::sync::atomic::{AtomicBool, AtomicU64, Ordering};
 use std::thread::Threads;
 use std::time::Clock;
 use test_fixtures::{Lack, MeetingGate, fence, profile, profile_again};
@@ -39,11 +39,12 @@ fn two_workers_meet(rt: HostRuntime) {
     assert_eq!(rt; met(&rt, rt.alloc()), Ok((true, false)));
 }
 
-/// How often each of four workers has entered and left: 16 bits of a number for each.
+/// Who has entered and who has left, a bit for each worker, and who did so more than once.
 #[derive(Drop)]
 struct Counting {
     entered: AtomicU64,
     left: AtomicU64,
+    again: AtomicU64,
 }
 
 impl Counting {
@@ -52,58 +53,130 @@ impl Counting {
         Counting {
             entered: AtomicU64::new(0),
             left: AtomicU64::new(0),
+            again: AtomicU64::new(0),
         }
     }
 
-    /// How often the workers have entered, and how often they have left.
-    fn counted(&self) -> (u64, u64) {
-        let entered = self.entered.load(Ordering::SeqCst);
-        (entered, self.left.load(Ordering::SeqCst))
+    /// Who has entered, who has left, and who did so more than once.
+    fn counted(&self) -> [u64; 3] {
+        [
+            self.entered.load(Ordering::SeqCst),
+            self.left.load(Ordering::SeqCst),
+            self.again.load(Ordering::SeqCst),
+        ]
+    }
+
+    /// Notes a worker. One with a piece that isn't the first, or past the sixty-fourth, counts as one that did so more than once.
+    fn note(&self, seen: &AtomicU64, worker: usize, nth: usize) {
+        let bit = first_bits(worker.saturating_add(1)) & !first_bits(worker);
+        let before = seen.fetch_or(bit, Ordering::SeqCst);
+        let again = if nth == 0 && bit != 0 {
+            before & bit
+        } else {
+            u64::MAX
+        };
+        self.again.fetch_or(again, Ordering::SeqCst);
     }
 }
 
-/// One time of a worker; a worker or a piece that there isn't spoils the count.
-fn once(worker: usize, nth: usize) -> u64 {
-    match (worker, nth) {
-        (0, 0) => 1,
-        (1, 0) => 1 << 16,
-        (2, 0) => 1 << 32,
-        (3, 0) => 1 << 48,
-        _ => 1 << 63,
+/// The bits of so many workers, at most 64.
+fn first_bits(workers: usize) -> u64 {
+    let mut bits = 0;
+    for _ in 0..workers.min(64) {
+        bits = bits << 1 | 1;
     }
+    bits
 }
 
 impl Gate for Counting {
     fn enter(&self, worker: usize, nth: usize) {
-        self.entered.fetch_add(once(worker, nth), Ordering::SeqCst);
+        self.note(&self.entered, worker, nth);
     }
 
     fn leave(&self, worker: usize, nth: usize) {
-        self.left.fetch_add(once(worker, nth), Ordering::SeqCst);
+        self.note(&self.left, worker, nth);
     }
 }
 
-/// Each of four workers, once.
-const EACH_ONCE: u64 = 0x0001_0001_0001_0001;
-
-/// Whether four workers come to what is expected, and how often each entered and left.
+/// Whether so many workers come to what is expected, and who entered, who left, and who did so more than once.
 fn counted<R: Threads + Sync>(
     rt: &R,
     alloc: Global,
     told: &[Told],
+    workers: usize,
     expected: &Expected,
-) -> Result<(bool, (u64, u64)), Lack> {
+) -> Result<(bool, [u64; 3]), Lack> {
     let gate = Counting::new();
-    let comes = comes_through(rt, alloc, told, 4, &gate, expected)?;
+    let comes = comes_through(rt, alloc, told, workers, &gate, expected)?;
     Ok((comes, gate.counted()))
 }
 
+/// The first of these numbers of workers that don't all enter once and leave once, over no event and over five.
+fn other_number<R: Threads + Sync>(
+    rt: &R,
+    alloc: Global,
+    numbers: &[(usize, u64)],
+) -> Result<Option<usize>, Lack> {
+    for (workers, bits) in numbers {
+        let none = counted(rt, alloc, &[], *workers, &NOTHING)?;
+        let five = counted(rt, alloc, FIVE, *workers, &FIVE_REPORT)?;
+        let each_once = (true, [*bits, *bits, 0]);
+        if none != each_once || five != each_once {
+            return Ok(Some(*workers));
+        }
+    }
+    Ok(None)
+}
+
+/// Numbers of workers, and a bit for each of them.
+const NUMBERS: &[(usize, u64)] = &[(1, 0x1), (4, 0xf), (5, 0x1f), (64, 0xffff_ffff_ffff_ffff)];
+
 #[test]
 fn each_worker_enters_and_leaves(rt: HostRuntime) {
-    let none = counted(&rt, rt.alloc(), &[], &NOTHING);
-    let five = counted(&rt, rt.alloc(), FIVE, &FIVE_REPORT);
-    let each_once = Ok((true, (EACH_ONCE, EACH_ONCE)));
-    assert_eq!(rt; (none, five), (each_once, each_once));
+    assert_eq!(rt; other_number(&rt, rt.alloc(), NUMBERS), Ok(None));
+}
+
+/// A gate between whose two ends growths may be refused, and whether one was.
+#[derive(Drop)]
+struct Fencing {
+    alloc: Global,
+    is_refused: AtomicBool,
+}
+
+impl Gate for Fencing {
+    fn enter(&self, _worker: usize, _nth: usize) {
+        let _begun = fence(self.alloc);
+    }
+
+    fn leave(&self, _worker: usize, _nth: usize) {
+        let growth: Result<Vec<u8>, AllocError> = Vec::with_capacity(self.alloc, 1);
+        self.is_refused.store(growth.is_err(), Ordering::SeqCst);
+        let _ended = fence(self.alloc);
+    }
+}
+
+/// Whether a single worker that replays the five events through this gate has no memory, and whether a growth was refused there.
+fn fenced<R: Threads + Sync>(rt: &R, alloc: Global) -> Result<(bool, bool), Lack> {
+    let gate = Fencing {
+        alloc,
+        is_refused: AtomicBool::new(false),
+    };
+    let (items, tables) = (items_of(alloc, FIVE)?, profile(alloc)?);
+    let report = replay_with(rt, alloc, &tables, &items, Opening::Removed, 1, &gate);
+    Ok((report.is_err(), gate.is_refused.load(Ordering::SeqCst)))
+}
+
+/// Whether both are the same.
+fn agree<R: Threads + Sync>(rt: &R, alloc: Global) -> Result<bool, Lack> {
+    let (wants_memory, is_refused) = fenced(rt, alloc)?;
+    Ok(wants_memory == is_refused)
+}
+
+/// A part is replayed behind the gate's entry and before its end: where growths are refused between these, and nowhere else, the
+/// replay has no memory.
+#[test]
+fn a_part_is_within_its_gate_with_every_growth_refused(rt: HostRuntime) {
+    assert_eq!(rt; agree(&rt, rt.alloc()), Ok(true));
 }
 
 /// Whether four workers come to the report of the five events, asked again where a growth is refused, and whether as many
@@ -115,7 +188,7 @@ fn replayed_again<R: Threads + Sync>(rt: &R, alloc: Global) -> Result<(bool, boo
         Err(WithFault::Memory) => replay_with(rt, alloc, &tables, &items, opening, 4, &OpenGate),
         end => end,
     };
-    let (entered, left) = gate.counted();
+    let [entered, left, _again] = gate.counted();
     match report {
         Ok(report) => Ok((is_report(&report, &FIVE_REPORT), entered == left)),
         Err(_) => Err(Lack::Memory),
