@@ -106,6 +106,10 @@ const READINGS: &[Reading] = rows! {
     (((3, 1, false, Last::Block), 9), (DEVICE, 4)),
     (((3, 1, false, Last::Timeout), 9), (DEVICE, 4)),
     (((2, 1, false, Last::Pause), 9), (TURNS, 5_000_000)),
+    // the same far behind the beginning
+    (((250, 250, false, Last::Failure), 300), (DEVICE, 2)),
+    (((250, 250, false, Last::Pause), 300), (TURNS, 5_000_000)),
+    (((70_000, 1_000, true, Last::Failure), 80_000), (DEVICE, 142)),
     // two chunks of 65,536 bytes, one byte, and the end
     (((131_073, 200_000, false, Last::Zero), 200_000), (Ok(131_073), 4)),
 };
@@ -146,6 +150,11 @@ const WRITINGS: &[Writing] = rows! {
     ((3, (1, 1, false, Last::Block)), (Some((1, Device)), 2)),
     ((3, (1, 1, false, Last::Timeout)), (Some((1, Device)), 2)),
     ((3, (2, 1, false, Last::Pause)), (Some((2, TooManyTurns)), MAX_CALLS)),
+    // the same far behind the beginning
+    ((300, (250, 250, false, Last::Zero)), (Some((250, Device)), 2)),
+    ((300, (250, 250, false, Last::Failure)), (Some((250, Device)), 2)),
+    ((300, (250, 250, false, Last::Pause)), (Some((250, TooManyTurns)), MAX_CALLS)),
+    ((70_000, (65_536, 1_000, true, Last::Failure)), (Some((65_536, Device)), 134)),
     // a text is offered whole
     ((131_073, (200_000, 200_000, false, Last::Zero)), (None, 1)),
     // the last call that is allowed may be the one that takes the last byte
