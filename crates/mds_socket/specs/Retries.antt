@@ -3,14 +3,15 @@ use Rattle.std.specs.Prelude.{ℕ, ◌==◌, ◌||◌, ℤ, pos, negsuc, Option,
 use Rattle.std.specs.declared.io.ErrorKind.{ErrorKind}
 use Rattle.std.specs.declared.io.ErrorKind.TheVariants.{Interrupted, WouldBlock, ConnectionAborted, ConnectionReset, TimedOut, NetworkDown, NetworkUnreachable, HostUnreachable, PermissionDenied, Unsupported, OutOfMemory}
 use Rattle.mds_socket.specs.declared.socket.Retry.{Retry}
-use Rattle.mds_socket.specs.declared.socket.Retry.TheVariants.{AtOnce, Later, Never}
+use Rattle.mds_socket.specs.declared.socket.Retry.TheVariants.{AtOnce, Later, ForAWhile, Never}
 
--- at once after ENONET, EPROTO, ENOPROTOOPT and EHOSTDOWN, of the connection's own network; later after ENFILE, EMFILE and
--- ENOBUFS, of a lack that may pass; these numbers are Linux's
+-- at once after ENONET, EPROTO, ENOPROTOOPT and EHOSTDOWN, of the connection's own network; later, however often, after
+-- ENOBUFS, of memory for sockets; for a while after ENFILE and EMFILE, of open files; these numbers are Linux's
 abbrev pub retry_by_number : ℕ → Retry
 retry_by_number number =
     if (number == 64) || (number == 71) || (number == 92) || (number == 112) then AtOnce
-    else (if (number == 23) || (number == 24) || (number == 105) then Later else Never)
+    else (if number == 105 then Later
+    else (if (number == 23) || (number == 24) then ForAWhile else Never))
 
 -- by the number of the system's error, where there is one
 abbrev pub retry_by_code : Option ℤ → Retry
@@ -18,8 +19,9 @@ retry_by_code None = Never
 retry_by_code (Some (pos number)) = retry_by_number number
 retry_by_code (Some (negsuc number)) = Never
 
--- at once after an interruption, where no connection came for a while, or where the one connection was lost or its own network was at fault; later where there was no
--- memory; and else by the number
+-- at once after an interruption, where no connection came for a while, or where the one connection was lost or its own
+-- network was at fault; later, however often, where there was no memory, or where the system stood in the way of the one
+-- connection; and else by the number
 abbrev pub retry_by_kind : ErrorKind → Option ℤ → Retry
 retry_by_kind Interrupted code = AtOnce
 retry_by_kind WouldBlock code = AtOnce
@@ -29,7 +31,7 @@ retry_by_kind TimedOut code = AtOnce
 retry_by_kind NetworkDown code = AtOnce
 retry_by_kind NetworkUnreachable code = AtOnce
 retry_by_kind HostUnreachable code = AtOnce
-retry_by_kind PermissionDenied code = AtOnce
-retry_by_kind Unsupported code = AtOnce
+retry_by_kind PermissionDenied code = Later
+retry_by_kind Unsupported code = Later
 retry_by_kind OutOfMemory code = Later
 retry_by_kind kind code = retry_by_code code

@@ -4,8 +4,9 @@ ghost use Rattle.std.specs.Io.{ReadsAtMost, WritesAtMost};
 ghost use Rattle.mds_socket.specs.HeadEnd.{ends_from};
 
 use crate::head::HeadProgress;
+use crate::lack::{MAX_PAUSES, pause};
 use crate::limits::{Part, Timer};
-use std::alloc::{AllocError, Global};
+use std::alloc::Global;
 use std::io::{self, ErrorKind, Read, Write};
 use std::net::{Shutdown, TcpStream};
 use std::sync::Arc;
@@ -210,26 +211,21 @@ pub(crate) fn set_limits(stream: &TcpStream) -> io::Result<()> {
     stream.set_nodelay(true)
 }
 
-/// The two ends of a connection over this stream, whose limits are set.
-///
-/// # Errors
-///
-/// `AllocError` where there is no memory for what they share.
+/// The two ends of a connection over this stream, whose limits are set. `None` where there was no memory for what they share,
+/// for as long as that is waited for; the connection is closed then.
 pub(crate) fn ends_of<C: Clock + Copy>(
     alloc: Global,
     stream: TcpStream,
     clock: C,
-) -> Result<(SocketIn<C>, SocketOut<C>), AllocError> {
-    let connection = Arc::new(
-        alloc,
-        Connection {
-            stream,
-            clock,
-            is_read: AtomicBool::new(false),
-            is_late: AtomicBool::new(false),
-        },
-    )?;
-    let other = Arc::try_clone(&connection)?;
+) -> Option<(SocketIn<C>, SocketOut<C>)> {
+    let taken = Connection {
+        stream,
+        clock,
+        is_read: AtomicBool::new(false),
+        is_late: AtomicBool::new(false),
+    };
+    let connection = shared(alloc, taken)?;
+    let other = Arc::try_clone(&connection).ok()?;
     let input = SocketIn {
         connection,
         timer: Timer::new(Part::Head),
@@ -239,5 +235,28 @@ pub(crate) fn ends_of<C: Clock + Copy>(
         connection: other,
         timer: Timer::new(Part::Answer),
     };
-    Ok((input, output))
+    Some((input, output))
+}
+
+/// A connection that was taken, where its two ends share it. Where there is no memory for that it is kept, and tried again
+/// after each of some pauses. Past them it is closed at once: it counts as late, so that its peer isn't waited for.
+fn shared<C: Clock + Copy>(
+    alloc: Global,
+    taken: Connection<C>,
+) -> Option<Arc<Connection<C>, Global>> {
+    let mut kept = taken;
+    for _ in 0..MAX_PAUSES {
+        match Arc::new(alloc, kept) {
+            Ok(connection) => return Some(connection),
+            Err(failed) => kept = failed.value,
+        }
+        pause(&kept.clock);
+    }
+    match Arc::new(alloc, kept) {
+        Ok(connection) => Some(connection),
+        Err(failed) => {
+            failed.value.is_late.store(true, Ordering::SeqCst);
+            None
+        }
+    }
 }

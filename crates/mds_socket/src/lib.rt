@@ -3,6 +3,7 @@
 
 mod connection;
 mod head;
+mod lack;
 pub mod laws;
 mod limits;
 mod socket;

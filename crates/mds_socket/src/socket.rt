@@ -4,13 +4,13 @@ ghost use Rattle.std.specs.IoError.{error_kind, raw_os_error};
 ghost use Rattle.mds_socket.specs.Retries.{retry_by_code, retry_by_kind};
 
 use crate::connection::{SocketIn, SocketOut, ends_of, set_limits};
+use crate::lack::{MAX_PAUSES, pause};
 use mds_pool::{Ending, Port, PortFault};
 use std::alloc::Global;
 use std::io::{self, ErrorKind};
 use std::net::{Ipv4Addr, Net, TcpListener, TcpStream};
 use std::os::fd::OwnedFd;
-use std::thread;
-use std::time::{Clock, Duration};
+use std::time::Clock;
 
 /// A listening socket, from which any number of workers take connections.
 #[derive(Drop)]
@@ -61,17 +61,13 @@ const NO_PROTOCOL: i32 = 92;
 
 const HOST_DOWN: i32 = 112;
 
-/// Errors of a lack that may pass: open files of the system and of the process, and memory for sockets.
+/// Errors of a lack of open files, of the system and of the process.
 const TOO_MANY_IN_SYSTEM: i32 = 23;
 
 const TOO_MANY_IN_PROCESS: i32 = 24;
 
+/// The error of a lack of memory for sockets.
 const NO_BUFFERS: i32 = 105;
-
-/// How long is waited for a lack to pass, in milliseconds, and how often at most.
-const WAIT_MILLIS: u64 = 100;
-
-const MAX_WAITS: u32 = 300;
 
 /// What becomes of taking a connection that failed.
 #[derive(Clone, Copy, Debug, PartialEq, Eq)]
@@ -79,8 +75,12 @@ enum Retry {
     /// It is tried again at once: it was interrupted, no connection came in the time of one read, or the one connection was lost
     /// before it was taken.
     AtOnce,
-    /// It is tried again a little later: there are too many open files, or there is no memory for one more, at this moment.
+    /// It is tried again after a pause, however often: there is no memory for one more connection, or the peer or the system
+    /// stands in its way, at this moment. The listening socket is never at fault.
     Later,
+    /// It is tried again after a pause, and so often at most: there are too many open files. The process may hold them itself,
+    /// for good.
+    ForAWhile,
     /// It isn't: the listening socket is at fault.
     Never,
 }
@@ -104,10 +104,9 @@ fn retry_of_kind(kind: ErrorKind, number: Option<i32>) -> Retry
         | ErrorKind::TimedOut
         | ErrorKind::NetworkDown
         | ErrorKind::NetworkUnreachable
-        | ErrorKind::HostUnreachable
-        | ErrorKind::PermissionDenied
-        | ErrorKind::Unsupported => Retry::AtOnce,
-        ErrorKind::OutOfMemory => Retry::Later,
+        | ErrorKind::HostUnreachable => Retry::AtOnce,
+        ErrorKind::OutOfMemory | ErrorKind::PermissionDenied | ErrorKind::Unsupported =>
+            Retry::Later,
         _ => retry_of_number(number),
     }
 }
@@ -118,7 +117,8 @@ fn retry_of_number(number: Option<i32>) -> Retry
 {
     match number {
         Some(NO_NETWORK | PROTOCOL_ERROR | NO_PROTOCOL | HOST_DOWN) => Retry::AtOnce,
-        Some(TOO_MANY_IN_SYSTEM | TOO_MANY_IN_PROCESS | NO_BUFFERS) => Retry::Later,
+        Some(NO_BUFFERS) => Retry::Later,
+        Some(TOO_MANY_IN_SYSTEM | TOO_MANY_IN_PROCESS) => Retry::ForAWhile,
         _ => Retry::Never,
     }
 }
@@ -129,19 +129,22 @@ impl<C: Clock + Copy> Port for SocketPort<C> {
     type Out = SocketOut<C>;
 
     fn accept(&self) -> Result<(SocketIn<C>, SocketOut<C>), PortFault> {
-        let mut waits = 0;
+        let mut pauses = 0;
         for came in self.listener.incoming() {
             match came {
                 Ok(stream) => {
-                    return ends_of(self.alloc, stream, self.clock).map_err(|_| PortFault);
+                    if let Some(ends) = ends_of(self.alloc, stream, self.clock) {
+                        return Ok(ends);
+                    }
                 }
                 Err(error) => match retry_of(&error) {
                     Retry::AtOnce => {}
-                    Retry::Later if waits < MAX_WAITS => {
-                        waits += 1;
-                        thread::sleep(&self.clock, Duration::from_millis(WAIT_MILLIS));
+                    Retry::Later => pause(&self.clock),
+                    Retry::ForAWhile if pauses < MAX_PAUSES => {
+                        pauses += 1;
+                        pause(&self.clock);
                     }
-                    Retry::Later | Retry::Never => return Err(PortFault),
+                    Retry::ForAWhile | Retry::Never => return Err(PortFault),
                 },
             }
         }

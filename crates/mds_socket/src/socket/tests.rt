@@ -6,11 +6,13 @@ use std::io;
 use std::net::{Ipv4Addr, TcpStream};
 use std::time::Clock;
 
-/// Errors by their numbers: EINTR, EAGAIN, ECONNABORTED, ECONNRESET, EPERM, and those of a connection's network and protocol;
-/// EMFILE, ENFILE, ENOBUFS and ENOMEM; EBADF, EINVAL, ENOTSOCK and ENOTTY.
-const AT_ONCE: &[i32] = &[4, 11, 103, 104, 1, 64, 71, 92, 112, 95, 100, 101, 113, 110];
+/// Errors by their numbers: EINTR, EAGAIN, ECONNABORTED, ECONNRESET, and those of a connection's network and protocol; ENOMEM,
+/// ENOBUFS, EPERM, EACCES and EOPNOTSUPP; EMFILE and ENFILE; EBADF, EINVAL, ENOTSOCK and ENOTTY.
+const AT_ONCE: &[i32] = &[4, 11, 103, 104, 64, 71, 92, 112, 100, 101, 113, 110];
 
-const LATER: &[i32] = &[24, 23, 105, 12];
+const LATER: &[i32] = &[12, 105, 1, 13, 95];
+
+const FOR_A_WHILE: &[i32] = &[24, 23];
 
 const NEVER: &[i32] = &[9, 22, 88, 25];
 
@@ -26,8 +28,14 @@ fn errors_by_their_numbers(rt: HostRuntime) {
         first_other(Retry::AtOnce, AT_ONCE),
         first_other(Retry::Later, LATER),
     );
-    let never = first_other(Retry::Never, NEVER);
-    assert_eq!(rt; (at_once, later, never), (None, None, None));
+    let (for_a_while, never) = (
+        first_other(Retry::ForAWhile, FOR_A_WHILE),
+        first_other(Retry::Never, NEVER),
+    );
+    assert_eq!(rt;
+        (at_once, later, for_a_while, never),
+        (None, None, None, None)
+    );
 }
 
 /// A growth of a size of its own: `tests/refused-growths` refuses each one between two of these.
@@ -36,7 +44,7 @@ fn fence(alloc: Global) -> Result<Vec<u8>, AllocError> {
     Vec::with_capacity(alloc, 12_347)
 }
 
-/// Takes a connection and closes it: whether there was memory for its ends.
+/// Takes a connection and closes it: whether one was taken.
 fn takes<C: Clock + Copy>(port: &SocketPort<C>) -> bool {
     let Ok((input, output)) = port.accept() else {
         return false;
@@ -45,21 +53,21 @@ fn takes<C: Clock + Copy>(port: &SocketPort<C>) -> bool {
     true
 }
 
-/// Whether a port takes a connection behind one that comes where there may be no memory.
+/// Whether a port that was bound where there may be no memory takes a connection that came there, and the next one.
 fn goes_on(rt: HostRuntime) -> io::Result<bool> {
     let alloc = rt.alloc();
     let _begun = fence(alloc);
     let port = SocketPort::bind(&rt, alloc, rt, 0)?;
     let number = port.number()?;
     let _first = TcpStream::connect(&rt, (Ipv4Addr::LOCALHOST, number))?;
-    let _taken = takes(&port);
     let _ended = fence(alloc);
+    let is_first_taken = takes(&port);
     let _second = TcpStream::connect(&rt, (Ipv4Addr::LOCALHOST, number))?;
-    Ok(takes(&port))
+    Ok(is_first_taken && takes(&port))
 }
 
-/// A port is bound and tells its number without memory. A connection that comes is taken, or there is no memory for what its
-/// ends share; then the port goes on, and takes the next one (`tests/refused-growths` refuses each growth up to there).
+/// A port is bound and tells its number without memory, and a connection comes to it. Both that and the next one are taken once
+/// there is memory (`tests/refused-growths` refuses each growth up to there).
 #[test]
 fn a_port_is_bound_with_every_growth_refused(rt: HostRuntime) {
     assert!(rt; matches!(goes_on(rt), Ok(true)));
