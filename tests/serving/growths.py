@@ -41,8 +41,7 @@ ACCEPTED = 3
 
 def one_turn(port, exchange, others):
     """Asks, and once more where there was no memory; how many connections that took, and what was wrong. Where an item is told that
-    had none, those before it stand, and it and those behind it don't. No answer at all means that the connection couldn't be
-    taken, or that the server ended."""
+    had none, those before it stand, and it and those behind it don't. No answer at all means that the server ended."""
     found = ask(port, exchange.request)
     if not found:
         raise ConnectionAbortedError
@@ -59,7 +58,7 @@ def one_turn(port, exchange, others):
 
 
 def served(server):
-    """Whether all was answered, and what was wrong. Where a connection finds no memory, the server ends."""
+    """Whether all was answered, and what was wrong."""
     complaints = []
     for exchange, others in TURNS:
         try:
@@ -84,7 +83,8 @@ def refused(program, number):
 
 
 def judged(server):
-    """What is wrong with a server that has come to listen."""
+    """What is wrong with a server that has come to listen. Each connection is answered, also one for which there was no memory
+    at first; or the server had none for itself, and says so."""
     whole, complaints = served(server)
     yield from complaints
     while whole and server.left:
@@ -94,15 +94,15 @@ def judged(server):
         if found not in (b"", error(404, "not_found"), FIXED):
             yield f"at the end, {found!r}"
     ended = server.ended()
-    allowed = (0, f"accepted {ACCEPTED}\n", "") if whole else (3, "", SOCKET)
-    if ended not in (allowed, (4, "", NO_MEMORY)):
-        yield f"ended with {ended}"
+    allowed = [(0, f"accepted {ACCEPTED}\n", "")] if whole else []
+    if ended not in (*allowed, (4, "", NO_MEMORY)):
+        yield f"ended with {ended}, {'all' if whole else 'not all'} answered"
 
 
 def each_growth_refused(program):
     """Each growth in turn, until they run out: each answer is the right one, or one of the two that say that there was no
     memory, after which the same request is answered; what is accepted is counted; and where the server ends for want of
-    memory, or because it could take no connection, it says so."""
+    memory, it says so. None ends it by a connection."""
     with ThreadPoolExecutor(os.cpu_count()) as pool:
         for start in range(1, MOST, AT_ONCE):
             numbers = range(start, start + AT_ONCE)

@@ -1,4 +1,4 @@
-"""How long one client, or a lack of open files, may hold the server.
+"""How long one client, or a lack of open files or of memory for a connection, may hold the server.
 
 These tests wait more than they work. So tests/clients runs them beside the others, each in a thread of its own."""
 
@@ -9,7 +9,7 @@ import time
 from pathlib import Path
 
 from cases.replays import A, B, P
-from harness.building import built
+from harness.building import Refusal, built
 from harness.case import SOCKET
 from harness.counting import Unwell
 from harness.texts import differing
@@ -17,9 +17,9 @@ from model.http import error
 from model.json_text import compact
 from serving.connections import EVENT, MOST_WORKERS, SMALL_ROOM, long_list, silent
 from serving.http import Exchange, done, look, registered, vehicle
-from serving.server import Server, numbered_port, success_of
+from serving.server import NotListening, Server, numbered_port, success_of
 from serving.talking import talk_over
-from serving.wire import connect, get, post, read_all
+from serving.wire import ask, connect, get, post, read_all
 
 NOWHERE = get("/")
 HEAD = (8, 20)
@@ -50,6 +50,12 @@ LACK, MOST_LACK = 15, 36
 WAITS, LONGEST, TOO_LONG = 8640, 29, 31
 """How many waits of 10 seconds come before a client does, a day of them; and lacks of the two kinds, on a clock that is moved
 on."""
+MOST_GROWTHS = 2000
+"""More growths of memory than a server makes before its first connection."""
+FEW, SOME, TOO_MANY = 3, 20, 301
+"""How often memory for a connection is refused: the connection is tried again after each of 300 pauses."""
+SOME_PAUSES, ALL_PAUSES = (1.9, 15), (29, 50)
+"""How long these refusals take, in seconds: a tenth of one each."""
 AT_ONCE = 1 << 16
 SLOW = MOST_WORKERS + 16
 """Clients that send a byte a second: more than there are workers."""
@@ -381,6 +387,55 @@ def lacking_open_files_for_too_long(program):
             yield f"ended with {ended}, in place of {wanted}"
 
 
+def growth_of_a_connection(program):
+    """The number of the growth that a server's first connection makes first: with those before it refused the server ends."""
+    for number in range(1, MOST_GROWTHS):
+        with Refusal(number, FEW) as refusal:
+            try:
+                with Server(program, 1, env=refusal.env) as server:
+                    if ask(server.port, NOWHERE):
+                        return number
+            except (NotListening, ConnectionError):
+                pass
+    raise Unwell("no server answered its first connection")
+
+
+def seconds_until(done):
+    """What a call comes to, and how long it takes."""
+    start = time.monotonic()
+    found = done()
+    return found, time.monotonic() - start
+
+
+def without_memory_for_a_connection(program):
+    """A connection for which there is no memory at first is kept, and answered once there is; its worker goes on."""
+    with Refusal(growth_of_a_connection(program), SOME) as refusal:
+        with Server(program, 3, env=refusal.env) as server:
+            exchange = registered(A)
+            found, seconds = seconds_until(lambda: server.ask(exchange.request))
+            yield from differing(found, exchange.answer)
+            if not SOME_PAUSES[0] < seconds < SOME_PAUSES[1]:
+                yield f"the answer came after {seconds:.1f} s, in place of {SOME_PAUSES}"
+            yield from talk_over(server, look(A, "removed", 0, None))
+            yield from server.end()
+
+
+def without_memory_for_a_connection_for_long(program):
+    """A connection for which there is no memory for longer than the server waits is closed. It isn't counted, and its worker
+    answers the next one."""
+    with Refusal(growth_of_a_connection(program), TOO_MANY) as refusal:
+        with Server(program, 2, env=refusal.env) as server:
+            keeping = connect(server.port)
+            keeping.sendall(NOWHERE)
+            over, seconds = seconds_until(lambda: is_over(keeping))
+            if not over:
+                yield "an answer where there was no memory for the connection"
+            if not ALL_PAUSES[0] < seconds < ALL_PAUSES[1]:
+                yield f"the connection was closed after {seconds:.1f} s, in place of {ALL_PAUSES}"
+            yield from talk_over(server, registered(A))
+            yield from server.end()
+
+
 LIMITS = [
     let_go_in_its_head,
     let_go_at_a_port_of_a_number,
@@ -394,6 +449,8 @@ LIMITS = [
     idle_for_long,
     idle_for_a_day,
     lacking_open_files_for_too_long,
+    without_memory_for_a_connection,
+    without_memory_for_a_connection_for_long,
     silent_behind_its_answer,
     trickling_behind_its_answer,
     flooding_behind_its_answer,

@@ -34,13 +34,15 @@ class NotListening(Unwell):
 
 class Server:
     """A server on a port that was free, with so many connections for each of so many workers. As a context it is taken down
-    where it hasn't ended. Given a port, it listens there. Given a number of open files, it can have no more of them."""
+    where it hasn't ended. Given a port, it listens there. Given a number of open files, or of kilobytes of address space, it can
+    have no more of them."""
 
-    def __init__(self, program, each, workers=1, table=None, env=None, open_files=None, port=0):
+    def __init__(self, program, each, workers=1, table=None, env=None, open_files=None, address_space=None, port=0):
         self.folder = tempfile.TemporaryDirectory()
         words = [program, "serve", "--port", str(port), "--each", str(each), "--workers", str(workers)]
-        if open_files is not None:
-            words = ["sh", "-c", f'ulimit -n {open_files} && exec "$0" "$@"', *words]
+        for letter, most in (("n", open_files), ("v", address_space)):
+            if most is not None:
+                words = ["sh", "-c", f'ulimit -{letter} {most} && exec "$0" "$@"', *words]
         if table is not None:
             path = Path(self.folder.name, "table.json")
             path.write_bytes(as_bytes(table))
