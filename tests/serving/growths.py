@@ -1,6 +1,9 @@
-"""A server of one worker with each growth of memory refused in turn."""
+"""A server of one worker with each growth of memory refused in turn, and one of some workers in little address space."""
 
 import os
+import re
+import time
+import uuid
 from concurrent.futures import ThreadPoolExecutor
 
 from cases.replays import A, B, P, batch, item
@@ -8,12 +11,18 @@ from harness.building import Refusal
 from harness.case import NO_MEMORY, SOCKET
 from model.http import answer, error
 from model.tables import Table
-from serving.http import E1, LOOK, Exchange, done, look, registered
+from serving.http import E1, LOOK, Exchange, done, look, registered, vehicle
 from serving.server import NotListening, Server
-from serving.wire import ask, get, post
+from serving.wire import ask, connect, get, post
 
 AT_ONCE = 32
 MOST = 20000
+ACCEPTED_LINE = re.compile(r"accepted ([0-9]+)\n")
+LITTLE, CROWD = 100000, 8
+"""Kilobytes of address space, and so many workers in it."""
+EACH = 200
+FULL = 5
+"""How often in turn a registration is refused for want of memory until there counts as none left."""
 FIXED = b"HTTP/1.1 503 Service Unavailable\r\ncontent-length: 0\r\nconnection: close\r\n\r\n"
 
 
@@ -116,4 +125,54 @@ def each_growth_refused(program):
         yield f"{MOST} growths, and no end"
 
 
-GROWTHS = [each_growth_refused]
+def registrations(count, start):
+    """A batch of so many vehicles, the first of this number."""
+    return post("/vehicles", [vehicle(str(uuid.UUID(int=start + at))) for at in range(count)])
+
+
+def filled(server):
+    """Registers vehicles, many at once and then one by one, until there is no memory for one more; how many were tried."""
+    tried = 0
+    for count in (2000, 100, 1):
+        refused = 0
+        while refused < FULL:
+            found = server.ask(registrations(count, tried + 1))
+            tried += count
+            refused = 0 if found.startswith(b"HTTP/1.1 200") else refused + 1
+    return tried
+
+
+def crowded(server, start):
+    """Has each worker hold a long body that isn't whole, and hangs up."""
+    held = [connect(server.port) for _ in range(CROWD)]
+    for connection in held:
+        connection.sendall(registrations(2000, start)[:-1])
+    time.sleep(1)
+    for connection in held:
+        connection.close()
+    server.count(CROWD)
+
+
+def in_little_address_space(program):
+    """A server under a limit of its address space that is full of vehicles, and which each worker's client then holds with a long
+    body, goes on answering looks. All its workers stay, and it ends as usual, or for want of memory to settle."""
+    with Server(program, EACH, workers=CROWD, address_space=LITTLE) as server:
+        tried = filled(server)
+        crowded(server, tried + 1)
+        first = str(uuid.UUID(int=1))
+        while server.left:
+            found = server.ask(get(f"/vehicles/{P}/{first}"))
+            if found not in (look(first, "removed", 0, None).answer, FIXED):
+                yield f"a look was answered {found!r}"
+        ended = server.ended()
+        if ended != (4, "", NO_MEMORY) and not (ended[0] == 0 and server.success <= accepted(ended[1]) <= tried):
+            yield f"ended with {ended}, where {server.success} to {tried} were accepted"
+
+
+def accepted(out):
+    """How many items a server says to be accepted, or -1 where it doesn't say so."""
+    found = ACCEPTED_LINE.fullmatch(out)
+    return int(found.group(1)) if found else -1
+
+
+GROWTHS = [each_growth_refused, in_little_address_space]
