@@ -155,7 +155,7 @@ def crowded(server, start):
 
 def in_little_address_space(program):
     """A server under a limit of its address space that is full of vehicles, and which each worker's client then holds with a long
-    body, goes on answering looks. All its workers stay, and it ends as usual, or for want of memory to settle."""
+    body, goes on answering looks, as many as its workers are to answer, and ends as usual, or for want of memory to settle."""
     with Server(program, EACH, workers=CROWD, address_space=LITTLE) as server:
         tried = filled(server)
         crowded(server, tried + 1)
