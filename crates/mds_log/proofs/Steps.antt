@@ -93,7 +93,7 @@ some_either false n is some = refl
 pub begins_moves : (e : Entry) → Moves IsKept shown moved 0 ([], (no_nib, None)) (λ n. either (n == 0) 1 n) (Begins (step 0 0 1 e) ([], (no_nib, None)))
 begins_moves e cs [] kept pre away =
     let n : (cell cs 0).0 ≡ 0 = ap (λ c. c.0) kept.head in
-    let new : Entry = record { seat = e.seat; request = e.request; next = length cs } in
+    let new : Entry = record { tag = e.tag; request = e.request; next = length cs } in
     let one : either ((cell cs 0).0 == 0) 1 (cell cs 0).0 ≡ 1 = rw n refl in
     (kept.some, ap (λ c. c.1) kept.head, (adds, new ∷ [], None, tt, first_kept cs _ new kept one, inl (refl, refl), λ zero. (refl, refl, refl)))
 begins_moves e cs (x ∷ xs) kept pre away =

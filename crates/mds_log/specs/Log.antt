@@ -1,15 +1,15 @@
--- What was accepted, and for which caller.
+-- What was accepted, and under which tag.
 use Rattle.std.specs.Prelude.{ℕ, List, [], ◌∷◌, map}
 use Rattle.mds_core.specs.declared.request.Request.{Request}
 use Rattle.mds_log.specs.declared.entry.Entry.{Entry}
 
--- a request that was accepted, and the mark of the caller that asked
+-- a request that was accepted, and the tag of the value that it was added by
 pub record Acceptance : Type 0 where
-  pub seat : ℕ
+  pub tag : ℕ
   pub request : Request
 
 abbrev pub acceptance_of : Entry → Acceptance
-acceptance_of entry = record { seat = entry.seat; request = entry.request }
+acceptance_of entry = record { tag = entry.tag; request = entry.request }
 
 -- a log begins with an entry that only names the first pen
 abbrev pub acceptances : List Entry → List Acceptance

@@ -54,7 +54,7 @@ impl Plain<(), Entry, u64> for Make {
     ghost use Rattle.mds_core.specs.declared.request.Request.TheVariants.{Look};
 
     ghost ask = { λ unit. record {
-      seat = 0;
+      tag = 0;
       request = Look (record { provider = []; device = [] });
       next = 0;
     } };
@@ -80,19 +80,31 @@ impl Play<Entry, u64> for Add {
     ghost then = { Adds };
 }
 
-/// What is to be added: for whom, what, and the pen that may add the next entry.
+/// A value by which requests are added to a log.
+pub trait Tagged {
+    ghost use Rattle.std.specs.Prelude.{ℕ};
+
+    /// Its tag, which exists in the proofs alone.
+    ghost tag: { Self → ℕ };
+}
+
+impl<J: Marked> Tagged for Mark<J> {
+    ghost tag = { λ mark. mark };
+}
+
+/// What is to be added: by which value, what, and the pen that may add the next entry.
 #[derive(Clone, Copy)]
-pub struct Addition<'a> {
-    seat: &'a Pen,
+pub struct Addition<'a, T: Tagged> {
+    by: &'a T,
     request: &'a Request,
     next: &'a Pen,
 }
 
-impl<'a> Plain<Addition<'a>, Entry, u64> for Add {
+impl<'a, T: Tagged> Plain<Addition<'a, T>, Entry, u64> for Add {
     ghost use Rattle.std.specs.Prelude.{None};
 
     ghost ask = { λ new. record {
-      seat = new.seat.now.nib.key;
+      tag = T.tag new.by.now;
       request = new.request.now;
       next = new.next.now.nib.key;
     } };
@@ -232,6 +244,13 @@ impl<J: Logged> Front<J> {
         }
     }
 
+    /// How many requests it has seen.
+    pub fn len(&self) -> u64
+        ensures { result ≡ length self.now }
+    {
+        self.count
+    }
+
     /// Tells that of two fronts of a log one is a beginning of the other. It does nothing at run time.
     pub fn tell_order(&self, other: &Front<J>)
         ensures { IsPrefix self.now other.now ⊎ IsPrefix other.now self.now }
@@ -322,22 +341,22 @@ impl<J: Logged> Keeper<J> {
         pen
     }
 
-    /// Adds a request that was accepted, under the mark of the caller that asked, at the cost of two atomic
-    /// instructions on the keeper's own word.
+    /// Adds a request that was accepted, under the tag of a value, at the cost of two atomic instructions on the
+    /// keeper's own word.
     #[tactic(auto, using(crate::proofs::Lists::acceptances_push))]
-    pub fn add<K: Marked>(&mut self, mark: &Mark<K>, request: &Request)
+    pub fn add<T: Tagged>(&mut self, by: &T, request: &Request)
         requires room { length self.old < 2 ^ 63 }
-        ensures { self.new ≡ self.old ++ record { seat = mark.now; request = request.now } ∷ [] }
+        ensures { self.new ≡ self.old ++ record { tag = T.tag by.now; request = request.now } ∷ [] }
     {
         let next = self.next_pen();
         let new = Addition {
-            seat: &mark.pen,
+            by,
             request,
             next: &next,
         };
         let mut offer: Offer<Entry, u64, LogRule, Nothing> = self
             .seen
-            .plain::<Nothing, Addition, Add>(&new);
+            .plain::<Nothing, Addition<T>, Add>(&new);
         let length = self.count + 1;
         self.head.compare_exchange::<Add, Nothing>(
             length,
