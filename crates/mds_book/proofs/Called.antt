@@ -22,7 +22,7 @@ seen_after tables number old mark request reply new step =
     ap (λ (w : List Acceptance). requests w) step.goes_on ∙ requests_after step.log mark request reply.outcome
 
 -- a seat after a call in the shard of this number, whose history was `before`
-abbrev called_seat : ℕ → Seated → List Request → Request → Reply → Seated
+abbrev pub called_seat : ℕ → Seated → List Request → Request → Reply → Seated
 called_seat number seat before request reply = record {
   first = seat.first + rises 0 number reply;
   second = seat.second + rises 1 number reply;

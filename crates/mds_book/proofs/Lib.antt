@@ -7,4 +7,5 @@ pub mod Called
 pub mod Listed
 pub mod Accounts
 pub mod Gathers
+pub mod Copying
 pub mod SightLaws

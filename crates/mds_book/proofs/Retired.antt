@@ -46,14 +46,14 @@ known_longer : (shard : ℕ) (marks left : List ℕ) (log : List Acceptance) (no
     → AreKnown shard left log notes
 known_longer shard marks left log notes begins known k d within is =
     let found = known k d within is in
-    (found.0, found.1, has_longer marks left found.0.seat begins found.2)
+    (found.0, found.1, has_longer marks left found.0.tag begins found.2)
 
 -- the accepted notes of a seat stand under its mark
 known_here : (tables : Tables) (shard : ℕ) (log : List Acceptance) (mark : ℕ) (notes : List Note) (count : ℕ) (left : List ℕ) → AreTrue tables shard log mark notes count
     → Has left mark → AreKnown shard left log notes
 known_here tables shard log mark notes count left are has k d within is =
     let parts = accepted_parts shard (get_or notes k d) is in
-    (record { seat = mark; request = (get_or notes k d).request }, are.stored k d within parts.0 parts.1, has)
+    (record { tag = mark; request = (get_or notes k d).request }, are.stored k d within parts.0 parts.1, has)
 
 -- what stands under a mark that was handed back has another place than what stands under one that was not
 other_places : (tables : Tables) (shard : ℕ) (log : List Acceptance) (mark : ℕ) (notes : List Note) (count : ℕ) (marks : List ℕ) (others : List Note)
@@ -63,7 +63,7 @@ other_places tables shard log mark notes count marks others are fresh known k d 
     let found = known k d within first in
     let stored = are.stored l e under parts.0 parts.1 in
     let here = ap (λ (p : ℕ). slice_get log p) same ∙ stored in
-    let one : found.0.seat ≡ mark = cc (found.1, here) in
+    let one : found.0.tag ≡ mark = cc (found.1, here) in
     let Handed : ℕ → Type 0 = λ number. Has marks number in
     fresh (subst Handed one found.2)
 
@@ -192,7 +192,7 @@ counted_below tables shard log mark notes count are =
     sum_same (λ (n : Note). weight (accepted_below shard (length log) n)) (λ (n : Note). weight (accepted_of shard n)) notes
     (λ k d within. ap weight
     (below_same shard (length log) (get_or notes k d)
-    (λ here done. slice_get_within log (get_or notes k d).reply.place (record { seat = mark; request = (get_or notes k d).request }) (are.stored k d within here done))))
+    (λ here done. slice_get_within log (get_or notes k d).reply.place (record { tag = mark; request = (get_or notes k d).request }) (are.stored k d within here done))))
     ∙ are.counted
 
 -- there are as many below the end of the log as the seats counted

@@ -31,7 +31,7 @@ of_shard_next number history request (Refused refusal) all is = all
 -- the log after a call asks for the history after it
 pub requests_after : (log : List Acceptance) (mark : ℕ) (request : Request) (outcome : Outcome)
     → requests (after log mark request (is_done outcome)) ≡ next (requests log) request outcome
-requests_after log mark request Done = map-append (λ (one : Acceptance). one.request) log (record { seat = mark; request = request } ∷ [])
+requests_after log mark request Done = map-append (λ (one : Acceptance). one.request) log (record { tag = mark; request = request } ∷ [])
 requests_after log mark request (Seen standing) = refl
 requests_after log mark request (Refused refusal) = refl
 

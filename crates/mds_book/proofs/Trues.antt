@@ -56,20 +56,20 @@ pub true_longer : (tables : Tables) (shard : ℕ) (log longer : List Acceptance)
 true_longer tables shard log longer mark notes count begins are = record {
   answered = λ k d within here. right_longer tables (requests log) (requests longer) (get_or notes k d) (requests_prefix log longer begins) (are.answered k d within here);
   stored = λ k d within here done.
-      prefix_get log longer (get_or notes k d).reply.place (record { seat = mark; request = (get_or notes k d).request }) begins (are.stored k d within here done);
+      prefix_get log longer (get_or notes k d).reply.place (record { tag = mark; request = (get_or notes k d).request }) begins (are.stored k d within here done);
   ordered = are.ordered;
   counted = are.counted;
 }
 
 -- the log before a call is a beginning of the log after it
 pub after_longer : (log : List Acceptance) (mark : ℕ) (request : Request) (done : Bool) → IsPrefix log (after log mark request done)
-after_longer log mark request true = (record { seat = mark; request = request } ∷ [], refl)
+after_longer log mark request true = (record { tag = mark; request = request } ∷ [], refl)
 after_longer log mark request false = ([], append-nil log)
 
 -- what is accepted stands where the log ended
 stored_after : (log : List Acceptance) (mark : ℕ) (request : Request) (done : Bool) (place : ℕ) → place ≡ length log → done ≡ true
-    → slice_get (after log mark request done) place ≡ Some (record { seat = mark; request = request })
-stored_after log mark request true place here done = rw here (get_last log (record { seat = mark; request = request }))
+    → slice_get (after log mark request done) place ≡ Some (record { tag = mark; request = request })
+stored_after log mark request true place here done = rw here (get_last log (record { tag = mark; request = request }))
 stored_after log mark request false place here done = absurd (cc)
 
 -- a later note of the length of the log is in order
@@ -108,10 +108,10 @@ true_noted tables shard log mark notes count note are here answer =
     record {
       answered = All-push (λ (n : Note). n.shard ≡ shard → HasRightReply tables (requests new) n) notes note longer.answered
           (λ h. right_longer tables (requests log) (requests new) note (requests_prefix log new begins) right);
-      stored = All-push (λ (n : Note). n.shard ≡ shard → is_done n.reply.outcome ≡ true → slice_get new n.reply.place ≡ Some (record { seat = mark; request = n.request })) notes note
+      stored = All-push (λ (n : Note). n.shard ≡ shard → is_done n.reply.outcome ≡ true → slice_get new n.reply.place ≡ Some (record { tag = mark; request = n.request })) notes note
           longer.stored (λ h done. stored_after log mark note.request (is_done note.reply.outcome) note.reply.place place done);
       ordered = all_pairs_push (IsInOrder shard) notes note are.ordered
-          (λ k d within first second. in_order_after tables log (record { seat = mark; request = (get_or notes k d).request }) (get_or notes k d) note.reply.place place
+          (λ k d within first second. in_order_after tables log (record { tag = mark; request = (get_or notes k d).request }) (get_or notes k d) note.reply.place place
           (are.answered k d within first) (are.stored k d within first));
       counted = sum_by_push (λ (n : Note). weight shard n) notes note ∙ omega (arith, are.counted, own_weight shard note here);
     }
@@ -121,7 +121,7 @@ pub true_past : (tables : Tables) (shard : ℕ) (log : List Acceptance) (mark : 
     → AreTrue tables shard log mark notes count → note.shard ≢ shard → AreTrue tables shard log mark (notes ++ note ∷ []) count
 true_past tables shard log mark notes count note are other = record {
   answered = All-push (λ (n : Note). n.shard ≡ shard → HasRightReply tables (requests log) n) notes note are.answered (λ here. absurd (other here));
-  stored = All-push (λ (n : Note). n.shard ≡ shard → is_done n.reply.outcome ≡ true → slice_get log n.reply.place ≡ Some (record { seat = mark; request = n.request })) notes note
+  stored = All-push (λ (n : Note). n.shard ≡ shard → is_done n.reply.outcome ≡ true → slice_get log n.reply.place ≡ Some (record { tag = mark; request = n.request })) notes note
       are.stored (λ here. absurd (other here));
   ordered = all_pairs_push (IsInOrder shard) notes note are.ordered (λ k d within first second. absurd (other second));
   counted = sum_by_push (λ (n : Note). weight shard n) notes note ∙ omega (arith, are.counted, other_weight shard note other);

@@ -2,6 +2,7 @@ pub use Rattle.mds_core.specs.Machine
 pub mod Shards
 pub mod Seats
 pub mod Books
+pub mod Copying
 pub mod Gathering
 pub mod Settling
 pub mod Reconciled

@@ -25,7 +25,7 @@ HaveOtherPlaces shard xs ys =
 -- what each accepted note of this shard says was asked under a mark that was handed back
 abbrev pub AreKnown : ℕ → List ℕ → List Acceptance → List Note → Type 0
 AreKnown shard marks log notes =
-    All (λ note. accepted_of shard note ≡ true → (one : Acceptance) × (slice_get log note.reply.place ≡ Some one) × Has marks one.seat) notes
+    All (λ note. accepted_of shard note ≡ true → (one : Acceptance) × (slice_get log note.reply.place ≡ Some one) × Has marks one.tag) notes
 
 -- these seats handed back these marks, and their notes are true to the whole log
 pub record AreRetired (tables : Tables) (shard : ℕ) (log : List Acceptance) (marks : List ℕ) (seats : List Seated) : Type 0 where

@@ -26,7 +26,7 @@ next_turn turns = (turns + 1) % 2 ^ 64
 
 -- the log after a call of the seat with this mark
 abbrev pub after : List Acceptance → ℕ → Request → Bool → List Acceptance
-after log mark request done = if done then log ++ record { seat = mark; request = request } ∷ [] else log
+after log mark request done = if done then log ++ record { tag = mark; request = request } ∷ [] else log
 
 -- a seat that had seen the beginning `old` of a log has seen all of it, as long as the shard's history, and what its own call
 -- has added
@@ -65,6 +65,6 @@ pub record AreTrue (tables : Tables) (shard : ℕ) (log : List Acceptance) (mark
   pub answered : All (λ note. note.shard ≡ shard → HasRightReply tables (requests log) note) notes
   -- what was accepted stands at its place, under this mark
   pub stored : All (λ note. note.shard ≡ shard → is_done note.reply.outcome ≡ true
-      → slice_get log note.reply.place ≡ Some (record { seat = mark; request = note.request })) notes
+      → slice_get log note.reply.place ≡ Some (record { tag = mark; request = note.request })) notes
   pub ordered : AllPairs (IsInOrder shard) notes
   pub counted : count_by (accepted_of shard) notes ≡ count

@@ -7,11 +7,12 @@ ghost use Rattle.mds_book.specs.Shards.{shard_of as number_of, count_of};
 ghost use Rattle.mds_book.specs.Seats.{fresh, keeps_all, is_look, accepted_in, noted, IsCalled, IsListed};
 ghost use Rattle.mds_book.specs.Sights.{IsSeenWhole, IsStepped, next_turn};
 ghost use Rattle.mds_book.specs.Books.{IsBadCount, GivesEvents, SeesShard, open_fault_text};
+ghost use Rattle.mds_book.specs.Copying.{IsCopied};
 
 use crate::gathered::Account;
 use crate::seat::Parts;
 use crate::slot::shard_of;
-use crate::{Blank, Keep, Part, Seat, ShardLedger, Slot};
+use crate::{Blank, Keep, Part, Progress, Seat, ShardLedger, Slot};
 use mds_core::{Event, Key, Outcome, Reply, Request};
 use mds_log::Marks;
 use mds_settle::Note;
@@ -252,6 +253,23 @@ fn list_in<R: Wait, L: ShardLedger, const N: usize>(
     let found = slot.shard().events(alloc, key)?;
     slot.see(part);
     Ok(found)
+}
+
+/// Copies the next requests of the shard behind this lock.
+///
+/// # Errors
+///
+/// `AllocError` where there is no memory for them; the progress is as it was then.
+fn copy_in<R: Wait, L: ShardLedger, const N: usize>(
+    rt: &R,
+    alloc: Global,
+    slot: &Mutex<Slot<L, N>>,
+    progress: &mut Progress<L>,
+) -> Result<Vec<Request>, AllocError>
+    ensures copied { IfOk result (λ piece. IsCopied L.tables N progress.old piece.items progress.new) }
+    ensures unchanged { OnErr result (progress.new ≡ progress.old) }
+{
+    slot.lock(rt).copy(alloc, progress)
 }
 
 /// What a function answers on the shard behind this lock.
@@ -581,6 +599,43 @@ impl<L: ShardLedger, M: ShardLedger> Book<L, M> {
     {
         let found = list_in(rt, alloc, &self.second, &mut seat.second, key)?;
         Ok(found)
+    }
+
+    /// Copies the next requests of the first shard's history behind those that were copied, at most 256 of them; none where all
+    /// were. It waits for the shard's lock, and holds it for the copy alone.
+    ///
+    /// # Errors
+    ///
+    /// `AllocError` where there is no memory for them; the progress is as it was then.
+    pub fn copy_first<R: Wait>(
+        &self,
+        rt: &R,
+        alloc: Global,
+        progress: &mut Progress<L>,
+    ) -> Result<Vec<Request>, AllocError>
+        ensures copied { IfOk result (λ piece.
+            IsCopied self.now.tables 0 progress.old piece.items progress.new) }
+        ensures unchanged { OnErr result (progress.new ≡ progress.old) }
+    {
+        copy_in(rt, alloc, &self.first, progress)
+    }
+
+    /// Copies the next requests of the second shard's history, as [`Book::copy_first`] does of the first's.
+    ///
+    /// # Errors
+    ///
+    /// As there.
+    pub fn copy_second<R: Wait>(
+        &self,
+        rt: &R,
+        alloc: Global,
+        progress: &mut Progress<M>,
+    ) -> Result<Vec<Request>, AllocError>
+        ensures copied { IfOk result (λ piece.
+            IsCopied self.now.tables 1 progress.old piece.items progress.new) }
+        ensures unchanged { OnErr result (progress.new ≡ progress.old) }
+    {
+        copy_in(rt, alloc, &self.second, progress)
     }
 
     /// What a function answers on the shard of this number, while it is locked. It waits for the shard's lock; a call on

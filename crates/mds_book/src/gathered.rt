@@ -3,8 +3,9 @@ ghost use Rattle.std.specs.Prelude.{◌≡◌, ◌+◌, length};
 ghost use Rattle.std.specs.Option.{option_copied};
 ghost use Rattle.mds_book.specs.Gathering.{IsWhole, history_of, notes_of};
 ghost use Rattle.mds_book.specs.Settling.{AreBeginnings, IsSettledBook};
+ghost use mathlib.Core.List.{IsPrefix};
 
-use crate::{ShardLedger, Sight, Slot};
+use crate::{Progress, ShardLedger, Sight, Slot};
 use mds_core::Request;
 use mds_settle::Note;
 use mds_table::Tables;
@@ -154,6 +155,16 @@ impl<L: ShardLedger, M: ShardLedger> Settled<L, M> {
         ensures { result.now ≡ self.now.tables }
     {
         self.gathered.tables()
+    }
+
+    /// Tells that what was seen of each shard while the book was in use is a beginning of its history. It changes nothing.
+    pub fn tell_begins(&mut self, first: &Progress<L>, second: &Progress<M>)
+        ensures same { self.new ≡ self.old }
+        ensures first { IsPrefix first.now.seen self.old.first }
+        ensures second { IsPrefix second.now.seen self.old.second }
+    {
+        self.gathered.first.tell_begins(first);
+        self.gathered.second.tell_begins(second);
     }
 
     /// How many calls were accepted, in both shards.

@@ -1,12 +1,13 @@
 //! What a caller holds: its part of each shard, and the notes of its calls.
-ghost use Rattle.std.specs.Prelude.{◌≡◌, ◌<◌, ◌≤◌, ◌+◌, ◌^◌, ◌||◌, [], length, not};
+ghost use Rattle.std.specs.Prelude.{◌≡◌, ◌<◌, ◌≤◌, ◌+◌, ◌^◌, ◌||◌, [], length, not, true};
 ghost use mathlib.Core.List.{IsPrefix};
 ghost use Rattle.mds_core.specs.Headline.{is_done};
 ghost use Rattle.mds_book.specs.Shards.{count_of};
 ghost use Rattle.mds_book.specs.Seats.{accepted_in, is_look, fresh, keeps_all};
 ghost use Rattle.mds_book.specs.Sights.{after, next_turn};
+ghost use Rattle.mds_book.specs.Copying.{copied};
 
-use crate::{ShardLedger, Sight};
+use crate::{Progress, ShardLedger, Sight};
 use mds_core::{Outcome, Request};
 use mds_log::{Front, Keeper, Mark, Marks};
 use mds_settle::{Note, NoteList};
@@ -171,6 +172,30 @@ impl<L: ShardLedger, M: ShardLedger> Seat<L, M> {
             1 => self.second.count,
             _ => 0,
         }
+    }
+
+    /// All that the seat has seen of both shards, as if it were copied.
+    pub fn progress(&self) -> (Progress<L>, Progress<M>)
+        ensures first { result.0
+            ≡ record { seen = self.now.first_seen; count = length self.now.first_seen } }
+        ensures second { result.1
+            ≡ record { seen = self.now.second_seen; count = length self.now.second_seen } }
+    {
+        let first = self.first.sight.front().again();
+        let second = self.second.sight.front().again();
+        let (first_count, second_count) = (first.len() as usize, second.len() as usize);
+        (
+            Progress::of(first, first_count),
+            Progress::of(second, second_count),
+        )
+    }
+
+    /// Whether all that the seat has seen of both shards was copied.
+    pub fn is_within(&self, first: &Progress<L>, second: &Progress<M>) -> bool
+        ensures first { result ≡ true → IsPrefix self.now.first_seen (copied first.now) }
+        ensures second { result ≡ true → IsPrefix self.now.second_seen (copied second.now) }
+    {
+        first.has(self.first.sight.front()) && second.has(self.second.sight.front())
     }
 
     /// Whether a call of the request may be noted: any call where every call is, and else one that may be accepted.

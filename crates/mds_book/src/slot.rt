@@ -7,9 +7,10 @@ ghost use mathlib.Core.List.{IsPrefix};
 ghost use Rattle.mds_log.specs.Log.{requests};
 ghost use Rattle.mds_book.specs.Shards.{shard_of as number_of, AreOfShard, count_of};
 ghost use Rattle.mds_book.specs.Sights.{IsShown, next_turn};
+ghost use Rattle.mds_book.specs.Copying.{IsCopied, IsPiece};
 
 use crate::seat::Parts;
-use crate::{Blank, Part};
+use crate::{Blank, Part, Progress};
 use mds_core::{Key, Reply, Request};
 use mds_log::{Front, Keeper, Logged, Marked};
 use mds_shard::Shard;
@@ -41,6 +42,23 @@ pub(crate) fn shard_of(key: &Key) -> usize
     ensures small { result < 2 }
 {
     (key.device.as_u128() % 2) as usize
+}
+
+/// The most requests that are copied while a shard's lock is held once.
+const MAX_PIECE: usize = 256;
+
+/// The next piece of a history, from this place on.
+///
+/// # Errors
+///
+/// `AllocError` where there is no memory for it.
+fn next_piece(alloc: Global, history: &[Request], from: usize) -> Result<Vec<Request>, AllocError>
+    requires { from ≤ length history.now }
+    ensures { IfOk result (λ piece. IsPiece from history.now piece.items) }
+{
+    let rest = &history[from..];
+    let size = rest.len().min(MAX_PIECE);
+    Vec::from_slice(alloc, &rest[..size])
 }
 
 /// What stands behind a lock of a book: the shard of number `N`, whose vehicles all have this number, the ledger that
@@ -173,6 +191,42 @@ impl<L: ShardLedger, const N: usize> Slot<L, N> {
         // This call's contract says that the history is no longer than a list can be.
         let _ = self.shard.len();
         part.sight.look(&mut self.keeper);
+    }
+
+    /// Copies the next requests of the history behind those that were copied, at most 256 of them.
+    ///
+    /// # Errors
+    ///
+    /// `AllocError` where there is no memory for them; the progress is as it was then.
+    pub(crate) fn copy(
+        &mut self,
+        alloc: Global,
+        progress: &mut Progress<L>,
+    ) -> Result<Vec<Request>, AllocError>
+        ensures slot { self.new ≡ self.old }
+        ensures copied { IfOk result (λ piece. IsCopied L.tables N progress.old piece.items progress.new) }
+        ensures whole { IfOk result (λ piece. progress.new.seen ≡ self.old.history) }
+        ensures unchanged { OnErr result (progress.new ≡ progress.old) }
+    {
+        // This call's contract says that the history is lawful, and no longer than a list can be.
+        let _ = self.shard.len();
+        let mut seen = progress.front().again();
+        self.keeper.show(&mut seen);
+        let from = progress.count();
+        let piece = next_piece(alloc, self.shard.history(), from)?;
+        *progress = Progress::of(seen, from + piece.len());
+        Ok(piece)
+    }
+
+    /// Tells that what was seen is a beginning of the history. It changes nothing.
+    pub(crate) fn tell_begins(&mut self, progress: &Progress<L>)
+        ensures slot { self.new ≡ self.old }
+        ensures begins { IsPrefix progress.now.seen self.old.history }
+    {
+        // This call's contract says that the history is no longer than a list can be.
+        let _ = self.shard.len();
+        let mut seen = progress.front().again();
+        self.keeper.show(&mut seen);
     }
 
     /// Answers a request about a vehicle of this shard, as [`Shard::step`] does, for a seat with this part of the shard, which

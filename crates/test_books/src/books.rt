@@ -3,11 +3,14 @@
 ghost use Rattle.std.specs.Prelude.{◌≡◌};
 
 mod cases;
+mod copies;
 mod locks;
 mod threads;
 
+use copies::{copied_of, copy_once};
 use mds_book::{
-    Blank, Book, Keep, Note, OpenFault, Seat, SettleFault, Settled, ShardLedger, reconcile,
+    Blank, Book, Keep, Note, OpenFault, Progress, Seat, SettleFault, Settled, ShardLedger,
+    reconcile,
 };
 use mds_core::Outcome::{Done, Seen};
 use mds_core::{Reply, Request};
@@ -35,12 +38,15 @@ struct Asking<'a> {
 }
 
 /// What a book tells without memory: the places of the first steps with other replies; the shards of A and of B; how long
-/// the shards' histories are; the number of rows; and what the first seat counted and noted.
+/// the shards' histories are, and how much of them was copied; whether all that the first seat saw was copied, before the copy
+/// and after it; the number of rows; and what the first seat counted and noted.
 #[derive(Clone, Copy, Debug, PartialEq, Eq)]
 struct Shown {
     others: [Option<usize>; 2],
     shards: [usize; 2],
     lengths: [usize; 2],
+    copied: [usize; 2],
+    within: [bool; 2],
     rows: usize,
     counts: [u64; 3],
     noted: usize,
@@ -187,12 +193,17 @@ fn shown_by<L: ShardLedger, M: ShardLedger, R: Wait>(
     book: &Book<L, M>,
     seat: &Seat<L, M>,
     others: [Option<usize>; 2],
+    first: &Progress<L>,
+    second: &Progress<M>,
+    was_within: bool,
 ) -> Shown {
     let lengths = lengths_of(rt, book);
     Shown {
         others,
         shards: [book.shard_of(&key(A)), book.shard_of(&key(B))],
         lengths,
+        copied: copied_of(first, second),
+        within: [was_within, seat.is_within(first, second)],
         rows: book.tables().at(0).row_count(),
         counts: [seat.accepted(0), seat.accepted(1), seat.accepted(2)],
         noted: seat.notes().len(),
@@ -325,13 +336,20 @@ fn seen_at<L: ShardLedger + Send + Sync, M: ShardLedger + Send + Sync, R: Thread
     book: &Book<L, M>,
     seats: &mut [Seat<L, M>],
     asking: Asking<'_>,
+    first: &mut Progress<L>,
+    second: &mut Progress<M>,
 ) -> Result<(Shown, [Option<usize>; 3]), Lack> {
     let other = other_after(rt, book, seats, asking)?;
     let events = events_at(rt, alloc, book, seats.first_mut().ok_or(Lack::Case)?)?;
+    let within = seats.first().ok_or(Lack::Case)?.is_within(first, second);
+    copy_once(rt, alloc, book, first, second)?;
     let _begun = fence(alloc);
     let others = [other, first_other(rt, book, seats, asking.quiet)?];
-    let shown = shown_by(rt, book, seats.first().ok_or(Lack::Case)?, others);
-    Ok((shown, events))
+    let seat = seats.first().ok_or(Lack::Case)?;
+    Ok((
+        shown_by(rt, book, seat, others, first, second, within),
+        events,
+    ))
 }
 
 /// How many events A, B and C have.
@@ -376,9 +394,21 @@ fn told_at<L: ShardLedger + Send + Sync, M: ShardLedger + Send + Sync, R: Thread
     mut seats: Vec<Seat<L, M>>,
     asking: Asking<'_>,
 ) -> Result<Told, Lack> {
-    let seen = seen_at(rt, alloc, &book, &mut seats, asking);
+    let (mut first, mut second) = seats.first().ok_or(Lack::Case)?.progress();
+    let seen = seen_at(
+        rt,
+        alloc,
+        &book,
+        &mut seats,
+        asking,
+        &mut first,
+        &mut second,
+    );
     match (seen, settled_once_missed(book, seats)) {
-        (Ok(seen), Some(settled)) => held_in(alloc, seen, &settled, asking.seats),
+        (Ok(seen), Some(mut settled)) => {
+            settled.tell_begins(&first, &second);
+            held_in(alloc, seen, &settled, asking.seats)
+        }
         (Ok(_), None) => Err(Lack::Case),
         (Err(lack), _) => Err(lack),
     }
@@ -464,6 +494,8 @@ fn after(calls: u64, events: usize) -> Option<(Shown, End, [Option<usize>; 3])> 
         others: [None, None],
         shards: [0, 1],
         lengths: [count, 0],
+        copied: [count, 0],
+        within: [count == 0, true],
         rows: 74,
         counts: [calls, 0, 0],
         noted: count,

@@ -1,0 +1,35 @@
+-- How far a shard's history was copied.
+use Rattle.std.specs.Prelude.{◌≡◌, ◌≤◌, ◌+◌, ◌++◌, ℕ, List, [], length, take, drop}
+use mathlib.Core.List.{IsPrefix}
+use Rattle.mds_table.specs.Tables.{Tables}
+use Rattle.mds_core.specs.declared.request.Request.{Request}
+use Rattle.mds_core.specs.Lawful.{IsLawful}
+use Rattle.mds_book.specs.Shards.{AreOfShard}
+
+-- a beginning of a shard's history that was seen, and how many of its requests were copied
+pub record Progressed : Type 0 where
+  pub seen : List Request
+  pub count : ℕ
+
+-- the requests that were copied
+abbrev pub copied : Progressed → List Request
+copied progress = take progress.count progress.seen
+
+-- the most requests of a piece
+abbrev pub max_piece : ℕ
+max_piece = 256
+
+-- a piece of a history, from this place on; it is empty at the history's end alone
+pub record IsPiece (from : ℕ) (history piece : List Request) : Type 0 where
+  pub here : piece ≡ take (length piece) (drop from history)
+  pub short : length piece ≤ max_piece
+  pub none : piece ≡ [] → from ≡ length history
+
+-- the shard's whole history was seen, which was lawful, and a piece of it was copied, from the end of what had been copied
+pub record IsCopied (tables : Tables) (number : ℕ) (old : Progressed) (piece : List Request) (new : Progressed) : Type 0 where
+  pub seen : IsPrefix old.seen new.seen
+  pub lawful : IsLawful tables new.seen
+  pub of_shard : AreOfShard number new.seen
+  pub next : IsPiece old.count new.seen piece
+  pub count : new.count ≡ old.count + length piece
+  pub copied : copied new ≡ copied old ++ piece

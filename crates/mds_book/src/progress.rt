@@ -1,0 +1,80 @@
+//! How far a shard's history was copied.
+ghost use Rattle.std.specs.Prelude.{◌≡◌, ◌≤◌, ◌+◌, true, length};
+ghost use mathlib.Core.List.{IsPrefix};
+ghost use Rattle.mds_log.specs.Log.{requests};
+ghost use Rattle.mds_book.specs.Copying.{copied};
+
+use crate::ShardLedger;
+use mds_log::Front;
+use std::marker::Model;
+
+/// A beginning of a shard's history that was seen, and how many of its requests were copied, from the first on. It comes of a
+/// seat, and goes on by copies that are made under the shard's lock.
+#[derive(Drop)]
+pub struct Progress<L: ShardLedger> {
+    front: Front<L>,
+    count: usize,
+}
+
+impl<L: ShardLedger> Model for Progress<L> {
+    ghost use Rattle.std.specs.Prelude.{◌≤◌, length};
+    ghost use Rattle.mds_log.specs.Log.{requests};
+    ghost use Rattle.mds_book.specs.Copying.{Progressed};
+
+    ghost Value = { Progressed };
+
+    ghost view = { λ progress. record { seen = requests progress.front; count = progress.count } };
+
+    ghost invariant = { λ progress. progress.count ≤ length (requests progress.front) };
+}
+
+impl<L: ShardLedger> Progress<L> {
+    /// So many requests of what this front has seen.
+    pub(crate) fn of(front: Front<L>, count: usize) -> Progress<L>
+        requires { count ≤ length (requests front) }
+        ensures { result ≡ record { seen = requests front; count = count } }
+    {
+        Progress { front, count }
+    }
+
+    /// The same again.
+    pub fn again(&self) -> Progress<L>
+        ensures { result ≡ self.now }
+    {
+        self.with_count(self.count)
+    }
+
+    /// The same beginning, of which so many requests count as copied.
+    pub fn with_count(&self, count: usize) -> Progress<L>
+        requires { count ≤ length self.now.seen }
+        ensures { result ≡ record { seen = self.now.seen; count = count } }
+    {
+        Progress {
+            front: self.front.again(),
+            count,
+        }
+    }
+
+    /// How many requests were copied.
+    pub fn count(&self) -> usize
+        ensures count { result ≡ self.now.count }
+        ensures within { self.now.count ≤ length self.now.seen }
+    {
+        self.count
+    }
+
+    /// What was seen.
+    pub(crate) fn front(&self) -> &Front<L>
+        ensures { requests result.now ≡ self.now.seen }
+    {
+        &self.front
+    }
+
+    /// Whether all that a front has seen was copied.
+    pub(crate) fn has(&self, front: &Front<L>) -> bool
+        ensures { result ≡ true → IsPrefix (requests front.now) (copied self.now) }
+    {
+        self.front.tell_order(front);
+        front.len() <= self.count as u64
+    }
+}

@@ -1,0 +1,31 @@
+//! What is copied of a book's shards while it is in use.
+
+use mds_book::{Book, Progress, ShardLedger};
+use std::alloc::Global;
+use std::sync::Wait;
+use test_fixtures::Lack;
+
+/// Copies a piece of each shard, which is asked for again where there was no memory.
+pub(super) fn copy_once<L: ShardLedger, M: ShardLedger, R: Wait>(
+    rt: &R,
+    alloc: Global,
+    book: &Book<L, M>,
+    first: &mut Progress<L>,
+    second: &mut Progress<M>,
+) -> Result<(), Lack> {
+    if book.copy_first(rt, alloc, first).is_err() {
+        book.copy_first(rt, alloc, first)?;
+    }
+    if book.copy_second(rt, alloc, second).is_err() {
+        book.copy_second(rt, alloc, second)?;
+    }
+    Ok(())
+}
+
+/// How many requests were copied of each shard.
+pub(super) fn copied_of<L: ShardLedger, M: ShardLedger>(
+    first: &Progress<L>,
+    second: &Progress<M>,
+) -> [usize; 2] {
+    [first.again().count(), second.again().count()]
+}
