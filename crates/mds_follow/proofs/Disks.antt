@@ -1,0 +1,125 @@
+-- What a journal tells after a group was appended.
+use Rattle.std.proofs.Common.{◌≡◌, ◌⊎◌, inl, inr, ℕ, ◌+◌, ◌<◌, List, length, take, get_or, arith, [], ◌∷◌, ◌++◌, Bool, true, false, Result, Ok, Err, refl, sym, ap, ◌∙◌, subst}
+use Rattle.std.specs.List.{AllZip}
+use Rattle.std.proofs.lemmas.List.{take_more}
+use Rattle.mds_core.specs.declared.request.Request.{Request}
+use Rattle.mds_journal.specs.Lines.{recovered}
+use Rattle.mds_journal.specs.Device.{LeavesOnly}
+use Rattle.mds_journal.specs.Journal.{StandsFor, MayGoOn, IsLost, IsRefusal}
+use Rattle.mds_journal.specs.declared.journal.Journal.{Journal}
+use Rattle.mds_journal.specs.Journal.{IsBeforeOrAfter as IsFileBeforeOrAfter}
+use Rattle.mds_journal.specs.declared.journal.AppendError.{AppendError}
+use Rattle.mds_journal.specs.declared.journal.AppendError.TheVariants.{NotWritten, Full, Unknown, Lost}
+use Rattle.mds_entries.specs.Entry.{Tells}
+use Rattle.mds_follow.specs.declared.disk.Disk.{Disk}
+use Rattle.mds_follow.specs.Record.{IsBeforeOrAfter, Passes}
+use Rattle.mds_follow.specs.Disk.{IsTold, Stands, MayRead, texts_tell_one}
+
+-- two pairs of lists that fit
+zip_append : {X Y : Type 0} (R : X → Y → Type 0) (xs us : List X) (ys vs : List Y) → AllZip R xs ys → AllZip R us vs → AllZip R (xs ++ us) (ys ++ vs)
+zip_append R [] us [] vs first second = second
+zip_append R [] us (y ∷ ys) vs first second = absurd first
+zip_append R (x ∷ xs) us [] vs first second = absurd first
+zip_append R (x ∷ xs) us (y ∷ ys) vs first second = (first.0, zip_append R xs us ys vs first.1 second)
+
+-- lines behind others tell requests behind others
+pub told_more : (texts group : List (List ℕ)) (told requests : List Request) → IsTold texts told → AllZip Tells group requests → IsTold (texts ++ group) (told ++ requests)
+told_more texts group told requests is tells = record {
+  entries = is.entries ++ group;
+  split = ap (λ w. w ++ group) is.split;
+  tells = zip_append Tells is.entries group told requests is.tells tells;
+}
+
+-- the file stands for the requests of a group that was acknowledged
+pub stands_more : {D : Type 0} (seen : D → List ℕ) (may_leave : D → List ℕ → Type 0) (old new : D) (group : List (List ℕ)) (told requests : List Request)
+    → Stands seen may_leave old told → AllZip Tells group requests → StandsFor seen may_leave (recovered (seen old) ++ group) new → Stands seen may_leave new (told ++ requests)
+stands_more seen may_leave old new group told requests stands tells now =
+    let Told : List (List ℕ) → Type 0 = λ w. IsTold w told in
+    record {
+      texts = recovered (seen old) ++ group;
+      is_told = told_more (recovered (seen old)) group told requests (subst Told (sym stands.stands.now) stands.is_told) tells;
+      stands = now;
+    }
+
+-- a journal that isn't lost may go on
+pub not_lost : (is_lost : Bool) → (is_lost ≡ true → ⊥) → is_lost ≡ false
+not_lost true other = absurd (other refl)
+not_lost false other = refl
+
+-- the call didn't end with the error of a journal that was lost before
+abbrev pub IsOther : Result (Unit {0}) AppendError → Type 0
+IsOther (Ok done) = Unit {0}
+IsOther (Err Lost) = ⊥
+IsOther (Err Full) = Unit {0}
+IsOther (Err (NotWritten error)) = Unit {0}
+IsOther (Err (Unknown error)) = Unit {0}
+
+-- such an error
+abbrev pub failed : AppendError → Result (Unit {0}) AppendError
+failed error = Err error
+
+-- so it was made of one that might go on
+pub was_usable : {D : Type 0} (old : Journal D) (result : Result (Unit {0}) AppendError) → IsOther result → (IsLost old → result ≡ Err Lost) → MayGoOn old
+was_usable old result other lost = not_lost old.is_lost (λ is. subst IsOther (lost is) other)
+
+-- a restart reads what it might have read before, or the group's requests behind those from before, or none of them
+pub disk_passes : {D : Type 0} (seen : D → List ℕ) (may_leave : D → List ℕ → Type 0) (moment : D → ℕ) (left_since : D → ℕ → List ℕ → Type 0) (old new : Disk D) (group : List (List ℕ))
+    (told requests : List Request) → MayGoOn old.journal
+    → LeavesOnly moment left_since old.journal.device new.journal.device (IsFileBeforeOrAfter (recovered (seen old.journal.device)) group)
+    → Stands seen may_leave old.journal.device told → AllZip Tells group requests
+    → Passes (λ (disk : Disk D). moment disk.journal.device) (λ disk t c. MayRead (left_since disk.journal.device) t c) old new (λ c. MayGoOn old.journal × IsBeforeOrAfter told requests c)
+disk_passes {D = D} seen may_leave moment left_since old new group told requests go leaves stands tells = record {
+  later = leaves.later;
+  before = λ t c earlier read. by_time t c read (leaves.before t read.file earlier read.left);
+} where
+  Told : List Request → List (List ℕ) → Type 0
+  Told c w = IsTold w c
+
+  by_lines : (file : List ℕ) (c : List Request) → IsTold (recovered file) c
+      → (recovered file ≡ recovered (seen old.journal.device)) ⊎ (recovered file ≡ recovered (seen old.journal.device) ++ group) → IsBeforeOrAfter told requests c
+  by_lines file c is (inl same) =
+      inl (texts_tell_one stands.texts c told (subst (Told c) (same ∙ stands.stands.now) is) stands.is_told)
+  by_lines file c is (inr same) =
+      inr (texts_tell_one (stands.texts ++ group) c (told ++ requests) (subst (Told c) (same ∙ ap (λ w. w ++ group) stands.stands.now) is)
+      (told_more stands.texts group told requests stands.is_told tells))
+
+  by_time : (t : ℕ) (c : List Request) → (read : MayRead (left_since new.journal.device) t c)
+      → left_since old.journal.device t read.file ⊎ IsFileBeforeOrAfter (recovered (seen old.journal.device)) group read.file
+      → MayRead (left_since old.journal.device) t c ⊎ (MayGoOn old.journal × IsBeforeOrAfter told requests c)
+  by_time t c read (inl left) = inl (record { file = read.file; left = left; is_told = read.is_told })
+  by_time t c read (inr may) = inr (go, by_lines read.file c read.is_told may.lines)
+
+-- nothing was asked of the journal
+still_passes : {D : Type 0} (moment : D → ℕ) (left_since : D → ℕ → List ℕ → Type 0) (old new : Disk D) (P : List Request → Type 0) → new.journal ≡ old.journal
+    → Passes (λ (disk : Disk D). moment disk.journal.device) (λ disk t c. MayRead (left_since disk.journal.device) t c) old new P
+still_passes {D = D} moment left_since old new P same = record {
+  later = omega (arith, ap (λ (j : Journal D). moment j.device) same);
+  before = λ t c earlier read. inl (subst (λ (j : Journal D). MayRead (left_since j.device) t c) same read);
+}
+
+-- the same after an append that failed
+pub failed_passes : {D : Type 0} (seen : D → List ℕ) (may_leave : D → List ℕ → Type 0) (moment : D → ℕ) (left_since : D → ℕ → List ℕ → Type 0) (old new : Disk D)
+    (group : List (List ℕ)) (told requests : List Request) (error : AppendError) → (IsRefusal error → new.journal ≡ old.journal)
+    → (IsLost old.journal → failed error ≡ failed Lost)
+    → (MayGoOn old.journal → LeavesOnly moment left_since old.journal.device new.journal.device (IsFileBeforeOrAfter (recovered (seen old.journal.device)) group))
+    → (MayGoOn old.journal → Stands seen may_leave old.journal.device told) → AllZip Tells group requests
+    → Passes (λ (disk : Disk D). moment disk.journal.device) (λ disk t c. MayRead (left_since disk.journal.device) t c) old new (λ c. MayGoOn old.journal × IsBeforeOrAfter told requests c)
+failed_passes seen may_leave moment left_since old new group told requests (NotWritten error) refused lost leaves stands tells =
+    let go = was_usable old.journal (Err (NotWritten error)) tt lost in
+    disk_passes seen may_leave moment left_since old new group told requests go (leaves go) (stands go) tells
+failed_passes seen may_leave moment left_since old new group told requests (Unknown error) refused lost leaves stands tells =
+    let go = was_usable old.journal (Err (Unknown error)) tt lost in
+    disk_passes seen may_leave moment left_since old new group told requests go (leaves go) (stands go) tells
+failed_passes seen may_leave moment left_since old new group told requests Full refused lost leaves stands tells = still_passes moment left_since old new _ (refused tt)
+failed_passes seen may_leave moment left_since old new group told requests Lost refused lost leaves stands tells = still_passes moment left_since old new _ (refused tt)
+
+-- a line more tells a request more
+pub told_next : (group more : List (List ℕ)) (requests : List Request) (index : ℕ) (request : Request) (text : List ℕ) → AllZip Tells group (take index requests)
+    → index < length requests → more ≡ group ++ text ∷ [] → Tells text request → request ≡ get_or requests index request → AllZip Tells more (take (index + 1) requests)
+told_next group more requests index request text tells within is one same =
+    let Told : List Request → Type 0 = λ w. AllZip Tells more w in
+    let Lines : List (List ℕ) → Type 0 = λ w. AllZip Tells w (take index requests ++ request ∷ []) in
+    let both : AllZip Tells (group ++ text ∷ []) (take index requests ++ request ∷ []) = zip_append Tells group (text ∷ []) (take index requests) (request ∷ []) tells (one, tt) in
+    let longer : take index requests ++ request ∷ [] ≡ take (index + 1) requests =
+    ap (λ r. take index requests ++ r ∷ []) same ∙ sym (take_more requests index request within) in
+    subst Told longer (subst Lines (sym is) both)

@@ -1,0 +1,22 @@
+use Rattle.mds_log.specs.Log.{requests}
+use Rattle.mds_follow.proofs.Begins.{safe_read, follows_all, sound_all}
+use Rattle.mds_follow.proofs.follower.Follower.begin.Goals as goal
+
+pub invariant_of-result : goal.invariant_of-result
+invariant_of-result g c =
+    let is = c.requires in
+    let told = c.args.keeper in
+    let left = g.F.Record.left_since c.args.file in
+    let progress = c.progress-first.ensures in (
+      record {
+        sound = is.sound;
+        short = is.short;
+        begun = is.begun;
+        safe = λ truth. safe_read left g.J.RecordLog.start (g.F.Tagged.tag c.args.file) told (is.begun truth) (is.read truth);
+        kept = is.stands;
+      },
+      follows_all 0 (requests told) _ _ is.refilled.first progress.first,
+      follows_all 1 (requests told) _ _ is.refilled.second progress.second,
+      λ truth. sound_all left g.J.RecordLog.start 0 told _ _ (is.read truth) is.refilled.first progress.first,
+      λ truth. sound_all left g.J.RecordLog.start 1 told _ _ (is.read truth) is.refilled.second progress.second,
+    )

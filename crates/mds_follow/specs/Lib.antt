@@ -1,0 +1,6 @@
+-- Definitions that the contracts cite.
+pub mod Parts
+pub mod Record
+pub mod Group
+pub mod Restart
+pub mod Disk

@@ -1,0 +1,21 @@
+-- What is recorded of each shard.
+use Rattle.std.specs.Prelude.{◌≡◌, ℕ, ◌==◌, List, filter}
+use mathlib.Core.List.{IsPrefix}
+use Rattle.mds_core.specs.declared.request.Request.{Request}
+use Rattle.mds_core.specs.History.{key_of}
+use Rattle.mds_book.specs.Shards.{shard_of}
+use Rattle.mds_book.specs.Seats.{Seated}
+use Rattle.mds_book.specs.Copying.{Progressed, copied}
+
+-- the requests about vehicles of the shard of this number, in their order
+abbrev pub part : ℕ → List Request → List Request
+part number requests = filter (λ request. shard_of (key_of request) == number) requests
+
+-- what is recorded of the shard of this number is what was copied of its history
+abbrev pub Follows : ℕ → List Request → Progressed → Type 0
+Follows number recorded progress = part number recorded ≡ copied progress
+
+-- what is recorded has all that a seat saw of each shard
+pub record Covers (seat : Seated) (recorded : List Request) : Type 0 where
+  pub first : IsPrefix seat.first_seen (part 0 recorded)
+  pub second : IsPrefix seat.second_seen (part 1 recorded)

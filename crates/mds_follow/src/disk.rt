@@ -1,0 +1,151 @@
+//! A journal of lines in which requests are recorded.
+ghost use Rattle.std.specs.Prelude.{◌≡◌, ◌++◌, ◌∷◌, [], ℕ, List, OnOk, IfOk, IfErr};
+ghost use Rattle.std.specs.List.{AllZip};
+ghost use Rattle.mds_entries.specs.Entry.{Tells};
+ghost use Rattle.mds_journal.specs.Lines.{recovered};
+ghost use Rattle.mds_journal.specs.Journal.{IsSound, MayGoOn};
+ghost use Rattle.mds_follow.specs.Disk.{Stands};
+ghost use Rattle.mds_follow.specs.Record.{HasSame};
+
+use crate::{Record, RecordFault};
+use mds_core::Request;
+use mds_entries::{EntryFault, EntryReader, form_text};
+use mds_journal::{AppendError, Device, Group, Journal, PushError};
+use mds_log::Tagged;
+use std::alloc::{AllocError, Global};
+
+/// A journal of lines, of which the first names the form and each other tells a request. It has room to lay a group out.
+#[derive(Drop)]
+pub struct Disk<D: Device> {
+    /// The journal.
+    pub journal: Journal<D>,
+    pub(crate) reader: EntryReader,
+    pub(crate) group: Group,
+}
+
+impl<D: Device> Disk<D> {
+    /// A disk over a journal with no line yet, to which it adds the line that names the form.
+    ///
+    /// # Errors
+    ///
+    /// As [`Record::append`]. The journal comes back.
+    pub fn create(
+        alloc: Global,
+        mut journal: Journal<D>,
+    ) -> Result<Disk<D>, (RecordFault, Journal<D>)>
+        requires sound { IsSound D.seen D.may_leave D.may_be_used D.is_true journal }
+        requires none { D.is_true journal.device → recovered (D.seen journal.device) ≡ [] }
+        ensures sound { IfOk result (λ disk.
+            IsSound D.seen D.may_leave D.may_be_used D.is_true disk.journal) }
+        ensures stands { IfOk result (λ disk. MayGoOn disk.journal × (D.is_true disk.journal.device
+            → Stands D.seen D.may_leave disk.journal.device [])) }
+        ensures was_true { IfOk result (λ disk. D.is_true disk.journal.device
+            → D.is_true journal.device) }
+    {
+        let mut group = match Group::new(alloc) {
+            Ok(group) => group,
+            Err(AllocError) => return Err((RecordFault::Memory, journal)),
+        };
+        match group.push(form_text().as_bytes()) {
+            Ok(()) => {}
+            Err(PushError::Memory) => return Err((RecordFault::Memory, journal)),
+            Err(_) => return Err((RecordFault::NotKept, journal)),
+        }
+        match journal.append(&group) {
+            Ok(()) => Ok(Disk {
+                journal,
+                reader: EntryReader::new(alloc),
+                group,
+            }),
+            Err(error) => Err((RecordFault::from(error), journal)),
+        }
+    }
+}
+
+impl From<AppendError> for RecordFault {
+    ghost use Rattle.mds_follow.specs.Disk.{fault_of};
+
+    ghost from_gives = { λ error fault. fault ≡ fault_of error };
+
+    fn from(error: AppendError) -> RecordFault {
+        match error {
+            AppendError::NotWritten(_) | AppendError::Full => RecordFault::NotKept,
+            AppendError::Unknown(_) | AppendError::Lost => RecordFault::Lost,
+        }
+    }
+}
+
+impl<D: Device> Tagged for Disk<D> {
+    ghost tag = { λ disk. D.moment disk.journal.device };
+}
+
+/// Lays a request out behind the others of a group.
+///
+/// # Errors
+///
+/// `Memory`; and `NotKept` for a request that has no line, or whose line has no room. The group is as it was.
+fn lay_out_one(
+    reader: &mut EntryReader,
+    group: &mut Group,
+    request: &Request,
+) -> Result<(), RecordFault>
+    ensures told { OnOk result ((text : List ℕ) × (group.new ≡ group.old ++ text ∷ [])
+        × Tells text request.now) }
+    ensures same { IfErr result HasSame }
+{
+    let text = match reader.text_of(request) {
+        Ok(text) => text,
+        Err(EntryFault::Memory) => return Err(RecordFault::Memory),
+        Err(_) => return Err(RecordFault::NotKept),
+    };
+    match group.push(text.as_bytes()) {
+        Ok(()) => Ok(()),
+        Err(PushError::Memory) => Err(RecordFault::Memory),
+        Err(_) => Err(RecordFault::NotKept),
+    }
+}
+
+/// Lays requests out as a group of lines.
+///
+/// # Errors
+///
+/// As [`lay_out_one`]. The group may then have some of them.
+fn lay_out(
+    reader: &mut EntryReader,
+    group: &mut Group,
+    requests: &[Request],
+) -> Result<(), RecordFault>
+    ensures told { OnOk result (AllZip Tells group.new requests.now) }
+    ensures same { IfErr result HasSame }
+{
+    group.clear();
+    for request in requests {
+        lay_out_one(reader, group, request)?;
+    }
+    Ok(())
+}
+
+impl<D: Device> Record for Disk<D> {
+    ghost use Rattle.mds_journal.specs.Journal.{IsSound, MayGoOn};
+    ghost use Rattle.mds_follow.specs.Disk.{MayRead, Stands, reads_now};
+
+    ghost stands = { λ disk told. Stands D.seen D.may_leave disk.journal.device told };
+
+    ghost left_since = { λ disk t c. MayRead (D.left_since disk.journal.device) t c };
+
+    ghost may_go_on = { λ disk. MayGoOn disk.journal };
+
+    ghost is_true = { λ disk. D.is_true disk.journal.device };
+
+    ghost is_sound = { λ disk. IsSound D.seen D.may_leave D.may_be_used D.is_true disk.journal };
+
+    ghost only_now = { λ disk told c stands read.
+        reads_now D.seen D.may_leave D.left_since D.moment disk.journal.device told c
+        (D.only_now disk.journal.device) stands read };
+
+    fn append(&mut self, group: &[Request]) -> Result<(), RecordFault> {
+        lay_out(&mut self.reader, &mut self.group, group)?;
+        self.journal.append(&self.group)?;
+        Ok(())
+    }
+}

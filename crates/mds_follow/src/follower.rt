@@ -1,0 +1,230 @@
+//! What follows the histories of a book, and records them.
+ghost use Rattle.std.specs.Prelude.{◌≡◌, ◌<◌, ◌≤◌, ◌^◌, [], length, IfOk, OnOk, OnErr};
+ghost use mathlib.Core.List.{IsPrefix};
+ghost use Rattle.mds_log.specs.Log.{requests};
+ghost use Rattle.mds_follow.specs.Parts.{Covers, part};
+ghost use Rattle.mds_follow.specs.Record.{IsDesk, IsSound};
+ghost use Rattle.mds_follow.specs.Restart.{IsRead, IsRefilled};
+ghost use Rattle.mds_follow.specs.Group.{IsGroup};
+
+use crate::desk::Desk;
+use crate::{Receipt, Record, RecordFault, RecordLog};
+use mds_book::{Book, Progress, Seat, Settled, ShardLedger};
+use mds_core::Request;
+use mds_log::{BlankLog, Keeper};
+use std::alloc::{AllocError, Global};
+use std::marker::Model;
+use std::sync::{Mutex, Wait};
+
+/// A file of what a book accepted, and how much of each shard's history is in it. Contracts see it as the requests that are
+/// recorded, each with the moment at which it was.
+#[derive(Drop)]
+pub struct Follower<F: Record, L: ShardLedger, M: ShardLedger, J: RecordLog> {
+    desk: Desk<F, J>,
+    first: Progress<L>,
+    second: Progress<M>,
+}
+
+impl<F: Record, L: ShardLedger, M: ShardLedger, J: RecordLog> Model for Follower<F, L, M, J> {
+    ghost use Rattle.std.specs.Prelude.{List};
+    ghost use Rattle.mds_log.specs.Log.{Acceptance, requests};
+    ghost use Rattle.mds_follow.specs.Parts.{Follows};
+    ghost use Rattle.mds_follow.specs.Record.{IsDesk, IsSound};
+
+    ghost Value = { List Acceptance };
+
+    ghost view = { λ follower. follower.desk.keeper };
+
+    ghost invariant = { λ follower.
+        IsDesk F.is_sound F.is_true F.may_go_on F.stands F.tag F.left_since J.start
+        follower.desk.file follower.desk.keeper
+        × Follows 0 (requests follower.desk.keeper) follower.first
+        × Follows 1 (requests follower.desk.keeper) follower.second
+        × (F.is_true follower.desk.file
+        → IsSound (F.left_since follower.desk.file) J.start 0 follower.first.seen)
+        × (F.is_true follower.desk.file
+        → IsSound (F.left_since follower.desk.file) J.start 1 follower.second.seen) };
+}
+
+/// The next requests of both shards, those of the first before those of the second.
+///
+/// # Errors
+///
+/// `AllocError` where there is no memory for them.
+fn next_group<L: ShardLedger, M: ShardLedger, R: Wait>(
+    rt: &R,
+    alloc: Global,
+    book: &Book<L, M>,
+    first: &mut Progress<L>,
+    second: &mut Progress<M>,
+) -> Result<Vec<Request>, AllocError>
+    ensures { IfOk result (λ group.
+        IsGroup book.now.tables first.old second.old group.items first.new second.new) }
+{
+    let mut group = book.copy_first(rt, alloc, first)?;
+    let others = book.copy_second(rt, alloc, second)?;
+    group.extend_from_slice(&others)?;
+    Ok(group)
+}
+
+impl<F: Record, L: ShardLedger, M: ShardLedger, J: RecordLog> Follower<F, L, M, J> {
+    /// A follower of a book that holds what stands in the file, and nothing else: one seat has asked it. The keeper has the
+    /// requests, in the order of the file.
+    pub fn begin(file: F, keeper: Keeper<J>, seat: &Seat<L, M>) -> Follower<F, L, M, J>
+        requires sound { F.is_sound file }
+        requires short { length keeper < 2 ^ 63 }
+        requires begun { F.is_true file → J.start ≤ F.tag file }
+        requires stands { F.is_true file → F.may_go_on file → F.stands file (requests keeper) }
+        requires read { F.is_true file → IsRead (F.left_since file) J.start keeper }
+        requires refilled { IsRefilled seat.now keeper }
+        ensures { result ≡ keeper }
+    {
+        let (first, second) = seat.progress();
+        Follower {
+            desk: Desk { file, keeper },
+            first,
+            second,
+        }
+    }
+
+    /// A follower of a book that nobody has asked, over a file with no request.
+    ///
+    /// # Errors
+    ///
+    /// The file comes back where another has written to the log: nobody does.
+    pub fn create(file: F, log: BlankLog, seat: &Seat<L, M>) -> Result<Follower<F, L, M, J>, F>
+        requires log { log ≡ J.log }
+        requires start { J.start ≡ F.tag file }
+        requires sound { F.is_sound file }
+        requires stands { F.is_true file → F.stands file [] }
+        requires fresh { IsRefilled seat.now [] }
+        ensures { IfOk result (λ follower. follower ≡ []) }
+    {
+        let Some((keeper, _front)) = log.named::<J>() else {
+            return Err(file);
+        };
+        Ok(Follower::begin(file, keeper, seat))
+    }
+
+    /// A receipt for all that is recorded.
+    pub fn receipt(&self) -> Receipt<L, M, J>
+        ensures { result ≡ self.now }
+    {
+        Receipt {
+            record: self.desk.keeper.front(),
+            first: self.first.again(),
+            second: self.second.again(),
+        }
+    }
+
+    /// The file, once the book is settled: what is recorded of each shard begins its history, and so does what a restart reads of
+    /// it after any crash since the start.
+    pub fn finish(self, settled: &mut Settled<L, M>) -> F
+        ensures same { settled.new ≡ settled.old }
+        ensures desk { IsDesk F.is_sound F.is_true F.may_go_on F.stands F.tag F.left_since J.start
+            result self }
+        ensures first { IsPrefix (part 0 (requests self)) settled.old.first }
+        ensures second { IsPrefix (part 1 (requests self)) settled.old.second }
+        ensures first_sound { F.is_true result
+            → IsSound (F.left_since result) J.start 0 settled.old.first }
+        ensures second_sound { F.is_true result
+            → IsSound (F.left_since result) J.start 1 settled.old.second }
+    {
+        let Follower {
+            desk,
+            first,
+            second,
+        } = self;
+        settled.tell_begins(&first, &second);
+        desk.file
+    }
+
+    /// Records what the shards have accepted since, at most a piece of each.
+    ///
+    /// # Errors
+    ///
+    /// As [`Record::append`].
+    fn pull<R: Wait>(&mut self, rt: &R, alloc: Global, book: &Book<L, M>) -> Result<(), RecordFault>
+        ensures begins { IsPrefix self.old self.new }
+        ensures none { OnErr result (self.new ≡ self.old) }
+    {
+        let (mut first, mut second) = (self.first.again(), self.second.again());
+        let Ok(group) = next_group(rt, alloc, book, &mut first, &mut second) else {
+            return Err(RecordFault::Memory);
+        };
+        // Where it stays open whether the group is recorded, a crash may leave it: so the histories with it have been seen.
+        self.first = first.with_count(self.first.count());
+        self.second = second.with_count(self.second.count());
+        self.desk.put(&group)?;
+        self.first = first;
+        self.second = second;
+        Ok(())
+    }
+
+    /// Records what the shards have accepted, until all is recorded that a seat has seen.
+    ///
+    /// # Errors
+    ///
+    /// As [`Record::append`].
+    fn follow<R: Wait>(
+        &mut self,
+        rt: &R,
+        alloc: Global,
+        book: &Book<L, M>,
+        seat: &Seat<L, M>,
+    ) -> Result<(), RecordFault>
+        ensures begins { IsPrefix self.old self.new }
+        ensures covers { OnOk result (Covers seat.now (requests self.new)) }
+    {
+        for _ in 0..u64::MAX {
+            if seat.is_within(&self.first, &self.second) {
+                return Ok(());
+            }
+            self.pull(rt, alloc, book)?;
+        }
+        // It never comes here: each round records a request more, and no history is as long.
+        Err(RecordFault::NotKept)
+    }
+
+    /// Shows a receipt all that is recorded.
+    fn show(&mut self, receipt: &mut Receipt<L, M, J>)
+        ensures same { self.new ≡ self.old }
+        ensures begins { IsPrefix receipt.old self.old }
+        ensures receipt { receipt.new ≡ self.old }
+    {
+        let mut record = receipt.record.again();
+        self.desk.keeper.show(&mut record);
+        *receipt = Receipt {
+            record,
+            first: self.first.again(),
+            second: self.second.again(),
+        };
+    }
+}
+
+/// Sees to it that all that a seat has seen is recorded, and says so by the receipt. Where the receipt says so already, it takes
+/// no lock. Else it waits for the journal's lock, and with what the seat has seen it records what others had accepted meanwhile.
+///
+/// # Errors
+///
+/// As [`Record::append`]. The receipt is as it was then.
+pub fn commit<F: Record, L: ShardLedger, M: ShardLedger, J: RecordLog, R: Wait>(
+    rt: &R,
+    alloc: Global,
+    book: &Book<L, M>,
+    journal: &Mutex<Follower<F, L, M, J>>,
+    seat: &Seat<L, M>,
+    receipt: &mut Receipt<L, M, J>,
+) -> Result<(), RecordFault>
+    ensures covers { OnOk result (Covers seat.now (requests receipt.new)) }
+    ensures begins { IsPrefix receipt.old receipt.new }
+    ensures unchanged { OnErr result (receipt.new ≡ receipt.old) }
+{
+    if receipt.covers(seat) {
+        return Ok(());
+    }
+    let mut follower = journal.lock(rt);
+    follower.follow(rt, alloc, book, seat)?;
+    follower.show(receipt);
+    Ok(())
+}
