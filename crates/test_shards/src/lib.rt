@@ -1,4 +1,4 @@
-//! Tests of the shards, of what their callers note and how it is judged, and of the open gate.
+//! Tests of the shards, of rosters, of what callers note and how it is judged, and of the open gate.
 #![tactic(auto)]
 
 /// The rows of a table of cases, one to a line.
@@ -9,6 +9,8 @@ macro_rules! rows {
 
 #[cfg(test)]
 mod gates;
+#[cfg(test)]
+mod rosters;
 #[cfg(test)]
 mod settling;
 #[cfg(test)]
