@@ -1,0 +1,4 @@
+pub mod Listing
+pub mod Problem
+pub mod Taking
+pub mod Text
