@@ -15,6 +15,7 @@ from cases.streams import memory, output_that_ends_midway, streams
 from cases.tables import table_files
 from cases.timed import changing_tables, tables_files
 from cases.values import values
+from cases.vehicles import journal_faults, journals
 from cases.workers import workers
 
 SUBJECTS = [
@@ -35,6 +36,8 @@ SUBJECTS = [
     replays,
     line_files,
     workers,
+    journals,
+    journal_faults,
     scripts,
     long_sessions,
     largest,

@@ -7,11 +7,12 @@ ALL = """Keeps the states of shared vehicles
 Usage: mds_city <COMMAND>
 
 Commands:
-  serve   Serves vehicles over HTTP at 127.0.0.1
-  replay  Replays the events of a file
-  debug   Steps through the accepted events of a vehicle, as standard input says
-  table   Prints the table of transitions, or each of several
-  help    Print this message or the help of the given subcommand(s)
+  serve     Serves vehicles over HTTP at 127.0.0.1
+  replay    Replays the events of a file
+  debug     Steps through the accepted events of a vehicle, as standard input says
+  table     Prints the table of transitions, or each of several
+  vehicles  Lists the vehicles of a journal
+  help      Print this message or the help of the given subcommand(s)
 
 Options:
   -h, --help  Print help
@@ -62,6 +63,17 @@ Options:
       --table <FILE>  A table of transitions, or several with times; without it the profile's
   -h, --help          Print help
 """
+VEHICLES = """Lists the vehicles of a journal
+
+Usage: mds_city vehicles [OPTIONS] <FILE>
+
+Arguments:
+  <FILE>  The journal; - is standard input
+
+Options:
+      --table <FILE>  A table of transitions, or several with times; without it the profile's
+  -h, --help          Print help
+"""
 HELP = """Print this message or the help of the given subcommand(s)
 
 Usage: mds_city help [COMMAND]...
@@ -69,7 +81,7 @@ Usage: mds_city help [COMMAND]...
 Arguments:
   [COMMAND]...  Print help for the subcommand(s)
 """
-COMMANDS = {"serve": SERVE, "replay": REPLAY, "debug": DEBUG, "table": TABLE}
+COMMANDS = {"serve": SERVE, "replay": REPLAY, "debug": DEBUG, "table": TABLE, "vehicles": VEHICLES}
 
 
 def help_asked_for():

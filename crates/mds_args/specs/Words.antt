@@ -6,7 +6,7 @@ use Rattle.clap.specs.declared.builder.command.Command.{Command as Form}
 use Rattle.clap.specs.declared.builder.value_parser.ValueParser.TheVariants.{Unsigned}
 use Rattle.clap.specs.Words.{App, IsUnsignedIn, Row, Rule, Text, app_of, fault_of, first_of, new_app, new_rule, takes, with_rule, subcommand_of, with_subcommand}
 use Rattle.mds_args.specs.declared.words.Command.{Command}
-use Rattle.mds_args.specs.declared.words.Command.TheVariants.{Serve, Replay, Debug, Table}
+use Rattle.mds_args.specs.declared.words.Command.TheVariants.{Serve, Replay, Debug, Table, Vehicles}
 
 -- a positional word of this name, which must be there
 abbrev pub word_rule : Text → Rule
@@ -70,13 +70,18 @@ debug_app =
 abbrev pub table_app : App
 table_app = with_rule (new_app (codes "table")) table_rule
 
+-- the command `vehicles`, with its file and the option
+abbrev pub vehicles_app : App
+vehicles_app = with_rule (with_rule (new_app (codes "vehicles")) (word_rule (codes "FILE"))) table_rule
+
 -- the program with no command yet, which must be given one
 abbrev pub bare_app : App
 bare_app = record { top = record (new_app (codes "mds_city")).top { subcommand_required = true }; subs = [] }
 
 -- the program with its commands
 abbrev pub program_app : App
-program_app = with_subcommand (with_subcommand (with_subcommand (with_subcommand bare_app serve_app.top) replay_app.top) debug_app.top) table_app.top
+program_app =
+    with_subcommand (with_subcommand (with_subcommand (with_subcommand (with_subcommand bare_app serve_app.top) replay_app.top) debug_app.top) table_app.top) vehicles_app.top
 
 -- where there was memory, `clap` is told of this app
 abbrev pub IsTold : {E : Type 0} → App → Result Form E → Type 0
@@ -88,6 +93,7 @@ name_of (Serve port each workers table) = codes "serve"
 name_of (Replay file table any lines workers) = codes "replay"
 name_of (Debug file provider device table) = codes "debug"
 name_of (Table table) = codes "table"
+name_of (Vehicles file table) = codes "vehicles"
 
 -- the value is a text that is this number, one of this range
 abbrev pub IsNumber : ℕ → ℕ → Option Text → ℕ → Type 0
@@ -121,6 +127,8 @@ HasValues values (Debug file provider device table) =
     (first_of (codes "FILE") values ≡ Some file.now) × (first_of (codes "PROVIDER") values ≡ Some provider.now)
     × (first_of (codes "DEVICE") values ≡ Some device.now) × (first_of (codes "table") values ≡ option_map (λ path. path.now) table)
 HasValues values (Table table) = first_of (codes "table") values ≡ option_map (λ path. path.now) table
+HasValues values (Vehicles file table) =
+    (first_of (codes "FILE") values ≡ Some file.now) × (first_of (codes "table") values ≡ option_map (λ path. path.now) table)
 
 -- one of these arguments has no value
 abbrev pub LacksOneOf : List Text → List Row → Type 0

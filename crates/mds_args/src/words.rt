@@ -10,7 +10,7 @@ ghost use Rattle.mds_args.specs.Words.{HasNoNumber, HasValues, IsNumber, IsTold}
 ghost use Rattle.mds_args.specs.Words.{LacksFileOrWorkers, LacksNumber, LacksOneOf};
 ghost use Rattle.mds_args.specs.Words.{name_of, debug_app, flag_rule, long_rule, max_each, max_port, max_workers};
 ghost use Rattle.mds_args.specs.Words.{needed_number_rule, number_rule, option_rule, program_app, replay_app};
-ghost use Rattle.mds_args.specs.Words.{serve_app, table_app, table_rule, word_rule, workers_rule};
+ghost use Rattle.mds_args.specs.Words.{serve_app, table_app, table_rule, vehicles_app, word_rule, workers_rule};
 
 use crate::error::{WordsError, WordsErrorKind};
 use clap::builder::ValueParser;
@@ -60,6 +60,13 @@ pub enum Command<'a> {
     },
     /// Print the table of transitions, or each of several.
     Table {
+        /// As for `Replay`.
+        table: Option<&'a str>,
+    },
+    /// List the vehicles of a journal.
+    Vehicles {
+        /// The file's path, or `-` for standard input.
+        file: &'a str,
         /// As for `Replay`.
         table: Option<&'a str>,
     },
@@ -157,6 +164,9 @@ fn command_named<'a>(name: &str, values: &ArgMatches<'a>) -> Option<Command<'a>>
     }
     if name == "table" {
         return Some(table_of(values));
+    }
+    if name == "vehicles" {
+        return vehicles_of(values);
     }
     None
 }
@@ -283,6 +293,20 @@ fn table_of<'a>(values: &ArgMatches<'a>) -> Command<'a>
     }
 }
 
+/// The command `vehicles` with these values, or `None` where the file is missing.
+fn vehicles_of<'a>(values: &ArgMatches<'a>) -> Option<Command<'a>>
+    ensures { MatchOption result
+        (LacksOneOf (codes "FILE" ∷ []) (rows_of (found_of values.now)))
+        (λ command. (name_of command ≡ codes "vehicles")
+        × HasValues (rows_of (found_of values.now)) command) }
+{
+    let file = values.get_str("FILE")?;
+    Some(Command::Vehicles {
+        file,
+        table: values.get_str("table"),
+    })
+}
+
 /// What `clap` is told of a command, where there is memory for it.
 type Form<'a> = Result<clap::Command<'a>, AllocError>;
 
@@ -296,7 +320,8 @@ fn program_form<'a>(alloc: Global) -> Form<'a>
     let with_serve = with_command(Ok(form), serve_form(alloc));
     let with_replay = with_command(with_serve, replay_form(alloc));
     let with_debug = with_command(with_replay, debug_form(alloc));
-    with_command(with_debug, table_form(alloc))
+    let with_table_command = with_command(with_debug, table_form(alloc));
+    with_command(with_table_command, vehicles_form(alloc))
 }
 
 /// Tells `form` of a command.
@@ -394,6 +419,15 @@ fn table_form<'a>(alloc: Global) -> Form<'a>
         "Prints the table of transitions, or each of several",
     );
     with_table(alloc, bare)
+}
+
+/// What `clap` is told of the command `vehicles`.
+fn vehicles_form<'a>(alloc: Global) -> Form<'a>
+    ensures { IsTold vehicles_app result }
+{
+    let bare = bare_form(alloc, "vehicles", "Lists the vehicles of a journal");
+    let with_file = with_word(alloc, bare, "FILE", "The journal; - is standard input");
+    with_table(alloc, with_file)
 }
 
 /// What `clap` is told of a command with no arguments yet.

@@ -13,9 +13,10 @@ use Rattle.mds_commands.specs.declared.source.Source.{Source}
 use Rattle.mds_commands.specs.declared.status.Status.{Status}
 use Rattle.mds_commands.specs.declared.status.Status.TheVariants as status
 use Rattle.mds_args.specs.declared.words.Command.{Command}
-use Rattle.mds_args.specs.declared.words.Command.TheVariants.{Serve, Replay, Debug, Table}
+use Rattle.mds_args.specs.declared.words.Command.TheVariants.{Serve, Replay, Debug, Table, Vehicles}
 use Rattle.mds_commands.specs.Command.{CameToReplay, CameToTable}
 use Rattle.mds_commands.specs.Debug.{Debugs}
+use Rattle.mds_listing.specs.Listing.{CameToListing}
 use Rattle.mds_city.specs.Serve.{CameToServe}
 use Rattle.mds_commands.specs.Problem.{Tells}
 use Rattle.mds_args.specs.declared.error.WordsError.{WordsError}
@@ -68,6 +69,16 @@ module _ {O F : Type 0} (opens : O → List ℕ → Option F → Type 0) (files 
   IsFileNamed (Some path) None = ⊥
   IsFileNamed (Some path) (Some source) = IsFileOf path source
 
+  -- besides, of what reads files and standard input: the bytes that are known of each, and standard input itself
+  module _ {I : Type 0} (file_bytes : F → Option (List ℕ)) (input_bytes : I → Option (List ℕ)) (input : I) where
+    -- a listing of the journal of this path, which is standard input for `-` alone, came to these
+    abbrev pub CarriesVehicles : List ℕ → Option (Source F) → Status → Option (List ℕ) → Option (List ℕ) → Option (List ℕ) → Option (List ℕ) → Type 0
+    CarriesVehicles path table ended out out_new faults faults_new =
+        ((path ≡ codes "-") × (file : Source I) × (file.path.now ≡ path) × (file.reader ≡ Some input)
+        × CameToListing file_bytes table input_bytes file ended out out_new faults faults_new)
+        ⊎ ((path ≢ codes "-") × (file : Source F) × IsFileOf path file
+        × CameToListing file_bytes table file_bytes file ended out out_new faults faults_new)
+
   -- besides, of what listens: the relation of a number asked for to what listens and its port's number; and of what reads files and
   -- standard input: the bytes that are known of each, and standard input itself
   module _ {L I : Type 0} (listens : O → ℕ → L → ℕ → Type 0) (file_bytes : F → Option (List ℕ)) (input_bytes : I → Option (List ℕ)) (input : I) where
@@ -88,6 +99,8 @@ module _ {O F : Type 0} (opens : O → List ℕ → Option F → Type 0) (files 
     Carries (Replay file path any lines workers) ended out out_new faults faults_new =
         (table : Option (Source F)) × IsFileNamed (option_map (λ named. named.now) path) table
         × CarriesReplay (options_of any lines workers) file.now table ended out out_new faults faults_new
+    Carries (Vehicles file path) ended out out_new faults faults_new =
+        (table : Option (Source F)) × IsFileNamed (option_map (λ named. named.now) path) table × CarriesVehicles file_bytes input_bytes input file.now table ended out out_new faults faults_new
     Carries (Debug file provider device path) ended out out_new faults faults_new =
         (table : Option (Source F)) × IsFileNamed (option_map (λ named. named.now) path) table × (events : Source F) × IsFileOf file.now events
         × (input_new : Option (List ℕ))

@@ -3,7 +3,7 @@ ghost use Rattle.std.specs.Prelude.{◌≡◌, ◌≢◌, ◌↔◌, ℕ, List, 
 ghost use Rattle.std.specs.IoError.{error_kind};
 ghost use Rattle.mds_args.specs.Error.{words_kind};
 ghost use Rattle.mds_commands.specs.Problem.{Tells};
-ghost use Rattle.mds_city.specs.Program.{Carries, Explains, HasWorkers, IsFileNamed, IsFileOf, Runs};
+ghost use Rattle.mds_city.specs.Program.{Carries, CarriesVehicles, Explains, HasWorkers, IsFileNamed, IsFileOf, Runs};
 ghost use Rattle.mds_city.specs.Program.{form_if, opening_if, options_of};
 
 use crate::serve::{Listens, ServeOptions, serve_at};
@@ -12,6 +12,7 @@ use mds_commands::{
     Form, Named, Problem, ReplayOptions, Source, Status, debug_to, replay_to, table_to, tell,
 };
 use mds_io::write_all_of;
+use mds_listing::vehicles_to;
 use mds_trace::Opening;
 use std::alloc::Global;
 use std::convert::AsStr;
@@ -189,7 +190,35 @@ fn carry_out<
             }
             replay_to(rt, alloc, table, file_of(files, file), options, out, faults)
         }
+        Command::Vehicles { file, table } => {
+            list_vehicles(rt, alloc, files, file, table, input, out, faults)
+        }
     }
+}
+
+/// Lists the vehicles of the journal of this path, which is standard input for `-`, over the tables of the file that is named.
+fn list_vehicles<R: RandomSource, O: Opens, I: Read + Drop, W: Write, E: Write>(
+    rt: &R,
+    alloc: Global,
+    files: &O,
+    path: &str,
+    table: Option<&str>,
+    input: I,
+    out: &mut W,
+    faults: &mut E,
+) -> Status
+    ensures { (table_file : Option (Source O.File))
+        × IsFileNamed O.opens files.now (option_map (λ named. named.now) table.entry) table_file
+        × CarriesVehicles O.opens files.now O.File.remaining I.remaining input path.now table_file
+        result
+        (W.contents out.old) (W.contents out.new) (E.contents faults.old) (E.contents faults.new) }
+{
+    let table = file_if_named(files, table);
+    if is_standard_input(path) {
+        let file = open_file(path, input);
+        return vehicles_to(rt, alloc, table, file, out, faults);
+    }
+    vehicles_to(rt, alloc, table, file_of(files, path), out, faults)
 }
 
 /// What these flags and so many workers ask of a replay.

@@ -1,0 +1,107 @@
+"""Journals, and what `vehicles` prints of them."""
+
+from cases.replays import A, B, P, event
+from cases.tables import ONE_ROW
+from harness.case import CLOSED, FOLDER, MAX_BYTES, NO_STREAMS, OUTPUT, Case, cannot_read, not_a_table, padded, told
+
+FORM = '{"form":"mds_city","version":1}'
+"""The first line of a journal."""
+
+
+def registered(device):
+    return f'{{"device_id":"{device}","provider_id":"{P}"}}'
+
+
+def journal(*texts, end="#", form=FORM):
+    """Open lines of these texts behind the form's, and an end: of a file at rest a closed gate."""
+    return "".join(f" {text}\n" for text in (form, *texts)) + end
+
+
+def not_a_journal(fault):
+    return f"mds_city: not a journal: {fault}\n"
+
+
+WOKEN = event(A, "e1", "provider_drop_off", "available", 1000)
+RESERVED = event(A, "e2", "reservation_start", "reserved", 2000)
+NEW = (registered(A),)
+# The lines behind the form's, and what is printed of them: a vehicle's device, its state, and how many events it has.
+TAKEN = [
+    ((), []),
+    (NEW, [(A, "removed", 0)]),
+    ((registered(B), registered(A)), [(B, "removed", 0), (A, "removed", 0)]),
+    ((registered(A), WOKEN), [(A, "available", 1)]),
+    ((registered(A), WOKEN, registered(B), RESERVED), [(A, "reserved", 2), (B, "removed", 0)]),
+]
+# The lines behind the form's, and the fault of the first that can't be taken.
+FAULTS = [
+    (("",), "bad_line 1"),
+    (("{",), "bad_line 1"),
+    (("7",), "bad_line 1"),
+    (("[]",), "bad_line 1"),
+    ((FORM,), "bad_line 1"),
+    ((*NEW, "{}"), "bad_line 2"),
+    ((*NEW, "\xff"), "bad_line 2"),
+    ((f"[{registered(A)},{registered(B)}]",), "bad_line 1"),
+    ((WOKEN,), "refused 1"),
+    ((*NEW, registered(A)), "refused 2"),
+    ((*NEW, WOKEN, WOKEN), "refused 3"),
+    ((*NEW, RESERVED), "refused 2"),
+    ((*NEW, WOKEN, event(A, "e2", "reservation_start", "reserved", 999)), "refused 3"),
+    ((*NEW, WOKEN, "{", RESERVED), "bad_line 3"),
+    ((padded(registered(A), MAX_BYTES + 1),), "too_long 1"),
+    ((*NEW, padded(WOKEN, MAX_BYTES + 1)), "too_long 2"),
+]
+# Files whose first line that counts, if there is one, isn't the form's.
+NO_FORM = [
+    "",
+    "#",
+    " ",
+    f" {FORM}",
+    f"#{FORM}\n",
+    f"{FORM}\n",
+    f" {FORM} \n",
+    " \n",
+    ' {"form":"mds_city","version":2}\n',
+    f" {registered(A)}\n",
+]
+
+
+def listed(text, vehicles, words="vehicles journal", **more):
+    """A case of a journal, and of each vehicle its device, its state and how many events it has."""
+    lines = [f"vehicle {P} {device} {state} {events}\n" for device, state, events in vehicles]
+    total = f"registrations {len(vehicles)} events {sum(events for _, _, events in vehicles)}\n"
+    return Case(words, out="".join(lines) + total, files={"journal": text, "table.json": ONE_ROW}, **more)
+
+
+def journals():
+    """What is taken of journals at rest, torn ones and closed ones."""
+    for texts, vehicles in TAKEN:
+        yield listed(journal(*texts), vehicles)
+        yield listed(journal(*texts, end=""), vehicles)
+        yield listed("", vehicles, words="vehicles -", given=journal(*texts))
+    # behind a gate that isn't open, and in a line that was cut off, nothing counts
+    for end in (f"#{WOKEN}\n {RESERVED}\n", "\n", "x {\n", f" {WOKEN}", " {", f" {WOKEN[:-1]}"):
+        yield listed(journal(*NEW, end=end), [(A, "removed", 0)])
+    wake = event(A, "e1", "wake", "available", 1000)
+    for words in ("vehicles journal --table table.json", "vehicles --table=table.json -- journal"):
+        yield listed(journal(*NEW, wake), [(A, "available", 1)], words=words)
+    yield listed(journal(padded(registered(A), MAX_BYTES)), [(A, "removed", 0)])
+
+
+def journal_faults():
+    """Files that are no journal, or whose requests aren't accepted."""
+    for texts, fault in FAULTS:
+        yield told("vehicles journal", not_a_journal(fault), files={"journal": journal(*texts)})
+    for text in NO_FORM:
+        yield told("vehicles journal", not_a_journal("form"), files={"journal": text})
+        yield told("vehicles -", not_a_journal("form"), given=text)
+    long_form = journal(form=padded(FORM, MAX_BYTES + 1))
+    yield told("vehicles journal", not_a_journal("too_long 0"), files={"journal": long_form})
+    yield told("vehicles nowhere", cannot_read("nowhere"))
+    yield told("vehicles nowhere --table no-table", cannot_read("no-table"))
+    yield told("vehicles journal", cannot_read("journal"), files={"journal": FOLDER})
+    yield told("vehicles -", cannot_read("-"), stdin=CLOSED)
+    for words in ("vehicles journal --table table.json", "vehicles nowhere --table table.json"):
+        yield told(words, not_a_table("not_json"), files={"journal": journal(), "table.json": "{"})
+    for stdout in NO_STREAMS:
+        yield told("vehicles journal", OUTPUT, files={"journal": journal(*NEW)}, stdout=stdout)
