@@ -3,7 +3,7 @@
 import re
 
 from refusing.sources import calls, crates, every_call, libraries, tests_of
-from refusing.table import QUIET, TESTED, WITHOUT
+from refusing.table import QUIET, TESTED, WITHIN, WITHOUT
 
 AGAIN = "after_a_refused_growth"
 """Part of the names of tests that pass whichever growth is refused."""
@@ -26,7 +26,7 @@ def unlisted():
     found = crates()
     own = libraries(found)
     there, listed, quiet = set(calls(own)), by_call(TESTED), by_call(QUIET)
-    known = {*listed, *WITHOUT}
+    known = {*listed, *WITHOUT, *(call for call, maker in WITHIN.items() if maker in listed)}
     for call in sorted(there - known):
         yield f"{call} can find no memory, and no test in tests/refusing/table.py refuses its growths"
     for call in sorted(known - there):

@@ -150,6 +150,7 @@ def calls(found):
 
 
 def tests_of(crate, module):
-    """The tests of a crate by their names, or those of a module of its root, each with the text of its file."""
-    files = [text for path, text in crate.tests.items() if not module or Path(path).with_suffix("").parts[0] == module]
-    return {name: text for text in files for name in TEST.findall(text)}
+    """The tests of a crate by their names, or those of a module of its root, each with the text of its file and of the modules below it."""
+    files = {Path(path).with_suffix(""): text for path, text in crate.tests.items() if not module or Path(path).with_suffix("").parts[0] == module}
+    below = {place: "\n".join(text for path, text in files.items() if place in path.parents) for place in files}
+    return {name: f"{text}\n{below[place]}" for place, text in files.items() for name in TEST.findall(text)}

@@ -86,6 +86,9 @@ calls of the library that it makes."""
 WITHOUT = ["mds_table::Tables::new", "mds_io::flush_page"]
 """Calls that take no memory, though their fault is a type that could tell of a lack: that of calls beside them."""
 
+WITHIN = {"mds_follow::Record::append": "mds_follow::commit"}
+"""Calls that another call of their crate makes, whose test refuses their growths with its own."""
+
 QUIET = {
     ("mds_table", "test_rules", "tables_are_told_of_with_every_growth_refused"): [
         "State::code",
@@ -187,7 +190,6 @@ QUIET = {
         "Seat::progress",
         "Progress::again",
         "Progress::count",
-        "Progress::with_count",
         "reconcile",
         "Settled::history",
         "Settled::notes",

@@ -62,8 +62,11 @@ fn commit_again<F: Record, L: ShardLedger, M: ShardLedger, J: RecordLog, R: Wait
     seat: &Seat<L, M>,
     receipt: &mut Receipt<L, M, J>,
 ) -> Result<(), Lack> {
-    if commit(rt, alloc, book, journal, seat, receipt) != Err(RecordFault::Memory) {
-        return Ok(());
+    match commit(rt, alloc, book, journal, seat, receipt) {
+        Ok(()) => return Ok(()),
+        // A sync found no memory.
+        Err(RecordFault::Lost) => return Err(Lack::Memory),
+        Err(_) => {}
     }
     match commit(rt, alloc, book, journal, seat, receipt) {
         Ok(()) => Ok(()),
