@@ -10,6 +10,7 @@ PASSED_ON = {
     "mds_commands/problem.rt": {"tell_whole": ["writeln!"]},
     "mds_face/asking.rt": {"ask_one": ["desk.call"], "ask_all": ["ask_one"]},
     "mds_face/connection.rt": {"answer": ["find", "bytes_of"]},
+    "mds_face/kept_desk.rt": {"answer_kept": ["find", "bytes_of"]},
     "mds_follow/follower.rt": {"Follower::pull": ["next_group"]},
     "mds_follow/restart.rt": {"refill": ["book.call"]},
     "mds_io/page.rt": {"add_line": ["writeln!"], "end_page": ["writeln!"]},

@@ -27,8 +27,11 @@ TESTED = {
         "Book::seat_events",
     ],
     ("mds_book", "test_books", "slot_steps_after_a_refused_growth"): ["Slot::step"],
-    ("mds_follow", "test_follow", "requests_are_recorded_after_a_refused_growth"): ["Disk::create", "commit"],
-    ("mds_follow", "test_follow", "a_book_is_filled_again_after_a_refused_growth"): ["refill"],
+    ("mds_follow", "test_follow", "journals_come_to_their_ends_after_a_refused_growth"): [
+        "RequestReader::open",
+        "resume",
+        "SharedFollower::commit",
+    ],
     ("mds_io", "test_batches", "calls_succeed_after_a_refused_growth"): [
         "read_front",
         "read_up_to",
@@ -53,6 +56,7 @@ TESTED = {
     ("mds_request", "test_faces", "call_succeeds_after_a_refused_growth"): ["Face::open", "plan_of", "HeadStatus::plan"],
     ("mds_response", "test_faces", "answer_is_whole_after_a_refused_growth"): ["bytes_of"],
     ("mds_face", "test_faces", "calls_stand_after_a_refused_growth"): ["serve_one"],
+    ("mds_face", "test_faces", "kept_answers_go_out_after_a_refused_growth"): ["serve_kept"],
     ("mds_face", "test_faces", "a_batch_is_read_after_a_refused_growth"): ["read_plan"],
     ("mds_face", "test_faces", "a_seat_answers_after_a_refused_growth"): ["Desk::call", "Desk::events", "Desk::rows"],
     ("mds_pool", "test_edge", "workers_serve_after_a_refused_growth"): ["serve"],
@@ -86,7 +90,7 @@ calls of the library that it makes."""
 WITHOUT = ["mds_table::Tables::new", "mds_io::flush_page"]
 """Calls that take no memory, though their fault is a type that could tell of a lack: that of calls beside them."""
 
-WITHIN = {"mds_follow::Record::append": "mds_follow::commit"}
+WITHIN = {"mds_follow::Record::append": "mds_follow::SharedFollower::commit"}
 """Calls that another call of their crate makes, whose test refuses their growths with its own."""
 
 QUIET = {

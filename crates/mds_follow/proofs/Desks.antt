@@ -1,21 +1,22 @@
 -- What is known of a file after an append.
-use Rattle.std.proofs.Common.{◌≡◌, ◌⊎◌, inl, inr, ℕ, ◌+◌, ◌<◌, ◌≤◌, ◌^◌, List, ◌++◌, length, sym, ap, ◌∙◌, subst, arith, length-append}
+use Rattle.std.proofs.Common.{◌≡◌, ◌⊎◌, inl, inr, ℕ, ◌+◌, ◌<◌, ◌≤◌, ◌^◌, List, ◌++◌, length, refl, sym, ap, ◌∙◌, subst, arith, length-append}
 use Rattle.std.proofs.lemmas.List.{length-map}
 use Rattle.mds_core.specs.declared.request.Request.{Request}
 use Rattle.mds_log.specs.Log.{Acceptance, requests}
+use Rattle.mds_log.proofs.Lists.{prefix_trans}
 use Rattle.mds_follow.specs.declared.record.RecordFault.{RecordFault}
 use Rattle.mds_follow.specs.declared.record.RecordFault.TheVariants.{Memory, NotKept, Lost}
-use Rattle.mds_follow.specs.Record.{IsBeforeOrAfter, Passes, HasSame, recorded_at, IsSafe, IsDesk}
+use Rattle.mds_follow.specs.Record.{IsBeforeOrAfter, Passes, HasSame, recorded_at, IsSafe, BeginsWith, IsDesk}
 use Rattle.mds_follow.proofs.Safety.{safe_step, safe_more, recorded_requests}
 
 module _ {F : Type 0} (is_sound is_true may_go_on : F → Type 0) (stands : F → List Request → Type 0) (moment : F → ℕ) (left_since : F → ℕ → List Request → Type 0) (start : ℕ)
-    (old new : F) (told : List Acceptance) (group : List Request) where
+    (held : List Request → Type 0) (old new : F) (told : List Acceptance) (group : List Request) where
   -- the past after a call that may have left the group or not
   abbrev pub Past : Type 0
   Past = is_true new → (all : List Request) → (may_go_on old → stands old all) → Passes moment left_since old new (λ c. may_go_on old × IsBeforeOrAfter all group c)
 
   abbrev pub Known : F → List Acceptance → Type 0
-  Known file all = IsDesk is_sound is_true may_go_on stands moment left_since start file all
+  Known file all = IsDesk is_sound is_true may_go_on stands moment left_since start held file all
 
   passes : Known old told → (is_true new → is_true old) → Past → is_true new → Passes moment left_since old new (λ c. may_go_on old × IsBeforeOrAfter (requests told) group c)
   passes known was past truth = past truth (requests told) (known.kept (was truth))
@@ -44,6 +45,7 @@ module _ {F : Type 0} (is_sound is_true may_go_on : F → Type 0) (stands : F �
     begun = begun known was past;
     safe = safe known was past;
     kept = λ truth may. by_fault fault same lost truth may;
+    old = λ truth. known.old (was truth);
   } where
     by_fault : (told_fault : RecordFault) → (HasSame told_fault → is_true new → (all : List Request) → stands old all → stands new all) → (may_go_on new → HasSame told_fault)
         → is_true new → may_go_on new → stands new (requests told)
@@ -67,4 +69,10 @@ module _ {F : Type 0} (is_sound is_true may_go_on : F → Type 0) (stands : F �
         begun = begun known was past;
         safe = λ truth. subst Safe (sym is) (safe_more (left_since new) (moment new) told group (safe known was past truth) (λ c left. only new (requests told ++ group) c (stands_now truth) left));
         kept = λ truth still. subst Stands (sym recorded) (stands_now truth);
-      }
+        old = λ truth. subst Begins (sym recorded) (begins_longer (known.old (was truth)));
+      } where
+        Begins : List Request → Type 0
+        Begins w = BeginsWith held w
+
+        begins_longer : BeginsWith held (requests told) → BeginsWith held (requests told ++ group)
+        begins_longer is = record { old = is.old; is_held = is.is_held; begins = prefix_trans is.old (requests told) (requests told ++ group) is.begins (group, refl) }

@@ -3,5 +3,7 @@ pub mod Safety
 pub mod Desks
 pub mod Pulls
 pub mod Disks
+pub mod Blanks
+pub mod ReadBack
 pub mod Refills
 pub mod Begins

@@ -1,5 +1,5 @@
 -- What stands in a journal of lines, as requests.
-use Rattle.std.specs.Prelude.{◌≡◌, ℕ, List, [], ◌∷◌}
+use Rattle.std.specs.Prelude.{◌≡◌, ◌⊎◌, ℕ, List, [], ◌∷◌}
 use Rattle.std.specs.List.{AllZip}
 use Rattle.std.proofs.Common.{refl, subst}
 use Rattle.mds_core.specs.declared.request.Request.{Request}
@@ -25,6 +25,10 @@ pub record IsTold (texts : List (List ℕ)) (told : List Request) : Type 0 where
   pub entries : List (List ℕ)
   pub split : texts ≡ form_line ∷ entries
   pub tells : AllZip Tells entries told
+
+-- a file stands for nothing yet, or for the form
+abbrev pub MayBeBegun : List ℕ → Type 0
+MayBeBegun file = (recovered file ≡ []) ⊎ (recovered file ≡ form_line ∷ [])
 
 -- a restart reads these requests, also after a crash at this moment
 pub record Stands {D : Type 0} (seen : D → List ℕ) (may_leave : D → List ℕ → Type 0) (device : D) (told : List Request) : Type 0 where

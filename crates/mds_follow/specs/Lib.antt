@@ -4,3 +4,4 @@ pub mod Record
 pub mod Group
 pub mod Restart
 pub mod Disk
+pub mod Reading

@@ -36,11 +36,18 @@ IsSafe left_since now told =
 abbrev pub IsSound : (ℕ → List Request → Type 0) → ℕ → ℕ → List Request → Type 0
 IsSound left_since start number history = (c : List Request) → left_since start c → IsPrefix (part number c) history
 
--- what is known of a file and of what is recorded in it since the moment `start`
+-- these requests begin with some of which this holds
+pub record BeginsWith (held : List Request → Type 0) (told : List Request) : Type 0 where
+  pub old : List Request
+  pub is_held : held old
+  pub begins : IsPrefix old told
+
+-- what is known of a file and of what is recorded in it since the moment `start`, at which it told requests of which `held` holds
 pub record IsDesk {F : Type 0} (is_sound is_true may_go_on : F → Type 0) (stands : F → List Request → Type 0) (moment : F → ℕ)
-    (left_since : F → ℕ → List Request → Type 0) (start : ℕ) (file : F) (told : List Acceptance) : Type 0 where
+    (left_since : F → ℕ → List Request → Type 0) (start : ℕ) (held : List Request → Type 0) (file : F) (told : List Acceptance) : Type 0 where
   pub sound : is_sound file
   pub short : length told < 2 ^ 63
   pub begun : is_true file → start ≤ moment file
   pub safe : is_true file → IsSafe (left_since file) (moment file) told
   pub kept : is_true file → may_go_on file → stands file (requests told)
+  pub old : is_true file → BeginsWith held (requests told)

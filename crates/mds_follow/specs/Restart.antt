@@ -5,6 +5,7 @@ use Rattle.mds_log.specs.Log.{Acceptance, requests}
 use Rattle.mds_book.specs.Seats.{Seated}
 use Rattle.mds_follow.specs.Parts.{part}
 use Rattle.mds_follow.specs.Record.{recorded_at}
+use Rattle.mds_follow.specs.Reading.{TellsNext}
 
 -- all that the seat has seen of the shards it asked itself
 pub record HasAll (seat : Seated) : Type 0 where
@@ -21,6 +22,12 @@ pub record IsRefilled (seat : Seated) (told : List Acceptance) : Type 0 where
 pub record IsRead (left_since : ℕ → List Request → Type 0) (start : ℕ) (told : List Acceptance) : Type 0 where
   pub at_start : told ≡ recorded_at start (requests told)
   pub only : (c : List Request) → left_since start c → c ≡ requests told
+
+-- the next request of a journal is recorded behind the others, at this moment; where all answers were true, the bytes begin with its line
+pub record TakesBack (moment : ℕ) (truth : Type 0) (old new : List Acceptance) (bytes left : List ℕ) : Type 0 where
+  pub request : Request
+  pub noted : new ≡ old ++ record { tag = moment; request = request } ∷ []
+  pub tells : truth → TellsNext bytes request left
 
 -- the seat has seen this request behind what it had seen of its shard, and nothing else
 pub record IsFilled (old : Seated) (request : Request) (new : Seated) : Type 0 where

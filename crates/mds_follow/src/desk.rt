@@ -37,9 +37,9 @@ impl<F: Record, J: RecordLog> Desk<F, J> {
     /// As [`Record::append`]; and `NotKept` where the log would have more than 2^63 requests.
     pub(crate) fn put(&mut self, group: &[Request]) -> Result<(), RecordFault>
         requires { IsDesk F.is_sound F.is_true F.may_go_on F.stands F.tag F.left_since J.start
-            self.old.file self.old.keeper }
+            J.held self.old.file self.old.keeper }
         ensures desk { IsDesk F.is_sound F.is_true F.may_go_on F.stands F.tag F.left_since J.start
-            self.new.file self.new.keeper }
+            J.held self.new.file self.new.keeper }
         ensures recorded { OnOk result (requests self.new.keeper
             ≡ requests self.old.keeper ++ group.now) }
         ensures begins { IsPrefix self.old.keeper self.new.keeper }

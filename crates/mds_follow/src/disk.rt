@@ -2,9 +2,10 @@
 ghost use Rattle.std.specs.Prelude.{◌≡◌, ◌++◌, ◌∷◌, [], ℕ, List, OnOk, IfOk, IfErr};
 ghost use Rattle.std.specs.List.{AllZip};
 ghost use Rattle.mds_entries.specs.Entry.{Tells};
+ghost use Rattle.mds_journal.specs.Device.{LeavesOnly};
 ghost use Rattle.mds_journal.specs.Lines.{recovered};
 ghost use Rattle.mds_journal.specs.Journal.{IsSound, MayGoOn};
-ghost use Rattle.mds_follow.specs.Disk.{Stands};
+ghost use Rattle.mds_follow.specs.Disk.{MayBeBegun, Stands};
 ghost use Rattle.mds_follow.specs.Record.{HasSame};
 
 use crate::{Record, RecordFault};
@@ -29,7 +30,7 @@ impl<D: Device> Disk<D> {
     /// # Errors
     ///
     /// As [`Record::append`]. The journal comes back.
-    pub fn create(
+    pub(crate) fn create(
         alloc: Global,
         mut journal: Journal<D>,
     ) -> Result<Disk<D>, (RecordFault, Journal<D>)>
@@ -39,7 +40,11 @@ impl<D: Device> Disk<D> {
             IsSound D.seen D.may_leave D.may_be_used D.is_true disk.journal) }
         ensures stands { IfOk result (λ disk. MayGoOn disk.journal × (D.is_true disk.journal.device
             → Stands D.seen D.may_leave disk.journal.device [])) }
+        ensures any_moment { IfOk result (λ disk. D.is_true disk.journal.device
+            → LeavesOnly D.moment D.left_since journal.device disk.journal.device MayBeBegun) }
         ensures was_true { IfOk result (λ disk. D.is_true disk.journal.device
+            → D.is_true journal.device) }
+        ensures was_true_err { IfErr result (λ error. D.is_true error.1.device
             → D.is_true journal.device) }
     {
         let mut group = match Group::new(alloc) {

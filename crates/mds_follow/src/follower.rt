@@ -11,10 +11,10 @@ use crate::desk::Desk;
 use crate::{Receipt, Record, RecordFault, RecordLog};
 use mds_book::{Book, Progress, Seat, Settled, ShardLedger};
 use mds_core::Request;
-use mds_log::{BlankLog, Keeper};
+use mds_log::Keeper;
 use std::alloc::{AllocError, Global};
 use std::marker::Model;
-use std::sync::{Mutex, Wait};
+use std::sync::Wait;
 
 /// A file of what a book accepted, and how much of each shard's history is in it. Contracts see it as the requests that are
 /// recorded, each with the moment at which it was.
@@ -36,7 +36,7 @@ impl<F: Record, L: ShardLedger, M: ShardLedger, J: RecordLog> Model for Follower
     ghost view = { λ follower. follower.desk.keeper };
 
     ghost invariant = { λ follower.
-        IsDesk F.is_sound F.is_true F.may_go_on F.stands F.tag F.left_since J.start
+        IsDesk F.is_sound F.is_true F.may_go_on F.stands F.tag F.left_since J.start J.held
         follower.desk.file follower.desk.keeper
         × Follows 0 (requests follower.desk.keeper) follower.first
         × Follows 1 (requests follower.desk.keeper) follower.second
@@ -70,12 +70,13 @@ fn next_group<L: ShardLedger, M: ShardLedger, R: Wait>(
 impl<F: Record, L: ShardLedger, M: ShardLedger, J: RecordLog> Follower<F, L, M, J> {
     /// A follower of a book that holds what stands in the file, and nothing else: one seat has asked it. The keeper has the
     /// requests, in the order of the file.
-    pub fn begin(file: F, keeper: Keeper<J>, seat: &Seat<L, M>) -> Follower<F, L, M, J>
+    pub(crate) fn begin(file: F, keeper: Keeper<J>, seat: &Seat<L, M>) -> Follower<F, L, M, J>
         requires sound { F.is_sound file }
         requires short { length keeper < 2 ^ 63 }
         requires begun { F.is_true file → J.start ≤ F.tag file }
         requires stands { F.is_true file → F.may_go_on file → F.stands file (requests keeper) }
         requires read { F.is_true file → IsRead (F.left_since file) J.start keeper }
+        requires held { F.is_true file → J.held (requests keeper) }
         requires refilled { IsRefilled seat.now keeper }
         ensures { result ≡ keeper }
     {
@@ -85,25 +86,6 @@ impl<F: Record, L: ShardLedger, M: ShardLedger, J: RecordLog> Follower<F, L, M, 
             first,
             second,
         }
-    }
-
-    /// A follower of a book that nobody has asked, over a file with no request.
-    ///
-    /// # Errors
-    ///
-    /// The file comes back where another has written to the log: nobody does.
-    pub fn create(file: F, log: BlankLog, seat: &Seat<L, M>) -> Result<Follower<F, L, M, J>, F>
-        requires log { log ≡ J.log }
-        requires start { J.start ≡ F.tag file }
-        requires sound { F.is_sound file }
-        requires stands { F.is_true file → F.stands file [] }
-        requires fresh { IsRefilled seat.now [] }
-        ensures { IfOk result (λ follower. follower ≡ []) }
-    {
-        let Some((keeper, _front)) = log.named::<J>() else {
-            return Err(file);
-        };
-        Ok(Follower::begin(file, keeper, seat))
     }
 
     /// A receipt for all that is recorded.
@@ -117,12 +99,12 @@ impl<F: Record, L: ShardLedger, M: ShardLedger, J: RecordLog> Follower<F, L, M, 
         }
     }
 
-    /// The file, once the book is settled: what is recorded of each shard begins its history, and so does what a restart reads of
-    /// it after any crash since the start.
+    /// The file, once the book is settled. What is recorded begins with what the file told at the start. What is recorded of each
+    /// shard begins its history, and so does what a restart reads of it after any crash since the start.
     pub fn finish(self, settled: &mut Settled<L, M>) -> F
         ensures same { settled.new ≡ settled.old }
         ensures desk { IsDesk F.is_sound F.is_true F.may_go_on F.stands F.tag F.left_since J.start
-            result self }
+            J.held result self }
         ensures first { IsPrefix (part 0 (requests self)) settled.old.first }
         ensures second { IsPrefix (part 1 (requests self)) settled.old.second }
         ensures first_sound { F.is_true result
@@ -166,7 +148,7 @@ impl<F: Record, L: ShardLedger, M: ShardLedger, J: RecordLog> Follower<F, L, M, 
     /// # Errors
     ///
     /// As [`Record::append`].
-    fn follow<R: Wait>(
+    pub(crate) fn follow<R: Wait>(
         &mut self,
         rt: &R,
         alloc: Global,
@@ -187,7 +169,7 @@ impl<F: Record, L: ShardLedger, M: ShardLedger, J: RecordLog> Follower<F, L, M, 
     }
 
     /// Shows a receipt all that is recorded.
-    fn show(&mut self, receipt: &mut Receipt<L, M, J>)
+    pub(crate) fn show(&mut self, receipt: &mut Receipt<L, M, J>)
         ensures same { self.new ≡ self.old }
         ensures begins { IsPrefix receipt.old self.old }
         ensures receipt { receipt.new ≡ self.old }
@@ -200,31 +182,4 @@ impl<F: Record, L: ShardLedger, M: ShardLedger, J: RecordLog> Follower<F, L, M, 
             second: self.second.again(),
         };
     }
-}
-
-/// Sees to it that all that a seat has seen is recorded, and says so by the receipt. Where the receipt says so already, it takes
-/// no lock. Else it waits for the journal's lock, and with what the seat has seen it records what others had accepted meanwhile.
-///
-/// # Errors
-///
-/// As [`Record::append`]. The receipt is as it was then.
-pub fn commit<F: Record, L: ShardLedger, M: ShardLedger, J: RecordLog, R: Wait>(
-    rt: &R,
-    alloc: Global,
-    book: &Book<L, M>,
-    journal: &Mutex<Follower<F, L, M, J>>,
-    seat: &Seat<L, M>,
-    receipt: &mut Receipt<L, M, J>,
-) -> Result<(), RecordFault>
-    ensures covers { OnOk result (Covers seat.now (requests receipt.new)) }
-    ensures begins { IsPrefix receipt.old receipt.new }
-    ensures unchanged { OnErr result (receipt.new ≡ receipt.old) }
-{
-    if receipt.covers(seat) {
-        return Ok(());
-    }
-    let mut follower = journal.lock(rt);
-    follower.follow(rt, alloc, book, seat)?;
-    follower.show(receipt);
-    Ok(())
 }

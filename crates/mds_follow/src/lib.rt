@@ -1,21 +1,31 @@
 //! A record of what a book accepts: one file for both shards, kept while workers ask.
 //!
-//! A [`Follower`] lies under a lock of its own. It copies what the shards accepted into the file, in their order, and knows
-//! how much of each shard's history is there. A [`Receipt`] is what a worker has of it: requests that are recorded, each of
-//! which every crash since leaves. [`commit`] gives a worker a receipt that has all that its seat has seen.
+//! A [`Follower`] copies what the shards accepted into the file, in their order, and knows how much of each shard's history is
+//! there. Workers share it as a [`SharedFollower`]. A [`Receipt`] is what a worker has of it: requests that are recorded, each
+//! of which every crash since leaves. [`SharedFollower::commit`] gives a worker a receipt that has all that its seat has seen.
+//!
+//! At a start a [`RequestReader`] reads the file of an earlier run, and [`resume`] asks its requests of a new book, from the first
+//! to the last that counts, and goes on from there.
 //!
 //! The file is a [`Record`], whose contract says what a restart reads after a crash at each moment.
 #![tactic(auto)]
 
+mod blank;
 mod desk;
 mod disk;
 mod follower;
+mod reader;
 mod receipt;
 mod record;
 mod restart;
+mod shared;
+mod start_fault;
 
 pub use disk::Disk;
-pub use follower::{Follower, commit};
+pub use follower::Follower;
+pub use reader::RequestReader;
 pub use receipt::Receipt;
 pub use record::{Record, RecordFault, RecordLog};
-pub use restart::{RestartFault, refill};
+pub use restart::resume;
+pub use shared::SharedFollower;
+pub use start_fault::StartFault;

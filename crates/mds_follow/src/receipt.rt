@@ -1,5 +1,6 @@
 //! What a worker knows to be recorded.
 ghost use Rattle.std.specs.Prelude.{◌≡◌, true};
+ghost use mathlib.Core.List.{IsPrefix};
 ghost use Rattle.mds_log.specs.Log.{requests};
 ghost use Rattle.mds_follow.specs.Parts.{Covers, Follows};
 
@@ -47,5 +48,16 @@ impl<L: ShardLedger, M: ShardLedger, J: RecordLog> Receipt<L, M, J> {
         ensures { result ≡ true → Covers seat.now (requests self.now) }
     {
         seat.is_within(&self.first, &self.second)
+    }
+
+    /// Goes on to what another receipt has, where that is more.
+    pub(crate) fn catch_up(&mut self, other: &Receipt<L, M, J>)
+        ensures begins { IsPrefix self.old self.new }
+        ensures has { IsPrefix other.now self.new }
+    {
+        self.record.tell_order(&other.record);
+        if self.record.len() < other.record.len() {
+            *self = other.again();
+        }
     }
 }

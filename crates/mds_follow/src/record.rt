@@ -65,14 +65,21 @@ pub trait Record: Tagged {
         → stands file told → left_since file (Self.tag file) c → c ≡ told };
 }
 
-/// Names the log of what is recorded. Whoever opens one picks the name, and the moment of the file at which it begins.
+/// Names the log of what is recorded. Whoever opens one picks the name, the moment of the file at which it begins, and what the
+/// file tells then.
 pub trait RecordLog: Logged {
-    ghost use Rattle.std.specs.Prelude.{ℕ};
+    ghost use Rattle.std.specs.Prelude.{ℕ, List};
+    ghost use Rattle.mds_core.specs.declared.request.Request.{Request as Requested};
 
     /// The moment at which it begins.
     ghost start: { ℕ };
+
+    /// The file tells these requests at that moment.
+    ghost held: { List Requested → Type 0 };
 }
 
 impl RecordLog for Brand {
     ghost start = { 0 };
+
+    ghost held = { λ _. Unit {0} };
 }

@@ -1,7 +1,5 @@
-//! Tests of what a follower records of a book, and of a book that is filled again.
+//! Tests of a journal over which a book is opened, and in which is recorded what it accepts.
 #![tactic(auto)]
 
 #[cfg(test)]
-mod filling;
-#[cfg(test)]
-mod recording;
+mod journals;

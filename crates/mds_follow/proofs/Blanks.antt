@@ -1,0 +1,129 @@
+-- A file that is made a journal, and its form.
+use Rattle.std.proofs.Common.{◌≡◌, ◌⊎◌, inl, inr, ℕ, suc, ◌<◌, ◌≤◌, List, [], ◌∷◌, ◌++◌, length, refl, sym, ap, ◌∙◌, subst, arith, append_assoc}
+use Rattle.mds_table.specs.Json.{max_bytes}
+use Rattle.mds_journal.specs.Lines.{HasNoFeed, recovered, open_lines}
+use Rattle.mds_journal.specs.Device.{LeavesOnly, Untouched}
+use Rattle.mds_journal.specs.Opening.{IsTooLong, KeepsLines}
+use Rattle.mds_journal.specs.declared.fault.JournalFault.TheVariants.{Form, BadLine, TooLong, Refused, Damaged}
+use Rattle.mds_journal.proofs.LineLemmas.{parts}
+use Rattle.mds_journal.proofs.MomentLemmas.{started, weaker, and_then, after_none}
+use Rattle.mds_entries.specs.Entry.{Tells}
+use Rattle.mds_entries.specs.Form.{form_line}
+use Rattle.std.specs.List.{AllZip}
+use Rattle.mds_follow.specs.Disk.{MayBeBegun, Stands}
+use Rattle.mds_follow.specs.Reading.{IsBlank, IsFormFault, IsOpenFault, IsJournalFault, KeepsOrBegins, StaysOrBegins}
+use Rattle.mds_follow.specs.declared.start_fault.StartFault.{StartFault}
+use Rattle.mds_follow.specs.declared.start_fault.StartFault.TheVariants.{Memory, Device, Journal, Shared}
+
+-- no requests are told by the form's line alone
+no_entries : (entries : List (List ℕ)) → AllZip Tells entries [] → entries ≡ []
+no_entries [] tells = refl
+no_entries (entry ∷ entries) tells = absurd tells
+
+-- what stands where nothing is recorded
+pub form_alone : {D : Type 0} (seen : D → List ℕ) (may_leave : D → List ℕ → Type 0) (device : D) → Stands seen may_leave device [] → recovered (seen device) ≡ form_line ∷ []
+form_alone seen may_leave device stands =
+    stands.stands.now ∙ stands.is_told.split ∙ ap (λ w. form_line ∷ w) (no_entries stands.is_told.entries stands.is_told.tells)
+
+-- how a file is made a journal
+module _ {D : Type 0} (seen : D → List ℕ) (may_leave : D → List ℕ → Type 0) (moment : D → ℕ) (left_since : D → ℕ → List ℕ → Type 0) where
+  -- what a crash may leave while a journal is opened
+  abbrev pub MayBecome : D → List ℕ → Type 0
+  MayBecome device c = may_leave device c ⊎ KeepsOrBegins (seen device) c
+
+  -- what a crash may leave while the form is written
+  abbrev pub MayBegin : D → List ℕ → Type 0
+  MayBegin device c = may_leave device c ⊎ MayBeBegun c
+
+  -- a run, and then a call that changed nothing
+  then_none : (old mid new : D) (P : List ℕ → Type 0) → LeavesOnly moment left_since old mid P → Untouched seen may_leave moment left_since mid new
+      → LeavesOnly moment left_since old new P
+  then_none old mid new P leaves none = record {
+    later = omega (arith, leaves.later, none.time);
+    each = λ c left. leaves.each c (none.past (moment old) c left);
+    before = λ t c le left. leaves.before t c le (none.past t c left);
+  }
+
+  -- the form is written into a blank file
+  pub form_leaves : (device opened closed made : D) → IsBlank (seen device) → seen opened ≡ seen device → LeavesOnly moment left_since device opened (may_leave device)
+      → LeavesOnly moment left_since opened closed (KeepsLines (seen opened)) → LeavesOnly moment left_since closed made MayBeBegun
+      → LeavesOnly moment left_since device made (MayBegin device)
+  form_leaves device opened closed made blank same opens closes writes =
+      let nothing : recovered (seen opened) ≡ [] = ap recovered same ∙ blank.none in
+      and_then moment left_since device opened made (MayBegin device) (weaker moment left_since device opened (may_leave device) (MayBegin device) (λ c may. inl may) opens)
+      (and_then moment left_since opened closed made (MayBegin device)
+      (weaker moment left_since opened closed (KeepsLines (seen opened)) (MayBegin device) (λ c keeps. inr (inl (keeps.lines ∙ nothing))) closes)
+      (weaker moment left_since closed made MayBeBegun (MayBegin device) (λ c may. inr may) writes))
+
+  -- a blank file was found, and made a journal
+  pub begun_leaves : (device mid made : D) → IsBlank (seen device) → Untouched seen may_leave moment left_since device mid
+      → LeavesOnly moment left_since mid made (MayBegin mid) → LeavesOnly moment left_since device made (MayBecome device)
+  begun_leaves device mid made blank none leaves =
+      after_none moment left_since seen may_leave device mid made (MayBecome device) none (weaker moment left_since mid made (MayBegin mid) (MayBecome device) becomes leaves) where
+        becomes : (c : List ℕ) → MayBegin mid c → MayBecome device c
+        becomes c (inl may) = inl (none.outcomes c may)
+        becomes c (inr (inl nothing)) = inr (inl (nothing ∙ sym blank.none))
+        becomes c (inr (inr form)) = inr (inr (blank.none, form))
+
+  -- nothing was done to it
+  pub same_leaves : (device mid : D) → ((c : List ℕ) → left_since mid (moment mid) c → may_leave mid c) → Untouched seen may_leave moment left_since device mid
+      → LeavesOnly moment left_since device mid (MayBecome device)
+  same_leaves device mid only none =
+      after_none moment left_since seen may_leave device mid mid (MayBecome device) none
+      (started moment left_since mid (MayBecome device) (λ c left. inl (none.outcomes c (only c left))))
+
+  -- and then it was opened
+  pub open_leaves : (device made opened read : D) → ((t : ℕ) (c : List ℕ) → t ≤ moment made → may_leave made c → left_since made t c)
+      → LeavesOnly moment left_since device made (MayBecome device) → LeavesOnly moment left_since made opened (may_leave made)
+      → Untouched seen may_leave moment left_since opened read → LeavesOnly moment left_since device read (MayBecome device)
+  open_leaves device made opened read counts first opens none =
+      and_then moment left_since device made read (MayBecome device) first
+      (then_none made opened read (MayBecome device)
+      (weaker moment left_since made opened (may_leave made) (MayBecome device) (λ c may. first.each c (counts (moment device) c first.later may)) opens) none)
+
+-- a text without a line feed goes no further than one that ends with it
+no_feed_within : (text long rest more : List ℕ) → HasNoFeed long → long ++ rest ≡ text ++ 10 ∷ more → length text < length long → ⊥
+no_feed_within text [] rest more none same shorter = absurd (omega (arith, shorter))
+no_feed_within [] (x ∷ long) rest more none same shorter = none 0 0 (omega arith) (cc same)
+no_feed_within (t ∷ text) (x ∷ long) rest more none same shorter =
+    no_feed_within text long rest more (λ k d below. none (suc k) d (omega (arith, below))) (cc same) (omega (arith, shorter))
+
+-- a first line that counts isn't too long
+not_too_long : (limit : ℕ) (bytes text : List ℕ) (texts : List (List ℕ)) → recovered bytes ≡ text ∷ texts → length text ≤ limit → IsTooLong limit bytes → ⊥
+not_too_long limit bytes text texts is short long =
+    let of = parts bytes in
+    let lines : bytes ≡ open_lines (text ∷ texts) ++ of.end = of.split ∙ ap (λ w. open_lines w ++ of.end) is in
+    let same : 32 ∷ (long.0 ++ long.1) ≡ 32 ∷ (text ++ 10 ∷ open_lines texts) ++ of.end = sym long.2 ∙ lines in
+    let tails : long.0 ++ long.1 ≡ (text ++ 10 ∷ open_lines texts) ++ of.end = cc same in
+    let split : long.0 ++ long.1 ≡ text ++ 10 ∷ (open_lines texts ++ of.end) = tails ∙ append_assoc text (10 ∷ open_lines texts) of.end in
+    no_feed_within text long.0 long.1 (open_lines texts ++ of.end) long.3 split (omega (arith, short, long.4))
+
+-- the fault of a first line that was made is none
+none_of_made : (made : List ℕ) (fault : StartFault) → recovered made ≡ form_line ∷ [] → IsFormFault made fault → IsJournalFault fault → ⊥
+none_of_made made Memory is why journal = journal
+none_of_made made Device is why journal = journal
+none_of_made made Shared is why journal = journal
+none_of_made made (Journal Form) is why journal = why [] is
+none_of_made made (Journal (TooLong line)) is why journal = not_too_long max_bytes made form_line [] is (omega arith) why.1
+none_of_made made (Journal (BadLine line)) is why journal = why
+none_of_made made (Journal (Refused line)) is why journal = why
+none_of_made made (Journal Damaged) is why journal = why
+
+-- where the file is no journal, it is as it was
+pub stays : (file made : List ℕ) (fault : StartFault) → StaysOrBegins file made → IsFormFault made fault → IsJournalFault fault → made ≡ file
+stays file made fault (inl same) why journal = same
+stays file made fault (inr begins) why journal = absurd (none_of_made made fault begins.1 why journal)
+
+-- and its fault is that of the file as it was
+pub open_fault : (file made : List ℕ) (fault : StartFault) → StaysOrBegins file made → (file ≡ [] → recovered made ≡ form_line ∷ []) → IsFormFault made fault → IsOpenFault file fault
+open_fault file made Memory kept empty why = tt
+open_fault file made Device kept empty why = tt
+open_fault file made Shared kept empty why = absurd why
+open_fault file made (Journal Form) kept empty why =
+    let same = stays file made (Journal Form) kept why tt in
+    (λ none. why [] (empty none), λ texts is. why texts (ap recovered same ∙ is))
+open_fault file made (Journal (TooLong line)) kept empty why =
+    subst (λ (w : List ℕ). IsFormFault w (Journal (TooLong line))) (stays file made (Journal (TooLong line)) kept why tt) why
+open_fault file made (Journal (BadLine line)) kept empty why = absurd why
+open_fault file made (Journal (Refused line)) kept empty why = absurd why
+open_fault file made (Journal Damaged) kept empty why = absurd why

@@ -1,0 +1,145 @@
+-- A journal that is read at a start.
+use Rattle.std.specs.Prelude.{◌≡◌, ◌≢◌, ◌⊎◌, ℕ, List, [], ◌∷◌, ◌++◌, ◌+◌, length}
+use Rattle.mds_table.specs.Json.{max_bytes}
+use Rattle.mds_table.specs.Tables.{Tables}
+use Rattle.mds_core.specs.declared.request.Request.{Request}
+use Rattle.mds_core.specs.Answer.{MayBeDone}
+use Rattle.mds_journal.specs.Lines.{recovered}
+use Rattle.mds_journal.specs.Journal.{HasShortEnd}
+use Rattle.mds_journal.specs.Opening.{IsTooLong}
+use Rattle.mds_journal.specs.declared.device.DeviceError.{DeviceError}
+use Rattle.mds_journal.specs.declared.device.DeviceError.TheVariants as device
+use Rattle.mds_journal.specs.declared.opening.OpenError.{OpenError}
+use Rattle.mds_journal.specs.declared.opening.OpenError.TheVariants as opening
+use Rattle.mds_journal.specs.declared.fault.JournalFault.TheVariants.{Form, BadLine, TooLong, Refused, Damaged}
+use Rattle.mds_entries.specs.Entry.{Tells}
+use Rattle.mds_entries.specs.Form.{form_line}
+use Rattle.mds_follow.specs.Disk.{IsTold}
+use Rattle.mds_follow.specs.declared.record.RecordFault.{RecordFault}
+use Rattle.mds_follow.specs.declared.record.RecordFault.TheVariants as record_kind
+use Rattle.mds_follow.specs.declared.start_fault.StartFault.{StartFault}
+use Rattle.mds_follow.specs.declared.start_fault.StartFault.TheVariants.{Memory, Device, Journal, Shared}
+
+-- what is said of a call of the device that failed
+abbrev pub device_fault : DeviceError → StartFault
+device_fault device.Memory = Memory
+device_fault device.Failed = Device
+
+-- what is said of a line that wasn't recorded
+abbrev pub record_fault : RecordFault → StartFault
+record_fault record_kind.Memory = Memory
+record_fault record_kind.NotKept = Device
+record_fault record_kind.Lost = Device
+
+-- what is said of the line of this number, which can't be handed out
+abbrev pub line_fault : ℕ → OpenError → StartFault
+line_fault number opening.Memory = Memory
+line_fault number (opening.Device error) = device_fault error
+line_fault number opening.TooLong = Journal (TooLong number)
+line_fault number opening.Full = Device
+line_fault number opening.Damaged = Device
+
+-- no line counts, and no more stands there than a crash leaves
+pub record IsBlank (file : List ℕ) : Type 0 where
+  pub none : recovered file ≡ []
+  pub short : HasShortEnd file
+
+-- a file stood for nothing, and another stands for the form
+abbrev pub Begins : List ℕ → List ℕ → Type 0
+Begins file other = (recovered file ≡ []) × (recovered other ≡ form_line ∷ [])
+
+-- the other has the same bytes, or begins it
+abbrev pub StaysOrBegins : List ℕ → List ℕ → Type 0
+StaysOrBegins file other = (other ≡ file) ⊎ Begins file other
+
+-- the other stands for the same lines, or begins it
+abbrev pub KeepsOrBegins : List ℕ → List ℕ → Type 0
+KeepsOrBegins file other = (recovered other ≡ recovered file) ⊎ Begins file other
+
+-- the fault says what is wrong with the file
+abbrev pub IsJournalFault : StartFault → Type 0
+IsJournalFault (Journal fault) = Unit {0}
+IsJournalFault Memory = ⊥
+IsJournalFault Device = ⊥
+IsJournalFault Shared = ⊥
+
+-- the fault says nothing of the file, nor of the book
+abbrev pub IsNoJournalFault : StartFault → Type 0
+IsNoJournalFault Memory = Unit {0}
+IsNoJournalFault Device = Unit {0}
+IsNoJournalFault (Journal fault) = ⊥
+IsNoJournalFault Shared = ⊥
+
+-- no more lines count
+abbrev pub HasNoMore : List ℕ → Type 0
+HasNoMore bytes = recovered bytes ≡ []
+
+-- the first line tells this request, and these bytes are left
+abbrev pub TellsNext : List ℕ → Request → List ℕ → Type 0
+TellsNext bytes request left = (text : List ℕ) × (recovered bytes ≡ text ∷ recovered left) × Tells text request
+
+-- the first line tells no request
+abbrev pub TellsNone : List ℕ → Type 0
+TellsNone bytes = (text : List ℕ) × (left : List ℕ) × (recovered bytes ≡ text ∷ recovered left) × ((request : Request) → Tells text request → ⊥)
+
+-- the first line tells a request that may not be done after these
+abbrev pub TellsRefused : Tables → List Request → List ℕ → Type 0
+TellsRefused tables told bytes = (request : Request) × (left : List ℕ) × TellsNext bytes request left × (MayBeDone tables told request → ⊥)
+
+-- why the first line, which has to name the form, isn't taken
+abbrev pub IsFormFault : List ℕ → StartFault → Type 0
+IsFormFault bytes (Journal Form) = (texts : List (List ℕ)) → recovered bytes ≡ form_line ∷ texts → ⊥
+IsFormFault bytes (Journal (TooLong line)) = (line ≡ 0) × IsTooLong max_bytes bytes
+IsFormFault bytes (Journal fault) = ⊥
+IsFormFault bytes Memory = Unit {0}
+IsFormFault bytes Device = Unit {0}
+IsFormFault bytes Shared = ⊥
+
+-- why the line of this number, which comes first, gives no request
+abbrev pub IsLineFault : ℕ → List ℕ → StartFault → Type 0
+IsLineFault number bytes (Journal (TooLong line)) = (line ≡ number) × IsTooLong max_bytes bytes
+IsLineFault number bytes (Journal (BadLine line)) = (line ≡ number) × TellsNone bytes
+IsLineFault number bytes (Journal fault) = ⊥
+IsLineFault number bytes Memory = Unit {0}
+IsLineFault number bytes Device = Unit {0}
+IsLineFault number bytes Shared = ⊥
+
+-- or why its request isn't in the book, behind these
+abbrev pub IsEntryFault : Tables → List Request → ℕ → List ℕ → StartFault → Type 0
+IsEntryFault tables told number bytes (Journal (Refused line)) = (line ≡ number) × TellsRefused tables told bytes
+IsEntryFault tables told number bytes Shared = Unit {0}
+IsEntryFault tables told number bytes fault = IsLineFault number bytes fault
+
+-- why the end of the file isn't mended: more stands there than a crash leaves
+abbrev pub IsEndFault : List ℕ → StartFault → Type 0
+IsEndFault file (Journal Damaged) = HasShortEnd file → ⊥
+IsEndFault file (Journal fault) = ⊥
+IsEndFault file Memory = Unit {0}
+IsEndFault file Device = Unit {0}
+IsEndFault file Shared = ⊥
+
+-- why a file isn't open as a journal: no line of it names the form, and it isn't empty
+abbrev pub IsOpenFault : List ℕ → StartFault → Type 0
+IsOpenFault file (Journal Form) = (file ≢ []) × ((texts : List (List ℕ)) → recovered file ≡ form_line ∷ texts → ⊥)
+IsOpenFault file fault = IsFormFault file fault
+
+-- the lines before these bytes are the form's, and others that tell these requests, in their order
+pub record IsReadTo (file : List ℕ) (told : List Request) (left : List ℕ) : Type 0 where
+  pub texts : List (List ℕ)
+  pub is_told : IsTold texts told
+  pub split : recovered file ≡ texts ++ recovered left
+
+-- all lines before that of this number were read, and this holds of their requests and of what is left
+abbrev pub StopsAt : List ℕ → ℕ → (List Request → List ℕ → Type 0) → Type 0
+StopsAt file number Stops = (told : List Request) × (left : List ℕ) × IsReadTo file told left × (number ≡ length told + 1) × Stops told left
+
+-- why a book over these tables isn't open over the journal of this file
+abbrev pub IsStartFault : Tables → List ℕ → StartFault → Type 0
+IsStartFault tables file (Journal (TooLong line)) = StopsAt file line (λ told left. IsTooLong max_bytes left)
+IsStartFault tables file (Journal (BadLine line)) = StopsAt file line (λ told left. TellsNone left)
+IsStartFault tables file (Journal (Refused line)) = StopsAt file line (TellsRefused tables)
+IsStartFault tables file (Journal Damaged) = HasShortEnd file → ⊥
+IsStartFault tables file (Journal Form) = ⊥
+IsStartFault tables file Memory = Unit {0}
+IsStartFault tables file Device = Unit {0}
+IsStartFault tables file Shared = Unit {0}

@@ -1,0 +1,144 @@
+//! A file that has no form yet, and the line that names the form.
+ghost use Rattle.std.specs.Prelude.{◌≡◌, ◌⊎◌, [], ◌∷◌, true, IfOk, IfErr};
+ghost use Rattle.mds_journal.specs.Device.{LeavesOnly, Untouched};
+ghost use Rattle.mds_journal.specs.Lines.{recovered};
+ghost use Rattle.mds_entries.specs.Form.{form_line};
+ghost use Rattle.mds_follow.specs.Disk.{MayBeBegun};
+ghost use Rattle.mds_follow.specs.Reading.{IsBlank, IsNoJournalFault, KeepsOrBegins, StaysOrBegins};
+
+use crate::start_fault::call_fault;
+use crate::{Disk, StartFault};
+use mds_entries::form_text;
+use mds_journal::{Device, DeviceError, Journal, Opening};
+use mds_table::MAX_BYTES;
+use std::alloc::Global;
+
+/// The byte before a line that doesn't count yet.
+const CLOSED_GATE: u8 = b'#';
+
+/// More bytes than a file has whose form was begun.
+const ROOM: usize = 64;
+
+/// Whether a file is blank: it is empty, or has no more than a crash leaves of the line that names the form, where that was
+/// begun. Whatever else stands in a file without a form is somebody's, and isn't to be written over.
+///
+/// # Errors
+///
+/// Those of the device.
+fn is_blank<D: Device>(device: &mut D) -> Result<bool, DeviceError>
+    requires { D.may_be_used device.old }
+    ensures usable { D.may_be_used device.new }
+    ensures untouched { D.is_true device.new → Untouched D.seen D.may_leave D.moment D.left_since
+        device.old device.new }
+    ensures was_true { D.is_true device.new → D.is_true device.old }
+    ensures blank { IfOk result (λ blank. blank ≡ true → D.is_true device.new
+        → IsBlank (D.seen device.old)) }
+    ensures empty { IfOk result (λ blank. D.is_true device.new → D.seen device.old ≡ []
+        → blank ≡ true) }
+{
+    let mut bytes = [0u8; ROOM];
+    let size = match device.size() {
+        Ok(size) => size,
+        Err(error) => return Err(error),
+    };
+    if size == 0 {
+        return Ok(true);
+    }
+    match device.read_at(0, &mut bytes) {
+        Ok(count) => Ok(count == size && is_begun(&bytes[..count])),
+        Err(error) => Err(error),
+    }
+}
+
+/// Whether bytes are a closed gate and the line that names the form, or less of them: a byte that isn't on the disk yet is 0.
+fn is_begun(bytes: &[u8]) -> bool
+    ensures { result ≡ true → recovered bytes.now ≡ [] }
+{
+    let Some((gate, rest)) = bytes.split_first() else {
+        return true;
+    };
+    if *gate != CLOSED_GATE && *gate != 0 {
+        return false;
+    }
+    let form = form_text().as_bytes();
+    let (line, end) = rest.split_at(rest.len().min(form.len()));
+    is_part(line, form) && is_part(end, b"\n#")
+}
+
+/// Whether each of these bytes is that of a text at its place, or 0.
+fn is_part(bytes: &[u8], text: &[u8]) -> bool {
+    if bytes.len() > text.len() {
+        return false;
+    }
+    for at in 0..bytes.len() {
+        if bytes[at] != 0 && bytes[at] != text[at] {
+            return false;
+        }
+    }
+    true
+}
+
+/// A file whose first line names the form, if it was blank; else the file as it was.
+///
+/// # Errors
+///
+/// `Memory`, and `Device` where a call of the device failed. The device comes back.
+pub(crate) fn with_form<D: Device>(alloc: Global, mut device: D) -> Result<D, (StartFault, D)>
+    requires { D.may_be_used device }
+    ensures usable { IfOk result D.may_be_used }
+    ensures kept { IfOk result (λ made. D.is_true made
+        → StaysOrBegins (D.seen device) (D.seen made)) }
+    ensures empty { IfOk result (λ made. D.is_true made → D.seen device ≡ []
+        → recovered (D.seen made) ≡ form_line ∷ []) }
+    ensures any_moment { IfOk result (λ made. D.is_true made
+        → LeavesOnly D.moment D.left_since device made
+        (λ c. D.may_leave device c ⊎ KeepsOrBegins (D.seen device) c)) }
+    ensures was_true { IfOk result (λ made. D.is_true made → D.is_true device) }
+    ensures was_true_err { IfErr result (λ error. D.is_true error.1 → D.is_true device) }
+    ensures fault { IfErr result (λ error. IsNoJournalFault error.0) }
+{
+    match is_blank(&mut device) {
+        Ok(true) => make_form(alloc, device),
+        Ok(false) => Ok(device),
+        Err(error) => Err((StartFault::from(error), device)),
+    }
+}
+
+/// Writes the line that names the form into a blank file.
+///
+/// # Errors
+///
+/// As [`with_form`].
+fn make_form<D: Device>(alloc: Global, device: D) -> Result<D, (StartFault, D)>
+    requires usable { D.may_be_used device }
+    requires blank { D.is_true device → IsBlank (D.seen device) }
+    ensures usable { IfOk result D.may_be_used }
+    ensures made { IfOk result (λ made. D.is_true made
+        → recovered (D.seen made) ≡ form_line ∷ []) }
+    ensures any_moment { IfOk result (λ made. D.is_true made
+        → LeavesOnly D.moment D.left_since device made
+        (λ c. D.may_leave device c ⊎ MayBeBegun c)) }
+    ensures was_true { IfOk result (λ made. D.is_true made → D.is_true device) }
+    ensures was_true_err { IfErr result (λ error. D.is_true error.1 → D.is_true device) }
+    ensures fault { IfErr result (λ error. IsNoJournalFault error.0) }
+{
+    let opening = match Opening::start(alloc, device, MAX_BYTES) {
+        Ok(opening) => opening,
+        Err((error, device)) => return Err((call_fault(error), device)),
+    };
+    let journal = match opening.finish() {
+        Ok(journal) => journal,
+        Err((error, device)) => return Err((call_fault(error), device)),
+    };
+    match Disk::create(alloc, journal) {
+        Ok(disk) => {
+            let Disk { journal, .. } = disk;
+            let Journal { device, .. } = journal;
+            Ok(device)
+        }
+        Err((fault, journal)) => {
+            let Journal { device, .. } = journal;
+            Err((StartFault::from(fault), device))
+        }
+    }
+}

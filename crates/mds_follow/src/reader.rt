@@ -1,0 +1,228 @@
+//! A journal that is read at a start.
+ghost use Rattle.std.specs.Prelude.{◌≡◌, ◌⊎◌, ◌+◌, ◌<◌, ◌∷◌, [], IfOk, IfErr, IfSome, IfNone, OnOk, OnErr};
+ghost use Rattle.mds_table.specs.Json.{max_bytes};
+ghost use Rattle.mds_journal.specs.Device.{LeavesOnly, Untouched};
+ghost use Rattle.mds_journal.specs.Lines.{recovered};
+ghost use Rattle.mds_journal.specs.Journal.{IsSound, MayGoOn, StandsFor};
+ghost use Rattle.mds_journal.specs.Opening.{IsReading, KeepsLines, limit_of, number_of, place_of, unread};
+ghost use Rattle.mds_entries.specs.Form.{form_line};
+ghost use Rattle.mds_follow.specs.Reading.{HasNoMore, IsEndFault, IsFormFault, IsJournalFault, IsLineFault, IsOpenFault, KeepsOrBegins, StaysOrBegins, TellsNext};
+
+use crate::blank::with_form;
+use crate::start_fault::{call_fault, line_fault};
+use crate::{Disk, StartFault};
+use mds_core::Request;
+use mds_entries::{EntryFault, EntryReader, is_form};
+use mds_journal::{Device, Group, JournalFault, OpenError, Opening};
+use mds_log::Tagged;
+use mds_table::MAX_BYTES;
+use std::alloc::{AllocError, Global};
+
+/// Takes the first line, which has to name the form.
+///
+/// # Errors
+///
+/// `Form` where it names another or there is none, `TooLong`; `Device` and `Memory`.
+fn take_form<D: Device>(opening: &mut Opening<D>, line: &mut Vec<u8>) -> Result<(), StartFault>
+    requires reading { IsReading D.seen D.may_leave D.may_be_used D.is_true opening.old }
+    requires limit { limit_of opening.old ≡ max_bytes }
+    requires number { number_of opening.old ≡ 0 }
+    ensures reading { IsReading D.seen D.may_leave D.may_be_used D.is_true opening.new }
+    ensures limit { limit_of opening.new ≡ max_bytes }
+    ensures form { OnOk result (D.is_true opening.new.device
+        → recovered (unread D.seen opening.old)
+        ≡ form_line ∷ recovered (unread D.seen opening.new)) }
+    ensures number { OnOk result (number_of opening.new ≡ 1) }
+    ensures fault { IfErr result (λ fault. D.is_true opening.new.device
+        → IsFormFault (unread D.seen opening.old) fault) }
+    ensures untouched { D.is_true opening.new.device → Untouched D.seen D.may_leave D.moment
+        D.left_since opening.old.device opening.new.device }
+    ensures was_true { D.is_true opening.new.device → D.is_true opening.old.device }
+{
+    let is_there = match opening.next_line(line) {
+        Ok(is_there) => is_there,
+        Err(error) => return Err(line_fault(error, 0)),
+    };
+    if is_there && is_form(line) {
+        Ok(())
+    } else {
+        Err(StartFault::Journal(JournalFault::Form))
+    }
+}
+
+/// A journal that is read at a start, one request after the other.
+#[derive(Drop)]
+pub struct RequestReader<D: Device> {
+    pub(crate) opening: Opening<D>,
+    entries: EntryReader,
+    group: Group,
+    line: Vec<u8>,
+}
+
+impl<D: Device> Tagged for RequestReader<D> {
+    ghost tag = { λ reader. D.moment reader.opening.device };
+}
+
+impl<D: Device> RequestReader<D> {
+    /// Opens a journal: its first line names the form. A file that is empty becomes one first, and so does one that a crash left
+    /// before its form was whole.
+    ///
+    /// # Errors
+    ///
+    /// `Form` where the first line names another form or none, `TooLong` where it has too many bytes: the file is as it was.
+    /// `Device` where a call of the device failed, `Memory`. The device comes back.
+    pub fn open(alloc: Global, device: D) -> Result<RequestReader<D>, (StartFault, D)>
+        requires { D.may_be_used device }
+        ensures reading { IfOk result (λ reader.
+            IsReading D.seen D.may_leave D.may_be_used D.is_true reader.opening) }
+        ensures limit { IfOk result (λ reader. limit_of reader.opening ≡ max_bytes) }
+        ensures number { IfOk result (λ reader. number_of reader.opening ≡ 1) }
+        ensures form { IfOk result (λ reader. D.is_true reader.opening.device
+            → recovered (D.seen reader.opening.device)
+            ≡ form_line ∷ recovered (unread D.seen reader.opening)) }
+        ensures kept { IfOk result (λ reader. D.is_true reader.opening.device
+            → StaysOrBegins (D.seen device) (D.seen reader.opening.device)) }
+        // A crash at any moment leaves what one before might have left, or the same lines, or the form in a file that had none.
+        ensures any_moment { IfOk result (λ reader. D.is_true reader.opening.device
+            → LeavesOnly D.moment D.left_since device reader.opening.device
+            (λ c. D.may_leave device c ⊎ KeepsOrBegins (D.seen device) c)) }
+        ensures was_true { IfOk result (λ reader. D.is_true reader.opening.device
+            → D.is_true device) }
+        ensures fault { IfErr result (λ error. D.is_true error.1
+            → IsOpenFault (D.seen device) error.0) }
+        ensures same { IfErr result (λ error. D.is_true error.1 → IsJournalFault error.0
+            → D.seen error.1 ≡ D.seen device) }
+        ensures was_true_err { IfErr result (λ error. D.is_true error.1 → D.is_true device) }
+    {
+        let group = match Group::new(alloc) {
+            Ok(group) => group,
+            Err(AllocError) => return Err((StartFault::Memory, device)),
+        };
+        let device = match with_form(alloc, device) {
+            Ok(device) => device,
+            Err(error) => return Err(error),
+        };
+        let mut opening = match Opening::start(alloc, device, MAX_BYTES) {
+            Ok(opening) => opening,
+            Err((error, device)) => return Err((call_fault(error), device)),
+        };
+        let mut line = Vec::new(alloc);
+        match take_form(&mut opening, &mut line) {
+            Ok(()) => Ok(RequestReader {
+                opening,
+                entries: EntryReader::new(alloc),
+                group,
+                line,
+            }),
+            Err(fault) => Err((fault, opening.into_device())),
+        }
+    }
+
+    /// The request of the next line, or `None` where no more lines count.
+    ///
+    /// # Errors
+    ///
+    /// `BadLine` where the line tells no request, `TooLong` where it has too many bytes, `Device` and `Memory`.
+    pub(crate) fn next_request(&mut self) -> Result<Option<Request>, StartFault>
+        requires reading { IsReading D.seen D.may_leave D.may_be_used D.is_true self.old.opening }
+        requires limit { limit_of self.old.opening ≡ max_bytes }
+        ensures reading { IsReading D.seen D.may_leave D.may_be_used D.is_true self.new.opening }
+        ensures limit { limit_of self.new.opening ≡ max_bytes }
+        ensures some { IfOk result (λ found. IfSome found (λ request.
+            D.is_true self.new.opening.device → TellsNext (unread D.seen self.old.opening) request
+            (unread D.seen self.new.opening))) }
+        ensures number { IfOk result (λ found. IfSome found (λ _.
+            number_of self.new.opening ≡ number_of self.old.opening + 1)) }
+        ensures further { IfOk result (λ found. IfSome found (λ _.
+            place_of self.old.opening < place_of self.new.opening)) }
+        ensures none { IfOk result (λ found. IfNone found (D.is_true self.new.opening.device
+            → HasNoMore (unread D.seen self.old.opening)
+            × (unread D.seen self.new.opening ≡ unread D.seen self.old.opening))) }
+        ensures same_number { IfOk result (λ found. IfNone found
+            (number_of self.new.opening ≡ number_of self.old.opening)) }
+        ensures fault { IfErr result (λ fault. D.is_true self.new.opening.device → IsLineFault
+            (number_of self.old.opening) (unread D.seen self.old.opening) fault) }
+        ensures untouched { D.is_true self.new.opening.device → Untouched D.seen D.may_leave
+            D.moment D.left_since self.old.opening.device self.new.opening.device }
+        ensures was_true { D.is_true self.new.opening.device
+            → D.is_true self.old.opening.device }
+    {
+        let number = self.opening.number();
+        match self.opening.next_line(&mut self.line) {
+            Ok(true) => {}
+            Ok(false) => return Ok(None),
+            Err(error) => return Err(line_fault(error, number)),
+        }
+        match self.entries.read(&self.line) {
+            Ok(request) => Ok(Some(request)),
+            Err(EntryFault::Memory) => Err(StartFault::Memory),
+            Err(_) => Err(StartFault::Journal(JournalFault::BadLine(number))),
+        }
+    }
+
+    /// The journal, once all its lines were read, for more to be recorded in it. What stands behind its lines is cut off.
+    ///
+    /// # Errors
+    ///
+    /// `Damaged` where more stands there than a crash leaves: the file is as it was. `Device` where a call of the device failed,
+    /// `Memory`. The device comes back.
+    pub(crate) fn into_disk(self) -> Result<Disk<D>, (StartFault, D)>
+        requires reading { IsReading D.seen D.may_leave D.may_be_used D.is_true self.opening }
+        requires done { D.is_true self.opening.device → HasNoMore (unread D.seen self.opening) }
+        ensures sound { IfOk result (λ disk.
+            IsSound D.seen D.may_leave D.may_be_used D.is_true disk.journal) }
+        ensures ready { IfOk result (λ disk. MayGoOn disk.journal) }
+        ensures stands { IfOk result (λ disk. D.is_true disk.journal.device
+            → StandsFor D.seen D.may_leave (recovered (D.seen self.opening.device))
+            disk.journal.device) }
+        ensures any_moment { IfOk result (λ disk. D.is_true disk.journal.device
+            → LeavesOnly D.moment D.left_since self.opening.device disk.journal.device
+            (KeepsLines (D.seen self.opening.device))) }
+        ensures was_true { IfOk result (λ disk. D.is_true disk.journal.device
+            → D.is_true self.opening.device) }
+        ensures fault { IfErr result (λ error. D.is_true error.1
+            → IsEndFault (D.seen self.opening.device) error.0) }
+        ensures same { IfErr result (λ error. D.is_true error.1 → IsJournalFault error.0
+            → D.seen error.1 ≡ D.seen self.opening.device) }
+        ensures was_true_err { IfErr result (λ error. D.is_true error.1
+            → D.is_true self.opening.device) }
+    {
+        let RequestReader {
+            opening,
+            entries,
+            group,
+            line: _line,
+        } = self;
+        match opening.finish() {
+            Ok(journal) => Ok(Disk {
+                journal,
+                reader: entries,
+                group,
+            }),
+            Err((OpenError::Damaged, device)) => {
+                Err((StartFault::Journal(JournalFault::Damaged), device))
+            }
+            Err((error, device)) => Err((call_fault(error), device)),
+        }
+    }
+
+    /// The number of the line that comes next. The first one is 0.
+    pub(crate) fn number(&self) -> usize
+        ensures { result ≡ number_of self.now.opening }
+    {
+        self.opening.number()
+    }
+
+    /// The file, as it is.
+    pub(crate) fn into_device(self) -> D
+        ensures { result ≡ self.opening.device }
+    {
+        let RequestReader {
+            opening,
+            entries: _entries,
+            group: _group,
+            line: _line,
+        } = self;
+        opening.into_device()
+    }
+}

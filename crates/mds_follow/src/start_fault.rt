@@ -1,0 +1,68 @@
+//! Why a server can't start over a journal.
+ghost use Rattle.std.specs.Prelude.{◌≡◌};
+ghost use Rattle.mds_follow.specs.Reading.{IsNoJournalFault, line_fault};
+
+use crate::RecordFault;
+use mds_journal::{DeviceError, JournalFault, OpenError};
+
+/// Why a book isn't open over a journal.
+#[derive(Clone, Copy, Debug, PartialEq, Eq)]
+pub enum StartFault {
+    /// There was no memory.
+    Memory,
+    /// The file can't be read or written, or its lines have more than 2^62 bytes.
+    Device,
+    /// The file is no journal of requests that the tables of the book accept.
+    Journal(JournalFault),
+    /// Another has asked the book, or written to the log: nobody does.
+    Shared,
+}
+
+impl From<DeviceError> for StartFault {
+    ghost use Rattle.mds_follow.specs.Reading.{device_fault};
+
+    ghost from_gives = { λ error fault. fault ≡ device_fault error };
+
+    fn from(error: DeviceError) -> StartFault {
+        match error {
+            DeviceError::Memory => StartFault::Memory,
+            DeviceError::Failed => StartFault::Device,
+        }
+    }
+}
+
+impl From<RecordFault> for StartFault {
+    ghost use Rattle.mds_follow.specs.Reading.{record_fault};
+
+    ghost from_gives = { λ error fault. fault ≡ record_fault error };
+
+    fn from(fault: RecordFault) -> StartFault {
+        match fault {
+            RecordFault::Memory => StartFault::Memory,
+            RecordFault::NotKept | RecordFault::Lost => StartFault::Device,
+        }
+    }
+}
+
+/// The fault of a line that can't be handed out, which has this number.
+pub(crate) fn line_fault(error: OpenError, number: usize) -> StartFault
+    ensures { result ≡ line_fault number error }
+{
+    match error {
+        OpenError::Memory => StartFault::Memory,
+        OpenError::Device(error) => StartFault::from(error),
+        OpenError::TooLong => StartFault::Journal(JournalFault::TooLong(number)),
+        OpenError::Full | OpenError::Damaged => StartFault::Device,
+    }
+}
+
+/// The fault where a call of the device failed before any line was read, or behind all of them.
+pub(crate) fn call_fault(error: OpenError) -> StartFault
+    ensures { IsNoJournalFault result }
+{
+    match error {
+        OpenError::Memory => StartFault::Memory,
+        OpenError::Device(error) => StartFault::from(error),
+        OpenError::TooLong | OpenError::Full | OpenError::Damaged => StartFault::Device,
+    }
+}

@@ -1,0 +1,317 @@
+//! What becomes of a journal in memory over which a book is opened and asked.
+ghost use Rattle.std.specs.Prelude.{◌≡◌, ◌∷◌, false, replicate, List};
+ghost use Rattle.mds_table.specs.Json.{max_bytes};
+ghost use Rattle.mds_core.specs.declared.request.Request.{Request as Requested};
+ghost use Rattle.mds_journal.specs.Lines.{recovered};
+ghost use Rattle.mds_journal.specs.Opening.{IsReading, limit_of, number_of, unread};
+ghost use Rattle.mds_entries.specs.Form.{form_line};
+ghost use Rattle.mds_book.specs.Seats.{fresh};
+ghost use Rattle.mds_follow.specs.Disk.{IsTold};
+
+use mds_book::{Blank, Book, Keep, Seat, ShardLedger, reconcile};
+use mds_core::Request;
+use mds_follow::{
+    Disk, Follower, Receipt, Record, RecordFault, RecordLog, RequestReader, SharedFollower,
+    StartFault, resume,
+};
+use mds_journal::{Device, JournalFault, Memory};
+use mds_log::BlankLog;
+use mds_table::{State, Tables};
+use std::alloc::Global;
+use std::hash::RandomState;
+use std::marker::Brand;
+use std::random::RandomSource;
+use std::sync::Wait;
+use test_fixtures::Ask::{Look, Register, Report};
+use test_fixtures::{A, Ask, B, C, DROP_OFF, E0, Lack, profile_again, requests_of};
+use test_steps::hasher;
+
+/// The line that names the form.
+const FORM: &str = " {\"form\":\"mds_city\",\"version\":1}\n";
+
+/// The line of the registration of A.
+const A_LINE: &str =
+    " {\"device_id\":\"00000000-0000-4000-8000-00000000000a\",\"provider_id\":\"00000000-0000-4000-8000-000000000001\"}\n";
+
+/// The line of an event of A.
+const EVENT_LINE: &str =
+    " {\"device_id\":\"00000000-0000-4000-8000-00000000000a\",\"event_id\":\"00000000-0000-4000-8000-0000000000e0\",\"event_types\":[\"provider_drop_off\"],\"location_e7\":null,\"provider_id\":\"00000000-0000-4000-8000-000000000001\",\"timestamp\":1000,\"vehicle_state\":\"available\"}\n";
+
+/// The line of the registration of B.
+const B_LINE: &str =
+    " {\"device_id\":\"00000000-0000-4000-8000-00000000000b\",\"provider_id\":\"00000000-0000-4000-8000-000000000001\"}\n";
+
+/// A book that is opened over a journal, and asked.
+struct Case {
+    /// What the file has at first, one after the other.
+    parts: &'static [&'static str],
+    /// What another seat asks before the journal is read, if it asks for anything.
+    other: &'static [Ask],
+    /// What is asked then, one after the other, each recorded before the next.
+    asked: &'static [Ask],
+    /// What the file has in the end, or why the book isn't opened: the file is then as it was.
+    end: Result<&'static [&'static str], StartFault>,
+}
+
+/// What is asked of a book without a past.
+const FIRST_ASKED: &[Ask] = &[
+    Register(A),
+    Report(A, E0, DROP_OFF, State::Available, 1000),
+    Look(A),
+    Register(B),
+];
+
+/// Journals, and what they come to.
+const CASES: &[Case] = &[
+    // An empty file becomes a journal, and so does one that a crash left before its form was whole.
+    Case {
+        parts: &[],
+        other: &[],
+        asked: FIRST_ASKED,
+        end: Ok(&[FORM, A_LINE, EVENT_LINE, B_LINE, "#"]),
+    },
+    Case {
+        parts: &["#{\"form\":\0\0\0\0_city"],
+        other: &[],
+        asked: &[Register(A)],
+        end: Ok(&[FORM, A_LINE, "#"]),
+    },
+    // What is recorded is asked again, what was torn is cut off, and the next request stands behind.
+    Case {
+        parts: &[FORM, A_LINE, EVENT_LINE, "#{\"device_id\":\"00000000-0000"],
+        other: &[],
+        asked: &[Register(A), Register(B)],
+        end: Ok(&[FORM, A_LINE, EVENT_LINE, B_LINE, "#"]),
+    },
+    // Another's file, another's form, a line that tells nothing, and one that the tables refuse.
+    Case {
+        parts: &["#!/bin/sh\n"],
+        other: &[],
+        asked: &[],
+        end: Err(StartFault::Journal(JournalFault::Form)),
+    },
+    Case {
+        parts: &[" {\"form\":\"mds_city\",\"version\":2}\n#"],
+        other: &[],
+        asked: &[],
+        end: Err(StartFault::Journal(JournalFault::Form)),
+    },
+    Case {
+        parts: &[FORM, A_LINE, " {}\n", "#"],
+        other: &[],
+        asked: &[],
+        end: Err(StartFault::Journal(JournalFault::BadLine(2))),
+    },
+    Case {
+        parts: &[FORM, A_LINE, A_LINE, "#"],
+        other: &[],
+        asked: &[],
+        end: Err(StartFault::Journal(JournalFault::Refused(2))),
+    },
+    // Another seat asks meanwhile.
+    Case {
+        parts: &[FORM, A_LINE, "#"],
+        other: &[Register(C)],
+        asked: &[],
+        end: Err(StartFault::Shared),
+    },
+];
+
+/// The parts of a text, as one.
+fn text_of(alloc: Global, parts: &[&str]) -> Result<Vec<u8>, Lack> {
+    let mut text = Vec::new(alloc);
+    for part in parts {
+        text.extend_from_slice(part.as_bytes())?;
+    }
+    Ok(text)
+}
+
+/// Sees to it that all is recorded that the seat has seen, and does it again where there was no memory.
+fn commit_again<F: Record, L: ShardLedger, M: ShardLedger, J: RecordLog, R: Wait>(
+    rt: &R,
+    alloc: Global,
+    book: &Book<L, M>,
+    journal: &SharedFollower<F, L, M, J>,
+    seat: &Seat<L, M>,
+    receipt: &mut Receipt<L, M, J>,
+) -> Result<(), Lack> {
+    match journal.commit(rt, alloc, book, seat, receipt) {
+        Ok(()) => return Ok(()),
+        // A sync found no memory.
+        Err(RecordFault::Lost) => return Err(Lack::Memory),
+        Err(_) => {}
+    }
+    match journal.commit(rt, alloc, book, seat, receipt) {
+        Ok(()) => Ok(()),
+        Err(_) => Err(Lack::Case),
+    }
+}
+
+/// Asks the requests of the book by a seat, and has each recorded before the next.
+fn ask_each<F: Record, L: ShardLedger, M: ShardLedger, J: RecordLog, R: Wait>(
+    rt: &R,
+    alloc: Global,
+    book: &Book<L, M>,
+    journal: &SharedFollower<F, L, M, J>,
+    seat: &mut Seat<L, M>,
+    receipt: &mut Receipt<L, M, J>,
+    requests: &[Request],
+) -> Result<(), Lack> {
+    for request in requests {
+        book.call(rt, seat, request)?;
+        commit_again(rt, alloc, book, journal, seat, receipt)?;
+    }
+    Ok(())
+}
+
+/// The file once the requests were asked and the book is settled.
+fn ended_by<D: Device + Drop, L: ShardLedger, M: ShardLedger, J: RecordLog, R: Wait>(
+    rt: &R,
+    alloc: Global,
+    book: Book<L, M>,
+    mut seats: Vec<Seat<L, M>>,
+    follower: Follower<Disk<D>, L, M, J>,
+    asked: &[Ask],
+) -> Result<Disk<D>, Lack> {
+    let requests = requests_of(alloc, asked)?;
+    let journal = SharedFollower::of(follower);
+    let mut receipt = journal.receipt(rt);
+    let seat = seats.last_mut().ok_or(Lack::Case)?;
+    ask_each(rt, alloc, &book, &journal, seat, &mut receipt, &requests)?;
+    let Ok(mut settled) = reconcile(book, seats) else {
+        return Err(Lack::Case);
+    };
+    Ok(journal.into_follower().finish(&mut settled))
+}
+
+/// The same, of a book of two seats that were told nothing: the first asks what the journal tells.
+fn ended_at<D: Device + Drop, L: ShardLedger, M: ShardLedger, J: RecordLog, R: Wait>(
+    rt: &R,
+    alloc: Global,
+    book: Book<L, M>,
+    mut seats: Vec<Seat<L, M>>,
+    reader: RequestReader<D>,
+    log: BlankLog,
+    case: &Case,
+) -> Result<Result<Disk<D>, (StartFault, D)>, Lack>
+    requires seats { seats.items ≡ replicate 2 (fresh false) }
+    requires reading { IsReading D.seen D.may_leave D.may_be_used D.is_true reader.opening }
+    requires limit { limit_of reader.opening ≡ max_bytes }
+    requires number { number_of reader.opening ≡ 1 }
+    requires form { D.is_true reader.opening.device → recovered (D.seen reader.opening.device)
+        ≡ form_line ∷ recovered (unread D.seen reader.opening) }
+    requires log { log ≡ J.log }
+    requires start { J.start ≡ D.moment reader.opening.device }
+    requires held { (told : List Requested)
+        → IsTold (recovered (D.seen reader.opening.device)) told → J.held told }
+{
+    if let Some(request) = requests_of(alloc, case.other)?.first() {
+        book.call(rt, &mut seats[1], request)?;
+    }
+    match resume::<D, L, M, J, R>(rt, &book, &mut seats[0], reader, log) {
+        Ok(follower) => Ok(Ok(ended_by(rt, alloc, book, seats, follower, case.asked)?)),
+        Err(error) => Ok(Err(error)),
+    }
+}
+
+/// The same, of a new book.
+fn ended_in<D: Device + Drop, L: ShardLedger, M: ShardLedger, J: RecordLog, R: Wait>(
+    rt: &R,
+    alloc: Global,
+    tables: Tables,
+    hashers: [RandomState; 2],
+    first: Blank,
+    second: Blank,
+    log: BlankLog,
+    reader: RequestReader<D>,
+    case: &Case,
+) -> Result<Result<Disk<D>, (StartFault, D)>, Lack>
+    requires first { (first.name ≡ L.name) × (first.parts ≡ L.parts) × (first.parts ≡ 2) }
+    requires second { (second.name ≡ M.name) × (second.parts ≡ M.parts) × (second.parts ≡ 2) }
+    requires first_log { (first.log ≡ L.log) × (first.marks ≡ L.marks) }
+    requires second_log { (second.log ≡ M.log) × (second.marks ≡ M.marks) }
+    requires tables { (tables ≡ L.tables) × (tables ≡ M.tables) }
+    requires reading { IsReading D.seen D.may_leave D.may_be_used D.is_true reader.opening }
+    requires limit { limit_of reader.opening ≡ max_bytes }
+    requires number { number_of reader.opening ≡ 1 }
+    requires form { D.is_true reader.opening.device → recovered (D.seen reader.opening.device)
+        ≡ form_line ∷ recovered (unread D.seen reader.opening) }
+    requires log { log ≡ J.log }
+    requires start { J.start ≡ D.moment reader.opening.device }
+    requires held { (told : List Requested)
+        → IsTold (recovered (D.seen reader.opening.device)) told → J.held told }
+{
+    let keep = Keep::Accepted;
+    match Book::<L, M>::open(alloc, tables, 2, keep, first, second, hashers) {
+        Ok((book, seats)) => {
+            ended_at::<D, L, M, J, R>(rt, alloc, book, seats, reader, log, case)
+        }
+        Err(_) => Err(Lack::Memory),
+    }
+}
+
+/// The bytes of the file in the end, with logs of its own, and why the book wasn't opened, if it wasn't.
+fn ended<R: RandomSource + Wait>(
+    rt: &R,
+    alloc: Global,
+    case: &Case,
+) -> Result<(Vec<u8>, Option<StartFault>), Lack> {
+    let bytes = text_of(alloc, case.parts)?;
+    let (tables, hashers) = (profile_again(alloc)?, [hasher(rt)?, hasher(rt)?]);
+    let (first, second, log) = (Blank::new(2), Blank::new(2), BlankLog::new());
+    let reader = match RequestReader::open(alloc, Memory::new(alloc, &bytes)?) {
+        Ok(reader) => reader,
+        Err((fault, device)) => {
+            return Ok((Vec::from_slice(alloc, device.bytes())?, Some(fault)));
+        }
+    };
+    let came = ended_in::<Memory, Brand, Brand, Brand, R>(
+        rt, alloc, tables, hashers, first, second, log, reader, case,
+    )?;
+    match came {
+        Ok(disk) => Ok((Vec::from_slice(alloc, disk.journal.device.bytes())?, None)),
+        Err((fault, device)) => Ok((Vec::from_slice(alloc, device.bytes())?, Some(fault))),
+    }
+}
+
+/// The same, begun again where there was no memory for another call.
+fn ended_again<R: RandomSource + Wait>(
+    rt: &R,
+    alloc: Global,
+    case: &Case,
+) -> Result<(Vec<u8>, Option<StartFault>), Lack> {
+    match ended(rt, alloc, case) {
+        Err(Lack::Memory) => ended(rt, alloc, case),
+        Ok((_, Some(StartFault::Memory | StartFault::Device))) => ended(rt, alloc, case),
+        found => found,
+    }
+}
+
+/// Whether a case comes to its end. Where the book isn't opened the file is as it was.
+fn comes_to_its_end<R: RandomSource + Wait>(
+    rt: &R,
+    alloc: Global,
+    case: &Case,
+) -> Result<bool, Lack> {
+    let (bytes, fault) = ended_again(rt, alloc, case)?;
+    let (parts, expected) = match case.end {
+        Ok(parts) => (parts, None),
+        Err(fault) => (case.parts, Some(fault)),
+    };
+    Ok(fault == expected && bytes == text_of(alloc, parts)?)
+}
+
+/// The number of the first case that comes to another end.
+fn first_difference<R: RandomSource + Wait>(rt: &R, alloc: Global) -> Result<Option<usize>, Lack> {
+    for (at, case) in CASES.iter().enumerate() {
+        if !comes_to_its_end(rt, alloc, case)? {
+            return Ok(Some(at));
+        }
+    }
+    Ok(None)
+}
+
+#[test]
+fn journals_come_to_their_ends_after_a_refused_growth(rt: HostRuntime) {
+    assert_eq!(rt; first_difference(&rt, rt.alloc()), Ok(None));
+}
