@@ -2,5 +2,6 @@
 pub mod CallLemmas
 pub mod ConnectionLemmas
 pub mod FleetLemmas
+pub mod KeptLemmas
 pub mod ListedLemmas
 pub mod ReadingLemmas

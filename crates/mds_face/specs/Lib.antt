@@ -6,3 +6,4 @@ pub mod Faults
 pub mod Serving
 pub mod Reading
 pub mod Laws
+pub mod Kept

@@ -138,7 +138,7 @@ fn answer<W: Write, D: Desk>(
 /// # Errors
 ///
 /// `AllocError` where there is no memory for the replies of a POST, and no call was made then, or for what a GET looks at.
-fn find<D: Desk>(alloc: Global, desk: &mut D, plan: &Plan) -> Result<Found, AllocError>
+pub(crate) fn find<D: Desk>(alloc: Global, desk: &mut D, plan: &Plan) -> Result<Found, AllocError>
     ensures finds { IfOk result (λ found. Finds D.calls D.gives_events D.gives_rows
         desk.old (asked_in plan.now) (finding_in found) desk.new) }
     ensures memory { OnErr result (FindsNoMemory D.calls D.gives_events D.gives_rows
@@ -155,7 +155,7 @@ fn find<D: Desk>(alloc: Global, desk: &mut D, plan: &Plan) -> Result<Found, Allo
 }
 
 /// What is said of an answer that was written whole.
-fn served_of(plan: &Plan, found: &Found) -> Served
+pub(crate) fn served_of(plan: &Plan, found: &Found) -> Served
     ensures status { result.status ≡ (answer_to (asked_in plan.now) (finding_in found.now)).status }
     ensures accepted { result.accepted ≡ accepted_in (replies_in (finding_in found.now)) }
 {
@@ -171,7 +171,7 @@ fn served_of(plan: &Plan, found: &Found) -> Served
 ///
 /// [`ServeFault::Write`] where a write failed or took no byte, [`ServeFault::TooManyTurns`] where the calls of `write` ran
 /// out, with the number of bytes that were written.
-fn write_answer<W: Write>(writer: &mut W, bytes: &[u8]) -> Result<(), ServeFault>
+pub(crate) fn write_answer<W: Write>(writer: &mut W, bytes: &[u8]) -> Result<(), ServeFault>
     ensures ok { OnOk result (Appends (W.contents writer.old) (W.contents writer.new) bytes.now) }
     ensures err { IfErr result
         (IsUnwritten bytes.now (W.contents writer.old) (W.contents writer.new)) }
@@ -186,7 +186,7 @@ fn write_answer<W: Write>(writer: &mut W, bytes: &[u8]) -> Result<(), ServeFault
 }
 
 /// Writes the fixed answer of status 503, as far as the writer takes it: the fault that says so. It takes no memory.
-fn out_of_memory<W: Write>(writer: &mut W) -> ServeFault
+pub(crate) fn out_of_memory<W: Write>(writer: &mut W) -> ServeFault
     ensures { (sent : ℕ) × (result ≡ ServeFault.Memory sent)
         × IsFixedAnswer (W.contents writer.old) (W.contents writer.new) sent }
 {

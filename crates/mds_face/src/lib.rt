@@ -5,11 +5,13 @@
 mod asking;
 mod connection;
 mod desk;
+mod kept_desk;
 pub mod laws;
 mod reading;
 
 pub use connection::{ServeFault, Served, serve_one};
 pub use desk::{Desk, SeatDesk};
+pub use kept_desk::{KeepFault, KeptDesk, KeptFault, serve_kept};
 pub use mds_request::{Face, HttpFault, Plan, plan_of};
-pub use mds_response::{Found, bytes_of, memory_bytes};
+pub use mds_response::{Found, bytes_of, memory_bytes, not_kept_bytes};
 pub use reading::read_plan;

@@ -39,3 +39,7 @@ answer_text answer =
 -- all bytes of the answer where there is no memory for one: it has no body
 abbrev pub memory_text : List ℕ
 memory_text = status_line 503 ++ length_line 0 ++ close_line ++ codes "\r\n"
+
+-- all bytes of the answer where what it would rest on isn't recorded
+abbrev pub not_kept_text : List ℕ
+not_kept_text = answer_text (record { status = 503; allow = None; body = codes "{\"error\":\"not_kept\"}" })

@@ -1,6 +1,6 @@
 //! The whole text of an answer.
 ghost use Rattle.std.specs.Prelude.{◌≡◌, ◌++◌, IfOk, OnOk, option_map, string_bytes};
-ghost use Rattle.mds_response.specs.Head.{allow_line, answer_text, memory_text};
+ghost use Rattle.mds_response.specs.Head.{allow_line, answer_text, memory_text, not_kept_text};
 
 use http::StatusCode;
 use std::alloc::{AllocError, Global};
@@ -10,6 +10,10 @@ use std::fmt::Write as _;
 const MEMORY_ANSWER: &str =
     "HTTP/1.1 503 Service Unavailable\r\ncontent-length: 0\r\nconnection: close\r\n\r\n";
 
+/// The answer where what it would rest on isn't recorded.
+const NOT_KEPT_ANSWER: &str =
+    "HTTP/1.1 503 Service Unavailable\r\ncontent-type: application/json\r\ncontent-length: 20\r\nconnection: close\r\n\r\n{\"error\":\"not_kept\"}";
+
 /// Room for the head of any answer.
 const HEAD_ROOM: usize = 192;
 
@@ -18,6 +22,13 @@ pub fn memory_bytes() -> &'static [u8]
     ensures { result.now ≡ memory_text }
 {
     MEMORY_ANSWER.as_bytes()
+}
+
+/// The answer where what it would rest on isn't recorded. It rests on nothing itself.
+pub fn not_kept_bytes() -> &'static [u8]
+    ensures { result.now ≡ not_kept_text }
+{
+    NOT_KEPT_ANSWER.as_bytes()
 }
 
 /// All bytes of an answer of this status and body; where another method was asked for than the route's, `allow` is the

@@ -18,5 +18,5 @@ mod status;
 pub use answer::bytes_of;
 pub use failure::{Cause, Failure};
 pub use found::Found;
-pub use head::memory_bytes;
+pub use head::{memory_bytes, not_kept_bytes};
 pub use status::status_of;

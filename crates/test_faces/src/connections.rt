@@ -2,6 +2,7 @@
 mod answers;
 mod endings;
 mod growths;
+mod kept;
 mod quiet;
 mod seats;
 

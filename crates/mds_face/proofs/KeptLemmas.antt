@@ -1,0 +1,27 @@
+-- How a connection ends at a desk whose answers go out once what they rest on is recorded.
+use Rattle.std.proofs.Common.{ℕ, List, Option, Result, Ok, Err, IfOk, IfErr, inr}
+use Rattle.mds_table.specs.Tables.{Tables}
+use Rattle.mds_core.specs.declared.key.Key.{Key}
+use Rattle.mds_core.specs.declared.request.Request.{Request}
+use Rattle.mds_core.specs.declared.reply.Reply.{Reply}
+use Rattle.mds_core.specs.Reported.{Reported}
+use Rattle.mds_request.specs.Asked.{Asked}
+use Rattle.mds_face.specs.declared.connection.Served.{Served}
+use Rattle.mds_face.specs.declared.kept_desk.KeptFault.{KeptFault}
+use Rattle.mds_face.specs.Serving.{IsAsked}
+use Rattle.mds_face.specs.Kept.{IsKeptAnswer, IsKeptStop, IsServedKept, StopsKept}
+
+module _ {S : Type 0} (Calls : S → Request → Option Reply → S → Type 0) (GivesEvents : S → Key → Option (List Reported) → S → Type 0) (GivesRows : S → Tables → Type 0)
+    (IsKept : S → Type 0) (KeepsDesk : S → S → Type 0) where
+  -- what is known of the answer to what is asked for is known of the connection
+  pub serves_kept : (input : Option (List ℕ)) (what : Asked) (old new : S) (written_old written_new : Option (List ℕ)) (result : Result Served KeptFault)
+      → IsAsked input what → IfOk result (IsKeptAnswer Calls GivesEvents GivesRows IsKept KeepsDesk what old new written_old written_new)
+      → IfOk result (IsServedKept Calls GivesEvents GivesRows IsKept KeepsDesk input old new written_old written_new)
+  serves_kept input what old new written_old written_new (Ok served) asked whole = (what, asked, whole)
+  serves_kept input what old new written_old written_new (Err fault) asked whole = tt
+
+  pub stops_kept : (input : Option (List ℕ)) (what : Asked) (old new : S) (written_old written_new : Option (List ℕ)) (result : Result Served KeptFault)
+      → IsAsked input what → IfErr result (IsKeptStop Calls GivesEvents GivesRows IsKept KeepsDesk what old new written_old written_new)
+      → IfErr result (StopsKept Calls GivesEvents GivesRows IsKept KeepsDesk input old new written_old written_new)
+  stops_kept input what old new written_old written_new (Ok served) asked stopped = tt
+  stops_kept input what old new written_old written_new (Err fault) asked stopped = inr (what, asked, stopped)

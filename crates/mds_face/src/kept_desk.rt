@@ -1,0 +1,178 @@
+//! Serving one connection at a desk whose answers go out once what they rest on is recorded.
+ghost use Rattle.std.specs.Prelude.{◌≡◌, true, IfOk, IfErr, OnOk};
+ghost use Rattle.std.specs.Io.KnownBytes.{Appends};
+ghost use Rattle.mds_request.specs.Asked.{asked_in};
+ghost use Rattle.mds_face.specs.Kept.{IsInstead, IsKeptAnswer, IsKeptStop, IsServedKept, StopsKept, is_of_history};
+ghost use Rattle.mds_face.specs.Reading.{ReadsNoFurther};
+ghost use Rattle.mds_face.specs.Serving.{IsUnwritten};
+
+use crate::connection::{find, out_of_memory, served_of, write_answer};
+use crate::{Desk, ServeFault, Served, read_plan};
+use mds_io::{ReadError, write_all_of};
+use mds_request::{Face, Plan};
+use mds_response::{bytes_of, not_kept_bytes};
+use std::alloc::Global;
+use std::io::{Read, Write};
+
+/// Why what answers rest on isn't known to be recorded.
+#[derive(Clone, Copy, Debug, PartialEq, Eq)]
+pub enum KeepFault {
+    /// There was no memory. It isn't, and may be later.
+    Memory,
+    /// It isn't, and may be later.
+    NotKept,
+    /// That is open, and nothing more will be recorded.
+    Lost,
+}
+
+/// A desk that can see to it that what its answers rest on is recorded.
+pub trait KeptDesk: Desk {
+    ghost use Rattle.std.specs.Prelude.{OnOk};
+
+    /// In a state, all that its answers rest on is recorded.
+    ghost is_kept: { Self → Type 0 };
+
+    /// From a state, keeping leads to the next: its answers rest on the same.
+    ghost keeps: { Self → Self → Type 0 };
+
+    /// Sees to it that all that its answers rest on is recorded.
+    ///
+    /// # Errors
+    ///
+    /// [`KeepFault`] says when each comes.
+    fn keep(&mut self) -> Result<(), KeepFault>
+        ensures kept { OnOk result (is_kept self.new) }
+        ensures keeps { keeps self.old self.new };
+}
+
+/// Why a connection at such a desk wasn't answered whole.
+#[derive(Clone, Copy, Debug, PartialEq, Eq)]
+pub enum KeptFault {
+    /// As at any desk.
+    Serve(ServeFault),
+    /// What the answer rests on isn't recorded: in its place the fixed one that says so was written, as far as the writer took it.
+    /// What was asked of the desk stands.
+    NotKept {
+        /// How many bytes of the fixed answer were written.
+        sent: usize,
+    },
+    /// It is open whether what the answer rests on is recorded, and nothing more will be. Nothing was written.
+    Lost,
+}
+
+/// As [`crate::serve_one`], but that an answer which rests on what was accepted goes out once that is recorded. It is laid out
+/// before.
+///
+/// # Errors
+///
+/// [`KeptFault`] says when each comes, what was done then and what was written.
+pub fn serve_kept<R: Read, W: Write, D: KeptDesk>(
+    alloc: Global,
+    face: &Face,
+    reader: &mut R,
+    writer: &mut W,
+    desk: &mut D,
+) -> Result<Served, KeptFault>
+    ensures served { IfOk result (IsServedKept D.calls D.gives_events D.gives_rows D.is_kept D.keeps
+        (R.remaining reader.old) desk.old desk.new
+        (W.contents writer.old) (W.contents writer.new)) }
+    ensures stopped { IfErr result (StopsKept D.calls D.gives_events D.gives_rows D.is_kept D.keeps
+        (R.remaining reader.old) desk.old desk.new
+        (W.contents writer.old) (W.contents writer.new)) }
+    ensures no_further { ReadsNoFurther (R.remaining reader.old) (R.remaining reader.new) }
+{
+    match read_plan(alloc, face, reader) {
+        Ok(plan) => answer_kept(alloc, writer, desk, plan),
+        Err(ReadError::Memory) => Err(KeptFault::Serve(out_of_memory(writer))),
+        Err(ReadError::Device) => Err(KeptFault::Serve(ServeFault::Read)),
+        Err(ReadError::TooManyTurns) => {
+            Err(KeptFault::Serve(ServeFault::TooManyTurns { sent: 0 }))
+        }
+    }
+}
+
+/// Puts what is asked for to the desk, and writes the answer once what it rests on is recorded. What was asked and what was found
+/// are let go before that.
+///
+/// # Errors
+///
+/// Those of [`serve_kept`] that come after a request was read.
+fn answer_kept<W: Write, D: KeptDesk>(
+    alloc: Global,
+    writer: &mut W,
+    desk: &mut D,
+    plan: Plan,
+) -> Result<Served, KeptFault>
+    ensures answered { IfOk result (IsKeptAnswer D.calls D.gives_events D.gives_rows D.is_kept D.keeps
+        (asked_in plan) desk.old desk.new (W.contents writer.old) (W.contents writer.new)) }
+    ensures stopped { IfErr result (IsKeptStop D.calls D.gives_events D.gives_rows D.is_kept D.keeps
+        (asked_in plan) desk.old desk.new (W.contents writer.old) (W.contents writer.new)) }
+{
+    let Ok(found) = find(alloc, desk, &plan) else {
+        return Err(KeptFault::Serve(out_of_memory(writer)));
+    };
+    let Ok(bytes) = bytes_of(alloc, &plan, &found) else {
+        return Err(KeptFault::Serve(out_of_memory(writer)));
+    };
+    let served = served_of(&plan, &found);
+    let of_history = is_of_history(&plan);
+    drop(found);
+    drop(plan);
+    if of_history {
+        match desk.keep() {
+            Ok(()) => {}
+            Err(fault) => return Err(not_kept(writer, fault)),
+        }
+    }
+    match write_kept(writer, desk, of_history, &bytes) {
+        Ok(()) => Ok(served),
+        Err(fault) => Err(KeptFault::Serve(fault)),
+    }
+}
+
+/// Whether the answer to a plan rests on what was accepted. A fault of the request doesn't, and the tables don't.
+fn is_of_history(plan: &Plan) -> bool
+    ensures { result ≡ is_of_history (asked_in plan.now) }
+{
+    match plan {
+        Plan::Fixed(_) | Plan::Rows => false,
+        Plan::Vehicles(_) | Plan::Events(_) | Plan::One(_) | Plan::History(_) => true,
+    }
+}
+
+/// Writes an answer at a desk: one that rests on what was accepted, once that is recorded.
+///
+/// # Errors
+///
+/// As [`write_answer`].
+fn write_kept<W: Write, D: KeptDesk>(
+    writer: &mut W,
+    _desk: &D,
+    of_history: bool,
+    bytes: &[u8],
+) -> Result<(), ServeFault>
+    requires { of_history ≡ true → D.is_kept _desk.now }
+    ensures ok { OnOk result (Appends (W.contents writer.old) (W.contents writer.new) bytes.now) }
+    ensures err { IfErr result
+        (IsUnwritten bytes.now (W.contents writer.old) (W.contents writer.new)) }
+{
+    write_answer(writer, bytes)
+}
+
+/// Writes what goes out in place of an answer that rests on what isn't recorded, as far as the writer takes it: the fault that
+/// says so.
+fn not_kept<W: Write>(writer: &mut W, fault: KeepFault) -> KeptFault
+    ensures { IsInstead fault (W.contents writer.old) (W.contents writer.new) result }
+{
+    match fault {
+        KeepFault::Memory => KeptFault::Serve(out_of_memory(writer)),
+        KeepFault::NotKept => {
+            let sent = match write_all_of(writer, not_kept_bytes()) {
+                Ok(()) => not_kept_bytes().len(),
+                Err(stop) => stop.sent,
+            };
+            KeptFault::NotKept { sent }
+        }
+        KeepFault::Lost => KeptFault::Lost,
+    }
+}

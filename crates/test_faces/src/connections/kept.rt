@@ -1,0 +1,174 @@
+//! What is answered where what answers rest on is recorded, and where it isn't.
+use super::answers::fleet_over;
+use super::growths::register;
+use super::{Last, client_of, peer_of};
+use crate::cases::{Answer, NO_ROUTE, PROFILE, answer_text};
+use mds_core::{Event, Fleet, Key, Reply, Request};
+use mds_face::{
+    Desk, Face, KeepFault, KeptDesk, KeptFault, ServeFault, Served, memory_bytes, not_kept_bytes,
+    serve_kept,
+};
+use mds_table::Row;
+use std::alloc::{AllocError, Global};
+use test_fixtures::{A, Lack};
+
+/// A fleet, and whether what it answers is recorded.
+#[derive(Drop)]
+struct Recorded {
+    fleet: Fleet,
+    end: Result<(), KeepFault>,
+}
+
+impl Desk for Recorded {
+    ghost use Rattle.std.specs.Prelude.{◌≡◌};
+    ghost use Rattle.mds_core.specs.History.{key_of, requests_of};
+    ghost use Rattle.mds_core.proofs.OfTheirKind.{given_is_for};
+    ghost use Rattle.mds_core.specs.Machine.{events_in};
+    ghost use Rattle.mds_face.specs.Desk.{FleetCalls};
+
+    ghost calls = { λ old request reply new. FleetCalls old.fleet request reply new.fleet };
+
+    ghost gives_events = { λ old key found new. (found ≡ events_in old.fleet.history key)
+        × (new.fleet ≡ old.fleet) };
+
+    ghost gives_rows = { λ desk tables. tables ≡ desk.fleet.tables };
+
+    ghost of_its_kind = { λ old request reply new calls. given_is_for old.fleet.tables
+        (requests_of old.fleet.history (key_of request)) request reply.outcome
+        (calls.answer).outcome };
+
+    fn call(&mut self, request: &Request) -> Result<Reply, AllocError> {
+        self.fleet.step(request)
+    }
+
+    fn events(&mut self, key: &Key) -> Result<Option<Vec<Event>>, AllocError> {
+        Desk::events(&mut self.fleet, key)
+    }
+
+    fn rows(&mut self) -> Result<Vec<(u64, Vec<Row>)>, AllocError> {
+        Desk::rows(&mut self.fleet)
+    }
+}
+
+impl KeptDesk for Recorded {
+    ghost use Rattle.std.specs.Prelude.{◌≡◌, IsOk};
+
+    ghost is_kept = { λ desk. IsOk desk.end };
+
+    ghost keeps = { λ old new. new.fleet ≡ old.fleet };
+
+    fn keep(&mut self) -> Result<(), KeepFault> {
+        self.end
+    }
+}
+
+/// What is asked, whether what answers rest on is recorded, what is said of the connection, and what is written.
+type Case = (
+    &'static str,
+    Result<(), KeepFault>,
+    Result<Served, KeptFault>,
+    Written,
+);
+
+/// What is written.
+enum Written {
+    /// This answer.
+    Answer(Answer),
+    /// The fixed one where there is no memory.
+    Memory,
+    /// The fixed one that says that something isn't recorded.
+    NotKept,
+    /// Nothing.
+    Nothing,
+}
+
+const NOWHERE: &str = "GET /nothing HTTP/1.1\r\n\r\n";
+
+const LOOK: &str =
+    "GET /vehicles/00000000-0000-4000-8000-000000000001/00000000-0000-4000-8000-00000000000a HTTP/1.1\r\n\r\n";
+
+const REGISTERED: Answer = ok!(
+    r#"{"device_id":"00000000-0000-4000-8000-00000000000a","events":0,"last":null,"location_e7":null,"provider_id":"00000000-0000-4000-8000-000000000001","vehicle_state":"removed"}"#
+);
+
+const CASES: &[Case] = &[
+    (
+        LOOK,
+        Ok(()),
+        Ok(Served {
+            status: 200,
+            accepted: 0,
+        }),
+        Written::Answer(REGISTERED),
+    ),
+    (
+        LOOK,
+        Err(KeepFault::NotKept),
+        Err(KeptFault::NotKept { sent: 127 }),
+        Written::NotKept,
+    ),
+    (
+        LOOK,
+        Err(KeepFault::Memory),
+        Err(KeptFault::Serve(ServeFault::Memory { sent: 74 })),
+        Written::Memory,
+    ),
+    (
+        LOOK,
+        Err(KeepFault::Lost),
+        Err(KeptFault::Lost),
+        Written::Nothing,
+    ),
+    // A fault of the request rests on nothing.
+    (
+        NOWHERE,
+        Err(KeepFault::Lost),
+        Ok(Served {
+            status: 404,
+            accepted: 0,
+        }),
+        Written::Answer(NO_ROUTE),
+    ),
+];
+
+/// Whether a fleet in which A is registered answers so.
+fn answers_so(alloc: Global, case: &Case) -> Result<bool, Lack> {
+    let (request, end, said, written) = case;
+    let face = Face::open(alloc)?;
+    let mut fleet = fleet_over(alloc, PROFILE)?;
+    register(&mut fleet, A)?;
+    let mut desk = Recorded { fleet, end: *end };
+    let mut client = client_of(request.as_bytes(), usize::MAX, Last::Ends);
+    let mut peer = peer_of(alloc)?;
+    let served = serve_kept(alloc, &face, &mut client, &mut peer, &mut desk);
+    let is_written = match written {
+        Written::Answer(answer) => peer.taken.as_slice() == answer_text(alloc, *answer)?.as_bytes(),
+        Written::Memory => peer.taken.as_slice() == memory_bytes(),
+        Written::NotKept => peer.taken.as_slice() == not_kept_bytes(),
+        Written::Nothing => peer.taken.is_empty(),
+    };
+    Ok(served == *said && is_written)
+}
+
+/// The same, asked again where it wasn't so, or there was no memory for another call.
+fn answers_so_again(alloc: Global, case: &Case) -> Result<bool, Lack> {
+    match answers_so(alloc, case) {
+        Ok(false) | Err(Lack::Memory) => answers_so(alloc, case),
+        found => found,
+    }
+}
+
+/// The first case that is answered otherwise.
+fn first_other(alloc: Global) -> Result<Option<usize>, Lack> {
+    for (place, case) in CASES.iter().enumerate() {
+        if !answers_so_again(alloc, case)? {
+            return Ok(Some(place));
+        }
+    }
+    Ok(None)
+}
+
+#[test]
+fn kept_answers_go_out_after_a_refused_growth(rt: HostRuntime) {
+    assert_eq!(rt; first_other(rt.alloc()), Ok(None));
+}
