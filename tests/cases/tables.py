@@ -45,9 +45,10 @@ PROFILE_ROWS = 74
 EIGHT = " ".join(STATES[:8])
 TYPES = [f"k{number:02}" for number in range(65)]
 MOST_ROWS = [(kind, EIGHT, EIGHT) for kind in TYPES[:64]]
-# All pairs of nine states are 81: 50 types have 4050 rows, and with one more type there would be too many.
+# All pairs of nine states are 81: 50 types have 4050 rows, and with one more type there would be more than 4096.
 ALL = " ".join(STATES)
-ALL_PAIRS = [(kind, ALL, ALL) for kind in TYPES[:50]]
+MOST_KINDS = 4096 // len(STATES) ** 2
+ALL_PAIRS = [(kind, ALL, ALL) for kind in TYPES[:MOST_KINDS]]
 MOST_TYPES = [(kind, "removed", "available") for kind in TYPES[:64]]
 ONE_MORE = ("one_more", "removed", "available")
 BAD = ("Bad", "removed", "available")
@@ -139,7 +140,7 @@ FAULTS = [
     (table_file(MOST_TYPES + [ONE_MORE]), "too_many_types"),
     (table_file(MOST_TYPES + [ONE_MORE, BAD]), "too_many_types"),
     (table_file(MOST_TYPES + [BAD, ONE_MORE]), "bad_row 64"),
-    (table_file([*ALL_PAIRS, (TYPES[50], ALL, ALL)]), "too_many_rows"),
+    (table_file([*ALL_PAIRS, (TYPES[MOST_KINDS], ALL, ALL)]), "too_many_rows"),
     (table_file([(kind, ALL, ALL) for kind in TYPES[:64]]), "too_many_rows"),
 ]
 
@@ -153,7 +154,7 @@ TABLES = [
     ("most rows, some twice", table_file(MOST_ROWS + MOST_ROWS[:2]), MOST_ROWS),
     ("most types", table_file(MOST_TYPES * 2), MOST_TYPES),
     ("a row more of one of most types", table_file([*MOST_TYPES, DEPOT]), [*MOST_TYPES, DEPOT]),
-    ("all pairs of 50 types, and a row of one more", table_file([*ALL_PAIRS, ONE_MORE]), [*ALL_PAIRS, ONE_MORE]),
+    ("all pairs of as many types as have room, and a row of one more", table_file([*ALL_PAIRS, ONE_MORE]), [*ALL_PAIRS, ONE_MORE]),
     ("most bytes", padded(ONE_ROW, MAX_BYTES), [WAKE]),
     ("`rows` twice", '{"rows": 7, ' + ONE_ROW[1:], [WAKE]),
     ("other members", '{"more": %s, "rows": [%s]}' % (lists(126), entry(more="{}")), [WAKE]),

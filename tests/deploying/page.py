@@ -6,7 +6,7 @@ import json
 import re
 
 from cases.replays import identifier
-from cases.tables import PROFILE
+from cases.tables import PROFILE, PROFILE_ROWS
 from deploying.passing import NOBODY, path_of, sent
 from deploying.proxies import CITY, PROVIDERS, TOKENS
 from deploying.vehicles import event, short_events, vehicle
@@ -206,7 +206,8 @@ def the_table(city):
     there_is(city, TRIED)
     fill_in(page, token=TOKENS[1], provider=PROVIDERS[0], device=TRIED["device_id"])
     rows = json.loads(city.ask(sent("GET", "/table", TOKENS[1]))[2])["rows"]
-    told = "One table, in force at all times; rows: 74, types: 27, states: 8."
+    types, states = {kind for kind, *_ in PROFILE}, {state for _, *both in PROFILE for states in both for state in states.split()}
+    told = f"One table, in force at all times; rows: {PROFILE_ROWS}, types: {len(types)}, states: {len(states)}."
     yield from unlike("the status", submit(page, "table"), told)
     yield from unlike("rows", rows_of(page, "rows"), [[row["type"], row["from"], row["to"]] for row in rows])
     yield from pictured(page, rows)
