@@ -287,7 +287,7 @@ fn ended_again<R: RandomSource + Wait>(
     }
 }
 
-/// Whether a case comes to its end. Where the book isn't opened the file is as it was.
+/// Whether a case comes to its end. Where the book isn't opened the file is as it was. There may be no memory for its text.
 fn comes_to_its_end<R: RandomSource + Wait>(
     rt: &R,
     alloc: Global,
@@ -304,7 +304,11 @@ fn comes_to_its_end<R: RandomSource + Wait>(
 /// The number of the first case that comes to another end.
 fn first_difference<R: RandomSource + Wait>(rt: &R, alloc: Global) -> Result<Option<usize>, Lack> {
     for (at, case) in CASES.iter().enumerate() {
-        if !comes_to_its_end(rt, alloc, case)? {
+        let comes = match comes_to_its_end(rt, alloc, case) {
+            Err(Lack::Memory) => comes_to_its_end(rt, alloc, case)?,
+            found => found?,
+        };
+        if !comes {
             return Ok(Some(at));
         }
     }
