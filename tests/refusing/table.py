@@ -90,7 +90,10 @@ calls of the library that it makes."""
 WITHOUT = ["mds_table::Tables::new", "mds_io::flush_page"]
 """Calls that take no memory, though their fault is a type that could tell of a lack: that of calls beside them."""
 
-WITHIN = {"mds_follow::Record::append": "mds_follow::SharedFollower::commit"}
+WITHIN = {
+    "mds_face::KeptDesk::keep": "mds_face::serve_kept",
+    "mds_follow::Record::append": "mds_follow::SharedFollower::commit",
+}
 """Calls that another call of their crate makes, whose test refuses their growths with its own."""
 
 QUIET = {
