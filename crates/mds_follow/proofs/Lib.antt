@@ -1,4 +1,6 @@
 pub mod Parts
+pub mod Covering
+pub mod Lives
 pub mod Safety
 pub mod Desks
 pub mod Pulls

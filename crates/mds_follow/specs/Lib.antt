@@ -3,5 +3,6 @@ pub mod Parts
 pub mod Record
 pub mod Group
 pub mod Restart
+pub mod Lives
 pub mod Disk
 pub mod Reading

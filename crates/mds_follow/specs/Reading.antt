@@ -6,7 +6,8 @@ use Rattle.mds_core.specs.declared.request.Request.{Request}
 use Rattle.mds_core.specs.Answer.{MayBeDone}
 use Rattle.mds_journal.specs.Lines.{recovered}
 use Rattle.mds_journal.specs.Journal.{HasShortEnd}
-use Rattle.mds_journal.specs.Opening.{IsTooLong}
+use Rattle.mds_journal.specs.Opening.{IsReading, IsTooLong, limit_of, number_of, unread}
+use Rattle.mds_journal.specs.declared.opening.Opening.{Opening}
 use Rattle.mds_journal.specs.declared.device.DeviceError.{DeviceError}
 use Rattle.mds_journal.specs.declared.device.DeviceError.TheVariants as device
 use Rattle.mds_journal.specs.declared.opening.OpenError.{OpenError}
@@ -69,6 +70,14 @@ IsNoJournalFault Memory = Unit {0}
 IsNoJournalFault Device = Unit {0}
 IsNoJournalFault (Journal fault) = ⊥
 IsNoJournalFault Shared = ⊥
+
+-- a journal is read at a start: its first line names the form, and the line of its first request comes next
+pub record IsAtFirstRequest {D : Type 0} (seen : D → List ℕ) (may_leave : D → List ℕ → Type 0) (may_be_used is_true : D → Type 0)
+    (opening : Opening D) : Type 0 where
+  pub reading : IsReading seen may_leave may_be_used is_true opening
+  pub limit : limit_of opening ≡ max_bytes
+  pub number : number_of opening ≡ 1
+  pub form : is_true opening.device → recovered (seen opening.device) ≡ form_line ∷ recovered (unread seen opening)
 
 -- no more lines count
 abbrev pub HasNoMore : List ℕ → Type 0

@@ -1,5 +1,6 @@
 //! What follows the histories of a book, and records them.
 ghost use Rattle.std.specs.Prelude.{◌≡◌, ◌<◌, ◌≤◌, ◌^◌, [], length, IfOk, OnOk, OnErr};
+ghost use Rattle.std.specs.List.{All};
 ghost use mathlib.Core.List.{IsPrefix};
 ghost use Rattle.mds_log.specs.Log.{requests};
 ghost use Rattle.mds_follow.specs.Parts.{Covers, part};
@@ -166,6 +167,27 @@ impl<F: Record, L: ShardLedger, M: ShardLedger, J: RecordLog> Follower<F, L, M, 
         }
         // It never comes here: each round records a request more, and no history is as long.
         Err(RecordFault::NotKept)
+    }
+
+    /// Records what the shards have accepted, until all is recorded that each of these seats has seen.
+    ///
+    /// # Errors
+    ///
+    /// As [`Record::append`].
+    pub fn follow_all<R: Wait>(
+        &mut self,
+        rt: &R,
+        alloc: Global,
+        book: &Book<L, M>,
+        seats: &[Seat<L, M>],
+    ) -> Result<(), RecordFault>
+        ensures begins { IsPrefix self.old self.new }
+        ensures covers { OnOk result (All (λ seat. Covers seat (requests self.new)) seats.now) }
+    {
+        for seat in seats {
+            self.follow(rt, alloc, book, seat)?;
+        }
+        Ok(())
     }
 
     /// Shows a receipt all that is recorded.

@@ -14,6 +14,7 @@ mod blank;
 mod desk;
 mod disk;
 mod follower;
+pub mod laws;
 mod reader;
 mod receipt;
 mod record;

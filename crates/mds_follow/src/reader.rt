@@ -6,7 +6,7 @@ ghost use Rattle.mds_journal.specs.Lines.{recovered};
 ghost use Rattle.mds_journal.specs.Journal.{IsSound, MayGoOn, StandsFor};
 ghost use Rattle.mds_journal.specs.Opening.{IsReading, KeepsLines, limit_of, number_of, place_of, unread};
 ghost use Rattle.mds_entries.specs.Form.{form_line};
-ghost use Rattle.mds_follow.specs.Reading.{HasNoMore, IsEndFault, IsFormFault, IsJournalFault, IsLineFault, IsOpenFault, KeepsOrBegins, StaysOrBegins, TellsNext};
+ghost use Rattle.mds_follow.specs.Reading.{HasNoMore, IsAtFirstRequest, IsEndFault, IsFormFault, IsJournalFault, IsLineFault, IsOpenFault, KeepsOrBegins, StaysOrBegins, TellsNext};
 
 use crate::blank::with_form;
 use crate::start_fault::{call_fault, line_fault};
@@ -73,13 +73,8 @@ impl<D: Device> RequestReader<D> {
     /// `Device` where a call of the device failed, `Memory`. The device comes back.
     pub fn open(alloc: Global, device: D) -> Result<RequestReader<D>, (StartFault, D)>
         requires { D.may_be_used device }
-        ensures reading { IfOk result (λ reader.
-            IsReading D.seen D.may_leave D.may_be_used D.is_true reader.opening) }
-        ensures limit { IfOk result (λ reader. limit_of reader.opening ≡ max_bytes) }
-        ensures number { IfOk result (λ reader. number_of reader.opening ≡ 1) }
-        ensures form { IfOk result (λ reader. D.is_true reader.opening.device
-            → recovered (D.seen reader.opening.device)
-            ≡ form_line ∷ recovered (unread D.seen reader.opening)) }
+        ensures at_first { IfOk result (λ reader.
+            IsAtFirstRequest D.seen D.may_leave D.may_be_used D.is_true reader.opening) }
         ensures kept { IfOk result (λ reader. D.is_true reader.opening.device
             → StaysOrBegins (D.seen device) (D.seen reader.opening.device)) }
         // A crash at any moment leaves what one before might have left, or the same lines, or the form in a file that had none.
@@ -214,7 +209,7 @@ impl<D: Device> RequestReader<D> {
     }
 
     /// The file, as it is.
-    pub(crate) fn into_device(self) -> D
+    pub fn into_device(self) -> D
         ensures { result ≡ self.opening.device }
     {
         let RequestReader {

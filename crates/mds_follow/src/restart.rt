@@ -10,10 +10,9 @@ ghost use Rattle.mds_table.specs.Json.{max_bytes};
 ghost use Rattle.mds_journal.specs.Device.{Untouched};
 ghost use Rattle.mds_journal.specs.Lines.{recovered};
 ghost use Rattle.mds_journal.specs.Opening.{IsReading, limit_of, number_of, place_of, unread};
-ghost use Rattle.mds_entries.specs.Form.{form_line};
 ghost use Rattle.mds_follow.specs.Disk.{IsTold};
 ghost use Rattle.mds_follow.specs.Record.{recorded_at};
-ghost use Rattle.mds_follow.specs.Reading.{HasNoMore, IsEntryFault, IsJournalFault, IsStartFault};
+ghost use Rattle.mds_follow.specs.Reading.{HasNoMore, IsAtFirstRequest, IsEntryFault, IsJournalFault, IsStartFault};
 ghost use Rattle.mds_follow.specs.Restart.{HasAll, IsFilled, IsRefilled, TakesBack};
 
 use crate::{Disk, Follower, RecordLog, RequestReader, StartFault};
@@ -47,6 +46,7 @@ fn refill<L: ShardLedger, M: ShardLedger, R: Wait>(
     request: &Request,
 ) -> Result<(), RefillFault>
     requires { HasAll seat.old }
+    ensures keep { seat.new.keeps_all ≡ seat.old.keeps_all }
     ensures all { OnOk result (HasAll seat.new) }
     ensures memory { result ≡ Err RefillFault.Memory → seat.new ≡ seat.old }
     ensures filled { OnOk result (IsFilled seat.old request.now seat.new) }
@@ -84,6 +84,7 @@ fn take_back<D: Device, L: ShardLedger, M: ShardLedger, J: RecordLog, R: Wait>(
     requires limit { limit_of reader.old.opening ≡ max_bytes }
     requires number { number_of reader.old.opening ≡ length keeper.old + 1 }
     requires refilled { IsRefilled seat.old keeper.old }
+    ensures keep { seat.new.keeps_all ≡ seat.old.keeps_all }
     ensures reading { IsReading D.seen D.may_leave D.may_be_used D.is_true reader.new.opening }
     ensures limit { limit_of reader.new.opening ≡ max_bytes }
     ensures taken { IfOk result (λ more. more ≡ true
@@ -135,14 +136,11 @@ fn read_back<D: Device, L: ShardLedger, M: ShardLedger, J: RecordLog, R: Wait>(
     reader: &mut RequestReader<D>,
     keeper: &mut Keeper<J>,
 ) -> Result<(), StartFault>
-    requires reading { IsReading D.seen D.may_leave D.may_be_used D.is_true reader.old.opening }
-    requires limit { limit_of reader.old.opening ≡ max_bytes }
-    requires number { number_of reader.old.opening ≡ 1 }
-    requires form { D.is_true reader.old.opening.device
-        → recovered (D.seen reader.old.opening.device)
-        ≡ form_line ∷ recovered (unread D.seen reader.old.opening) }
+    requires at_first { IsAtFirstRequest D.seen D.may_leave D.may_be_used D.is_true
+        reader.old.opening }
     requires none { keeper.old ≡ [] }
     requires fresh { IsRefilled seat.old [] }
+    ensures keep { seat.new.keeps_all ≡ seat.old.keeps_all }
     ensures reading { IsReading D.seen D.may_leave D.may_be_used D.is_true reader.new.opening }
     ensures short { OnOk result (length keeper.new < 2 ^ 63) }
     ensures refilled { OnOk result (IsRefilled seat.new keeper.new) }
@@ -185,16 +183,14 @@ pub fn resume<D: Device, L: ShardLedger, M: ShardLedger, J: RecordLog, R: Wait>(
     mut reader: RequestReader<D>,
     log: BlankLog,
 ) -> Result<Follower<Disk<D>, L, M, J>, (StartFault, D)>
-    requires reading { IsReading D.seen D.may_leave D.may_be_used D.is_true reader.opening }
-    requires limit { limit_of reader.opening ≡ max_bytes }
-    requires number { number_of reader.opening ≡ 1 }
-    requires form { D.is_true reader.opening.device → recovered (D.seen reader.opening.device)
-        ≡ form_line ∷ recovered (unread D.seen reader.opening) }
+    requires at_first { IsAtFirstRequest D.seen D.may_leave D.may_be_used D.is_true
+        reader.opening }
     requires log { log ≡ J.log }
     requires start { J.start ≡ D.moment reader.opening.device }
     requires held { (told : List Requested)
         → IsTold (recovered (D.seen reader.opening.device)) told → J.held told }
     requires fresh { IsRefilled seat.old [] }
+    ensures keep { seat.new.keeps_all ≡ seat.old.keeps_all }
     ensures refilled { IfOk result (λ follower. IsRefilled seat.new follower) }
     ensures fault { IfErr result (λ error. D.is_true error.1
         → IsStartFault book.now.tables (D.seen reader.opening.device) error.0) }

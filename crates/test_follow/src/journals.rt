@@ -1,12 +1,10 @@
 //! What becomes of a journal in memory over which a book is opened and asked.
-ghost use Rattle.std.specs.Prelude.{◌≡◌, ◌∷◌, false, replicate, List};
-ghost use Rattle.mds_table.specs.Json.{max_bytes};
+ghost use Rattle.std.specs.Prelude.{◌≡◌, false, replicate, List};
 ghost use Rattle.mds_core.specs.declared.request.Request.{Request as Requested};
 ghost use Rattle.mds_journal.specs.Lines.{recovered};
-ghost use Rattle.mds_journal.specs.Opening.{IsReading, limit_of, number_of, unread};
-ghost use Rattle.mds_entries.specs.Form.{form_line};
 ghost use Rattle.mds_book.specs.Seats.{fresh};
 ghost use Rattle.mds_follow.specs.Disk.{IsTold};
+ghost use Rattle.mds_follow.specs.Reading.{IsAtFirstRequest};
 
 use mds_book::{Blank, Book, Keep, Seat, ShardLedger, reconcile};
 use mds_core::Request;
@@ -195,11 +193,8 @@ fn ended_at<D: Device + Drop, L: ShardLedger, M: ShardLedger, J: RecordLog, R: W
     case: &Case,
 ) -> Result<Result<Disk<D>, (StartFault, D)>, Lack>
     requires seats { seats.items ≡ replicate 2 (fresh false) }
-    requires reading { IsReading D.seen D.may_leave D.may_be_used D.is_true reader.opening }
-    requires limit { limit_of reader.opening ≡ max_bytes }
-    requires number { number_of reader.opening ≡ 1 }
-    requires form { D.is_true reader.opening.device → recovered (D.seen reader.opening.device)
-        ≡ form_line ∷ recovered (unread D.seen reader.opening) }
+    requires at_first { IsAtFirstRequest D.seen D.may_leave D.may_be_used D.is_true
+        reader.opening }
     requires log { log ≡ J.log }
     requires start { J.start ≡ D.moment reader.opening.device }
     requires held { (told : List Requested)
@@ -231,11 +226,8 @@ fn ended_in<D: Device + Drop, L: ShardLedger, M: ShardLedger, J: RecordLog, R: W
     requires first_log { (first.log ≡ L.log) × (first.marks ≡ L.marks) }
     requires second_log { (second.log ≡ M.log) × (second.marks ≡ M.marks) }
     requires tables { (tables ≡ L.tables) × (tables ≡ M.tables) }
-    requires reading { IsReading D.seen D.may_leave D.may_be_used D.is_true reader.opening }
-    requires limit { limit_of reader.opening ≡ max_bytes }
-    requires number { number_of reader.opening ≡ 1 }
-    requires form { D.is_true reader.opening.device → recovered (D.seen reader.opening.device)
-        ≡ form_line ∷ recovered (unread D.seen reader.opening) }
+    requires at_first { IsAtFirstRequest D.seen D.may_leave D.may_be_used D.is_true
+        reader.opening }
     requires log { log ≡ J.log }
     requires start { J.start ≡ D.moment reader.opening.device }
     requires held { (told : List Requested)

@@ -20,11 +20,12 @@ requests-init g c =
     let Read : List Acceptance → Type 0 = λ w. IsReadTo file (requests w) left in
     let At : List Acceptance → Type 0 = λ w. w ≡ recorded_at (g.D.Device.moment opening.device) (requests w) in
     record {
-      reading = c.requires.reading;
-      limit = c.requires.limit;
-      number = omega (arith, c.requires.number, ap (λ (w : List Acceptance). length w) none);
+      reading = c.requires.at_first.reading;
+      limit = c.requires.at_first.limit;
+      number = omega (arith, c.requires.at_first.number, ap (λ (w : List Acceptance). length w) none);
       refilled = subst Refilled (sym none) c.requires.fresh;
-      read = λ truth. subst Read (sym none) (read_form file left (c.requires.form truth));
+      keep = refl;
+      read = λ truth. subst Read (sym none) (read_form file left (c.requires.at_first.form truth));
       at_start = λ truth. subst At (sym none) refl;
       untouched = λ truth. record { file = refl; outcomes = λ outcome may. may; time = refl; past = λ t outcome was. was };
       was_true = λ truth. truth;
@@ -48,6 +49,7 @@ requests-preserved g c =
       limit = c.take_back.ensures.limit;
       number = c.in-Ok-true.ensures.number;
       refilled = c.in-Ok-true.ensures.refilled;
+      keep = c.take_back.ensures.keep ∙ was.keep;
       read = λ truth.
           let before = c.take_back.ensures.was_true truth in
           subst Read (sym (asked_more _ old new took.request took.noted))

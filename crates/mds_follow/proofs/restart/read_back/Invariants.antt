@@ -15,6 +15,7 @@ invariant-requests g l = record {
   limit : limit_of l.reader.opening ≡ max_bytes;
   number : number_of l.reader.opening ≡ length l.keeper + 1;
   refilled : IsRefilled l.seat l.keeper;
+  keep : l.seat.keeps_all ≡ l.initial.seat.keeps_all;
   read : g.D.Device.is_true l.reader.opening.device
       → IsReadTo (g.D.Device.seen l.initial.reader.opening.device) (requests l.keeper) (unread g.D.Device.seen l.reader.opening);
   at_start : g.D.Device.is_true l.reader.opening.device → l.keeper ≡ recorded_at (g.D.Device.moment l.initial.reader.opening.device) (requests l.keeper);
