@@ -126,6 +126,9 @@ WRONG = [
     ["debug", "events.json", P, A, "--any"],
     ["debug", "events.json", P, A, "--lines"],
     ["debug", "events.json", P, A, "--table"],
+    ["serve", "--port", "0", "--each", "1", "--journal"],
+    ["serve", "--port", "0", "--each", "1", "--journal", "a", "--journal", "b"],
+    ["vehicles", "a.journal", "--journal", "b"],
 ]
 # Words, and what `clap` says of the mistake in them.
 MISTAKES = [

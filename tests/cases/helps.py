@@ -22,11 +22,12 @@ SERVE = """Serves vehicles over HTTP at 127.0.0.1
 Usage: mds_city serve [OPTIONS] --port <N> --each <N>
 
 Options:
-      --port <N>      The port's number; 0 is a free one
-      --each <N>      How many connections each worker answers
-      --workers <N>   How many workers there are [default: 4]
-      --table <FILE>  A table of transitions, or several with times; without it the profile's
-  -h, --help          Print help
+      --port <N>        The port's number; 0 is a free one
+      --each <N>        How many connections each worker answers
+      --workers <N>     How many workers there are [default: 4]
+      --table <FILE>    A table of transitions, or several with times; without it the profile's
+      --journal <FILE>  A journal of what is accepted; without it that ends with the process
+  -h, --help            Print help
 """
 REPLAY = """Replays the events of a file
 

@@ -29,6 +29,7 @@ PASSED_ON = {
     "mds_lines/lines.rt": {"Lines::take": ["taker.take"]},
     "mds_lines/reader.rt": {"feed": ["bytes.extend_from_slice"]},
     "mds_pool/pool.rt": {"serve": ["serve_round"], "serve_round": ["(room, back, answered)"]},
+    "mds_pool/recorded_book.rt": {"RecordedBook::serve": ["Face::open", "serve_round"]},
     "mds_pool/serving.rt": {"serve_and_settle": ["Face::open", "serve_round"]},
     "mds_request/face.rt": {"add_route": ["router.insert"]},
     "mds_shard/vehicle.rt": {"keep_name": ["names.insert"], "keep": ["keep_name", "vehicles.insert"]},

@@ -61,6 +61,10 @@ TESTED = {
     ("mds_face", "test_faces", "a_seat_answers_after_a_refused_growth"): ["Desk::call", "Desk::events", "Desk::rows"],
     ("mds_pool", "test_edge", "workers_serve_after_a_refused_growth"): ["serve"],
     ("mds_pool", "test_edge", "a_book_is_settled_after_a_refused_growth"): ["serve_and_settle"],
+    ("mds_pool", "test_edge", "a_book_is_served_over_its_journal_after_a_refused_growth"): [
+        "RecordedBook::open",
+        "RecordedBook::serve",
+    ],
     ("mds_waiting", "test_edge", "a_key_is_found_after_a_refused_growth"): ["Waiting::vacancy"],
     ("mds_args", "test_words", "words_are_read_after_a_refused_growth"): ["parse_words"],
     ("mds_journal", "test_journal", "lines_are_added_after_a_refused_growth"): [
@@ -93,8 +97,10 @@ WITHOUT = ["mds_table::Tables::new", "mds_io::flush_page"]
 WITHIN = {
     "mds_face::KeptDesk::keep": "mds_face::serve_kept",
     "mds_follow::Record::append": "mds_follow::SharedFollower::commit",
+    "mds_follow::Follower::follow_all": "mds_pool::RecordedBook::serve",
+    "mds_pool::Recorder::commit": "mds_pool::RecordedBook::serve",
 }
-"""Calls that another call of their crate makes, whose test refuses their growths with its own."""
+"""Calls that another call makes, whose test refuses their growths with its own."""
 
 QUIET = {
     ("mds_table", "test_rules", "tables_are_told_of_with_every_growth_refused"): [

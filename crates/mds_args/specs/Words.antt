@@ -24,6 +24,10 @@ option_rule name = record (long_rule name) { value_names = 1 }
 abbrev pub table_rule : Rule
 table_rule = option_rule (codes "table")
 
+-- the option `--journal`
+abbrev pub journal_rule : Rule
+journal_rule = option_rule (codes "journal")
+
 -- a flag of this name
 abbrev pub flag_rule : Text → Rule
 flag_rule name = record (long_rule name) { action = Some SetTrue }
@@ -50,10 +54,11 @@ max_workers = 64
 abbrev pub workers_rule : Text → Rule
 workers_rule number = record (number_rule (codes "workers") 1 max_workers) { defaults = number ∷ [] }
 
--- the command `serve`, with its numbers and the option
+-- the command `serve`, with its numbers and the options
 abbrev pub serve_app : App
 serve_app =
-    with_rule (with_rule (with_rule (with_rule (new_app (codes "serve")) (needed_number_rule (codes "port") max_port)) (needed_number_rule (codes "each") max_each)) (workers_rule (codes "4"))) table_rule
+    with_rule (with_rule (with_rule (with_rule (with_rule (new_app (codes "serve")) (needed_number_rule (codes "port") max_port))
+    (needed_number_rule (codes "each") max_each)) (workers_rule (codes "4"))) table_rule) journal_rule
 
 -- the command `replay`, with its file, the table's option, the flags and the number of workers
 abbrev pub replay_app : App
@@ -89,7 +94,7 @@ IsTold app form = IfOk form (λ told. app_of told ≡ app)
 
 -- the name of a command
 abbrev pub name_of : Command → Text
-name_of (Serve port each workers table) = codes "serve"
+name_of (Serve port each workers table journal) = codes "serve"
 name_of (Replay file table any lines workers) = codes "replay"
 name_of (Debug file provider device table) = codes "debug"
 name_of (Table table) = codes "table"
@@ -114,11 +119,12 @@ LacksNumber values =
 abbrev pub LacksFileOrWorkers : List Row → Type 0
 LacksFileOrWorkers values = (first_of (codes "FILE") values ≡ None) ⊎ HasNoNumber 1 max_workers (first_of (codes "workers") values)
 
--- the values that were found are those of this command; it has no table where none was given, and a flag that is set is true
+-- the values that were found are those of this command; it has no table or journal where none was given, and a flag that is set is true
 abbrev pub HasValues : List Row → Command → Type 0
-HasValues values (Serve port each workers table) =
+HasValues values (Serve port each workers table journal) =
     IsNumber 0 max_port (first_of (codes "port") values) port × IsNumber 0 max_each (first_of (codes "each") values) each
     × IsNumber 1 max_workers (first_of (codes "workers") values) workers × (first_of (codes "table") values ≡ option_map (λ path. path.now) table)
+    × (first_of (codes "journal") values ≡ option_map (λ path. path.now) journal)
 HasValues values (Replay file table any lines workers) =
     (first_of (codes "FILE") values ≡ Some file.now) × (first_of (codes "table") values ≡ option_map (λ path. path.now) table)
     × (IsTrue any ↔ (first_of (codes "any") values ≡ Some (codes "true"))) × (IsTrue lines ↔ (first_of (codes "lines") values ≡ Some (codes "true")))

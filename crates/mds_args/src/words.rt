@@ -10,7 +10,7 @@ ghost use Rattle.mds_args.specs.Words.{HasNoNumber, HasValues, IsNumber, IsTold}
 ghost use Rattle.mds_args.specs.Words.{LacksFileOrWorkers, LacksNumber, LacksOneOf};
 ghost use Rattle.mds_args.specs.Words.{name_of, debug_app, flag_rule, long_rule, max_each, max_port, max_workers};
 ghost use Rattle.mds_args.specs.Words.{needed_number_rule, number_rule, option_rule, program_app, replay_app};
-ghost use Rattle.mds_args.specs.Words.{serve_app, table_app, table_rule, vehicles_app, word_rule, workers_rule};
+ghost use Rattle.mds_args.specs.Words.{journal_rule, serve_app, table_app, table_rule, vehicles_app, word_rule, workers_rule};
 
 use crate::error::{WordsError, WordsErrorKind};
 use clap::builder::ValueParser;
@@ -32,6 +32,9 @@ pub enum Command<'a> {
         workers: usize,
         /// As for `Replay`.
         table: Option<&'a str>,
+        /// The path of the journal in which what is accepted is recorded, or `None`: then all that is known ends with the
+        /// process. Here `-` is a file of that name.
+        journal: Option<&'a str>,
     },
     /// Replay the events of a file.
     Replay {
@@ -196,6 +199,7 @@ fn serve_of<'a>(values: &ArgMatches<'a>) -> Option<Command<'a>>
         each: each as usize,
         workers,
         table: values.get_str("table"),
+        journal: values.get_str("journal"),
     })
 }
 
@@ -365,7 +369,8 @@ fn serve_form<'a>(alloc: Global) -> Form<'a>
         MAX_EACH,
         "How many connections each worker answers",
     );
-    with_table(alloc, with_workers(alloc, with_each, "4"))
+    let with_tables = with_table(alloc, with_workers(alloc, with_each, "4"));
+    with_journal(alloc, with_tables)
 }
 
 /// What `clap` is told of the command `replay`.
@@ -489,6 +494,14 @@ fn with_table<'a>(alloc: Global, form: Form<'a>) -> Form<'a>
 {
     let help = "A table of transitions, or several with times; without it the profile's";
     with_arg(form, option(alloc, "table", "FILE", help))
+}
+
+/// Tells `form` of the option `--journal`, which takes the path of a file.
+fn with_journal<'a>(alloc: Global, form: Form<'a>) -> Form<'a>
+    ensures { (app : App) → IsTold app form.entry → IsTold (with_rule app journal_rule) result }
+{
+    let help = "A journal of what is accepted; without it that ends with the process";
+    with_arg(form, option(alloc, "journal", "FILE", help))
 }
 
 /// Tells `form` of an argument.

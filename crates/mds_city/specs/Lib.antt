@@ -1,3 +1,4 @@
 -- Definitions that the contracts cite.
+pub mod Journal
 pub mod Program
 pub mod Serve

@@ -18,6 +18,7 @@ use Rattle.mds_commands.specs.Command.{CameToReplay, CameToTable}
 use Rattle.mds_commands.specs.Debug.{Debugs}
 use Rattle.mds_listing.specs.Listing.{CameToListing}
 use Rattle.mds_city.specs.Serve.{CameToServe}
+use Rattle.mds_city.specs.Journal.{CameToServeOver}
 use Rattle.mds_commands.specs.Problem.{Tells}
 use Rattle.mds_args.specs.declared.error.WordsError.{WordsError}
 use Rattle.mds_args.specs.declared.error.WordsErrorKind.{WordsErrorKind}
@@ -27,7 +28,7 @@ use Rattle.mds_args.specs.Words.{IsAskedBy}
 
 -- the number of workers, where there are any, is one of seats that a book may have, or one of workers that a replay may have
 abbrev pub HasWorkers : Command → Type 0
-HasWorkers (Serve port each workers path) = IsSeatCount workers
+HasWorkers (Serve port each workers path journal) = IsSeatCount workers
 HasWorkers (Replay file path any lines workers) = IsWorkerCount workers
 HasWorkers other = Unit {0}
 
@@ -79,6 +80,16 @@ module _ {O F : Type 0} (opens : O → List ℕ → Option F → Type 0) (files 
         ⊎ ((path ≢ codes "-") × (file : Source F) × IsFileOf path file
         × CameToListing file_bytes table file_bytes file ended out out_new faults faults_new)
 
+  -- besides, of what listens: the relation of a number asked for to what listens and its port's number; and of what reads files: the
+  -- bytes that are known of each
+  module _ {L : Type 0} (listens : O → ℕ → L → ℕ → Type 0) (file_bytes : F → Option (List ℕ)) where
+    -- serving over the journal of this path, or over none, came to these
+    abbrev pub CarriesServe : Option (List ℕ) → ℕ → Option (Source F) → ℕ → ℕ → Status → Option (List ℕ) → Option (List ℕ) → Option (List ℕ) → Option (List ℕ) → Type 0
+    CarriesServe None port table workers each ended out out_new faults faults_new =
+        CameToServe listens files port file_bytes table workers each ended out out_new faults faults_new
+    CarriesServe (Some path) port table workers each ended out out_new faults faults_new =
+        CameToServeOver listens files port file_bytes table path workers each ended out out_new faults faults_new
+
   -- besides, of what listens: the relation of a number asked for to what listens and its port's number; and of what reads files and
   -- standard input: the bytes that are known of each, and standard input itself
   module _ {L I : Type 0} (listens : O → ℕ → L → ℕ → Type 0) (file_bytes : F → Option (List ℕ)) (input_bytes : I → Option (List ℕ)) (input : I) where
@@ -92,8 +103,9 @@ module _ {O F : Type 0} (opens : O → List ℕ → Option F → Type 0) (files 
 
     -- what a command did: it read the files that it names, and came to these
     abbrev pub Carries : Command → Status → Option (List ℕ) → Option (List ℕ) → Option (List ℕ) → Option (List ℕ) → Type 0
-    Carries (Serve port each workers path) ended out out_new faults faults_new =
-        (table : Option (Source F)) × IsFileNamed (option_map (λ named. named.now) path) table × CameToServe listens files port file_bytes table workers each ended out out_new faults faults_new
+    Carries (Serve port each workers path journal) ended out out_new faults faults_new =
+        (table : Option (Source F)) × IsFileNamed (option_map (λ named. named.now) path) table
+        × CarriesServe listens file_bytes (option_map (λ named. named.now) journal) port table workers each ended out out_new faults faults_new
     Carries (Table path) ended out out_new faults faults_new =
         (table : Option (Source F)) × IsFileNamed (option_map (λ named. named.now) path) table × CameToTable file_bytes table ended out out_new faults faults_new
     Carries (Replay file path any lines workers) ended out out_new faults faults_new =

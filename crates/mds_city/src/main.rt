@@ -2,14 +2,19 @@
 //! events, and prints tables of transitions.
 #![tactic(auto)]
 
+mod journal;
 mod page;
 mod program;
 mod serve;
 
+use crate::journal::OpensJournals;
 use crate::program::{Opens, run, tell_words, words_of};
 use crate::serve::Listens;
+use mds_file::{DiskFile, FileFault, open_file};
 use mds_socket::{SocketIn, SocketOut, SocketPort};
 use std::alloc::Global;
+use std::io::Write;
+use std::marker::Brand;
 use std::process::ExitCode;
 use std::{env, fs};
 
@@ -32,6 +37,18 @@ impl Listens for HostRuntime {
         let port = SocketPort::bind(self, alloc, *self, number).ok()?;
         let number = port.number().ok()?;
         Some((port, number))
+    }
+}
+
+impl OpensJournals for HostRuntime {
+    type Journal = DiskFile<Brand>;
+
+    fn open_journal(&self, path: &str) -> Result<DiskFile<Brand>, FileFault> {
+        open_file(self, path)
+    }
+
+    fn tell_not_kept(&self) {
+        let _ = self.stderr().write(b"mds_city: journal not kept\n");
     }
 }
 

@@ -2,10 +2,12 @@
 ghost use Rattle.std.specs.Prelude.{◌≡◌, ◌≢◌, ◌↔◌, ℕ, List, Option, ⊤, Err, codes, map, option_map, IsTrue, IfOk, IfErr};
 ghost use Rattle.std.specs.IoError.{error_kind};
 ghost use Rattle.mds_args.specs.Error.{words_kind};
+ghost use Rattle.mds_book.specs.Books.{IsSeatCount};
 ghost use Rattle.mds_commands.specs.Problem.{Tells};
-ghost use Rattle.mds_city.specs.Program.{Carries, CarriesVehicles, Explains, HasWorkers, IsFileNamed, IsFileOf, Runs};
+ghost use Rattle.mds_city.specs.Program.{Carries, CarriesServe, CarriesVehicles, Explains, HasWorkers, IsFileNamed, IsFileOf, Runs};
 ghost use Rattle.mds_city.specs.Program.{form_if, opening_if, options_of};
 
+use crate::journal::{OpensJournals, serve_over};
 use crate::serve::{Listens, ServeOptions, serve_at};
 use mds_args::{Command, WordsError, WordsErrorKind, parse_words};
 use mds_commands::{
@@ -84,7 +86,7 @@ pub fn tell_words<E: Write>(alloc: Global, faults: &mut E, fault: WordsFault) ->
 pub fn run<
     R: Threads + Wait + RandomSource + Sync,
     S: AsStr,
-    O: Opens + Listens,
+    O: Opens + Listens + OpensJournals + Sync,
     I: Read + Drop,
     W: Write,
     E: Write,
@@ -129,7 +131,7 @@ fn explain<W: Write, E: Write>(
 /// a replay is `input`; the table file is one of its name, whatever that is.
 fn carry_out<
     R: Threads + Wait + RandomSource + Sync,
-    O: Opens + Listens,
+    O: Opens + Listens + OpensJournals + Sync,
     I: Read + Drop,
     W: Write,
     E: Write,
@@ -153,6 +155,7 @@ fn carry_out<
             each,
             workers,
             table,
+            journal,
         } => {
             let table = file_if_named(files, table);
             let asked = ServeOptions {
@@ -160,7 +163,7 @@ fn carry_out<
                 workers,
                 each,
             };
-            serve_at(rt, alloc, files, table, asked, out, faults)
+            serve_named(rt, alloc, files, table, journal, asked, out, faults)
         }
         Command::Debug {
             file,
@@ -193,6 +196,34 @@ fn carry_out<
         Command::Vehicles { file, table } => {
             list_vehicles(rt, alloc, files, file, table, input, out, faults)
         }
+    }
+}
+
+/// Serves over the journal of this path, or over none.
+fn serve_named<
+    R: Threads + Wait + RandomSource + Sync,
+    O: Opens + Listens + OpensJournals + Sync,
+    W: Write,
+    E: Write,
+>(
+    rt: &R,
+    alloc: Global,
+    files: &O,
+    table: Option<Source<'_, O::File>>,
+    journal: Option<&str>,
+    asked: ServeOptions,
+    out: &mut W,
+    faults: &mut E,
+) -> Status
+    requires { IsSeatCount asked.workers }
+    ensures { CarriesServe O.opens files.now O.listens O.File.remaining
+        (option_map (λ named. named.now) journal.entry) asked.port table.entry
+        asked.workers asked.each result
+        (W.contents out.old) (W.contents out.new) (E.contents faults.old) (E.contents faults.new) }
+{
+    match journal {
+        Some(path) => serve_over(rt, alloc, files, table, path, asked, out, faults),
+        None => serve_at(rt, alloc, files, table, asked, out, faults),
     }
 }
 

@@ -196,7 +196,7 @@ fn say<L: ShardLedger, M: ShardLedger, W: Write, E: Write>(
 }
 
 /// Prints how many requests were accepted.
-fn say_accepted<W: Write, E: Write>(
+pub(crate) fn say_accepted<W: Write, E: Write>(
     alloc: Global,
     accepted: u128,
     out: &mut W,

@@ -10,10 +10,10 @@ use Rattle.mds_commands.specs.declared.status.Status.{Status}
 use Rattle.mds_commands.specs.declared.status.Status.TheVariants.{Done}
 use Rattle.mds_commands.specs.declared.problem.Problem.TheVariants.{CannotRead, NotATable, NotABatch, NotLines, Socket, Random, Output, Memory}
 use Rattle.mds_commands.specs.Source.{HasTablesIn, ExplainsTable, IsOpen}
-use Rattle.mds_listing.specs.declared.problem.ListingProblem.{ListingProblem}
-use Rattle.mds_listing.specs.declared.problem.ListingProblem.TheVariants.{NotAJournal, Other}
+use Rattle.mds_listing.specs.declared.problem.JournalProblem.{JournalProblem}
+use Rattle.mds_listing.specs.declared.problem.JournalProblem.TheVariants.{NotAJournal, Other}
 use Rattle.mds_listing.specs.declared.taking.TakeError.TheVariants.{Fault}
-use Rattle.mds_listing.specs.Problem.{TellsListing, listing_status_of}
+use Rattle.mds_listing.specs.Problem.{TellsJournal, journal_status_of}
 use Rattle.mds_listing.specs.Taking.{IsTaken, IsJournalFault}
 use Rattle.mds_listing.specs.Text.{listing_text}
 
@@ -22,7 +22,7 @@ abbrev pub IsTakenIn : {R : Type 0} → (R → Option (List ℕ)) → Source R �
 IsTakenIn {R} remaining source history = (reader : R) × (source.reader ≡ Some reader) × IsTaken (remaining reader) history
 
 -- why no roster over the tables was had of a file
-abbrev pub ExplainsJournal : {R : Type 0} → (R → Option (List ℕ)) → Source R → Tables → ListingProblem → Type 0
+abbrev pub ExplainsJournal : {R : Type 0} → (R → Option (List ℕ)) → Source R → Tables → JournalProblem → Type 0
 ExplainsJournal {R} remaining source tables (NotAJournal fault) =
     (reader : R) × (source.reader ≡ Some reader) × IsJournalFault tables (remaining reader) (Fault fault)
 ExplainsJournal remaining source tables (Other (CannotRead path)) = path.now ≡ source.path.now
@@ -49,11 +49,11 @@ module _ {T R : Type 0} (table_bytes : T → Option (List ℕ)) (table : Option 
   ListedFront old new = (history : List Request) × HasHistory history × AppendsFront old new (listing_text history)
 
   -- the tables were had, and then the problem is one of the journal
-  abbrev pub ExplainsRequests : ListingProblem → Type 0
+  abbrev pub ExplainsRequests : JournalProblem → Type 0
   ExplainsRequests problem = (tables : Tables) × HasTablesIn table_bytes table tables × ExplainsJournal file_bytes file tables problem
 
   -- the problem's cause lies in the file that it names, if it names one; the table file is looked at first
-  abbrev pub ExplainsListing : ListingProblem → Type 0
+  abbrev pub ExplainsListing : JournalProblem → Type 0
   ExplainsListing (NotAJournal fault) = ExplainsRequests (NotAJournal fault)
   ExplainsListing (Other (CannotRead path)) = ExplainsTable table_bytes table (CannotRead path) ⊎ ExplainsRequests (Other (CannotRead path))
   ExplainsListing (Other (NotATable fault)) = ExplainsTable table_bytes table (NotATable fault)
@@ -65,7 +65,7 @@ module _ {T R : Type 0} (table_bytes : T → Option (List ℕ)) (table : Option 
   ExplainsListing (Other Memory) = Unit {0}
 
   -- what went out before a problem: nothing where a file was at fault, a front of the listing where the output was
-  abbrev pub ListingWentOut : ListingProblem → Option (List ℕ) → Option (List ℕ) → Type 0
+  abbrev pub ListingWentOut : JournalProblem → Option (List ℕ) → Option (List ℕ) → Type 0
   ListingWentOut (NotAJournal fault) old new = Keeps old new
   ListingWentOut (Other (CannotRead path)) old new = Keeps old new
   ListingWentOut (Other (NotATable fault)) old new = Keeps old new
@@ -79,8 +79,8 @@ module _ {T R : Type 0} (table_bytes : T → Option (List ℕ)) (table : Option 
   -- a problem has this status, is explained, and was told
   abbrev pub ListingTold : Status → Option (List ℕ) → Option (List ℕ) → Option (List ℕ) → Option (List ℕ) → Type 0
   ListingTold status old new faults_old faults_new =
-      (problem : ListingProblem) × (status ≡ listing_status_of problem) × ExplainsListing problem × ListingWentOut problem old new
-      × TellsListing faults_old faults_new problem
+      (problem : JournalProblem) × (status ≡ journal_status_of problem) × ExplainsListing problem × ListingWentOut problem old new
+      × TellsJournal faults_old faults_new problem
 
   -- what a listing came to: it was printed and nothing was told, or a problem was told
   abbrev pub CameToListing : Status → Option (List ℕ) → Option (List ℕ) → Option (List ℕ) → Option (List ℕ) → Type 0

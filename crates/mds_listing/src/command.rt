@@ -5,7 +5,7 @@ ghost use Rattle.mds_roster.specs.Roster.{IsRosterOf};
 ghost use Rattle.mds_listing.specs.Listing.{CameToListing, ExplainsJournal, ExplainsListing, IsTakenIn, Listed, ListingWentOut};
 
 use crate::print::print_roster;
-use crate::problem::{ListingProblem, tell_listing};
+use crate::problem::{JournalProblem, tell_journal_problem};
 use crate::taking::{TakeError, roster_of};
 use mds_commands::{Problem, Source, Status, tables_in};
 use mds_roster::Roster;
@@ -33,7 +33,7 @@ pub fn vehicles_to<P: RandomSource, T: Read + Drop, R: Read + Drop, W: Write, E:
 {
     match vehicles_into(rt, alloc, table, file, out) {
         Ok(()) => Status::Done,
-        Err(problem) => tell_listing(alloc, faults, problem),
+        Err(problem) => tell_journal_problem(alloc, faults, problem),
     }
 }
 
@@ -44,7 +44,7 @@ fn vehicles_into<'a, P: RandomSource, T: Read + Drop, R: Read + Drop, W: Write>(
     table: Option<Source<'a, T>>,
     file: Source<'a, R>,
     out: &mut W,
-) -> Result<(), ListingProblem<'a>>
+) -> Result<(), JournalProblem<'a>>
     ensures ok { OnOk result (Listed T.remaining table.entry R.remaining file.entry
         (W.contents out.old) (W.contents out.new)) }
     ensures err { IfErr result (λ problem.
@@ -54,7 +54,7 @@ fn vehicles_into<'a, P: RandomSource, T: Read + Drop, R: Read + Drop, W: Write>(
 {
     let tables = tables_in(alloc, table)?;
     let Ok(hasher) = RandomState::new(rt) else {
-        return Err(ListingProblem::Other(Problem::Random));
+        return Err(JournalProblem::Other(Problem::Random));
     };
     let roster = roster_in(alloc, tables, hasher, file)?;
     print_roster(alloc, out, &roster)?;
@@ -67,19 +67,19 @@ fn roster_in<'a, R: Read + Drop>(
     tables: Tables,
     hasher: RandomState,
     file: Source<'a, R>,
-) -> Result<Roster, ListingProblem<'a>>
+) -> Result<Roster, JournalProblem<'a>>
     ensures ok { IfOk result (λ roster. (history : List Request)
         × IsTakenIn R.remaining file.entry history × IsRosterOf tables history roster) }
     ensures err { IfErr result (ExplainsJournal R.remaining file.entry tables) }
 {
     let path = file.path;
     let Some(reader) = file.reader else {
-        return Err(ListingProblem::Other(Problem::CannotRead(path)));
+        return Err(JournalProblem::Other(Problem::CannotRead(path)));
     };
     match roster_of(alloc, reader, tables, hasher) {
         Ok(roster) => Ok(roster),
-        Err(TakeError::Memory) => Err(ListingProblem::Other(Problem::Memory)),
-        Err(TakeError::Read) => Err(ListingProblem::Other(Problem::CannotRead(path))),
-        Err(TakeError::Fault(fault)) => Err(ListingProblem::NotAJournal(fault)),
+        Err(TakeError::Memory) => Err(JournalProblem::Other(Problem::Memory)),
+        Err(TakeError::Read) => Err(JournalProblem::Other(Problem::CannotRead(path))),
+        Err(TakeError::Fault(fault)) => Err(JournalProblem::NotAJournal(fault)),
     }
 }

@@ -12,3 +12,4 @@ mod problem;
 mod taking;
 
 pub use command::vehicles_to;
+pub use problem::{JournalProblem, tell_journal_problem};

@@ -1,6 +1,6 @@
-//! Why vehicles could not be listed.
+//! Why a command over a journal could not be carried out.
 ghost use Rattle.std.specs.Prelude.{◌≡◌, ◌⊎◌};
-ghost use Rattle.mds_listing.specs.Problem.{listing_status_of, TellsListing};
+ghost use Rattle.mds_listing.specs.Problem.{journal_status_of, TellsJournal};
 
 use mds_commands::{Problem, Status, tell};
 use mds_io::{PrintError, write_all_of};
@@ -9,56 +9,60 @@ use std::alloc::Global;
 use std::fmt::Write as _;
 use std::io::Write;
 
-/// Why vehicles could not be listed.
+/// Why a command over a journal could not be carried out.
 #[derive(Clone, Copy, Debug)]
-pub enum ListingProblem<'a> {
+pub enum JournalProblem<'a> {
     /// The file is no journal.
     NotAJournal(JournalFault),
     /// What may hinder other commands too.
     Other(Problem<'a>),
 }
 
-impl<'a> From<Problem<'a>> for ListingProblem<'a> {
-    ghost use Rattle.mds_listing.specs.declared.problem.ListingProblem.TheVariants.{Other};
+impl<'a> From<Problem<'a>> for JournalProblem<'a> {
+    ghost use Rattle.mds_listing.specs.declared.problem.JournalProblem.TheVariants.{Other};
 
     ghost from_gives = { λ problem more. more ≡ Other problem };
 
     fn from(problem: Problem<'a>) -> Self {
-        ListingProblem::Other(problem)
+        JournalProblem::Other(problem)
     }
 }
 
-impl From<PrintError> for ListingProblem<'_> {
+impl From<PrintError> for JournalProblem<'_> {
     ghost use Rattle.mds_commands.specs.Problem.{written_problem};
-    ghost use Rattle.mds_listing.specs.declared.problem.ListingProblem.TheVariants.{Other};
+    ghost use Rattle.mds_listing.specs.declared.problem.JournalProblem.TheVariants.{Other};
 
     ghost from_gives = { λ fault problem. problem ≡ Other (written_problem fault) };
 
     fn from(fault: PrintError) -> Self {
-        ListingProblem::Other(fault.into())
+        JournalProblem::Other(fault.into())
     }
 }
 
 /// Tells the problem in one line, and answers its status. Where there is no memory to lay the line out, the problem that is
 /// told is that. Where the writer fails the status stays.
-pub fn tell_listing<E: Write>(alloc: Global, faults: &mut E, problem: ListingProblem<'_>) -> Status
-    ensures { ((result ≡ listing_status_of problem.entry)
-        × TellsListing (E.contents faults.old) (E.contents faults.new) problem.entry)
-        ⊎ ((result ≡ Status.NoMemory) × TellsListing (E.contents faults.old)
-        (E.contents faults.new) (ListingProblem.Other Problem.Memory)) }
+pub fn tell_journal_problem<E: Write>(
+    alloc: Global,
+    faults: &mut E,
+    problem: JournalProblem<'_>,
+) -> Status
+    ensures { ((result ≡ journal_status_of problem.entry)
+        × TellsJournal (E.contents faults.old) (E.contents faults.new) problem.entry)
+        ⊎ ((result ≡ Status.NoMemory) × TellsJournal (E.contents faults.old)
+        (E.contents faults.new) (JournalProblem.Other Problem.Memory)) }
 {
     match problem {
-        ListingProblem::NotAJournal(fault) => tell_fault(alloc, faults, fault),
-        ListingProblem::Other(problem) => tell(alloc, faults, problem),
+        JournalProblem::NotAJournal(fault) => tell_fault(alloc, faults, fault),
+        JournalProblem::Other(problem) => tell(alloc, faults, problem),
     }
 }
 
-/// Tells what is wrong with a file that is no journal, as [`tell_listing`] does.
+/// Tells what is wrong with a file that is no journal, as [`tell_journal_problem`] does.
 fn tell_fault<E: Write>(alloc: Global, faults: &mut E, fault: JournalFault) -> Status
-    ensures { ((result ≡ Status.Fault) × TellsListing (E.contents faults.old)
-        (E.contents faults.new) (ListingProblem.NotAJournal fault))
-        ⊎ ((result ≡ Status.NoMemory) × TellsListing (E.contents faults.old)
-        (E.contents faults.new) (ListingProblem.Other Problem.Memory)) }
+    ensures { ((result ≡ Status.Fault) × TellsJournal (E.contents faults.old)
+        (E.contents faults.new) (JournalProblem.NotAJournal fault))
+        ⊎ ((result ≡ Status.NoMemory) × TellsJournal (E.contents faults.old)
+        (E.contents faults.new) (JournalProblem.Other Problem.Memory)) }
 {
     let mut text = String::new(alloc);
     match writeln!(text, "mds_city: not a journal: {fault}") {

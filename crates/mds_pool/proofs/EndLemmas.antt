@@ -1,9 +1,9 @@
 -- What workers leave.
-use Rattle.std.proofs.Common.{◌≡◌, ◌∙◌, ◌<◌, ℕ, List, length, false, refl, subst, slice_index_or, sym}
+use Rattle.std.proofs.Common.{◌≡◌, ◌∙◌, ◌<◌, ℕ, List, length, false, refl, ap, subst, slice_index_or, slice_set, sym}
 use Rattle.std.specs.Prelude.{Ok, replicate}
 use Rattle.std.specs.List.{All, AllZip}
-use Rattle.std.proofs.lemmas.List.{length-replicate}
-use Rattle.std.proofs.lemmas.List.Elements.{All-replicate, AllZip-get_or}
+use Rattle.std.proofs.lemmas.List.{length-replicate, length-set, get_or-replicate}
+use Rattle.std.proofs.lemmas.List.Elements.{All-replicate, All-set, AllZip-get_or}
 use Rattle.std.proofs.lemmas.Slice.Zip.{AllZip-long}
 use Rattle.mds_table.specs.Tables.{Tables}
 use Rattle.mds_book.specs.Seats.{Seated, fresh}
@@ -11,18 +11,28 @@ use Rattle.mds_book.specs.Gathering.{Collected, IsGathered}
 use Rattle.mds_face.specs.Seats.{HasGrown}
 use Rattle.mds_pool.specs.Serving.{AreWorkers, IsEnded, IsLeft, IsSettledEnd}
 
--- seats that were told nothing, and have grown since, are as many, and note what they noted
-pub workers_grown : (count : ℕ) (seats : List Seated) → AllZip HasGrown (replicate count (fresh false)) seats → AreWorkers count seats
-workers_grown count seats grown =
-    let new = replicate count (fresh false) in
-    let long : length seats ≡ length new = AllZip-long HasGrown new seats grown in
-    let keep : All (λ seat. seat.keeps_all ≡ false) new = All-replicate (λ seat. seat.keeps_all ≡ false) count (fresh false) refl in (
-      long ∙ length-replicate count (fresh false),
+-- workers whose seats have grown are as many, and note the same
+pub workers_still : (count : ℕ) (seats back : List Seated) → AreWorkers count seats → AllZip HasGrown seats back → AreWorkers count back
+workers_still count seats back are grown =
+    let long : length back ≡ length seats = AllZip-long HasGrown seats back grown in (
+      long ∙ are.0,
       λ place other within.
-          let inside : place < length new = subst (λ n. place < n) long within in
-          let seat : HasGrown (slice_index_or new place other) (slice_index_or seats place other) = AllZip-get_or HasGrown new seats place other other grown inside in
-          seat.keeps_all ∙ keep place other inside,
+          let inside : place < length seats = subst (λ n. place < n) long within in
+          let seat : HasGrown (slice_index_or seats place other) (slice_index_or back place other) = AllZip-get_or HasGrown seats back place other other grown inside in
+          seat.keeps_all ∙ are.1 place other inside,
     )
+
+-- seats that were told nothing, and note the calls that were accepted, are workers
+pub new_workers : (count : ℕ) → AreWorkers count (replicate count (fresh false))
+new_workers count = (length-replicate count (fresh false), All-replicate (λ seat. seat.keeps_all ≡ false) count (fresh false) refl)
+
+-- such seats are workers too where the first of them has asked something, and notes the same
+pub first_resumed : (count : ℕ) (seats : List Seated) (old new : Seated) → 0 < count → seats ≡ replicate count (fresh false)
+    → old ≡ slice_index_or seats 0 old → new.keeps_all ≡ old.keeps_all → AreWorkers count (slice_set seats 0 new)
+first_resumed count seats old new some are is keep =
+    let workers : AreWorkers count seats = subst (AreWorkers count) (sym are) (new_workers count) in
+    let first : old ≡ fresh false = is ∙ (ap (λ (w : List Seated). slice_index_or w 0 old) are ∙ get_or-replicate count 0 (fresh false) old some) in
+    (length-set seats 0 new ∙ workers.0, All-set (λ seat. seat.keeps_all ≡ false) seats 0 new (keep ∙ ap (λ (s : Seated). s.keeps_all) first) workers.1)
 
 -- what was gathered of a book of the workers' seats is what was left of it
 left : (tables : Tables) (count : ℕ) (seats : List Seated) (all : Collected) → AreWorkers count seats

@@ -17,7 +17,10 @@ use Rattle.mds_face.specs.declared.connection.ServeFault.{ServeFault}
 use Rattle.mds_face.specs.declared.connection.ServeFault.TheVariants.{Read, Write, Memory, TooManyTurns}
 use Rattle.mds_face.specs.Asking.{registration_of, report_in}
 use Rattle.mds_face.specs.Desk.{AreCalls}
-use Rattle.mds_face.specs.Serving.{Finds, FindsNoMemory, IsServed, Stops, StopsAsked, StopsUnread}
+use Rattle.mds_face.specs.Serving.{Finds, FindsNoMemory, StopsAsked, StopsUnread}
+use Rattle.mds_face.specs.declared.kept_desk.KeptFault.{KeptFault}
+use Rattle.mds_face.specs.declared.kept_desk.KeptFault.TheVariants.{Serve, NotKept, Lost}
+use Rattle.mds_face.specs.Kept.{IsKeptStop, IsServedKept, Leaves, StopsKept}
 
 -- of a desk as in the contract of one connection, and of what grows by each call and in two steps where it does in each
 module _ {S : Type 0} (Calls : S → Request → Option Reply → S → Type 0) (GivesEvents : S → Key → Option (List Reported) → S → Type 0) (GivesRows : S → Tables → Type 0)
@@ -47,10 +50,6 @@ module _ {S : Type 0} (Calls : S → Request → Option Reply → S → Type 0) 
   no_memory_grows (asked.One key) old new finds = called old (Look key) None new finds
   no_memory_grows what old new finds = same_grows old new finds
 
-  pub served_grows : (input : Option (List ℕ)) (old new : S) (written written_new : Option (List ℕ)) (served : Served)
-      → IsServed Calls GivesEvents GivesRows input old new written written_new served → Grows old new
-  served_grows input old new written written_new served is = finds_grow is.0 is.2.found old new is.2.finds
-
   pub stops_asked_grow : (what : Asked) (fault : ServeFault) (old new : S) (written written_new : Option (List ℕ))
       → StopsAsked Calls GivesEvents GivesRows what old new written written_new fault → Grows old new
   stops_asked_grow what Read old new written written_new stops = absurd stops
@@ -66,15 +65,47 @@ module _ {S : Type 0} (Calls : S → Request → Option Reply → S → Type 0) 
   stops_unread_grow (Memory sent) old new written written_new stops = same_grows old new stops.0
   stops_unread_grow (TooManyTurns sent) old new written written_new stops = same_grows old new stops.0
 
-  pub stops_grow : (input : Option (List ℕ)) (fault : ServeFault) (old new : S) (written written_new : Option (List ℕ))
-      → Stops Calls GivesEvents GivesRows input old new written written_new fault → Grows old new
-  stops_grow input fault old new written written_new stops = elim stops [
-    | inl unread ↦ stops_unread_grow fault old new written written_new unread
-    | inr read ↦ stops_asked_grow read.0 fault old new written written_new read.2
-  ]
+  -- besides, of a desk that sees to it that what its answers rest on is recorded
+  module _ (IsKept : S → Type 0) (KeepsDesk : S → S → Type 0) (kept : (old new : S) → KeepsDesk old new → Grows old new) where
+    pub leaves_grow : (what : Asked) (old new : S) → Leaves Calls GivesEvents GivesRows IsKept KeepsDesk what old new → Grows old new
+    leaves_grow (asked.Fixed fault) old new leaves = same_grows old new leaves
+    leaves_grow (asked.Vehicles items) old new leaves = kept old new leaves.0
+    leaves_grow (asked.Events items) old new leaves = kept old new leaves.0
+    leaves_grow (asked.One key) old new leaves = kept old new leaves.0
+    leaves_grow (asked.History key) old new leaves = kept old new leaves.0
+    leaves_grow asked.Rows old new leaves = same_grows old new leaves
 
-  pub connection_grows : (input : Option (List ℕ)) (old new : S) (written written_new : Option (List ℕ)) (came : Result Served ServeFault)
-      → IfOk came (IsServed Calls GivesEvents GivesRows input old new written written_new) → IfErr came (Stops Calls GivesEvents GivesRows input old new written written_new)
-      → Grows old new
-  connection_grows input old new written written_new (Ok served) ok err = served_grows input old new written written_new served ok
-  connection_grows input old new written written_new (Err fault) ok err = stops_grow input fault old new written written_new err
+    pub served_kept_grows : (input : Option (List ℕ)) (old new : S) (written written_new : Option (List ℕ)) (served : Served)
+        → IsServedKept Calls GivesEvents GivesRows IsKept KeepsDesk input old new written written_new served → Grows old new
+    served_kept_grows input old new written written_new served is =
+        let answer = is.2 in
+        twice old answer.middle new (finds_grow is.0 answer.answered.found old answer.middle answer.answered.finds) (leaves_grow is.0 answer.middle new answer.leaves)
+
+    pub kept_stop_grows : (what : Asked) (fault : KeptFault) (old new : S) (written written_new : Option (List ℕ))
+        → IsKeptStop Calls GivesEvents GivesRows IsKept KeepsDesk what old new written written_new fault → Grows old new
+    kept_stop_grows what (Serve Read) old new written written_new stops = absurd stops
+    kept_stop_grows what (Serve (Write sent)) old new written written_new stops =
+        twice old stops.0 new (stops_asked_grow what (Write sent) old stops.0 written written_new stops.1) (leaves_grow what stops.0 new stops.2)
+    kept_stop_grows what (Serve (Memory sent)) old new written written_new stops =
+        twice old stops.0 new (stops_asked_grow what (Memory sent) old stops.0 written written_new stops.1)
+        (elim stops.2 [ inl same ↦ same_grows stops.0 new same | inr held ↦ kept stops.0 new held.1 ])
+    kept_stop_grows what (Serve (TooManyTurns sent)) old new written written_new stops =
+        twice old stops.0 new (stops_asked_grow what (TooManyTurns sent) old stops.0 written written_new stops.1) (leaves_grow what stops.0 new stops.2)
+    kept_stop_grows what (NotKept sent) old new written written_new stops =
+        let put = stops.1 in twice old put.1 new (finds_grow what put.0 old put.1 put.2) (kept put.1 new put.3)
+    kept_stop_grows what Lost old new written written_new stops =
+        let put = stops.1 in twice old put.1 new (finds_grow what put.0 old put.1 put.2) (kept put.1 new put.3)
+
+    pub stops_kept_grow : (input : Option (List ℕ)) (fault : KeptFault) (old new : S) (written written_new : Option (List ℕ))
+        → StopsKept Calls GivesEvents GivesRows IsKept KeepsDesk input old new written written_new fault → Grows old new
+    stops_kept_grow input (Serve fault) old new written written_new (inl unread) = stops_unread_grow fault old new written written_new unread
+    stops_kept_grow input (NotKept sent) old new written written_new (inl unread) = absurd unread
+    stops_kept_grow input Lost old new written written_new (inl unread) = absurd unread
+    stops_kept_grow input fault old new written written_new (inr read) = kept_stop_grows read.0 fault old new written written_new read.2
+
+    pub connection_grows : (input : Option (List ℕ)) (old new : S) (written written_new : Option (List ℕ)) (came : Result Served KeptFault)
+        → IfOk came (IsServedKept Calls GivesEvents GivesRows IsKept KeepsDesk input old new written written_new)
+        → IfErr came (StopsKept Calls GivesEvents GivesRows IsKept KeepsDesk input old new written written_new)
+        → Grows old new
+    connection_grows input old new written written_new (Ok served) ok err = served_kept_grows input old new written written_new served ok
+    connection_grows input old new written written_new (Err fault) ok err = stops_kept_grow input fault old new written written_new err

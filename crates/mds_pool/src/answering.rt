@@ -1,10 +1,10 @@
 //! A connection, from the port that gave it to its answer, and the count of those that a worker answered.
 ghost use Rattle.std.specs.Prelude.{◌≡◌, ◌↔◌, ◌+◌, ◌<◌, ◌^◌, IfOk, IfErr, IsOkAnd};
 ghost use Rattle.mds_face.specs.Reading.{ReadsNoFurther};
-ghost use Rattle.mds_face.specs.Serving.{IsServed, Stops};
+ghost use Rattle.mds_face.specs.Kept.{IsServedKept, StopsKept};
 
 use crate::{Ending, Port, PortFault};
-use mds_face::{Desk, Face, ServeFault, Served, serve_one};
+use mds_face::{Face, KeptDesk, KeptFault, Served, serve_kept};
 use std::alloc::Global;
 use std::marker::Model;
 
@@ -24,7 +24,7 @@ pub(crate) struct Connection<P: Port> {
 pub(crate) struct Answer<P: Port> {
     input: P::In,
     output: P::Out,
-    served: Result<Served, ServeFault>,
+    served: Result<Served, KeptFault>,
 }
 
 impl<P: Port> Connection<P> {
@@ -40,13 +40,18 @@ impl<P: Port> Connection<P> {
         }
     }
 
-    /// Answers it at a desk. One that ends with a fault counts as answered.
-    pub(crate) fn answer_at<D: Desk>(self, alloc: Global, face: &Face, desk: &mut D) -> Answer<P>
-        ensures served { IfOk result.served (IsServed D.calls D.gives_events D.gives_rows
-            (P.In.remaining self.input) desk.old desk.new
+    /// Answers it at a desk, once what the answer rests on is recorded. One that ends with a fault counts as answered.
+    pub(crate) fn answer_at<D: KeptDesk>(
+        self,
+        alloc: Global,
+        face: &Face,
+        desk: &mut D,
+    ) -> Answer<P>
+        ensures served { IfOk result.served (IsServedKept D.calls D.gives_events D.gives_rows
+            D.is_kept D.keeps (P.In.remaining self.input) desk.old desk.new
             (P.Out.contents self.output) (P.Out.contents result.output)) }
-        ensures stopped { IfErr result.served (Stops D.calls D.gives_events D.gives_rows
-            (P.In.remaining self.input) desk.old desk.new
+        ensures stopped { IfErr result.served (StopsKept D.calls D.gives_events D.gives_rows
+            D.is_kept D.keeps (P.In.remaining self.input) desk.old desk.new
             (P.Out.contents self.output) (P.Out.contents result.output)) }
         ensures no_further { ReadsNoFurther (P.In.remaining self.input) (P.In.remaining result.input) }
     {
@@ -54,7 +59,7 @@ impl<P: Port> Connection<P> {
             mut input,
             mut output,
         } = self;
-        let served = serve_one(alloc, face, &mut input, &mut output, desk);
+        let served = serve_kept(alloc, face, &mut input, &mut output, desk);
         Answer {
             input,
             output,
@@ -73,6 +78,11 @@ impl<P: Port> Answer<P> {
             Ok(Served { status: OK, .. }) => Ending::AtOnce,
             Ok(_) | Err(_) => Ending::InStages,
         }
+    }
+
+    /// Whether it stays open what is recorded: no more answers that rest on it can be given.
+    pub(crate) fn is_lost(&self) -> bool {
+        matches!(&self.served, Err(KeptFault::Lost))
     }
 }
 

@@ -5,10 +5,15 @@
 mod answering;
 mod pool;
 mod port;
+mod recorded_book;
+mod recorded_desk;
+mod recorder;
 mod serving;
 mod worker;
 
 pub use answering::AnswerCount;
 pub use pool::{PoolCause, PoolFault, serve};
 pub use port::{Ending, Port, PortFault};
+pub use recorded_book::{RecordedBook, RecordedEnd, RecordedStop};
+pub use recorder::{Alarm, NoRecord, Recorder};
 pub use serving::{FinalBook, NewBook, Stop, serve_and_settle};

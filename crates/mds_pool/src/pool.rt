@@ -6,8 +6,9 @@ ghost use Rattle.mds_pool.specs.Pool.{pool_cause_text};
 ghost use Rattle.mds_pool.specs.Workers.{HasWorked};
 
 use crate::answering::{Answer, Connection};
-use crate::worker::{Round, Shift, Worker, workers_at};
-use crate::{AnswerCount, Port};
+use crate::recorded_desk::RecordedDesk;
+use crate::worker::{Round, Shift, ShiftFault, Worker, workers_at};
+use crate::{AnswerCount, NoRecord, Port, Recorder};
 use mds_book::{Book, Gate, Seat, ShardLedger};
 use mds_face::{Face, SeatDesk};
 use std::alloc::Global;
@@ -81,7 +82,7 @@ where
     if seats.is_empty() {
         return Ok(seats);
     }
-    match serve_round(rt, alloc, face, port, book, seats, each, gate) {
+    match serve_round(rt, alloc, face, port, book, seats, each, gate, &NoRecord) {
         Ok(round) => {
             if round.failed {
                 return Err(PoolFault {
@@ -98,7 +99,9 @@ where
     }
 }
 
-/// As [`serve`], of at least one seat. It hands out how many connections each worker answered, and whether the port failed one.
+/// As [`serve`], of at least one seat, and by what records what the book accepts: no answer goes out before what it rests on is
+/// recorded. It hands out how many connections each worker answered, and whether one ended before it had answered all. Where it
+/// stays open what is recorded, the workers end.
 ///
 /// # Errors
 ///
@@ -109,6 +112,7 @@ pub(crate) fn serve_round<
     L: ShardLedger + Send + Sync,
     M: ShardLedger + Send + Sync,
     G: Gate + Sync,
+    K: Recorder<L, M> + Sync,
 >(
     rt: &R,
     alloc: Global,
@@ -118,10 +122,12 @@ pub(crate) fn serve_round<
     seats: Vec<Seat<L, M>>,
     each: usize,
     gate: &G,
+    recorder: &K,
 ) -> Result<Round<L, M>, Vec<Seat<L, M>>>
 where
     P::In: Send,
     P::Out: Send,
+    K::Receipt: Send,
     requires { 0 < vec_len seats }
     ensures grown { IfOk result (λ round. AllZip HasGrown seats.items round.seats.items) }
     ensures answered { IfOk result (λ round. round.failed ≡ false
@@ -142,6 +148,7 @@ where
         port,
         book,
         gate,
+        recorder,
     };
     let workers = crew.work_through(workers_at(seats, room), each);
     Ok(Round::of(workers, back, answered))
@@ -149,16 +156,25 @@ where
 
 /// What the workers of a port share.
 #[derive(Drop)]
-struct Crew<'a, R: Wait, P: Port, L: ShardLedger, M: ShardLedger, G: Gate> {
+struct Crew<'a, R: Wait, P: Port, L: ShardLedger, M: ShardLedger, G: Gate, K: Recorder<L, M>> {
     rt: &'a R,
     alloc: Global,
     face: &'a Face,
     port: &'a P,
     book: &'a Book<L, M>,
     gate: &'a G,
+    recorder: &'a K,
 }
 
-impl<R: Wait, P: Port, L: ShardLedger, M: ShardLedger, G: Gate> Crew<'_, R, P, L, M, G> {
+impl<R: Wait, P: Port, L: ShardLedger, M: ShardLedger, G: Gate, K: Recorder<L, M>> Crew<
+    '_,
+    R,
+    P,
+    L,
+    M,
+    G,
+    K,
+> {
     /// Lets each worker answer so many connections, all workers at once, and hands the workers back.
     fn work_through(&self, mut workers: Vec<Worker<L, M>>, each: usize) -> Vec<Worker<L, M>>
     where
@@ -169,6 +185,8 @@ impl<R: Wait, P: Port, L: ShardLedger, M: ShardLedger, G: Gate> Crew<'_, R, P, L
         L: Send + Sync,
         M: Send + Sync,
         G: Sync,
+        K: Sync,
+        K::Receipt: Send,
         requires { 0 < vec_len workers }
         ensures items { AllZip (HasWorked each) workers.items result.items }
         ensures len { vec_len result ≡ vec_len workers }
@@ -187,6 +205,8 @@ impl<R: Wait, P: Port, L: ShardLedger, M: ShardLedger, G: Gate> Crew<'_, R, P, L
         L: Send + Sync,
         M: Send + Sync,
         G: Sync,
+        K: Sync,
+        K::Receipt: Send,
         requires { 0 < length workers.old }
         ensures { AllZip (HasWorked each) workers.old workers.new }
     {
@@ -199,26 +219,34 @@ impl<R: Wait, P: Port, L: ShardLedger, M: ShardLedger, G: Gate> Crew<'_, R, P, L
         thread::for_each_mut(self.rt, workers, count, &job);
     }
 
-    /// One worker's work: it takes so many connections and answers them for its seat. Where it can take no further one it ends.
+    /// One worker's work: it takes so many connections and answers them for its seat. Where it can take no further one it ends,
+    /// and where it stays open what is recorded, it ends and stops the port.
     #[tactic(auto, using(crate::proofs::SeatGrowth::seat_growth))]
     fn work(&self, seat: &mut Seat<L, M>, number: usize, each: usize) -> Shift
         ensures grown { HasGrown seat.old seat.new }
         ensures each { result.fault ≡ None → result.answered ≡ each }
     {
         let mut answered = AnswerCount::none();
+        let mut receipt = self.recorder.receipt(self.rt);
         for nth in 0..each {
-            let connection = match Connection::take(self.port) {
-                Ok(connection) => connection,
-                Err(fault) => {
-                    return Shift {
-                        answered,
-                        fault: Some(fault),
-                    };
-                }
+            let Ok(connection) = Connection::take(self.port) else {
+                return Shift {
+                    answered,
+                    fault: Some(ShiftFault::Accept),
+                };
             };
             self.gate.enter(number, nth);
-            answered.add(self.port, self.answer(seat, connection));
+            let answer = self.answer(seat, &mut receipt, connection);
+            let is_lost = answer.is_lost();
+            answered.add(self.port, answer);
             self.gate.leave(number, nth);
+            if is_lost {
+                self.port.stop();
+                return Shift {
+                    answered,
+                    fault: Some(ShiftFault::Lost),
+                };
+            }
         }
         Shift {
             answered,
@@ -226,36 +254,49 @@ impl<R: Wait, P: Port, L: ShardLedger, M: ShardLedger, G: Gate> Crew<'_, R, P, L
         }
     }
 
-    /// Answers a connection for a seat.
-    fn answer(&self, seat: &mut Seat<L, M>, connection: Connection<P>) -> Answer<P>
+    /// Answers a connection for a seat, by a receipt of what the seat has seen.
+    fn answer(
+        &self,
+        seat: &mut Seat<L, M>,
+        receipt: &mut K::Receipt,
+        connection: Connection<P>,
+    ) -> Answer<P>
         ensures { HasGrown seat.old seat.new }
     {
-        let mut desk = SeatDesk {
-            alloc: self.alloc,
-            rt: self.rt,
-            book: self.book,
-            seat,
+        let mut desk = RecordedDesk {
+            desk: SeatDesk {
+                alloc: self.alloc,
+                rt: self.rt,
+                book: self.book,
+                seat,
+            },
+            recorder: self.recorder,
+            receipt,
         };
         let answer = answer_at_seat(self.alloc, self.face, connection, &mut desk);
-        let SeatDesk {
-            alloc: _,
-            rt: _,
-            book: _,
-            seat: _,
+        let RecordedDesk {
+            desk: SeatDesk {
+                alloc: _,
+                rt: _,
+                book: _,
+                seat: _,
+            },
+            recorder: _,
+            receipt: _,
         } = desk;
         answer
     }
 }
 
 /// Answers a connection at a seat's desk.
-fn answer_at_seat<R: Wait, P: Port, L: ShardLedger, M: ShardLedger>(
+fn answer_at_seat<R: Wait, P: Port, L: ShardLedger, M: ShardLedger, K: Recorder<L, M>>(
     alloc: Global,
     face: &Face,
     connection: Connection<P>,
-    desk: &mut SeatDesk<'_, R, L, M>,
+    desk: &mut RecordedDesk<'_, R, L, M, K>,
 ) -> Answer<P>
-    ensures same_seat { desk.new.seat.ghost_name ≡ desk.old.seat.ghost_name }
-    ensures grown { HasGrown desk.old.seat.now desk.new.seat.now }
+    ensures same_seat { desk.new.desk.seat.ghost_name ≡ desk.old.desk.seat.ghost_name }
+    ensures grown { HasGrown desk.old.desk.seat.now desk.new.desk.seat.now }
 {
     connection.answer_at(alloc, face, desk)
 }

@@ -46,4 +46,8 @@ pub trait Port {
         drop(input);
         drop(output);
     }
+
+    /// Ends the port: from now on it gives no connection, and who waits for one is told so. One that never waits without an end
+    /// needs to do nothing.
+    fn stop(&self) {}
 }

@@ -1,16 +1,17 @@
 //! A book that serves a port, from its opening to its settling.
-ghost use Rattle.std.specs.Prelude.{◌≡◌, vec_len};
+ghost use Rattle.std.specs.Prelude.{◌≡◌, false, replicate, IfOk, vec_len};
 ghost use Rattle.mds_book.specs.Books.{IsSeatCount};
+ghost use Rattle.mds_book.specs.Seats.{fresh};
 ghost use Rattle.mds_pool.specs.Serving.{IsEnded, IsSettledEnd};
 
 use crate::pool::serve_round;
-use crate::{AnswerCount, Port};
+use crate::{AnswerCount, NoRecord, Port};
 use mds_book::{
     Blank, Book, Keep, OpenFault, OpenGate, Seat, SettleFault, Settled, ShardLedger, reconcile,
 };
 use mds_face::Face;
 use mds_table::Tables;
-use std::alloc::Global;
+use std::alloc::{AllocError, Global};
 use std::hash::RandomState;
 use std::marker::Model;
 use std::sync::Wait;
@@ -82,6 +83,42 @@ impl<L: ShardLedger, M: ShardLedger> Model for FinalBook<L, M> {
     ghost view = { λ book. record { all = book.settled; answered = book.answered.items } };
 }
 
+/// Opens a book to be served: its seats note the calls that are accepted.
+///
+/// # Errors
+///
+/// `AllocError` where there is no memory for it.
+pub(crate) fn open_book<L: ShardLedger, M: ShardLedger>(
+    alloc: Global,
+    opening: NewBook,
+) -> Result<(Book<L, M>, Vec<Seat<L, M>>), AllocError>
+    requires first { (opening.first.name ≡ L.name) × (opening.first.parts ≡ L.parts) }
+    requires second { (opening.second.name ≡ M.name) × (opening.second.parts ≡ M.parts) }
+    requires first_log { (opening.first.log ≡ L.log) × (opening.first.marks ≡ L.marks) }
+    requires second_log { (opening.second.log ≡ M.log) × (opening.second.marks ≡ M.marks) }
+    requires parts { (opening.first.parts ≡ opening.seats)
+        × (opening.second.parts ≡ opening.seats) }
+    requires tables { (opening.tables ≡ L.tables) × (opening.tables ≡ M.tables) }
+    requires seats { IsSeatCount opening.seats }
+    ensures book { IfOk result (λ opened.
+        opened.0 ≡ record { tables = opening.tables; seats = opening.seats }) }
+    ensures seats { IfOk result (λ opened.
+        opened.1.items ≡ replicate opening.seats (fresh false)) }
+{
+    let NewBook {
+        tables,
+        seats,
+        first,
+        second,
+        hashers,
+    } = opening;
+    match Book::<L, M>::open(alloc, tables, seats, Keep::Accepted, first, second, hashers) {
+        Ok(opened) => Ok(opened),
+        Err(OpenFault::Memory) => Err(AllocError),
+        Err(OpenFault::BadSeats) => unreachable!(),
+    }
+}
+
 /// Opens a book and serves a port over it, by as many workers as the book has seats. Each worker answers `each`
 /// connections, and notes the calls that were accepted. At the end the book is settled and handed out, with how many
 /// connections each worker answered.
@@ -108,30 +145,15 @@ where
     requires seats { IsSeatCount opening.seats }
     ensures { IsEnded opening.tables opening.seats each result }
 {
-    let NewBook {
-        tables,
-        seats,
-        first,
-        second,
-        hashers,
-    } = opening;
-    let (book, list) = match Book::<L, M>::open(
-        alloc,
-        tables,
-        seats,
-        Keep::Accepted,
-        first,
-        second,
-        hashers,
-    ) {
+    let (book, list) = match open_book::<L, M>(alloc, opening) {
         Ok(opened) => opened,
-        Err(OpenFault::Memory) => return Err(Stop::Memory),
-        Err(OpenFault::BadSeats) => unreachable!(),
+        Err(AllocError) => return Err(Stop::Memory),
     };
     let Ok(face) = Face::open(alloc) else {
         return Err(Stop::Memory);
     };
-    match serve_round(rt, alloc, &face, port, &book, list, each, &OpenGate) {
+    let gate = OpenGate;
+    match serve_round(rt, alloc, &face, port, &book, list, each, &gate, &NoRecord) {
         Ok(round) => {
             if round.failed {
                 return Err(Stop::Accept);
@@ -153,7 +175,7 @@ where
 /// # Errors
 ///
 /// None comes: the notes fit the histories.
-fn settle<L: ShardLedger, M: ShardLedger>(
+pub(crate) fn settle<L: ShardLedger, M: ShardLedger>(
     book: Book<L, M>,
     seats: Vec<Seat<L, M>>,
 ) -> Result<Settled<L, M>, Stop>

@@ -3,16 +3,24 @@ ghost use Rattle.std.specs.Prelude.{◌≡◌, ◌≤◌, map, vec_len, vec_capa
 ghost use Rattle.std.specs.List.{list_any};
 ghost use Rattle.mds_pool.specs.Workers.{AtWork, idle};
 
-use crate::{AnswerCount, PortFault};
+use crate::AnswerCount;
 use mds_book::{Seat, ShardLedger};
 use std::marker::Model;
 
-/// What a worker came to: how many connections it answered, and the fault of the port by which it ended before it had answered
-/// all, if there was one.
+/// Why a worker ended before it had answered all connections that it was to answer.
+#[derive(Clone, Copy, Debug, PartialEq, Eq)]
+pub(crate) enum ShiftFault {
+    /// The port gave no further connection.
+    Accept,
+    /// It stays open what is recorded of the book.
+    Lost,
+}
+
+/// What a worker came to: how many connections it answered, and why it ended before it had answered all, if it did.
 #[derive(Drop)]
 pub(crate) struct Shift {
     pub(crate) answered: AnswerCount,
-    pub(crate) fault: Option<PortFault>,
+    pub(crate) fault: Option<ShiftFault>,
 }
 
 /// A worker: its seat, and what it came to.
@@ -62,12 +70,14 @@ pub(crate) fn workers_at<L: ShardLedger, M: ShardLedger>(
     room
 }
 
-/// What workers came to: their seats, how many connections each answered, and whether the port failed one of them.
+/// What workers came to: their seats, how many connections each answered, whether one of them ended before it had answered all,
+/// and whether one ended since it stays open what is recorded.
 #[derive(Drop)]
 pub(crate) struct Round<L: ShardLedger, M: ShardLedger> {
     pub(crate) seats: Vec<Seat<L, M>>,
     pub(crate) answered: Vec<AnswerCount>,
     pub(crate) failed: bool,
+    pub(crate) is_lost: bool,
 }
 
 impl<L: ShardLedger, M: ShardLedger> Round<L, M> {
@@ -84,7 +94,7 @@ impl<L: ShardLedger, M: ShardLedger> Round<L, M> {
             ≡ map (λ (one : AtWork). one.answered) workers.items }
         ensures failed { result.failed ≡ list_any (λ (one : AtWork). one.failed) workers.items }
     {
-        let mut failed = false;
+        let (mut failed, mut is_lost) = (false, false);
         for worker in workers {
             let Worker { seat, shift } = worker;
             let Shift {
@@ -94,11 +104,13 @@ impl<L: ShardLedger, M: ShardLedger> Round<L, M> {
             seats.push_reserved(seat);
             answered.push_reserved(count);
             failed = failed || fault.is_some();
+            is_lost = is_lost || fault == Some(ShiftFault::Lost);
         }
         Round {
             seats,
             answered,
             failed,
+            is_lost,
         }
     }
 }

@@ -8,7 +8,7 @@ use crate::lack::{MAX_PAUSES, pause};
 use mds_pool::{Ending, Port, PortFault};
 use std::alloc::Global;
 use std::io::{self, ErrorKind};
-use std::net::{Ipv4Addr, Net, TcpListener, TcpStream};
+use std::net::{Ipv4Addr, Net, Shutdown, TcpListener, TcpStream};
 use std::os::fd::OwnedFd;
 use std::time::Clock;
 
@@ -18,6 +18,8 @@ pub struct SocketPort<C: Clock + Copy> {
     listener: TcpListener,
     alloc: Global,
     clock: C,
+    /// The same socket, as one whose limits can be set, and that can be shut down.
+    socket: TcpStream,
 }
 
 impl<C: Clock + Copy> SocketPort<C> {
@@ -34,11 +36,13 @@ impl<C: Clock + Copy> SocketPort<C> {
     ) -> io::Result<SocketPort<C>> {
         let listener = TcpListener::bind(rt, (Ipv4Addr::LOCALHOST, number))?;
         // On Linux each connection has the limits of the socket that it is taken from, without a call of its own.
-        set_limits(&TcpStream::from(OwnedFd::from(listener.try_clone()?)))?;
+        let socket = TcpStream::from(OwnedFd::from(listener.try_clone()?));
+        set_limits(&socket)?;
         Ok(SocketPort {
             listener,
             alloc,
             clock,
+            socket,
         })
     }
 
@@ -157,6 +161,11 @@ impl<C: Clock + Copy> Port for SocketPort<C> {
         }
         drop(input);
         drop(output);
+    }
+
+    /// On Linux who waits at a listening socket that is shut down is told EINVAL, and so is who comes later.
+    fn stop(&self) {
+        let _ = self.socket.shutdown(Shutdown::Both);
     }
 }
 

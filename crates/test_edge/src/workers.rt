@@ -1,5 +1,6 @@
 //! What no clause says: that workers work side by side, and what comes of their connections.
 mod gates;
+mod journals;
 
 ghost use Rattle.std.specs.Prelude.{◌≡◌, IfOk};
 ghost use Rattle.mds_book.specs.Books.{IsSeatCount};

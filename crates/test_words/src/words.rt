@@ -8,12 +8,19 @@ type Case<'a> = (&'a [&'a str], Result<Command<'a>, WordsErrorKind>);
 
 const CASES: &[Case<'static>] = &[
     (
-        &["mds_city", "serve", "--each=1000000", "--port=65535"],
+        &[
+            "mds_city",
+            "serve",
+            "--each=1000000",
+            "--port=65535",
+            "--journal=J",
+        ],
         Ok(Command::Serve {
             port: 65535,
             each: 1_000_000,
             workers: 4,
             table: None,
+            journal: Some("J"),
         }),
     ),
     (

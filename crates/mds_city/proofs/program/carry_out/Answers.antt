@@ -54,7 +54,7 @@ returns-in-Serve g c =
     let out = g.W.Write.contents in
     let faults = g.E.Write.contents in
     subst
-    (λ (command : Command). Carries g.O.Opens.opens c.args.files.now g.O.Listens.listens bytes input c.args.input command c.serve_at.result
-    (out c.args.out.now) (out c.serve_at.new.out) (faults c.args.faults.now) (faults c.serve_at.new.faults))
+    (λ (command : Command). Carries g.O.Opens.opens c.args.files.now g.O.Listens.listens bytes input c.args.input command c.serve_named.result
+    (out c.args.out.now) (out c.serve_named.new.out) (faults c.args.faults.now) (faults c.serve_named.new.faults))
     (sym c.in-Serve.is)
-    (c.file_if_named-table.result, search rules, c.serve_at.ensures)
+    (c.file_if_named-table.result, search rules, c.serve_named.ensures)

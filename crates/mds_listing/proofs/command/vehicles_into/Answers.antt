@@ -4,7 +4,7 @@ use Rattle.mds_io.specs.declared.page.PrintError.TheVariants as write
 use Rattle.mds_commands.specs.declared.source.Source.{Source}
 use Rattle.mds_commands.specs.Problem.{written_problem}
 use Rattle.mds_commands.proofs.ErrorLemmas.{passed_on}
-use Rattle.mds_listing.specs.declared.problem.ListingProblem.TheVariants.{Other}
+use Rattle.mds_listing.specs.declared.problem.JournalProblem.TheVariants.{Other}
 use Rattle.mds_listing.specs.Listing.{ExplainsListing, ListedFront, ListingWentOut}
 use Rattle.mds_listing.proofs.command.vehicles_into.Goals as goal
 

@@ -6,7 +6,7 @@ use Rattle.mds_book.specs.Books.{Opened}
 use Rattle.mds_book.specs.Gathering.{IsGathered}
 use Rattle.mds_book.specs.Seats.{Seated, fresh}
 use Rattle.mds_face.specs.Seats.{HasGrown}
-use Rattle.mds_pool.proofs.EndLemmas.{ended, workers_grown}
+use Rattle.mds_pool.proofs.EndLemmas.{ended, new_workers, workers_still}
 use Rattle.mds_pool.proofs.serving.serve_and_settle.Goals as goal
 
 pub returns-in-Ok-settle : goal.returns-in-Ok-settle
@@ -19,4 +19,4 @@ returns-in-Ok-settle g c =
     omega (arith, c.in-Ok.opened.1.ok.0, ap length c.in-Ok.ensures.seats, length-replicate c.args.opening.seats (fresh false)) in
     let whole = c.in-Ok-serve_round.ensures.answered c.if-round.false ∙ ap (λ (n : ℕ). replicate n c.args.each) many in
     ended c.args.opening.tables c.args.opening.seats c.args.each back all c.in-Ok-serve_round.round.answered.items
-    (workers_grown c.args.opening.seats back grown) (gathered, c.in-Ok-settle.ensures.1, c.in-Ok-settle.ensures.2) whole
+    (workers_still c.args.opening.seats _ back (new_workers c.args.opening.seats) grown) (gathered, c.in-Ok-settle.ensures.1, c.in-Ok-settle.ensures.2) whole

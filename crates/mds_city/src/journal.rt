@@ -1,0 +1,326 @@
+//! The command that serves vehicles over a journal.
+ghost use Rattle.std.specs.Prelude.{◌≡◌, ◌⊎◌, ℕ, List, Result, ⊤, IfOk, IfErr};
+ghost use Rattle.mds_core.specs.declared.request.Request.{Request as Requested};
+ghost use Rattle.mds_journal.specs.Lines.{recovered};
+ghost use Rattle.mds_file.specs.declared.fault.FileFault.{FileFault as Unopened};
+ghost use Rattle.mds_book.specs.Books.{IsSeatCount};
+ghost use Rattle.mds_follow.specs.Disk.{IsTold};
+ghost use Rattle.mds_follow.specs.Reading.{IsAtFirstRequest};
+ghost use Rattle.mds_city.specs.Journal.{CameToServeOver, IsFileProblem, IsJournalStop, IsServeTold, IsServingProblem, IsStartProblem, IsStopProblem, IsUntorn};
+ghost use Rattle.mds_city.specs.Journal.{ServedBook, ServedOver, StopsBook, StopsOver};
+
+use crate::page::{ListeningLine, print_line};
+use crate::serve::{Listens, ServeOptions, say_accepted};
+use mds_book::ShardLedger;
+use mds_commands::{Problem, Source, Status, tables_in};
+use mds_file::FileFault;
+use mds_follow::{Disk, RecordLog, RequestReader, StartFault};
+use mds_io::{PrintError, write_all_of};
+use mds_journal::Device;
+use mds_listing::{JournalProblem, tell_journal_problem};
+use mds_log::BlankLog;
+use mds_pool::{Alarm, NewBook, RecordedBook, RecordedStop, Stop};
+use std::alloc::Global;
+use std::hash::RandomState;
+use std::io::{Read, Write};
+use std::marker::Brand;
+use std::random::RandomSource;
+use std::sync::Wait;
+use std::sync::atomic::{AtomicBool, Ordering};
+use std::thread::Threads;
+
+/// What opens the journal of a server.
+pub trait OpensJournals {
+    /// An open journal, which no other process has.
+    type Journal: Device + Drop + Send;
+
+    // what may come of opening the journal of this path
+    ghost opens_journal: { Self → List ℕ → Result Self.Journal Unopened → Type 0 } = { λ _ _ _. ⊤ };
+
+    /// Opens the journal of this path, or makes the file.
+    ///
+    /// # Errors
+    ///
+    /// [`FileFault`] says when each comes. Nothing of the file was changed.
+    fn open_journal(&self, path: &str) -> Result<Self::Journal, FileFault>
+        ensures opened { opens_journal self.now path.now result }
+        ensures usable { IfOk result Self.Journal.may_be_used };
+
+    /// Tells whoever runs the server, in one line, that what was accepted can't be written to the journal.
+    fn tell_not_kept(&self);
+}
+
+/// Tells of the first write that fails, and of no other.
+#[derive(Drop)]
+struct FirstFailure<'a, H: OpensJournals> {
+    host: &'a H,
+    is_told: AtomicBool,
+}
+
+impl<H: OpensJournals> Alarm for FirstFailure<'_, H> {
+    fn tell_not_kept(&self) {
+        if !self.is_told.swap(true, Ordering::SeqCst) {
+            self.host.tell_not_kept();
+        }
+    }
+}
+
+/// Why a server over a journal ended before its end.
+#[derive(Clone, Copy, Debug)]
+pub(crate) enum ServeProblem<'a> {
+    /// Another process has the journal.
+    InUse,
+    /// What was accepted isn't all recorded, or that stays open.
+    NotRecorded,
+    /// What may hinder other commands over a journal too.
+    Journal(JournalProblem<'a>),
+}
+
+impl<'a> From<Problem<'a>> for ServeProblem<'a> {
+    ghost use Rattle.std.specs.Prelude.{◌≡◌};
+    ghost use Rattle.mds_listing.specs.declared.problem.JournalProblem.TheVariants as journal;
+    ghost use Rattle.mds_city.specs.declared.journal.ServeProblem.TheVariants.{Journal};
+
+    ghost from_gives = { λ problem more. more ≡ Journal (journal.Other problem) };
+
+    fn from(problem: Problem<'a>) -> Self {
+        ServeProblem::Journal(JournalProblem::Other(problem))
+    }
+}
+
+/// Why a book over a journal wasn't served to its end.
+#[derive(Clone, Copy, Debug, PartialEq, Eq)]
+pub(crate) enum BookStop {
+    /// It wasn't opened.
+    Start(StartFault),
+    /// The port can't be had.
+    Listen,
+    /// The line that says where it listens could not be printed.
+    Print(PrintError),
+    /// It was served, and stopped.
+    Serve(RecordedStop),
+}
+
+/// Serves vehicles over a journal, and over the tables of a table file, or where none is given over the profile's, at a port of
+/// the host. The book holds what the journal tells; then it prints where it listens. No answer goes out before all stands in
+/// the journal that it rests on. At the end it prints how many requests the book holds. It answers the status that the program
+/// ends with; a problem is told to `faults` in one line.
+pub fn serve_over<
+    R: Threads + Wait + RandomSource + Sync,
+    H: Listens + OpensJournals + Sync,
+    T: Read + Drop,
+    W: Write,
+    E: Write,
+>(
+    rt: &R,
+    alloc: Global,
+    host: &H,
+    table: Option<Source<'_, T>>,
+    path: &str,
+    asked: ServeOptions,
+    out: &mut W,
+    faults: &mut E,
+) -> Status
+    requires { IsSeatCount asked.workers }
+    ensures { CameToServeOver H.listens host.now asked.port T.remaining table.entry path.now
+        asked.workers asked.each result
+        (W.contents out.old) (W.contents out.new) (E.contents faults.old) (E.contents faults.new) }
+{
+    match serve_to_end(rt, alloc, host, table, path, asked, out) {
+        Ok(accepted) => say_accepted(alloc, accepted, out, faults),
+        Err(problem) => tell_serve_problem(alloc, faults, problem),
+    }
+}
+
+/// Serves as [`serve_over`], up to its end: how many requests the book holds then.
+fn serve_to_end<
+    'a,
+    R: Threads + Wait + RandomSource + Sync,
+    H: Listens + OpensJournals + Sync,
+    T: Read + Drop,
+    W: Write,
+>(
+    rt: &R,
+    alloc: Global,
+    host: &H,
+    table: Option<Source<'a, T>>,
+    path: &'a str,
+    asked: ServeOptions,
+    out: &mut W,
+) -> Result<u128, ServeProblem<'a>>
+    requires { IsSeatCount asked.workers }
+    ensures ok { IfOk result (ServedOver H.listens host.now asked.port T.remaining table.entry
+        asked.workers asked.each (W.contents out.old) (W.contents out.new)) }
+    ensures err { IfErr result (StopsOver H.listens host.now asked.port T.remaining table.entry
+        path.now (W.contents out.old) (W.contents out.new)) }
+{
+    let tables = tables_in(alloc, table)?;
+    let (Ok(first), Ok(second)) = (RandomState::new(rt), RandomState::new(rt)) else {
+        return Err(ServeProblem::from(Problem::Random));
+    };
+    let reader = match open_reader(alloc, host, path) {
+        Ok(reader) => reader,
+        Err(problem) => return Err(problem),
+    };
+    let opening = NewBook::of(tables, asked.workers, [first, second]);
+    let log = BlankLog::new();
+    match serve_reader::<R, H, Brand, Brand, Brand, W>(
+        rt, alloc, host, opening, reader, log, asked, out,
+    ) {
+        Ok(accepted) => Ok(accepted),
+        Err(stop) => Err(problem_of_stop(path, stop)),
+    }
+}
+
+/// The journal of this path, to be read from its first request on.
+fn open_reader<'a, H: OpensJournals>(
+    alloc: Global,
+    host: &H,
+    path: &'a str,
+) -> Result<RequestReader<H::Journal>, ServeProblem<'a>>
+    ensures ok { IfOk result (λ reader.
+        IsAtFirstRequest H.Journal.seen H.Journal.may_leave H.Journal.may_be_used H.Journal.is_true
+        reader.opening) }
+    ensures err { IfErr result (IsJournalStop path.now) }
+{
+    let file = match host.open_journal(path) {
+        Ok(file) => file,
+        Err(fault) => return Err(problem_of_file(path, fault)),
+    };
+    match RequestReader::open(alloc, file) {
+        Ok(reader) => Ok(reader),
+        Err((fault, _file)) => Err(problem_of_start(path, fault)),
+    }
+}
+
+/// Opens a book over the journal, prints where it listens, and serves: how many requests the book holds at the end.
+fn serve_reader<
+    R: Threads + Wait + Sync,
+    H: Listens + OpensJournals + Sync,
+    L: ShardLedger + Send + Sync,
+    M: ShardLedger + Send + Sync,
+    J: RecordLog + Send + Sync,
+    W: Write,
+>(
+    rt: &R,
+    alloc: Global,
+    host: &H,
+    opening: NewBook,
+    reader: RequestReader<H::Journal>,
+    log: BlankLog,
+    asked: ServeOptions,
+    out: &mut W,
+) -> Result<u128, BookStop>
+    requires first { (opening.first.name ≡ L.name) × (opening.first.parts ≡ L.parts) }
+    requires second { (opening.second.name ≡ M.name) × (opening.second.parts ≡ M.parts) }
+    requires first_log { (opening.first.log ≡ L.log) × (opening.first.marks ≡ L.marks) }
+    requires second_log { (opening.second.log ≡ M.log) × (opening.second.marks ≡ M.marks) }
+    requires parts { (opening.first.parts ≡ opening.seats)
+        × (opening.second.parts ≡ opening.seats) }
+    requires tables { (opening.tables ≡ L.tables) × (opening.tables ≡ M.tables) }
+    requires seats { IsSeatCount opening.seats }
+    requires at_first { IsAtFirstRequest H.Journal.seen H.Journal.may_leave H.Journal.may_be_used
+        H.Journal.is_true reader.opening }
+    requires log { log ≡ J.log }
+    requires start { J.start ≡ H.Journal.moment reader.opening.device }
+    requires held { (told : List Requested)
+        → IsTold (recovered (H.Journal.seen reader.opening.device)) told → J.held told }
+    ensures ok { IfOk result (λ accepted. ServedBook H.listens host.now asked.port opening.tables
+        opening.seats asked.each (W.contents out.old) (W.contents out.new) accepted) }
+    ensures err { IfErr result (StopsBook H.listens host.now asked.port
+        (W.contents out.old) (W.contents out.new)) }
+{
+    let book = match RecordedBook::<Disk<H::Journal>, L, M, J>::open(
+        rt, alloc, opening, reader, log,
+    ) {
+        Ok(book) => book,
+        Err((fault, _file)) => return Err(BookStop::Start(fault)),
+    };
+    let Some((listening, port)) = host.listen(alloc, asked.port) else {
+        return Err(BookStop::Listen);
+    };
+    match print_line(alloc, out, &ListeningLine { port }) {
+        Ok(()) => {}
+        Err(fault) => return Err(BookStop::Print(fault)),
+    }
+    let alarm = FirstFailure {
+        host,
+        is_told: AtomicBool::new(false),
+    };
+    match book.serve(rt, alloc, &listening, asked.each, &alarm) {
+        Ok(end) => Ok(end.book.settled.accepted()),
+        Err(stop) => Err(BookStop::Serve(stop)),
+    }
+}
+
+/// The problem of a journal that can't be opened.
+fn problem_of_file<'a>(path: &'a str, fault: FileFault) -> ServeProblem<'a>
+    ensures { IsFileProblem path.now fault result }
+{
+    match fault {
+        FileFault::CannotRead => ServeProblem::from(Problem::CannotRead(path)),
+        FileFault::InUse => ServeProblem::InUse,
+        FileFault::Memory => ServeProblem::from(Problem::Memory),
+    }
+}
+
+/// The problem of a book that can't be opened over a journal.
+fn problem_of_start<'a>(path: &'a str, fault: StartFault) -> ServeProblem<'a>
+    ensures { IsStartProblem path.now fault result }
+{
+    match fault {
+        StartFault::Memory => ServeProblem::from(Problem::Memory),
+        StartFault::Device | StartFault::Shared => ServeProblem::from(Problem::CannotRead(path)),
+        StartFault::Journal(fault) => ServeProblem::Journal(JournalProblem::NotAJournal(fault)),
+    }
+}
+
+/// The problem by which a book over a journal wasn't served to its end.
+fn problem_of_stop<'a>(path: &'a str, stop: BookStop) -> ServeProblem<'a>
+    requires { IsUntorn stop }
+    ensures { IsStopProblem path.now stop result }
+{
+    match stop {
+        BookStop::Start(fault) => problem_of_start(path, fault),
+        BookStop::Listen => ServeProblem::from(Problem::Socket),
+        BookStop::Print(fault) => ServeProblem::from(Problem::from(fault)),
+        BookStop::Serve(stop) => problem_of_serving(stop),
+    }
+}
+
+/// The problem by which serving stopped.
+fn problem_of_serving<'a>(stop: RecordedStop) -> ServeProblem<'a>
+    requires { IsUntorn (BookStop.Serve stop) }
+    ensures { IsServingProblem stop result }
+{
+    let stop = match stop {
+        RecordedStop::Journal => return ServeProblem::NotRecorded,
+        RecordedStop::Serve(stop) => stop,
+    };
+    match stop {
+        Stop::Memory => ServeProblem::from(Problem::Memory),
+        Stop::Accept => ServeProblem::from(Problem::Socket),
+        Stop::Torn { .. } => unreachable!(),
+    }
+}
+
+/// Tells the problem in one line, and answers its status. Where there is no memory to lay the line out, the problem that is
+/// told is that. Where the writer fails the status stays.
+fn tell_serve_problem<E: Write>(alloc: Global, faults: &mut E, problem: ServeProblem<'_>) -> Status
+    ensures { IsServeTold problem.entry result
+        (E.contents faults.old) (E.contents faults.new)
+        ⊎ IsServeTold (ServeProblem.Journal (JournalProblem.Other Problem.Memory)) result
+        (E.contents faults.old) (E.contents faults.new) }
+{
+    match problem {
+        ServeProblem::InUse => {
+            let _ = write_all_of(faults, b"mds_city: journal in use\n");
+            Status::Fault
+        }
+        ServeProblem::NotRecorded => {
+            let _ = write_all_of(faults, b"mds_city: journal\n");
+            Status::Fault
+        }
+        ServeProblem::Journal(problem) => tell_journal_problem(alloc, faults, problem),
+    }
+}

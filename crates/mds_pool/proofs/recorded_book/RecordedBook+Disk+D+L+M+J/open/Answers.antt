@@ -1,0 +1,13 @@
+use Rattle.std.proofs.Common.{◌≡◌, ℕ, ap, subst, sym, slice_set}
+use Rattle.mds_book.specs.Books.{Opened}
+use Rattle.mds_pool.specs.Serving.{AreWorkers}
+use Rattle.mds_pool.proofs.EndLemmas.{first_resumed}
+use Rattle.mds_pool.proofs.recorded_book.RecordedBook+Disk+D+L+M+J.open.Goals as goal
+
+-- the first seat, which asked what the journal tells, notes what the others note
+pub invariant_of-result : goal.invariant_of-result
+invariant_of-result g c =
+    let many : c.in-Ok.opened.0.seats ≡ c.args.opening.seats = ap (λ (b : Opened). b.seats) c.in-Ok.ensures.book in
+    subst (λ (n : ℕ). AreWorkers n (slice_set c.in-Ok.opened.1.items 0 c.resume.new.seat)) (sym many)
+    (first_resumed c.args.opening.seats c.in-Ok.opened.1.items c.index_mut.result.now c.resume.new.seat c.requires.seats.0 c.in-Ok.ensures.seats
+    c.index_mut.ensures.value c.resume.ensures.keep)

@@ -1,0 +1,215 @@
+//! A book that is served over a journal, from its opening to its settling.
+ghost use Rattle.std.specs.Prelude.{◌≡◌, ℕ, List, IfOk, IfErr, Ok, vec_len};
+ghost use Rattle.mds_table.specs.Tables.{Tables as Timed};
+ghost use Rattle.mds_core.specs.declared.request.Request.{Request as Requested};
+ghost use Rattle.mds_journal.specs.Lines.{recovered};
+ghost use Rattle.mds_book.specs.Books.{IsSeatCount};
+ghost use Rattle.mds_follow.specs.Disk.{IsTold};
+ghost use Rattle.mds_follow.specs.Reading.{IsAtFirstRequest, IsJournalFault, IsStartFault};
+ghost use Rattle.mds_pool.specs.Recording.{IsRecordOf, IsRecordedStop};
+ghost use Rattle.mds_pool.specs.Serving.{AreWorkers, IsEnded, IsSettledEnd};
+
+use crate::pool::serve_round;
+use crate::recorder::Journal;
+use crate::serving::{open_book, settle};
+use crate::{Alarm, FinalBook, NewBook, Port, Stop};
+use mds_book::{Book, OpenGate, Seat, Settled, ShardLedger};
+use mds_face::Face;
+use mds_follow::{
+    Disk, Follower, Record, RecordFault, RecordLog, RequestReader, SharedFollower, StartFault,
+    resume,
+};
+use mds_journal::Device;
+use mds_log::BlankLog;
+use std::alloc::{AllocError, Global};
+use std::marker::Model;
+use std::sync::Wait;
+use std::thread::Threads;
+
+/// A book that was opened over a record, and holds what that tells. Contracts see its tables, and the number of its seats.
+#[derive(Drop)]
+pub struct RecordedBook<F: Record, L: ShardLedger, M: ShardLedger, J: RecordLog> {
+    book: Book<L, M>,
+    seats: Vec<Seat<L, M>>,
+    follower: Follower<F, L, M, J>,
+}
+
+impl<F: Record, L: ShardLedger, M: ShardLedger, J: RecordLog> Model for RecordedBook<F, L, M, J> {
+    ghost use Rattle.mds_book.specs.Books.{Opened};
+    ghost use Rattle.mds_pool.specs.Serving.{AreWorkers};
+
+    ghost Value = { Opened };
+
+    ghost view = { λ own. own.book };
+
+    ghost invariant = { λ own. AreWorkers own.book.seats own.seats.items };
+}
+
+/// A settled book, and the file in which what it accepted is recorded.
+#[derive(Drop)]
+pub struct RecordedEnd<F: Record, L: ShardLedger, M: ShardLedger> {
+    /// The settled book, and how many connections each of its workers answered.
+    pub book: FinalBook<L, M>,
+    /// The file.
+    pub file: F,
+}
+
+/// Why no settled book was handed out.
+#[derive(Clone, Copy, Debug, PartialEq, Eq)]
+pub enum RecordedStop {
+    /// As where nothing is recorded.
+    Serve(Stop),
+    /// What was accepted isn't all recorded, or that stays open: a write or a sync failed. No answer was given that rests on what
+    /// isn't. Nothing was settled.
+    Journal,
+}
+
+impl<D: Device, L: ShardLedger, M: ShardLedger, J: RecordLog> RecordedBook<Disk<D>, L, M, J> {
+    /// Opens a book over a journal. Its first seat asks all that the journal tells, and notes it like any other request.
+    ///
+    /// # Errors
+    ///
+    /// As [`resume`]; and `Memory` where there is none for the book.
+    pub fn open<R: Wait>(
+        rt: &R,
+        alloc: Global,
+        opening: NewBook,
+        reader: RequestReader<D>,
+        log: BlankLog,
+    ) -> Result<RecordedBook<Disk<D>, L, M, J>, (StartFault, D)>
+        requires first { (opening.first.name ≡ L.name) × (opening.first.parts ≡ L.parts) }
+        requires second { (opening.second.name ≡ M.name) × (opening.second.parts ≡ M.parts) }
+        requires first_log { (opening.first.log ≡ L.log) × (opening.first.marks ≡ L.marks) }
+        requires second_log { (opening.second.log ≡ M.log) × (opening.second.marks ≡ M.marks) }
+        requires parts { (opening.first.parts ≡ opening.seats)
+            × (opening.second.parts ≡ opening.seats) }
+        requires tables { (opening.tables ≡ L.tables) × (opening.tables ≡ M.tables) }
+        requires seats { IsSeatCount opening.seats }
+        requires at_first { IsAtFirstRequest D.seen D.may_leave D.may_be_used D.is_true
+            reader.opening }
+        requires log { log ≡ J.log }
+        requires start { J.start ≡ D.moment reader.opening.device }
+        requires held { (told : List Requested)
+            → IsTold (recovered (D.seen reader.opening.device)) told → J.held told }
+        ensures opened { IfOk result (λ own. (own.tables ≡ opening.tables)
+            × (own.seats ≡ opening.seats)) }
+        ensures fault { IfErr result (λ error. D.is_true error.1
+            → IsStartFault opening.tables (D.seen reader.opening.device) error.0) }
+        ensures same { IfErr result (λ error. D.is_true error.1 → IsJournalFault error.0
+            → D.seen error.1 ≡ D.seen reader.opening.device) }
+        ensures was_true { IfErr result (λ error. D.is_true error.1
+            → D.is_true reader.opening.device) }
+    {
+        let (book, mut seats) = match open_book::<L, M>(alloc, opening) {
+            Ok(opened) => opened,
+            Err(AllocError) => return Err((StartFault::Memory, reader.into_device())),
+        };
+        match resume::<D, L, M, J, R>(rt, &book, &mut seats[0], reader, log) {
+            Ok(follower) => Ok(RecordedBook {
+                book,
+                seats,
+                follower,
+            }),
+            Err(error) => Err(error),
+        }
+    }
+}
+
+impl<F: Record + Drop, L: ShardLedger, M: ShardLedger, J: RecordLog> RecordedBook<F, L, M, J> {
+    /// Serves a port over the book, by as many workers as the book has seats. Each worker answers `each` connections, and notes
+    /// the calls that were accepted. No answer goes out before all is recorded that it rests on; where a write fails in place of
+    /// it, the alarm is told. At the end all is recorded that was accepted, and the book is settled and handed out.
+    ///
+    /// # Errors
+    ///
+    /// [`RecordedStop`] says when each comes.
+    pub fn serve<R: Threads + Wait + Sync, P: Port + Sync, A: Alarm + Sync>(
+        self,
+        rt: &R,
+        alloc: Global,
+        port: &P,
+        each: usize,
+        alarm: &A,
+    ) -> Result<RecordedEnd<F, L, M>, RecordedStop>
+    where
+        P::In: Send,
+        P::Out: Send,
+        F: Send,
+        L: Send + Sync,
+        M: Send + Sync,
+        J: Send + Sync,
+        ensures ended { IfOk result (λ end. IsEnded self.tables self.seats each (Ok end.book)) }
+        ensures stopped { IfErr result (IsRecordedStop self.tables self.seats each) }
+        ensures recorded { IfOk result (λ end. IsRecordOf F.is_sound F.is_true F.may_go_on F.stands
+            F.tag F.left_since J.start J.held end.file end.book.all) }
+    {
+        let RecordedBook {
+            book,
+            seats,
+            follower,
+        } = self;
+        let Ok(face) = Face::open(alloc) else {
+            return Err(RecordedStop::Serve(Stop::Memory));
+        };
+        let journal = Journal {
+            follower: SharedFollower::of(follower),
+            alarm,
+        };
+        let Ok(round) = serve_round(
+            rt, alloc, &face, port, &book, seats, each, &OpenGate, &journal,
+        ) else {
+            return Err(RecordedStop::Serve(Stop::Memory));
+        };
+        if round.is_lost {
+            return Err(RecordedStop::Journal);
+        }
+        if round.failed {
+            return Err(RecordedStop::Serve(Stop::Accept));
+        }
+        let Journal { follower, alarm: _ } = journal;
+        let follower = follower.into_follower();
+        match settle_recorded(rt, alloc, book, round.seats, follower) {
+            Ok((settled, file)) => Ok(RecordedEnd {
+                book: FinalBook {
+                    settled,
+                    answered: round.answered,
+                },
+                file,
+            }),
+            Err(stop) => Err(stop),
+        }
+    }
+}
+
+/// Records all that the seats of a book have seen, and settles the book.
+///
+/// # Errors
+///
+/// [`RecordedStop::Journal`] where not all is recorded, `Serve` by [`Stop::Memory`] where there was no memory for that.
+fn settle_recorded<F: Record + Drop, L: ShardLedger, M: ShardLedger, J: RecordLog, R: Wait>(
+    rt: &R,
+    alloc: Global,
+    book: Book<L, M>,
+    seats: Vec<Seat<L, M>>,
+    mut follower: Follower<F, L, M, J>,
+) -> Result<(Settled<L, M>, F), RecordedStop>
+    requires { vec_len seats ≡ book.seats }
+    ensures settled { IfOk result (λ end. IsSettledEnd book seats.items (Ok end.0)) }
+    ensures recorded { IfOk result (λ end. IsRecordOf F.is_sound F.is_true F.may_go_on F.stands
+        F.tag F.left_since J.start J.held end.1 end.0) }
+    ensures stopped { (tables : Timed) (workers each : ℕ)
+        → IfErr result (IsRecordedStop tables workers each) }
+{
+    match follower.follow_all(rt, alloc, &book, seats.as_slice()) {
+        Ok(()) => {}
+        Err(RecordFault::Memory) => return Err(RecordedStop::Serve(Stop::Memory)),
+        Err(RecordFault::NotKept | RecordFault::Lost) => return Err(RecordedStop::Journal),
+    }
+    match settle(book, seats) {
+        Ok(mut settled) => {
+            let file = follower.finish(&mut settled);
+            Ok((settled, file))
+        }
+        Err(stop) => Err(RecordedStop::Serve(stop)),
+    }
+}

@@ -1,0 +1,92 @@
+//! A caller's seat as a desk whose answers go out once what they rest on is recorded.
+ghost use Rattle.std.specs.Prelude.{◌≡◌, OnOk};
+
+use crate::Recorder;
+use mds_book::{Book, Seat, ShardLedger};
+use mds_core::{Event, Key, Reply, Request};
+use mds_face::{Desk, KeepFault, KeptDesk, SeatDesk};
+use mds_table::Row;
+use std::alloc::{AllocError, Global};
+use std::sync::Wait;
+
+/// A caller's seat at a book, as a desk, and what records what the seat has seen.
+#[derive(Drop)]
+pub(crate) struct RecordedDesk<'a, R: Wait, L: ShardLedger, M: ShardLedger, K: Recorder<L, M>> {
+    pub(crate) desk: SeatDesk<'a, R, L, M>,
+    pub(crate) recorder: &'a K,
+    pub(crate) receipt: &'a mut K::Receipt,
+}
+
+impl<R: Wait, L: ShardLedger, M: ShardLedger, K: Recorder<L, M>> Desk
+    for RecordedDesk<'_, R, L, M, K> {
+    ghost use Rattle.std.specs.Prelude.{◌≡◌};
+    ghost use Rattle.mds_core.specs.History.{key_of, requests_of};
+    ghost use Rattle.mds_core.proofs.OfTheirKind.{given_is_for};
+    ghost use Rattle.mds_book.specs.Seats.{IsListed};
+    ghost use Rattle.mds_face.specs.Seats.{SeatCalls};
+
+    ghost calls = { λ old request reply new. (new.desk.book ≡ old.desk.book)
+        × (new.desk.seat.ghost_name ≡ old.desk.seat.ghost_name)
+        × SeatCalls old.desk.book.now.tables old.desk.seat.now request reply new.desk.seat.now };
+
+    ghost gives_events = { λ old key found new. (new.desk.book ≡ old.desk.book)
+        × (new.desk.seat.ghost_name ≡ old.desk.seat.ghost_name)
+        × IsListed old.desk.book.now.tables old.desk.seat.now key found new.desk.seat.now };
+
+    ghost gives_rows = { λ own tables. tables ≡ own.desk.book.now.tables };
+
+    ghost of_its_kind = { λ old request reply new calls. let called = calls.2.0 in
+        given_is_for old.desk.book.now.tables (requests_of called.before (key_of request)) request
+        reply.outcome (called.answer).outcome };
+
+    fn call(&mut self, request: &Request) -> Result<Reply, AllocError> {
+        self.desk.call(request)
+    }
+
+    fn events(&mut self, key: &Key) -> Result<Option<Vec<Event>>, AllocError> {
+        self.desk.events(key)
+    }
+
+    fn rows(&mut self) -> Result<Vec<(u64, Vec<Row>)>, AllocError> {
+        self.desk.rows()
+    }
+}
+
+impl<R: Wait, L: ShardLedger, M: ShardLedger, K: Recorder<L, M>> KeptDesk
+    for RecordedDesk<'_, R, L, M, K> {
+    ghost use Rattle.std.specs.Prelude.{◌≡◌};
+
+    ghost is_kept = { λ own. K.covers own.receipt.now own.desk.seat.now };
+
+    ghost keeps = { λ old new. new.desk ≡ old.desk };
+
+    fn keep(&mut self) -> Result<(), KeepFault> {
+        commit_seat(
+            self.recorder,
+            self.desk.rt,
+            self.desk.alloc,
+            self.desk.book,
+            self.desk.seat,
+            self.receipt,
+        )
+    }
+}
+
+/// Sees to it that all is recorded that a seat has seen. The seat stays as it is.
+///
+/// # Errors
+///
+/// As [`Recorder::commit`].
+fn commit_seat<R: Wait, L: ShardLedger, M: ShardLedger, K: Recorder<L, M>>(
+    recorder: &K,
+    rt: &R,
+    alloc: Global,
+    book: &Book<L, M>,
+    seat: &mut Seat<L, M>,
+    receipt: &mut K::Receipt,
+) -> Result<(), KeepFault>
+    ensures covers { OnOk result (K.covers receipt.new seat.new) }
+    ensures same { seat.new ≡ seat.old }
+{
+    recorder.commit(rt, alloc, book, seat, receipt)
+}

@@ -1,0 +1,122 @@
+//! What records what a book accepts, before an answer that rests on it goes out.
+ghost use Rattle.std.specs.Prelude.{◌≡◌, OnOk};
+ghost use Rattle.mds_pool.specs.Recording.{keep_fault};
+
+use mds_book::{Book, Seat, ShardLedger};
+use mds_face::KeepFault;
+use mds_follow::{Receipt, Record, RecordFault, RecordLog, SharedFollower};
+use std::alloc::Global;
+use std::sync::Wait;
+
+/// What records what a book accepts, for any number of workers at once.
+pub trait Recorder<L: ShardLedger, M: ShardLedger> {
+    ghost use Rattle.std.specs.Prelude.{OnOk};
+    ghost use Rattle.mds_book.specs.Seats.{Seated};
+
+    /// What a worker knows to be recorded.
+    type Receipt: Drop;
+
+    /// By a receipt, all that a seat has seen is recorded.
+    ghost covers: { Self.Receipt → Seated → Type 0 };
+
+    /// A receipt for a worker that begins.
+    fn receipt<R: Wait>(&self, rt: &R) -> Self::Receipt;
+
+    /// Sees to it that all that a seat has seen is recorded, and says so by the receipt.
+    ///
+    /// # Errors
+    ///
+    /// [`KeepFault`] says when each comes.
+    fn commit<R: Wait>(
+        &self,
+        rt: &R,
+        alloc: Global,
+        book: &Book<L, M>,
+        seat: &Seat<L, M>,
+        receipt: &mut Self::Receipt,
+    ) -> Result<(), KeepFault>
+        ensures { OnOk result (covers receipt.new seat.now) };
+}
+
+/// Nothing is recorded, so no answer waits for that: all that the book accepts ends with the process.
+#[derive(Clone, Copy, Debug)]
+pub struct NoRecord;
+
+impl<L: ShardLedger, M: ShardLedger> Recorder<L, M> for NoRecord {
+    ghost use Rattle.std.specs.Prelude.{⊤};
+
+    type Receipt = ();
+
+    ghost covers = { λ _ _. ⊤ };
+
+    fn receipt<R: Wait>(&self, _rt: &R) {}
+
+    fn commit<R: Wait>(
+        &self,
+        _rt: &R,
+        _alloc: Global,
+        _book: &Book<L, M>,
+        _seat: &Seat<L, M>,
+        _receipt: &mut (),
+    ) -> Result<(), KeepFault> {
+        Ok(())
+    }
+}
+
+/// Who is told that answers are held back.
+pub trait Alarm {
+    /// A write failed: what was accepted isn't recorded, and the answers that rest on it aren't given. It may be recorded later.
+    /// It is called each time.
+    fn tell_not_kept(&self);
+}
+
+/// A follower that records what a book accepts, and who is told where a write fails.
+#[derive(Drop)]
+pub(crate) struct Journal<'a, F: Record, L: ShardLedger, M: ShardLedger, J: RecordLog, A: Alarm> {
+    pub(crate) follower: SharedFollower<F, L, M, J>,
+    pub(crate) alarm: &'a A,
+}
+
+impl<F: Record, L: ShardLedger, M: ShardLedger, J: RecordLog, A: Alarm> Recorder<L, M>
+    for Journal<'_, F, L, M, J, A> {
+    ghost use Rattle.mds_log.specs.Log.{requests};
+    ghost use Rattle.mds_follow.specs.Parts.{Covers};
+
+    type Receipt = Receipt<L, M, J>;
+
+    ghost covers = { λ receipt seat. Covers seat (requests receipt) };
+
+    fn receipt<R: Wait>(&self, rt: &R) -> Receipt<L, M, J> {
+        self.follower.receipt(rt)
+    }
+
+    fn commit<R: Wait>(
+        &self,
+        rt: &R,
+        alloc: Global,
+        book: &Book<L, M>,
+        seat: &Seat<L, M>,
+        receipt: &mut Receipt<L, M, J>,
+    ) -> Result<(), KeepFault> {
+        match self.follower.commit(rt, alloc, book, seat, receipt) {
+            Ok(()) => Ok(()),
+            Err(fault) => {
+                if fault == RecordFault::NotKept {
+                    self.alarm.tell_not_kept();
+                }
+                Err(keep_fault(fault))
+            }
+        }
+    }
+}
+
+/// What a fault of a record says of the answers that rest on it.
+fn keep_fault(fault: RecordFault) -> KeepFault
+    ensures { result ≡ keep_fault fault }
+{
+    match fault {
+        RecordFault::Memory => KeepFault::Memory,
+        RecordFault::NotKept => KeepFault::NotKept,
+        RecordFault::Lost => KeepFault::Lost,
+    }
+}
