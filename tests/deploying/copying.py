@@ -9,6 +9,7 @@ import sys
 import tempfile
 from pathlib import Path
 
+from deploying.journals import server_over
 from deploying.vehicles import PROVIDERS, event, fill, fleet, vehicle
 from harness.case import MAX_BYTES, MAX_ITEMS
 from harness.counting import ROOT
@@ -171,6 +172,20 @@ def wrong_devices(program):
             yield "a file was written"
 
 
+def devices_of_a_journal(program):
+    """The devices are those that `mds_city vehicles` tells of the server's journal."""
+    vehicles = list(fleet(30, 4))
+    with Files(vehicles) as files, server_over(program, files.path("journal"), EACH) as server:
+        fill(server, vehicles)
+        told = subprocess.run([program, "vehicles", files.path("journal")], capture_output=True, text=True, timeout=SECONDS)
+        awk = subprocess.run(["awk", "$1 == \"vehicle\" { print $2, $3 }"], input=told.stdout, capture_output=True, text=True)
+        by_name, by_journal = files.path("by name"), files.path("by journal")
+        yield from ended(run("backup", url(server), by_journal, "-", given=awk.stdout), 0, "read 30 vehicles", "0 not registered")
+        yield from ended(run("backup", url(server), by_name, files.registrations), 0)
+        if sorted(by_name.read_text().splitlines()) != sorted(by_journal.read_text().splitlines()):
+            yield "the devices of the journal give other vehicles"
+
+
 def no_server(program):
     """Nobody listens: the file that was there stays, and no other is left."""
     with Files(list(fleet(1, 1))) as files, Server(program, EACH) as server, socket.socket() as unheard:
@@ -313,6 +328,7 @@ COPYING = [
     ways_to_name_devices,
     unknown_devices,
     wrong_devices,
+    devices_of_a_journal,
     no_server,
     server_that_ends,
     files_cut_short,

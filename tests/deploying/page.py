@@ -16,7 +16,7 @@ from model.json_text import compact
 PAGE = ROOT / "deploy/page/index.html"
 OF_PROXIES = {"unauthorized", "forbidden", "unavailable"}
 """The refusals that nginx.conf has of its own, beside `too_long`."""
-UNCERTAIN = {"out_of_memory", "unavailable"}
+UNCERTAIN = {"out_of_memory", "not_kept", "unavailable"}
 """The refusals of a whole request of which items may have been accepted."""
 ENTER = ("Enter", 13, "\r")
 TAB = ("Tab", 9)

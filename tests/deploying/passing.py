@@ -341,6 +341,27 @@ def restarted(city):
     return gone, [text for client in clients for text in client.wrong]
 
 
+def a_restart_that_loses_nothing(city):
+    """What was answered by way of the proxies stays where the server is killed and started anew: reports and registrations that are
+    sent again are told to be there, and looks find what they found."""
+    owner = {"provider_id": PROVIDERS[0], "device_id": vehicle(PROVIDERS[0], 704)["device_id"]}
+    events = [event(owner, number, ["provider_drop_off"], "available") for number in (1,)]
+    posts = [("/vehicles", compact(owner), "already_registered"), ("/events", compact(events), "repeated")]
+    place = path_of(*owner.values())
+    for target, body, _ in posts:
+        done = {"failures": [], "success": 1, "total": 1}
+        yield from answered(city, sent("POST", target, TOKENS[1], body.encode()), 200, done)
+    looks = [sent("GET", target, TOKENS[1]) for target in (place, f"{place}/events")]
+    before = [city.ask(look)[2] for look in looks]
+    city.servers[0].__exit__()
+    city.servers[0] = city.server(0)
+    for look, body in zip(looks, before):
+        yield from answered(city, look, 200, json.loads(body))
+    for target, body, name in posts:
+        wanted = {"failures": [{"error": name, "index": 0}], "success": 0, "total": 1}
+        yield from answered(city, sent("POST", target, TOKENS[1], body.encode()), 200, wanted)
+
+
 def a_server_that_is_gone(city):
     """While a server isn't there its provider's requests are 503, with the time after which to try again; the others' go
     on. haproxy's own answer is the same. It tells of each try that failed, and of nothing that went well."""
@@ -467,6 +488,7 @@ PASSING = [
     slow_senders,
     slow_readers,
     restart_during_load,
+    a_restart_that_loses_nothing,
     a_server_that_is_gone,
     an_answer_that_breaks_off,
     backup_by_way_of_nginx,

@@ -16,9 +16,9 @@ from pathlib import Path
 
 from deploying.browser import Browser
 from deploying.described import note
+from deploying.journals import server_over
 from deploying.vehicles import PROVIDERS
 from harness.counting import ROOT, Skipped, Unwell
-from serving.server import Server
 
 INSTANCES = ("one", "two", "three")
 EACH, WORKERS = 1000000, 4
@@ -118,7 +118,8 @@ def is_heard(port):
 
 
 class City:
-    """Three servers, haproxy before them, and nginx before that. As a context they are taken down at its end."""
+    """Three servers, each over a journal of its own, haproxy before them, and nginx before that. As a context they are taken down at
+    its end."""
 
     def __init__(self, program):
         self.program = program
@@ -178,8 +179,9 @@ class City:
         return self.browser
 
     def server(self, number):
-        """The server of this number, which listens."""
-        return Server(self.program, EACH, WORKERS, port=self.ports[number]).__enter__()
+        """The server of this number, which listens. It goes on from its journal, if there is one."""
+        path = self.folder / f"{INSTANCES[number]}.journal"
+        return server_over(self.program, path, EACH, WORKERS, self.ports[number]).__enter__()
 
     def write(self, name, text):
         (self.folder / name).write_bytes(text.encode())

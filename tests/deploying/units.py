@@ -1,16 +1,25 @@
 """The unit and the environment file."""
 
+import json
 import re
 import shutil
 import subprocess
 import tempfile
 from pathlib import Path
 
+from deploying.journals import server_over
 from deploying.proxies import changed
+from deploying.vehicles import event, fill, fleet, vehicle
 from harness.counting import ROOT, Skipped
-from serving.server import Server
+from model.json_text import compact
+from serving.server import Server, success_of
+from serving.tools import body_of
+from serving.wire import ask, get, post
 
-NAME = "mds_city@.service"
+NAME, INSTANCE = "mds_city@.service", "one"
+STATE = "/var/lib"
+"""Where systemd makes the folders of `StateDirectory`."""
+EACH, VEHICLES, EVENTS = 1000, 20, 10
 
 
 def the_unit(program):
@@ -18,22 +27,36 @@ def the_unit(program):
     if not shutil.which("systemd-analyze"):
         raise Skipped("no `systemd-analyze` here")
     with tempfile.TemporaryDirectory() as folder:
-        unit = Path(folder, "mds_city@one.service")
+        unit = Path(folder, f"mds_city@{INSTANCE}.service")
         unit.write_text(changed(NAME, {"/usr/local/bin/mds_city": program}))
         ran = subprocess.run(["systemd-analyze", "verify", unit], capture_output=True, text=True, timeout=300)
     if ran.returncode or str(unit.name) in ran.stderr:
         yield f"status {ran.returncode}: {ran.stdout}{ran.stderr}"
 
 
+def setting(name):
+    """What the unit says of this name, for the instance."""
+    text = changed(NAME, {"\\\n": ""})
+    return re.search(rf"^{name}=(.*)$", text, re.MULTILINE).group(1).replace("%i", INSTANCE)
+
+
+def variables():
+    """What the environment file sets."""
+    return dict(re.findall(r"^([A-Z]+)=(.*)$", (ROOT / "deploy/one.env").read_text(), re.MULTILINE))
+
+
+def words_of():
+    """The words that the unit runs with the environment file, behind the program."""
+    names = variables()
+    return re.sub(r"\$\{?([A-Z]+)\}?", lambda found: names[found.group(1)], setting("ExecStart")).split()[1:]
+
+
 def words_of_the_unit(program):
     """The words that the unit runs with the environment file are words of the program, and the file sets each name."""
-    unit, env = (ROOT / "deploy" / NAME).read_text(), (ROOT / "deploy/one.env").read_text()
-    names = dict(re.findall(r"^([A-Z]+)=(.*)$", env, re.MULTILINE))
-    command = re.search(r"^ExecStart=\S+ (.*)$", unit, re.MULTILINE).group(1)
-    words = re.sub(r"\$\{?([A-Z]+)\}?", lambda found: names[found.group(1)], command).split()
+    names, words = variables(), words_of()
     wanted = ["serve", "--port", names["PORT"], "--each", names["EACH"], "--workers", names["WORKERS"]]
-    if words != wanted:
-        yield f"{words}, in place of {wanted}"
+    if words[:-1] != [*wanted, "--journal"]:
+        yield f"{words}, in place of {wanted}, and a journal"
     with Server(program, int(names["EACH"]), int(names["WORKERS"])):
         pass
     queue = re.search(rf"127\.0\.0\.1:{names['PORT']} maxconn ([0-9]+)", (ROOT / "deploy/haproxy.cfg").read_text())
@@ -41,4 +64,48 @@ def words_of_the_unit(program):
         yield "haproxy.cfg has another number of workers"
 
 
-UNITS = [the_unit, words_of_the_unit]
+def folder_of_the_unit(_):
+    """The journal stands in a folder of the instance's own, which systemd makes, and in which the unit may write. It may grow."""
+    journal, folder = words_of()[-1], setting("StateDirectory")
+    if Path(journal).parent != Path(STATE, folder):
+        yield f"the journal {journal} isn't in the folder {folder}"
+    if INSTANCE not in Path(folder).parts:
+        yield f"the folder {folder} is that of other instances, too, whose users are others"
+    if re.search("^(LimitFSIZE|ReadOnlyPaths|InaccessiblePaths)=", changed(NAME, {}), re.MULTILINE):
+        yield "the unit has a limit of what may be written"
+
+
+def standing(server, vehicles):
+    """What a server answers of these vehicles and of their events."""
+    paths = [f"/vehicles/{owner['provider_id']}/{owner['device_id']}" for owner, _ in vehicles]
+    return [server.ask(get(target)) for path in paths for target in (path, f"{path}/events")]
+
+
+def a_restart(program):
+    """A server that is killed, and started again over its journal, has all that it answered, and goes on from there. A copy of
+    the file that was made while it ran is a journal, too: of it the same is told."""
+    vehicles = list(fleet(VEHICLES, EVENTS))
+    with tempfile.TemporaryDirectory() as folder:
+        path, copy = Path(folder, "journal"), Path(folder, "copy")
+        with server_over(program, path, EACH, 2) as server:
+            fill(server, vehicles)
+            wanted = standing(server, vehicles)
+            shutil.copy(path, copy)
+        for name in (path, copy):
+            with server_over(program, name, EACH, 2) as server:
+                if standing(server, vehicles) != wanted:
+                    yield f"{name.name}: other answers than before"
+                owner, listed = vehicles[0]
+                told = json.loads(body_of(server.ask(post("/events", compact(listed)))))
+                if [it["error"] for it in told["failures"]] != ["repeated"] * len(listed):
+                    yield f"{name.name}: sent again: {told}"
+                more = event(owner, EVENTS * 10, ["decommissioned"], "removed")
+                if success_of(server.ask(post("/events", compact(more)))) != 1:
+                    yield f"{name.name}: nothing more is accepted"
+        ran = subprocess.run([program, "vehicles", copy], capture_output=True, text=True, timeout=300)
+        events = sum(len(listed) for _, listed in vehicles) + 1
+        if ran.returncode or not ran.stdout.endswith(f"\nregistrations {len(vehicles)} events {events}\n"):
+            yield f"vehicles: {ran.returncode} {ran.stdout[-200:]!r} {ran.stderr!r}"
+
+
+UNITS = [the_unit, words_of_the_unit, folder_of_the_unit, a_restart]

@@ -43,8 +43,8 @@ MOST_LAST_SECONDS = 8
 """How long a client may be read from that sends all that it can: the limit of bytes comes first."""
 IDLE = 33
 """How long no client comes, in seconds: longer than the system waits for a connection in one call."""
-OPEN_FILES = 5
-"""Standard input, output and error, the listening socket, and one connection."""
+OPEN_FILES = 6
+"""Standard input, output and error, the listening socket by two descriptors, and one connection."""
 LACK, MOST_LACK = 15, 36
 """A lack of open files, in seconds, that passes, and one that is longer than the server waits for."""
 WAITS, LONGEST, TOO_LONG = 8640, 29, 31

@@ -35,9 +35,11 @@ class NotListening(Unwell):
 class Server:
     """A server on a port that was free, with so many connections for each of so many workers. As a context it is taken down
     where it hasn't ended. Given a port, it listens there. Given a number of open files, or of kilobytes of address space, it can
-    have no more of them."""
+    have no more of them. Given the path of a journal, it serves over that."""
 
-    def __init__(self, program, each, workers=1, table=None, env=None, open_files=None, address_space=None, port=0):
+    def __init__(
+        self, program, each, workers=1, table=None, env=None, open_files=None, address_space=None, port=0, journal=None
+    ):
         self.folder = tempfile.TemporaryDirectory()
         words = [program, "serve", "--port", str(port), "--each", str(each), "--workers", str(workers)]
         for letter, most in (("n", open_files), ("v", address_space)):
@@ -47,6 +49,8 @@ class Server:
             path = Path(self.folder.name, "table.json")
             path.write_bytes(as_bytes(table))
             words += ["--table", str(path)]
+        if journal is not None:
+            words += ["--journal", str(journal)]
         self.faults = open(Path(self.folder.name, "faults"), "w+b")
         self.child = subprocess.Popen(
             words,

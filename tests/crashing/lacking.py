@@ -1,0 +1,299 @@
+"""Disks without room, limits of a file's size, and calls on the file that fail."""
+
+import os
+import resource
+import signal
+import subprocess
+import tempfile
+import time
+from pathlib import Path
+
+from cases.vehicles import journal, registered
+from crashing.clients import unanswered
+from crashing.files import Lines, counted, listed_amiss
+from crashing.recording import CUT, SYNC, WRITE, Recording
+from crashing.reports import NOT_KEPT, device_at, listed, listing, looking, registering, reporting, standing
+from harness.case import cannot_read
+from harness.counting import Skipped
+from harness.texts import differing
+from model.http import answer, error
+from model.tables import Table
+from serving.http import done
+from serving.server import NotListening, Server
+from serving.wire import ask, get, post
+
+EACH = 1000
+WORKERS = 2
+ROOM_BYTES = 40_000
+"""On the disk, and the most that a file may have: more than the first events take, and less than all."""
+FIRST, MORE = 10, 400
+"""Events of the vehicle that are kept before the disk is full, and that are reported then."""
+AT_ONCE = 8
+"""Seconds in which a server ends whose workers wait for connections: they don't wait until one comes, or ten seconds are over."""
+DEVICE, OTHER = device_at(1), device_at(2)
+TOLD_NOT_KEPT = "mds_city: journal not kept\n"
+LOST = "mds_city: journal\n"
+HELD_BACK = answer(503, NOT_KEPT)
+
+
+def answered(server, request, wanted, what):
+    """Asks, and says what is wrong with the answer."""
+    yield from differing(ask(server.port, request), wanted, what)
+
+
+def faults_of(server):
+    """What the server has told on standard error so far."""
+    return Path(server.folder.name, "faults").read_text()
+
+
+def kept_amiss(path, wanted):
+    """What is wrong with what the file tells, of devices that are to have so many events."""
+    told = Lines().told(counted(path.read_bytes()))
+    if told != wanted:
+        yield f"the file tells {told}, in place of {wanted}"
+
+
+def filled(server, path):
+    """What is wrong with a server whose disk becomes full: what was kept stands, answers that rest on what isn't are held back, and
+    the others go out."""
+    yield from answered(server, registering(DEVICE, OTHER), done(2), "before")
+    yield from answered(server, reporting(DEVICE, 0, FIRST), done(FIRST), "before")
+    for request in (reporting(DEVICE, FIRST, FIRST + MORE), reporting(DEVICE, 0, FIRST), looking(DEVICE), listing(DEVICE)):
+        yield from answered(server, request, HELD_BACK, f"without room, {request[:40]!r}")
+    yield from answered(server, get("/table"), answer(200, {"rows": Table().listed()}), "without room, the table")
+    yield from answered(server, get("/nowhere"), error(404, "not_found"), "without room, no route")
+    yield from answered(server, post("/events", "{"), error(400, "not_json"), "without room, no JSON")
+    yield from kept_amiss(path, {DEVICE: FIRST, OTHER: 0})
+    if faults_of(server) != TOLD_NOT_KEPT:
+        yield f"without room it told {faults_of(server)!r}"
+
+
+def filled_no_more(server, path):
+    """What is wrong with it once there is room again: all that it took is kept with the next answer."""
+    count = FIRST + MORE
+    repeated = [{"error": "repeated", "index": index} for index in range(MORE)]
+    yield from answered(server, reporting(DEVICE, FIRST, count), done(MORE, repeated), "with room again, a report")
+    yield from answered(server, looking(DEVICE), answer(200, standing(DEVICE, count)), "with room again, a look")
+    events = [listed(DEVICE, number) for number in range(count)]
+    yield from answered(server, listing(DEVICE), answer(200, {"events": events}), "with room again, a list")
+    yield from answered(server, reporting(DEVICE, count, count + 1), done(1), "with room again, one more")
+    yield from kept_amiss(path, {DEVICE: count + 1, OTHER: 0})
+    if faults_of(server) != TOLD_NOT_KEPT:
+        yield f"with room again it told {faults_of(server)!r}"
+
+
+def over_again(program, path):
+    """What is wrong with a server that starts over the file then, and ends by itself."""
+    wanted = answer(200, standing(DEVICE, FIRST + MORE + 1))
+    with Server(program, 1, journal=path) as server:
+        server.success = FIRST + MORE + 3
+        server.count()
+        yield from answered(server, looking(DEVICE), wanted, "started anew, a look")
+        yield from server.end()
+
+
+def room_that_a_call_misses(program):
+    """Writes that find no room, and then some."""
+    with tempfile.TemporaryDirectory() as folder:
+        path = Path(folder, "journal")
+        with Recording(path, room=ROOM_BYTES) as recording:
+            with Server(program, EACH, workers=WORKERS, journal=path, env=recording.env) as server:
+                yield from filled(server, path)
+                recording.set(room=-1)
+                yield from filled_no_more(server, path)
+        yield from over_again(program, path)
+
+
+class FullDisk:
+    """A disk of memory with little room, in a folder of its own. As a context it has the folder; where none can be had, the case is
+    skipped."""
+
+    def __enter__(self):
+        self.folder = tempfile.TemporaryDirectory()
+        words = ["mount", "-t", "tmpfs", "-o", f"size={ROOM_BYTES * 10}", "crash-test", self.folder.name]
+        try:
+            mounted = subprocess.run(words, capture_output=True).returncode == 0
+        except OSError:
+            mounted = False
+        if not mounted:
+            self.folder.cleanup()
+            raise Skipped("no disk of memory can be mounted here")
+        return Path(self.folder.name)
+
+    def __exit__(self, *_):
+        subprocess.run(["umount", "-l", self.folder.name], check=True)
+        self.folder.cleanup()
+
+
+def a_full_disk(program):
+    """A disk that another file fills, and that gets room again."""
+    with FullDisk() as folder:
+        path, filler = folder / "journal", folder / "filler"
+        with Server(program, EACH, workers=WORKERS, journal=path) as server:
+            filler.write_bytes(bytes(os.statvfs(folder).f_bavail * os.statvfs(folder).f_bsize - ROOM_BYTES))
+            yield from filled(server, path)
+            filler.unlink()
+            yield from filled_no_more(server, path)
+        yield from over_again(program, path)
+
+
+def deaf_start(folder, program):
+    """A script that starts the program so that it ignores the signal of a limit of a file's size."""
+    script = Path(folder, "deaf-start")
+    script.write_text(f'#!/bin/sh\ntrap "" XFSZ\nexec "{program}" "$@"\n')
+    script.chmod(0o755)
+    return script
+
+
+def a_limit_of_the_size(program):
+    """A limit of how long the process may make a file, whose signal is ignored, and which is raised again."""
+    with tempfile.TemporaryDirectory() as folder:
+        path = Path(folder, "journal")
+        with Server(deaf_start(folder, program), EACH, workers=WORKERS, journal=path) as server:
+            resource.prlimit(server.child.pid, resource.RLIMIT_FSIZE, (ROOM_BYTES, resource.RLIM_INFINITY))
+            yield from filled(server, path)
+            resource.prlimit(server.child.pid, resource.RLIMIT_FSIZE, (resource.RLIM_INFINITY, resource.RLIM_INFINITY))
+            yield from filled_no_more(server, path)
+        yield from over_again(program, path)
+
+
+def the_signal_of_a_limit(program):
+    """A server that such a limit ends by its signal: what was answered stands."""
+    with tempfile.TemporaryDirectory() as folder:
+        path = Path(folder, "journal")
+        with Server(program, EACH, workers=WORKERS, journal=path) as server:
+            yield from answered(server, registering(DEVICE, OTHER), done(2), "before")
+            yield from answered(server, reporting(DEVICE, 0, FIRST), done(FIRST), "before")
+            resource.prlimit(server.child.pid, resource.RLIMIT_FSIZE, (ROOM_BYTES, resource.RLIM_INFINITY))
+            report = reporting(DEVICE, FIRST, FIRST + MORE)
+            yield from differing(unanswered(server.port, report), b"", "a report past the limit")
+            status = server.ended()[0]
+            if status != -signal.SIGXFSZ:
+                yield f"it ended with {status}"
+        yield from kept_amiss(path, {DEVICE: FIRST, OTHER: 0})
+
+
+def full_at_its_end(program):
+    """A server that has had its connections while there is no room: what isn't kept is no end like others."""
+    with tempfile.TemporaryDirectory() as folder:
+        path = Path(folder, "journal")
+        with Recording(path) as recording, Server(program, 2, journal=path, env=recording.env) as server:
+            yield from answered(server, registering(DEVICE), done(1), "before")
+            recording.fail(WRITE, many=EACH)
+            yield from answered(server, reporting(DEVICE, 0, 1), HELD_BACK, "the last")
+            found, wanted = server.ended(), (3, "", TOLD_NOT_KEPT + LOST)
+            if found != wanted:
+                yield f"it ended with {found}, in place of {wanted}"
+        yield from kept_amiss(path, {DEVICE: 0})
+
+
+def lost_by(program, path, kind, after):
+    """What is wrong with a server of which a call on the file fails, behind so many of its kind, while an answer waits for it."""
+    many = 4
+    with Recording(path) as recording, Server(program, EACH, workers=many, journal=path, env=recording.env) as server:
+        yield from answered(server, registering(DEVICE, OTHER), done(2), "before")
+        recording.fail(kind, after)
+        start = time.monotonic()
+        yield from differing(unanswered(server.port, reporting(DEVICE, 0, 3)), b"", "a report that isn't known to be kept")
+        found, wanted = server.ended(), (3, "", LOST)
+        if found != wanted:
+            yield f"it ended with {found}, in place of {wanted}"
+        if time.monotonic() - start > AT_ONCE:
+            yield f"it ended {time.monotonic() - start:.1f} seconds behind that"
+    told = Lines().told(counted(path.read_bytes()))
+    if told not in ({DEVICE: 0, OTHER: 0}, {DEVICE: 3, OTHER: 0}):
+        yield f"the file tells {told}"
+    with Server(program, 1, journal=path) as server:
+        server.success = 2 + told[DEVICE]
+        server.count()
+        yield from answered(server, looking(DEVICE), answer(200, standing(DEVICE, told[DEVICE])), "started anew, a look")
+        yield from server.end()
+
+
+def calls_that_fail(program):
+    """A sync that fails, the first or the second of a group, and a write of the gate: nothing is answered that may not be kept, and
+    the server ends, also where its workers wait for connections."""
+    for kind, after in ((SYNC, 0), (SYNC, 1), (WRITE, 1)):
+        with tempfile.TemporaryDirectory() as folder:
+            for complaint in lost_by(program, Path(folder, "journal"), kind, after):
+                yield f"call {after + 1} of kind {kind}: {complaint}"
+
+
+def a_write_that_fails_once(program):
+    """A group of which a half was written: it isn't kept, and is with the next answer."""
+    with tempfile.TemporaryDirectory() as folder:
+        path = Path(folder, "journal")
+        with Recording(path) as recording, Server(program, 5, journal=path, env=recording.env) as server:
+            yield from answered(server, registering(DEVICE, OTHER), done(2), "before")
+            recording.fail(WRITE)
+            yield from answered(server, reporting(DEVICE, 0, 9), HELD_BACK, "the write fails")
+            yield from kept_amiss(path, {DEVICE: 0, OTHER: 0})
+            repeated = [{"error": "repeated", "index": index} for index in range(9)]
+            yield from answered(server, reporting(DEVICE, 0, 10), done(10, repeated), "behind that")
+            yield from kept_amiss(path, {DEVICE: 10, OTHER: 0})
+            yield from answered(server, registering(device_at(3)), done(1), "behind that")
+            yield from answered(server, looking(device_at(3)), answer(200, standing(device_at(3), 0)), "behind that")
+            found, wanted = server.ended(), (0, "accepted 13\n", TOLD_NOT_KEPT)
+            if found != wanted:
+                yield f"it ended with {found}, in place of {wanted}"
+        yield from listed_amiss(program, path)
+
+
+def outcome_of_start(program, path, accepted, env=None):
+    """What came of a start over a file: None where the server listened and ended as it has to with so many accepted, else how it
+    ended, or what is wrong with its end."""
+    try:
+        with Server(program, 1, journal=path, env=env) as server:
+            server.success = accepted
+            return list(server.end()) or None
+    except NotListening as fault:
+        return fault.ended
+
+
+def start_that_fails(program, content, kind, number):
+    """What is wrong with a start over a file with this content of which a call fails: it is told, the lines are the same, and the
+    next start goes on; or None where it makes no such call. The first of the syncs is that of opening the file."""
+    told = Lines().told(counted(content))
+    accepted = len(told) + sum(told.values())
+    with tempfile.TemporaryDirectory() as folder:
+        path = Path(folder, "journal")
+        path.write_bytes(content)
+        with Recording(path, failing=kind, first=number, many=1) as recording:
+            found, wanted = outcome_of_start(program, path, accepted, recording.env), (3, "", cannot_read(path))
+        if found is None:
+            return None
+        complaints = [] if found == wanted else [f"it ended with {found}, in place of {wanted}"]
+        complaints += kept_amiss(path, told)
+        behind = outcome_of_start(program, path, accepted)
+        return complaints if behind is None else [*complaints, f"the next start came to {behind}"]
+
+
+def failing_starts(program, content, kind):
+    """What is wrong with starts over this content of which one call of a kind fails, each of them in turn."""
+    for number in range(1, EACH):
+        complaints = start_that_fails(program, content, kind, number)
+        if complaints is None:
+            break
+        yield from (f"over {len(content)} bytes, call {number} of kind {kind}: {it}" for it in complaints)
+    if number == 1:
+        yield f"over {len(content)} bytes, no call of kind {kind}"
+
+
+def starts_that_fail(program):
+    """Each call of a start that fails, over no file and over one with a torn end."""
+    torn = journal(registered(DEVICE), end='#{"device_id":').encode()
+    for content in (b"", torn):
+        for kind in (WRITE, CUT, SYNC):
+            yield from failing_starts(program, content, kind)
+
+
+LACKING = [
+    room_that_a_call_misses,
+    a_full_disk,
+    a_limit_of_the_size,
+    the_signal_of_a_limit,
+    full_at_its_end,
+    calls_that_fail,
+    a_write_that_fails_once,
+    starts_that_fail,
+]

@@ -1,0 +1,192 @@
+"""What stands at the path of a journal when a server starts: what is told where it can't be taken, and that it stays as it was."""
+
+import os
+import stat
+import tempfile
+from pathlib import Path
+
+from cases.replays import event
+from cases.tables import ONE_ROW
+from cases.vehicles import FORM, journal, not_a_journal, registered
+from crashing.files import AT_REST, counted, listed_by, vehicles_text
+from crashing.reports import device_at, registering
+from harness.case import cannot_read
+from harness.counting import Skipped
+from harness.texts import differing
+from serving.http import done
+from serving.server import NotListening, Server
+
+IN_USE = "mds_city: journal in use\n"
+DEVICE, OTHER = device_at(1), device_at(2)
+MOST_BEHIND = 16 << 20
+"""Bytes behind the lines that count: a group has no more."""
+LARGE = 2 << 30
+REGISTERED = journal(registered(DEVICE))
+DROPPED = event(DEVICE, "0", "provider_drop_off", "available", 1000)
+WAKE = event(DEVICE, "0", "wake", "available", 1000)
+RESERVED = event(DEVICE, "1", "reservation_start", "reserved", 2000)
+
+
+def not_started(program, path, faults, **more):
+    """What is wrong with a server that isn't to start, but to tell this."""
+    wanted = (3, "", faults)
+    try:
+        with Server(program, 1, journal=path, **more):
+            yield f"it listened, in place of {wanted}"
+    except NotListening as fault:
+        if fault.ended != wanted:
+            yield f"it ended with {fault.ended}, in place of {wanted}"
+
+
+def refused(program, content, faults, **more):
+    """The same over a file with this content, which stays."""
+    with tempfile.TemporaryDirectory() as folder:
+        path = Path(folder, "journal")
+        path.write_bytes(content)
+        yield from not_started(program, path, faults, **more)
+        if path.read_bytes() != content:
+            yield f"the file has {path.read_bytes()[:200]!r}, in place of {content[:200]!r}"
+
+
+def begun(program, content, wanted, behind):
+    """What is wrong with a server that starts over a file with this content, or over none, and is to hold so many requests of it;
+    the file has then these bytes."""
+    with tempfile.TemporaryDirectory() as folder:
+        path = Path(folder, "journal")
+        if content is not None:
+            path.write_bytes(content)
+        with Server(program, 1, journal=path) as server:
+            server.success = wanted
+            yield from server.end()
+        if path.read_bytes() != behind:
+            yield f"the file has {path.read_bytes()[:200]!r}, in place of {behind[:200]!r}"
+
+
+def places_that_are_none(program):
+    """A folder, a pipe, a device, a link to a folder, and a file in a folder that isn't there."""
+    with tempfile.TemporaryDirectory() as folder:
+        places = [Path(folder, name) for name in ("folder", "pipe", "link", "loop", "nowhere/journal")]
+        places[0].mkdir()
+        os.mkfifo(places[1])
+        places[2].symlink_to("folder")
+        places[3].symlink_to("loop")
+        for place in (*places, Path("/dev/null")):
+            yield from (f"{place.name}: {it}" for it in not_started(program, place, cannot_read(place)))
+        if not stat.S_ISFIFO(places[1].stat().st_mode) or sorted(os.listdir(folder)) != ["folder", "link", "loop", "pipe"]:
+            yield f"there are {os.listdir(folder)}"
+
+
+def a_file_without_leave(program):
+    """A file that may not be read, and one that may not be written."""
+    if os.geteuid() == 0:
+        raise Skipped("root has leave for each file")
+    with tempfile.TemporaryDirectory() as folder:
+        path = Path(folder, "journal")
+        path.write_text(REGISTERED)
+        for mode in (0o200, 0o400):
+            path.chmod(mode)
+            yield from not_started(program, path, cannot_read(path))
+
+
+def links(program):
+    """A link to a file that is there, and one to a file that is made by it: both stay links."""
+    with tempfile.TemporaryDirectory() as folder:
+        for name, text, count in (("there", REGISTERED, 1), ("made", None, 0)):
+            target, link = Path(folder, name), Path(folder, f"link-to-{name}")
+            if text is not None:
+                target.write_text(text)
+            link.symlink_to(name)
+            with Server(program, 2, journal=link) as server:
+                server.success = count
+                yield from differing(server.ask(registering(OTHER)), done(1), f"a link to a file that is {name}")
+                yield from server.end()
+            if not link.is_symlink() or counted(target.read_bytes()).count(b"\n") != count + 2:
+                yield f"{name}: {target.read_bytes()!r}"
+
+
+def one_server_at_a_time(program):
+    """A file that another server has: the second one doesn't start, the first goes on, and once it is gone another starts."""
+    with tempfile.TemporaryDirectory() as folder:
+        path = Path(folder, "journal")
+        with Server(program, 2, journal=path) as server:
+            yield from differing(server.ask(registering(DEVICE)), done(1))
+            yield from not_started(program, path, IN_USE)
+            link = Path(folder, "link")
+            link.symlink_to(path)
+            yield from not_started(program, link, IN_USE)
+            yield from server.end()
+        with Server(program, 1, journal=path) as server:
+            server.success = 1
+            yield from server.end()
+
+
+def files_that_are_none(program):
+    """Files with a line that is none of a journal, or that isn't accepted, also by the table alone."""
+    new = registered(DEVICE)
+    for text, fault in (
+        ("no journal\n", "form"),
+        (f" {new}\n#", "form"),
+        (f" {FORM}", "form"),
+        (journal(new, "{}", DROPPED), "bad_line 2"),
+        (journal(new, f"[{DROPPED}]"), "bad_line 2"),
+        (journal(DROPPED), "refused 1"),
+        (journal(new, DROPPED, DROPPED), "refused 3"),
+        (journal(new, DROPPED, registered(OTHER), RESERVED, WAKE), "refused 5"),
+        (journal(new, new), "refused 2"),
+    ):
+        yield from refused(program, text.encode(), not_a_journal(fault))
+    yield from refused(program, journal(new, DROPPED).encode(), not_a_journal("refused 2"), table=ONE_ROW)
+    yield from refused(program, journal(new, WAKE).encode(), not_a_journal("refused 2"))
+
+
+def too_much_behind_the_lines(program):
+    """A file behind whose lines more stands than a group, of 2 GB too, is damaged; with as much as a group it is cut."""
+    lines = counted(REGISTERED.encode())
+    yield from begun(program, lines + b"#" + bytes(MOST_BEHIND - 1), 1, lines + b"#")
+    yield from refused(program, lines + b"#" + bytes(MOST_BEHIND), not_a_journal("damaged"))
+    with tempfile.TemporaryDirectory() as folder:
+        path = Path(folder, "journal")
+        path.write_bytes(lines)
+        os.truncate(path, LARGE)
+        yield from not_started(program, path, not_a_journal("damaged"))
+        with open(path, "rb") as file:
+            front = file.read(1 << 16)
+        if path.stat().st_size != LARGE or front != lines.ljust(1 << 16, b"\0"):
+            yield f"the file has {path.stat().st_size} bytes, {front[:300]!r}"
+        found, wanted = listed_by(program, path), (0, vehicles_text({DEVICE: 0}), "")
+        if found != wanted:
+            yield f"`vehicles` said {found}, in place of {wanted}"
+
+
+def files_that_are_begun(program):
+    """No file, an empty one, and what a crash leaves of the first line: a server begins there. One at rest stays as it is, and so
+    does one with a line behind it that doesn't count, but for that."""
+    line = b"#" + AT_REST[1:]
+    yield from begun(program, None, 0, AT_REST)
+    for content in (b"", b"#", line, line[:-1], line[:9], line[:4] + bytes(20), bytes(len(line)), AT_REST):
+        yield from (f"{content[:50]!r}: {it}" for it in begun(program, content, 0, AT_REST))
+    whole = REGISTERED.encode()
+    for content in (whole, whole[:-1], whole + DROPPED.encode() + b"\n#", whole + b"\0" * 600, whole[:-1] + b" {"):
+        yield from (f"{content[-50:]!r}: {it}" for it in begun(program, content, 1, whole))
+
+
+def told_anew(program):
+    """What was reported over a table of its own is told by a server that starts with the same table."""
+    with tempfile.TemporaryDirectory() as folder:
+        path = Path(folder, "journal")
+        path.write_text(journal(registered(DEVICE), WAKE))
+        with Server(program, 1, journal=path, table=ONE_ROW) as server:
+            server.success = 2
+            yield from server.end()
+
+
+PATHS = [
+    places_that_are_none,
+    a_file_without_leave,
+    links,
+    one_server_at_a_time,
+    files_that_are_none,
+    too_much_behind_the_lines,
+    files_that_are_begun,
+    told_anew,
+]

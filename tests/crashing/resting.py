@@ -1,0 +1,187 @@
+"""Servers that come to an end without violence, `vehicles` beside one that runs, and one without a journal."""
+
+import os
+import signal
+import stat
+import subprocess
+import tempfile
+import threading
+from pathlib import Path
+
+from crashing.clients import report, side_by_side
+from crashing.files import AT_REST, GROUP_END, Lines, counted, listed_amiss, listed_by, vehicles_text
+from crashing.recording import Recording
+from crashing.reports import device_at, listed, listing, looking, registering, reporting, standing
+from harness.counting import Unwell
+from harness.texts import differing
+from model.http import answer, error
+from serving.http import done
+from serving.server import Server
+from serving.wire import ask
+
+EACH = 1000
+WORKERS = 4
+DEVICES = [device_at(number) for number in range(4)]
+COUNT = 12
+"""Events of each vehicle."""
+SIZES = [1, 2, 4, 5]
+"""Of the batches in which they are reported."""
+READINGS = 6
+"""Of `vehicles`, at least, while clients report."""
+
+
+def served(server):
+    """Has vehicles registered and reported by clients side by side."""
+    if ask(server.port, registering(*DEVICES)) != done(len(DEVICES)):
+        raise Unwell("vehicles weren't registered")
+    side_by_side([lambda device=device: report(server.port, device, SIZES) for device in DEVICES])
+
+
+def goes_on(program, path):
+    """What is wrong with a server that starts over the file behind that, and with the file at its end."""
+    if Lines().told(counted(path.read_bytes())) != dict.fromkeys(DEVICES, COUNT):
+        yield f"the file tells {Lines().told(counted(path.read_bytes()))}"
+    with Server(program, 2 * len(DEVICES) + 1, journal=path) as server:
+        server.success = len(DEVICES) * (COUNT + 1)
+        for device in DEVICES:
+            events = [listed(device, number) for number in range(COUNT)]
+            yield from differing(server.ask(looking(device)), answer(200, standing(device, COUNT)), "a look")
+            yield from differing(server.ask(listing(device)), answer(200, {"events": events}), "a list")
+        yield from differing(server.ask(reporting(DEVICES[0], COUNT, COUNT + 1)), done(1), "one more event")
+        yield from server.end()
+    if not path.read_bytes().endswith(GROUP_END):
+        yield f"at rest the file ends with {path.read_bytes()[-50:]!r}"
+    yield from listed_amiss(program, path)
+
+
+def ended_by(program, number):
+    """What is wrong with a server that a signal ends, and with what stands then."""
+    with tempfile.TemporaryDirectory() as folder:
+        path = Path(folder, "journal")
+        with Server(program, EACH, workers=WORKERS, journal=path) as server:
+            served(server)
+            server.child.send_signal(number)
+            found, wanted = server.ended(), (-number, "", "")
+            if found != wanted:
+                yield f"it ended with {found}, in place of {wanted}"
+        yield from goes_on(program, path)
+
+
+def ended_by_signals(program):
+    """SIGTERM and SIGINT end a server at once, and all that was answered stands."""
+    for number in (signal.SIGTERM, signal.SIGINT):
+        yield from (f"{number.name}: {complaint}" for complaint in ended_by(program, number))
+
+
+def ended_by_itself(program):
+    """A server that has had its connections tells how many it accepted, and so does the next one, with those from the file."""
+    with tempfile.TemporaryDirectory() as folder:
+        path = Path(folder, "journal")
+        with Server(program, len(DEVICES) * len(SIZES) + 1, journal=path) as server:
+            served(server)
+            server.count(server.left, len(DEVICES) * (COUNT + 1))
+            yield from server.end()
+        yield from goes_on(program, path)
+
+
+def without_any_request(program):
+    """A run without any accepted request, and the next two over its file: a look finds no vehicle, and the file stays as it is."""
+    with tempfile.TemporaryDirectory() as folder:
+        path = Path(folder, "journal")
+        for _ in range(3):
+            with Server(program, 3, journal=path) as server:
+                yield from differing(server.ask(looking(DEVICES[0])), error(404, "unregistered"), "a look")
+                yield from differing(server.ask(registering()), done(0), "an empty batch")
+                yield from server.end()
+            if path.read_bytes() != AT_REST:
+                yield f"the file has {path.read_bytes()[:200]!r}"
+            if listed_by(program, path) != (0, vehicles_text({}), ""):
+                yield f"`vehicles` said {listed_by(program, path)}"
+
+
+def beside(program, path, ended, told):
+    """Reads the file by `vehicles` until clients are done, and once more, and adds what it told each time."""
+    readings = 0
+    while not ended.is_set() or readings < READINGS:
+        readings += 1
+        status, out, faults = listed_by(program, path)
+        if status or faults or not out.endswith("\n"):
+            raise Unwell(f"`vehicles` said {(status, out[-200:], faults)}")
+        counts = [line.split(" ") for line in out.splitlines()]
+        told.append({words[2]: int(words[4]) for words in counts if words[0] == "vehicle"})
+
+
+def served_and_read(program, path, told):
+    """Has clients report while `vehicles` reads the file, adds what it told each time, and says what is wrong with what it tells
+    behind each of some answers."""
+    ended = threading.Event()
+    with Recording(path, pause=2000) as recording, Server(program, EACH, WORKERS, journal=path, env=recording.env) as server:
+        ask(server.port, registering(*DEVICES))
+        jobs = [lambda device=device: report(server.port, device, SIZES) for device in DEVICES]
+        side_by_side([*jobs, lambda: beside(program, path, ended, told)], ended)
+        for front in range(COUNT, COUNT + 3):
+            yield from differing(ask(server.port, reporting(DEVICES[0], front, front + 1)), done(1))
+            yield from listed_amiss(program, path)
+
+
+def vehicles_beside_a_server(program):
+    """`vehicles` takes no lock, and tells what was answered before it began, while a server works and syncs take long."""
+    told = []
+    with tempfile.TemporaryDirectory() as folder:
+        yield from served_and_read(program, Path(folder, "journal"), told)
+    for before, behind in zip(told, told[1:]):
+        if sorted(before) != sorted(DEVICES) or any(before[device] > behind[device] for device in DEVICES):
+            yield f"`vehicles` told {before}, and then {behind}"
+    if told[-1] != dict.fromkeys(DEVICES, COUNT):
+        yield f"`vehicles` told {told[-1]} at the end"
+
+
+def files_of(server):
+    """The paths of the regular files that a server has open, those of its standard streams aside."""
+    folder = Path(f"/proc/{server.child.pid}/fd")
+    numbers = [entry for entry in folder.iterdir() if int(entry.name) > 2]
+    return [os.readlink(entry) for entry in numbers if stat.S_ISREG(entry.stat().st_mode)]
+
+
+def run_without(program, recording):
+    """What is wrong with a server without a journal. Each one registers the same vehicles anew."""
+    with Server(program, EACH, workers=WORKERS, env=recording.env) as server:
+        served(server)
+        if files_of(server) != [str(recording.path)]:
+            yield f"it has {files_of(server)} open"
+
+
+def without_a_journal(program):
+    """Without the option a server has no file open, makes none, waits for no disk, and knows nothing at its next start; with it, it
+    has that one file."""
+    with tempfile.TemporaryDirectory() as folder:
+        path = Path(folder, "journal")
+        path.write_bytes(AT_REST)
+        with Recording(path) as recording:
+            for _ in range(2):
+                yield from run_without(program, recording)
+            counts = {name: recording.number(name) for name in ("writes", "cuts", "syncs")}
+        if any(counts.values()) or path.read_bytes() != AT_REST or os.listdir(folder) != ["journal"]:
+            yield f"there are {counts}, and {os.listdir(folder)}"
+        with Server(program, 1, journal=path) as server:
+            if files_of(server) != [str(path)]:
+                yield f"with a journal it has {files_of(server)} open"
+            yield from server.end()
+
+
+def only_one_path(program):
+    """The option wants a path, and takes one."""
+    for words in (["--journal"], ["--journal", "one", "--journal", "two"]):
+        ran = subprocess.run([program, "serve", "--port", "0", "--each", "1", *words], capture_output=True)
+        if ran.returncode != 2 or ran.stdout or not ran.stderr:
+            yield f"{words}: {ran}"
+
+
+RESTING = [
+    ended_by_signals,
+    ended_by_itself,
+    without_any_request,
+    vehicles_beside_a_server,
+    without_a_journal,
+    only_one_path,
+]
