@@ -1,17 +1,19 @@
 /* A client that asks for nothing but answers: it sends requests over connections of their own, from as many threads as it
  * is given files, and tells how long the answers took.
  *
- *     client PORT FILE..
+ *     client PORT FILE.. [-- FILE..]
  *
  * A file is a list of requests, each behind its length, four bytes with the lowest first. All threads start at once, and each
  * sends the requests of its file in order, each as soon as the answer before it has ended. It prints one line: the number of
  * answers, those of status 200, the sum of what they say under "success", the seconds from the start to the last answer, the
  * 50th and the 99th percentile of the times of an answer in microseconds (from before the connection to its end), and the
- * processor time that the client itself took. It is built with -O2 -pthread. */
+ * processor time that the client itself took. The files behind `--` are sent beside: each of their threads ends before its next
+ * request once all others have ended, and a second line tells of them. It is built with -O2 -pthread. */
 
 #define _GNU_SOURCE
 #include <arpa/inet.h>
 #include <pthread.h>
+#include <stdatomic.h>
 #include <stdint.h>
 #include <stdio.h>
 #include <stdlib.h>
@@ -31,10 +33,13 @@ struct client {
     unsigned long long success;
     double *times;
     double end;
+    int is_beside;
 };
 
 static struct sockaddr_in server;
 static pthread_barrier_t start;
+/* How many clients that aren't beside have requests left. */
+static atomic_int asking;
 
 static void stop(const char *what) {
     perror(what);
@@ -106,7 +111,7 @@ static void *run(void *given) {
         stop("room");
     pthread_barrier_wait(&start);
     size_t turn = 0;
-    for (size_t at = 0; at < client->length;) {
+    for (size_t at = 0; at < client->length && (!client->is_beside || atomic_load(&asking));) {
         size_t length = number(client->bytes + at);
         double before = now();
         answer(client->bytes + at + 4, length, room);
@@ -118,6 +123,9 @@ static void *run(void *given) {
             client->success += strtoull(success + 10, NULL, 10);
         at += 4 + length;
     }
+    client->count = turn;
+    if (!client->is_beside)
+        atomic_fetch_sub(&asking, 1);
     free(room);
     return NULL;
 }
@@ -153,11 +161,14 @@ static void tell(struct client *clients, int many, double begin) {
 }
 
 int main(int words, char **word) {
-    if (words < 3) {
-        fprintf(stderr, "client PORT FILE..\n");
+    int front = 0;
+    while (front + 2 < words && strcmp(word[front + 2], "--"))
+        front++;
+    int many = front + 2 < words ? words - 3 : front;
+    if (!front) {
+        fprintf(stderr, "client PORT FILE.. [-- FILE..]\n");
         return 2;
     }
-    int many = words - 2;
     struct client *clients = calloc(many, sizeof *clients);
     if (!clients)
         stop("clients");
@@ -165,8 +176,10 @@ int main(int words, char **word) {
     server.sin_port = htons(atoi(word[1]));
     server.sin_addr.s_addr = htonl(INADDR_LOOPBACK);
     pthread_barrier_init(&start, NULL, many + 1);
+    atomic_init(&asking, front);
     for (int i = 0; i < many; i++) {
-        clients[i].path = word[i + 2];
+        clients[i].is_beside = i >= front;
+        clients[i].path = word[i + 2 + clients[i].is_beside];
         load(&clients[i]);
         if (pthread_create(&clients[i].thread, NULL, run, &clients[i]))
             stop("thread");
@@ -175,6 +188,8 @@ int main(int words, char **word) {
     double begin = now();
     for (int i = 0; i < many; i++)
         pthread_join(clients[i].thread, NULL);
-    tell(clients, many, begin);
+    tell(clients, front, begin);
+    if (many > front)
+        tell(clients + front, many - front, begin);
     return 0;
 }

@@ -32,7 +32,9 @@ def hindrance():
 def compare(program, peer):
     """Ends the benchmark where the two don't print the same."""
     examples = sorted(str(path) for path in (ROOT / "examples").glob("*.json"))
-    for words in (["table"], *(["replay", path] for path in examples)):
+    journals = sorted(str(path) for path in (ROOT / "examples").glob("*.journal"))
+    listed = [["vehicles", path] for path in journals]
+    for words in (["table"], *(["replay", path] for path in examples), *listed):
         outs = [subprocess.run([it, *words], stdout=subprocess.PIPE).stdout for it in (program, peer)]
         if outs[0] != outs[1]:
             sys.exit(f"the plain program doesn't answer as mds_city does: {' '.join(words)}")

@@ -1,11 +1,13 @@
-"""One run of a program, and the medians of several."""
+"""One run of a program, what it held at most, and the medians of several."""
 
+import fcntl
 import os
 import statistics
 import subprocess
 import sys
 import tempfile
 import time
+from pathlib import Path
 
 
 def run_once(program, words):
@@ -32,6 +34,38 @@ def timed(program, words, status, last):
     if (found, line) != (status, last):
         sys.exit(f"{program} {' '.join(words)}: status {found} and {line!r}, in place of {status} and {last!r}")
     return seconds, of_processor
+
+
+def held_by(child):
+    """The most bytes that a process held until it waits to print, or 0 where it ended before."""
+    while child.poll() is None:
+        status = Path(f"/proc/{child.pid}/status").read_text()
+        fields = dict(line.split(":", 1) for line in status.splitlines())
+        if fields["State"].split()[0] == "S" and "VmHWM" in fields:
+            return int(fields["VmHWM"].split()[0]) * 1024
+        time.sleep(0.002)
+    return 0
+
+
+def peak_of(program, words):
+    """The most bytes that a run held, seen while it waits for room in a short pipe, full at first, to print its lines."""
+    set_pipe_size = getattr(fcntl, "F_SETPIPE_SZ", 1031)
+    reading, writing = os.pipe()
+    fcntl.fcntl(writing, set_pipe_size, 4096)
+    os.write(writing, bytes(4096))
+    child = subprocess.Popen(
+        [program, *words],
+        stdin=subprocess.DEVNULL,
+        stdout=writing,
+        stderr=writing,
+    )
+    os.close(writing)
+    peak = held_by(child)
+    while os.read(reading, 4096):
+        peak = max(peak, held_by(child))
+    os.close(reading)
+    child.wait()
+    return peak
 
 
 def medians(rounds):

@@ -9,7 +9,13 @@ use std::collections::{HashMap, HashSet};
 pub struct Vehicle {
     pub state: State,
     pub location: Option<Location>,
+    /// The time of the last event.
+    pub last: Option<u64>,
+    pub count: usize,
+    /// The events, where they are kept.
     pub events: Vec<Event>,
+    /// Where the line of what was accepted last ends in the journal.
+    pub place: u64,
     identifiers: HashSet<Uuid>,
 }
 
@@ -27,50 +33,67 @@ pub struct Fleet {
 
 impl Fleet {
     /// Registers a vehicle, and says whether it is new.
-    pub fn register(&mut self, key: Key) -> bool {
-        let Entry::Vacant(place) = self.vehicles.entry(key) else {
-            return false;
-        };
-        place.insert(Vehicle {
-            state: State::Removed,
-            location: None,
-            events: Vec::new(),
-            identifiers: HashSet::new(),
-        });
-        true
+    pub fn register(&mut self, key: Key) -> (&mut Vehicle, bool) {
+        match self.vehicles.entry(key) {
+            Entry::Occupied(place) => (place.into_mut(), false),
+            Entry::Vacant(place) => (place.insert(Vehicle::new()), true),
+        }
     }
 
-    /// Takes an event, or says why not.
+    /// Takes an event and keeps it, or says why not.
     pub fn report(&mut self, table: &Table, event: Event) -> Result<(), Refusal> {
-        let vehicle = self.vehicles.get_mut(&event.key).ok_or(Refusal::Unregistered)?;
-        if vehicle.identifiers.contains(&event.id) {
-            return Err(Refusal::Repeated);
-        }
-        if let Some(last) = vehicle.last().filter(|last| event.time < *last) {
-            return Err(Refusal::Late(last));
-        }
-        let held = vehicle.state;
-        table.admit(held, &event.types, event.state).map_err(|at| Refusal::NoChain { held, at })?;
-        vehicle.identifiers.insert(event.id);
-        vehicle.state = event.state;
-        vehicle.location = event.location.or(vehicle.location);
-        vehicle.events.push(event);
-        Ok(())
+        self.vehicle_mut(&event.key).ok_or(Refusal::Unregistered)?.report(table, event)
     }
 
     pub fn vehicle(&self, key: &Key) -> Option<&Vehicle> {
         self.vehicles.get(key)
     }
 
+    pub fn vehicle_mut(&mut self, key: &Key) -> Option<&mut Vehicle> {
+        self.vehicles.get_mut(key)
+    }
+
     /// How many registrations and events were accepted.
     pub fn accepted(&self) -> usize {
-        self.vehicles.values().map(|vehicle| 1 + vehicle.events.len()).sum()
+        self.vehicles.values().map(|vehicle| 1 + vehicle.count).sum()
     }
 }
 
 impl Vehicle {
-    /// The time of the last event.
-    pub fn last(&self) -> Option<u64> {
-        Some(self.events.last()?.time)
+    fn new() -> Vehicle {
+        Vehicle {
+            state: State::Removed,
+            location: None,
+            last: None,
+            count: 0,
+            events: Vec::new(),
+            place: 0,
+            identifiers: HashSet::new(),
+        }
+    }
+
+    /// Takes an event, or says why not.
+    pub fn take(&mut self, table: &Table, event: &Event) -> Result<(), Refusal> {
+        if self.identifiers.contains(&event.id) {
+            return Err(Refusal::Repeated);
+        }
+        if let Some(last) = self.last.filter(|last| event.time < *last) {
+            return Err(Refusal::Late(last));
+        }
+        let held = self.state;
+        table.admit(held, &event.types, event.state).map_err(|at| Refusal::NoChain { held, at })?;
+        self.identifiers.insert(event.id);
+        self.state = event.state;
+        self.location = event.location.or(self.location);
+        self.last = Some(event.time);
+        self.count += 1;
+        Ok(())
+    }
+
+    /// Takes an event and keeps it, or says why not.
+    pub fn report(&mut self, table: &Table, event: Event) -> Result<(), Refusal> {
+        self.take(table, &event)?;
+        self.events.push(event);
+        Ok(())
     }
 }

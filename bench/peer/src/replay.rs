@@ -28,7 +28,7 @@ struct Replay {
 
 impl Replay {
     fn report(&mut self, table: &Table, event: Event) -> Result<(), Refusal> {
-        if self.fleet.register(event.key) {
+        if self.fleet.register(event.key).1 {
             self.keys.push(event.key);
         }
         self.fleet.report(table, event)
@@ -52,6 +52,15 @@ fn print_fault(out: &mut impl Write, index: usize, fault: Fault) -> io::Result<(
     }
 }
 
+/// Prints where these vehicles stand.
+pub fn print_vehicles(fleet: &Fleet, keys: &[Key], out: &mut impl Write) -> io::Result<()> {
+    for key in keys {
+        let vehicle = fleet.vehicle(key).expect("it was registered");
+        writeln!(out, "vehicle {} {} {} {}", key.provider, key.device, vehicle.state.name(), vehicle.count)?;
+    }
+    Ok(())
+}
+
 /// Replays the items, prints what comes of them, and says how many weren't accepted.
 fn print(items: &[serde_json::Value], out: &mut impl Write) -> io::Result<usize> {
     let (table, mut replay, mut accepted) = (Table::profile(), Replay::default(), 0);
@@ -72,11 +81,7 @@ fn print(items: &[serde_json::Value], out: &mut impl Write) -> io::Result<usize>
             Err(refusal) => print_refusal(out, index, refusal)?,
         }
     }
-    for key in &replay.keys {
-        let vehicle = replay.fleet.vehicle(key).expect("it was registered");
-        let (state, events) = (vehicle.state.name(), vehicle.events.len());
-        writeln!(out, "vehicle {} {} {state} {events}", key.provider, key.device)?;
-    }
+    print_vehicles(&replay.fleet, &replay.keys, out)?;
     let refused = items.len() - accepted;
     writeln!(out, "accepted {accepted} refused {refused}")?;
     out.flush()?;

@@ -3,7 +3,8 @@
 use crate::batch;
 use crate::fleet::{Fleet, Refusal, Vehicle};
 use crate::http::{self, bad, Problem, Route};
-use crate::item::{read_event, read_vehicle, Fault, Key, Location};
+use crate::item::{read_event, read_vehicle, Event, Fault, Key, Location};
+use crate::journal::{Entry, Journal};
 use crate::table::Table;
 use std::fmt::Write;
 use std::io::{self, Read};
@@ -20,6 +21,7 @@ const LAST: Duration = Duration::from_secs(10);
 struct City {
     table: Table,
     shards: [Mutex<Fleet>; 2],
+    journal: Option<Journal>,
 }
 
 /// What is wrong with an item of a batch.
@@ -30,62 +32,92 @@ enum Failure {
 }
 
 impl City {
+    /// A city that holds what its journal tells, if it has one.
+    fn open(path: Option<&str>) -> Result<City, String> {
+        let (table, mut fleets): (_, [Fleet; 2]) = (Table::profile(), Default::default());
+        let take = |entry| match entry {
+            Entry::Vehicle(key) => fleets[shard_of(&key)].register(key).1,
+            Entry::Event(event) => fleets[shard_of(&event.key)].report(&table, event).is_ok(),
+        };
+        let journal = path.map(|path| Journal::open(path, &table, take)).transpose()?;
+        Ok(City { table, shards: fleets.map(Mutex::new), journal })
+    }
+
     fn shard(&self, key: &Key) -> MutexGuard<'_, Fleet> {
-        self.shards[(key.device.0 % 2) as usize].lock().expect("no thread panics")
+        self.shards[shard_of(key)].lock().expect("no thread panics")
     }
 
-    fn answer(&self, route: Route, body: &[u8]) -> Result<String, Problem> {
-        match route {
-            Route::Vehicles => self.register(body),
-            Route::Events => self.report(body),
-            Route::Vehicle(key) => self.look(&key, |vehicle| standing(&key, vehicle)),
-            Route::History(key) => self.look(&key, |vehicle| self.history(vehicle)),
+    /// The answer, and how far the journal must be on the disk before it goes out: to where all stands that it rests on.
+    fn answer(&self, route: Route, body: &[u8]) -> (Result<String, Problem>, u64) {
+        let mut place = 0;
+        let answer = match route {
+            Route::Vehicles => self.register(body, &mut place),
+            Route::Events => self.report(body, &mut place),
+            Route::Vehicle(key) => self.look(&key, &mut place, |vehicle| standing(&key, vehicle)),
+            Route::History(key) => self.look(&key, &mut place, |vehicle| self.history(vehicle)),
             Route::Table => Ok(self.rows()),
-        }
+        };
+        (answer, place)
     }
 
-    fn register(&self, body: &[u8]) -> Result<String, Problem> {
+    fn register(&self, body: &[u8], place: &mut u64) -> Result<String, Problem> {
         let items = batch::items(body).map_err(bad)?;
         let outcomes = items.iter().map(|item| {
             let key = read_vehicle(item).map_err(Failure::Fault)?;
-            if self.shard(&key).register(key) {
-                Ok(())
-            } else {
-                Err(Failure::AlreadyRegistered)
+            let mut shard = self.shard(&key);
+            let (vehicle, is_new) = shard.register(key);
+            if let Some(journal) = self.journal.as_ref().filter(|_| is_new) {
+                vehicle.place = journal.add(&vehicle_text(&key));
             }
+            *place = vehicle.place.max(*place);
+            is_new.then_some(()).ok_or(Failure::AlreadyRegistered)
         });
         Ok(summary(outcomes))
     }
 
-    fn report(&self, body: &[u8]) -> Result<String, Problem> {
+    fn report(&self, body: &[u8], place: &mut u64) -> Result<String, Problem> {
         let items = batch::items(body).map_err(bad)?;
         let outcomes = items.iter().map(|item| {
             let event = read_event(item, &self.table).map_err(Failure::Fault)?;
-            self.shard(&event.key).report(&self.table, event).map_err(Failure::Refusal)
+            let line = self.journal.as_ref().map(|journal| (journal, self.event_text(&event)));
+            let mut shard = self.shard(&event.key);
+            let vehicle = shard.vehicle_mut(&event.key).ok_or(Failure::Refusal(Refusal::Unregistered))?;
+            let outcome = vehicle.report(&self.table, event);
+            if let Some((journal, text)) = line.filter(|_| outcome.is_ok()) {
+                vehicle.place = journal.add(&text);
+            }
+            *place = vehicle.place.max(*place);
+            outcome.map_err(Failure::Refusal)
         });
         Ok(summary(outcomes))
     }
 
-    fn look(&self, key: &Key, text: impl Fn(&Vehicle) -> String) -> Result<String, Problem> {
+    fn look(&self, key: &Key, place: &mut u64, text: impl Fn(&Vehicle) -> String) -> Result<String, Problem> {
         let shard = self.shard(key);
-        shard.vehicle(key).map(text).ok_or(Problem("404 Not Found", "unregistered", None))
+        let vehicle = shard.vehicle(key).ok_or(Problem("404 Not Found", "unregistered", None))?;
+        *place = vehicle.place;
+        Ok(text(vehicle))
+    }
+
+    /// The text of an event, in answers and in the journal.
+    fn event_text(&self, event: &Event) -> String {
+        let mut text = String::with_capacity(320);
+        let _ = self.write_event(&mut text, event);
+        text
+    }
+
+    fn write_event(&self, out: &mut String, event: &Event) -> std::fmt::Result {
+        let (provider, device) = (event.key.provider, event.key.device);
+        write!(out, "{{\"device_id\":\"{device}\",\"event_id\":\"{}\",\"event_types\":[", event.id)?;
+        for (at, kind) in event.types.iter().flatten().enumerate() {
+            write!(out, "{}\"{}\"", if at > 0 { "," } else { "" }, self.table.name(*kind))?;
+        }
+        write!(out, "],\"location_e7\":{},\"provider_id\":\"{provider}\"", location(event.location))?;
+        write!(out, ",\"timestamp\":{},\"vehicle_state\":\"{}\"}}", event.time, event.state.name())
     }
 
     fn history(&self, vehicle: &Vehicle) -> String {
-        let events = vehicle.events.iter().map(|event| {
-            let names = event.types.iter().flatten().map(|kind| format!("\"{}\"", self.table.name(*kind)));
-            format!(
-                "{{\"device_id\":\"{}\",\"event_id\":\"{}\",\"event_types\":[{}],\"location_e7\":{},\
-                 \"provider_id\":\"{}\",\"timestamp\":{},\"vehicle_state\":\"{}\"}}",
-                event.key.device,
-                event.id,
-                names.collect::<Vec<_>>().join(","),
-                location(event.location),
-                event.key.provider,
-                event.time,
-                event.state.name(),
-            )
-        });
+        let events = vehicle.events.iter().map(|event| self.event_text(event));
         format!("{{\"events\":[{}]}}", events.collect::<Vec<_>>().join(","))
     }
 
@@ -102,6 +134,15 @@ impl City {
     }
 }
 
+/// Which of the shards a vehicle is in.
+fn shard_of(key: &Key) -> usize {
+    (key.device.0 % 2) as usize
+}
+
+fn vehicle_text(key: &Key) -> String {
+    format!("{{\"device_id\":\"{}\",\"provider_id\":\"{}\"}}", key.device, key.provider)
+}
+
 fn location(location: Option<Location>) -> String {
     location.map_or("null".to_string(), |at| format!("{{\"lat\":{},\"lng\":{}}}", at.lat, at.lng))
 }
@@ -110,8 +151,8 @@ fn standing(key: &Key, vehicle: &Vehicle) -> String {
     format!(
         "{{\"device_id\":\"{}\",\"events\":{},\"last\":{},\"location_e7\":{},\"provider_id\":\"{}\",\"vehicle_state\":\"{}\"}}",
         key.device,
-        vehicle.events.len(),
-        vehicle.last().map_or("null".to_string(), |last| last.to_string()),
+        vehicle.count,
+        vehicle.last.map_or("null".to_string(), |last| last.to_string()),
         location(vehicle.location),
         key.provider,
         vehicle.state.name(),
@@ -160,7 +201,13 @@ fn serve_one(city: &City, mut stream: TcpStream) -> io::Result<()> {
     stream.set_read_timeout(Some(CALL))?;
     stream.set_write_timeout(Some(CALL))?;
     stream.set_nodelay(true)?;
-    let answer = http::read(&mut stream)?.and_then(|(route, body)| city.answer(route, &body));
+    let (answer, place) = match http::read(&mut stream)? {
+        Ok((route, body)) => city.answer(route, &body),
+        Err(problem) => (Err(problem), 0),
+    };
+    if let Some(journal) = &city.journal {
+        journal.wait(place);
+    }
     http::write(&mut stream, answer)?;
     stream.shutdown(Shutdown::Write)?;
     stream.set_read_timeout(Some(LAST_READ))?;
@@ -178,14 +225,18 @@ fn work(city: &City, listener: &TcpListener, each: usize) -> io::Result<()> {
     Ok(())
 }
 
-pub fn serve(port: u16, each: usize, workers: usize) -> io::Result<ExitCode> {
-    let listener = TcpListener::bind((Ipv4Addr::LOCALHOST, port))?;
-    println!("listening {}", listener.local_addr()?);
-    let city = City { table: Table::profile(), shards: Default::default() };
-    thread::scope(|scope| {
-        let threads: Vec<_> = (0..workers).map(|_| scope.spawn(|| work(&city, &listener, each))).collect();
-        threads.into_iter().try_for_each(|thread| thread.join().expect("no thread panics"))
-    })?;
+pub fn serve(port: u16, each: usize, workers: usize, journal: Option<&str>) -> Result<ExitCode, String> {
+    let city = City::open(journal)?;
+    serve_city(&city, port, each, workers).map_err(|fault| fault.to_string())?;
     println!("accepted {}", city.accepted());
     Ok(ExitCode::SUCCESS)
+}
+
+fn serve_city(city: &City, port: u16, each: usize, workers: usize) -> io::Result<()> {
+    let listener = TcpListener::bind((Ipv4Addr::LOCALHOST, port))?;
+    println!("listening {}", listener.local_addr()?);
+    thread::scope(|scope| {
+        let threads: Vec<_> = (0..workers).map(|_| scope.spawn(|| work(city, &listener, each))).collect();
+        threads.into_iter().try_for_each(|thread| thread.join().expect("no thread panics"))
+    })
 }

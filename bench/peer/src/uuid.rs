@@ -16,10 +16,14 @@ impl Uuid {
             38 => text.strip_prefix('{')?.strip_suffix('}')?,
             _ => text,
         };
-        let is_hyphen = |at: usize| matches!(at, 8 | 13 | 18 | 23);
         let has_form = bare.len() == 36 && bare.bytes().enumerate().all(|(at, byte)| is_hyphen(at) == (byte == b'-'));
         has_form.then(|| digits(bare.bytes().filter(|byte| *byte != b'-')))?
     }
+}
+
+/// Whether a hyphen stands at this place of the first form.
+fn is_hyphen(at: usize) -> bool {
+    matches!(at, 8 | 13 | 18 | 23)
 }
 
 fn digits(bytes: impl Iterator<Item = u8>) -> Option<Uuid> {
@@ -32,8 +36,13 @@ fn digits(bytes: impl Iterator<Item = u8>) -> Option<Uuid> {
 
 impl fmt::Display for Uuid {
     fn fmt(&self, f: &mut fmt::Formatter) -> fmt::Result {
-        let (high, low) = ((self.0 >> 64) as u64, self.0 as u64);
-        let (first, second, third) = (high >> 32, high >> 16 & 0xffff, high & 0xffff);
-        write!(f, "{first:08x}-{second:04x}-{third:04x}-{:04x}-{:012x}", low >> 48, low & 0xffff_ffff_ffff)
+        let mut text = [b'-'; 36];
+        let places = (0..36).filter(|at| !is_hyphen(*at));
+        let bytes = self.0.to_be_bytes();
+        let halves = bytes.iter().flat_map(|byte| [byte >> 4, byte & 15]);
+        for (at, half) in places.zip(halves) {
+            text[at] = b"0123456789abcdef"[usize::from(half)];
+        }
+        f.write_str(std::str::from_utf8(&text).expect("digits are text"))
     }
 }

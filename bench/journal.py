@@ -1,0 +1,261 @@
+"""Measures a server over a journal: beside the plain program and Redis, beside itself without a journal, and how it starts.
+
+The journals lie in a temporary folder on a disk, below bench/out unless another folder is given. An answer waits until what it
+rests on is on the disk, so what is measured depends on how fast the disk syncs: that is printed first."""
+
+import os
+import shlex
+import statistics
+import subprocess
+import sys
+import tempfile
+import time
+from pathlib import Path
+
+from cases.replays import P, identifier
+from harness.counting import ROOT
+from model.items import EVENT
+from model.json_text import compact
+from redis import BYTES, redis_in
+from serve import BATCHES, EVENTS, VEHICLES, ServeBench
+from serve import batches, ended, event, events_of, files_of, looks, register, vehicle
+from serving.server import Server
+from serving.wire import get, post
+from timing import in_turns, peak_of, timed
+
+FOLDER = ROOT / "bench/out"
+SIDES = ((1, 1), (4, 1), (4, 4), (4, 16))
+"""Numbers of workers and of clients at which two servers are compared."""
+SYNCS = 400
+FEWEST, MOST = 600, 4000
+"""Reports of a run: as many as the disk syncs in a second, within these bounds."""
+LOOKS_BESIDE, REPORTS_BESIDE = 10000, 60000
+"""Looks of a run beside reports, and how many reports there are for it, more than are made in that time."""
+RECORDED = 1000000
+"""Events of the journal at which a server starts."""
+AIMS = {"reports": 0.7, "batches": 0.7, "looks": 0.95, "looks beside": 0.5}
+"""What part of a rate is aimed at: of the plain program's, and of looks, of the own rate without a journal."""
+AIM_OF_TIME, AIM_OF_MEMORY = 1.5, 200
+"""What a start and a listing may take at most of the plain program's time, and a listing of memory, in MB."""
+COSTLESS = ("tmpfs", "ramfs")
+OWNERS = ("", " of the plain program")
+NONE = "-"
+
+
+def file_system_of(folder):
+    """The file system that a folder is on: its kind, and what it is on itself."""
+    place = os.path.realpath(folder)
+    mounts = [line.split() for line in Path("/proc/self/mounts").read_text().splitlines()]
+    within = [mount for mount in mounts if os.path.commonpath((mount[1], place)) == mount[1]]
+    device, _, kind, *_ = max(reversed(within), key=lambda mount: len(mount[1]))
+    return kind, device
+
+
+def syncs_a_second(folder):
+    """How many appends of the bytes of a line, each synced, the disk takes in a second, by the median of their times."""
+    times = []
+    with open(Path(folder, "syncs"), "wb", buffering=0) as file:
+        for _ in range(SYNCS):
+            start = time.monotonic()
+            file.write(bytes(BYTES))
+            os.fdatasync(file.fileno())
+            times.append(time.monotonic() - start)
+    return 1 / statistics.median(times)
+
+
+def over_journal(program, journal, is_new=True):
+    """A program that serves as this one does over a journal, a new one each time or the one that is there."""
+    words = f'exec {shlex.quote(str(program))} "$@" --journal {shlex.quote(str(journal))}'
+    before = f"rm -f {shlex.quote(str(journal))}\n" if is_new else ""
+    path = Path(f"{journal}-{'new' if is_new else 'old'}")
+    path.write_text(f"#!/bin/sh\n{before}{words}\n")
+    path.chmod(0o700)
+    return str(path)
+
+
+def text_of(number):
+    """A number of a second, or a dash where there is none."""
+    return NONE if number is None else f"{number:,.0f}"
+
+
+def ratio_of(number, other):
+    return NONE if None in (number, other) else f"{number / other:.2f}"
+
+
+def some_in_turns(runs, measures):
+    """The medians of the first value that each of these measures answers, in turns, and nothing for one that isn't there."""
+    found = iter(in_turns(runs, *[lambda measure=measure: (measure(),) for measure in measures if measure]))
+    return [next(found)[0] if measure else None for measure in measures]
+
+
+def reports_of(count):
+    """What makes the reports of a client, where there are so many of all clients."""
+    return lambda client, clients: [post("/events", it) for it in events_of(client, clients, count // clients)]
+
+
+def looks_of_half(client, clients):
+    """Looks of a client at vehicles of the first half."""
+    own = range(client, VEHICLES // 2, clients)
+    numbers = [own[at % len(own)] for at in range(LOOKS_BESIDE // clients)]
+    return [get(f"/vehicles/{P}/{identifier(1, number)}") for number in numbers]
+
+
+def reports_of_half(_client, _clients):
+    """Reports of the vehicles of the second half, in turn."""
+    half = VEHICLES - VEHICLES // 2
+    return [post("/events", event(VEHICLES // 2 + at % half, at // half)) for at in range(REPORTS_BESIDE)]
+
+
+class JournalBench:
+    """Measures a program, and a plain one where it is there, by so many runs each, with the files in a folder on a disk."""
+
+    def __init__(self, program, peer, runs, folder, syncs):
+        self.runs = runs
+        self.folder = folder
+        self.programs = [program, peer] if peer else [program]
+        self.reports = int(min(max(syncs, FEWEST), MOST))
+
+    def benches(self):
+        """Of each program what measures it, over a journal that is new in each run."""
+        for number, program in enumerate(self.programs):
+            journal = Path(self.folder, f"{number}.journal")
+            yield ServeBench(over_journal(program, journal), self.runs, self.folder)
+
+    def rates(self, requests_of, success, workers, clients, redis):
+        """The requests a second of the program and of the plain one, and those of Redis over connections that are new and kept,
+        where it is there."""
+        paths, count = files_of(self.folder, requests_of, clients)
+        measures = [lambda bench=bench: bench.once(paths, count, success, workers)[0] for bench in self.benches()]
+        measures += [None] * (2 - len(measures))
+        for kept in (False, True):
+            measures.append(redis and (lambda kept=kept: redis.rate(clients, count, kept)))
+        return some_in_turns(self.runs, measures)
+
+    def beside(self):
+        """Prints a table of reports and batches, beside the plain program and Redis."""
+        kinds = {"reports": (reports_of(self.reports), 1, True), "batches": (batches, EVENTS, False)}
+        print(f"Reports: {self.reports:,} in a run. Batches: {BATCHES} of {EVENTS} events. Of Redis: SETs of {BYTES} bytes.\n")
+        heads = "requests a second | of the plain program | ratio | aim | of Redis, a connection each | connections kept"
+        with tempfile.TemporaryDirectory(dir=self.folder) as folder, redis_in(folder) as redis:
+            print(f"| what is asked | workers | clients | {heads} |")
+            print("|---|---:|---:|---:|---:|---:|---:|---:|---:|")
+            for name, (requests_of, success, is_like_set) in kinds.items():
+                for workers, clients in SIDES:
+                    like = redis if is_like_set else None
+                    own, plain, *others = self.rates(requests_of, success, workers, clients, like)
+                    rates = f"{text_of(own)} | {text_of(plain)} | {ratio_of(own, plain)} | {AIMS[name]:.2f}"
+                    print(f"| {name} | {workers} | {clients} | {rates} | {' | '.join(map(text_of, others))} |", flush=True)
+
+    def sides(self):
+        """Of each program whose it is, whether something is aimed at, and what measures it over a journal and without one."""
+        for owner, program, bench in zip(OWNERS, self.programs, self.benches()):
+            yield owner, not owner, (bench, ServeBench(program, self.runs, self.folder))
+
+    def looks(self):
+        """Prints a table of looks that nobody writes beside, over a journal and without one."""
+        print("\n| what is asked | workers | clients | looks a second | without a journal | ratio | aim |")
+        print("|---|---:|---:|---:|---:|---:|---:|")
+        for owner, is_aimed, benches in self.sides():
+            for workers, clients in SIDES:
+                paths, count = files_of(self.folder, looks, clients)
+                measures = [lambda bench=bench: bench.once(paths, count, 0, workers)[:1] for bench in benches]
+                (rate,), (other,) = in_turns(self.runs, *measures)
+                aim = f"{AIMS['looks']:.2f}" if is_aimed else NONE
+                cells = f"{rate:,.0f} | {other:,.0f} | {rate / other:.2f} | {aim}"
+                print(f"| looks{owner} | {workers} | {clients} | {cells} |", flush=True)
+
+    def looks_beside(self):
+        """Prints a table of looks while another client reports of other vehicles, over a journal and without one."""
+        heads = "looks a second | without a journal | ratio | aim | reports a second meanwhile | without a journal"
+        print(f"\n| what is asked | workers | clients and one that reports | {heads} |")
+        print("|---|---:|---:|---:|---:|---:|---:|---:|---:|")
+        with tempfile.TemporaryDirectory(dir=self.folder) as folder:
+            (reports,), _ = files_of(folder, reports_of_half, 1)
+            for owner, is_aimed, benches in self.sides():
+                for clients in (1, 4, 16):
+                    paths, count = files_of(self.folder, looks_of_half, clients)
+                    measures = [lambda bench=bench: once_beside(bench, paths, count, reports) for bench in benches]
+                    (rate, meanwhile), (other, without) = in_turns(self.runs, *measures)
+                    aim = f"{AIMS['looks beside']:.2f}" if is_aimed else NONE
+                    cells = f"{rate:,.0f} | {other:,.0f} | {rate / other:.2f} | {aim} | {meanwhile:,.0f} | {without:,.0f}"
+                    print(f"| looks{owner} | 4 | {clients} | {cells} |", flush=True)
+
+    def restart(self):
+        """Prints a table of how long a server takes to listen over a journal of many events, and of listing its vehicles."""
+        journal = recorded(Path(self.folder, "recorded.journal"))
+        size = journal.stat().st_size / 1e6
+        print(f"\nA journal of {VEHICLES:,} registrations and {RECORDED:,} events: {size:,.0f} MB.\n")
+        heads = "s | of the plain program | ratio | aim at most | most memory, MB | aim at most | of the plain program"
+        print(f"| what is run | {heads} |")
+        print("|---|---:|---:|---:|---:|---:|---:|---:|")
+        for name, measured, most in (("`serve`, until it listens", started, NONE), ("`vehicles`", listed, AIM_OF_MEMORY)):
+            measures = [lambda program=program: measured(program, journal) for program in self.programs]
+            (seconds, memory), *other = in_turns(self.runs, *measures)
+            plain_seconds, plain_memory = other[0] if other else (None, None)
+            plain = NONE if plain_seconds is None else f"{plain_seconds:.2f}"
+            times = f"{seconds:.2f} | {plain} | {ratio_of(seconds, plain_seconds)} | {AIM_OF_TIME:.2f}"
+            print(f"| {name} | {times} | {memory:,.0f} | {most} | {text_of(plain_memory)} |", flush=True)
+
+
+def once_beside(bench, paths, count, reports):
+    """The looks a second of a server with four workers, and the reports a second that another client makes meanwhile."""
+    with Server(bench.program, count + REPORTS_BESIDE, workers=4) as server:
+        register(server)
+        words = [bench.client, str(server.port), *paths, "--", reports]
+        told = subprocess.run(words, capture_output=True, text=True, check=True).stdout.splitlines()
+    asked, beside = (line.split() for line in told)
+    made = int(beside[0])
+    if [int(word) for word in asked[:3] + beside[1:3]] != [count, count, 0, made, made]:
+        sys.exit(f"{told} of {count} looks beside reports")
+    if made == REPORTS_BESIDE:
+        sys.exit(f"{made} reports are too few to be made beside {count} looks")
+    return count / float(asked[3]), made / float(beside[3])
+
+
+def recorded(path):
+    """A journal of this path with the events of many vehicles in turn, all of it on the disk."""
+    with open(path, "w") as file:
+        file.write(' {"form":"mds_city","version":1}\n')
+        file.writelines(f" {compact(vehicle(number))}\n" for number in range(VEHICLES))
+        for at in range(RECORDED):
+            line = {**dict.fromkeys(EVENT), **event(at % VEHICLES, at // VEHICLES), "event_id": identifier(2, at)}
+            file.write(f" {compact(line)}\n")
+        file.flush()
+        os.fsync(file.fileno())
+    return path
+
+
+def started(program, journal):
+    """The seconds until a server listens over a journal, and the MB that it held at most. It must hold all that is recorded."""
+    words = over_journal(program, journal, is_new=False)
+    start = time.monotonic()
+    with Server(words, 1) as server:
+        seconds, memory = time.monotonic() - start, server.most_memory() / 1e6
+        server.count(0, VEHICLES + RECORDED)
+        ended(server)
+    return seconds, memory
+
+
+def listed(program, journal):
+    """The seconds that it takes to list the vehicles of a journal, and the MB that were held at most."""
+    words = ["vehicles", str(journal)]
+    seconds, _ = timed(program, words, 0, f"registrations {VEHICLES} events {RECORDED}")
+    return seconds, peak_of(program, words) / 1e6
+
+
+def measure_journal(program, peer, runs, where):
+    """Prints what a journal costs, with all files below a folder."""
+    where = Path(where or FOLDER)
+    where.mkdir(parents=True, exist_ok=True)
+    with tempfile.TemporaryDirectory(dir=where) as folder:
+        kind, device = file_system_of(folder)
+        syncs = syncs_a_second(folder)
+        print(f"Journals on {kind} of {device}, which takes {syncs:,.0f} appends a second of {BYTES} bytes, each synced.")
+        if kind in COSTLESS:
+            print("There a sync costs nothing. With `--folder` the journals lie on a disk.")
+        bench = JournalBench(program, peer, runs, folder, syncs)
+        bench.beside()
+        bench.looks()
+        bench.looks_beside()
+        bench.restart()
+        print(f"\nBehind the last run the disk takes {syncs_a_second(folder):,.0f} appends a second.")
