@@ -1,4 +1,4 @@
-"""Servers that come to an end without violence, `vehicles` beside one that runs, and one without a journal."""
+"""Servers that come to an end without violence, looks while a disk is slow, `vehicles` beside a server, and one without a journal."""
 
 import os
 import signal
@@ -6,6 +6,7 @@ import stat
 import subprocess
 import tempfile
 import threading
+import time
 from pathlib import Path
 
 from crashing.clients import report, side_by_side
@@ -28,6 +29,8 @@ SIZES = [1, 2, 4, 5]
 """Of the batches in which they are reported."""
 READINGS = 6
 """Of `vehicles`, at least, while clients report."""
+SLOW = 1.0
+"""How long a sync of a slow disk takes, in seconds. A report waits for two."""
 
 
 def served(server):
@@ -136,6 +139,59 @@ def vehicles_beside_a_server(program):
         yield f"`vehicles` told {told[-1]} at the end"
 
 
+class Asked(threading.Thread):
+    """A client that asks in a thread of its own; then the answer, and when it came."""
+
+    def __init__(self, port, request):
+        super().__init__()
+        self.port, self.request, self.answer, self.at = port, request, None, None
+        self.start()
+
+    def run(self):
+        self.answer = ask(self.port, self.request)
+        self.at = time.monotonic()
+
+
+def begins_to_write(recording, before):
+    """Waits until the file was written to once more."""
+    end = time.monotonic() + 30
+    while recording.number("writes") == before:
+        if time.monotonic() > end:
+            raise Unwell("nothing was written")
+        time.sleep(0.01)
+
+
+def slow_answers(server, recording, one, other):
+    """What is wrong with answers about two vehicles, while an event of the first waits for a slow disk."""
+    before, begun = recording.number("writes"), time.monotonic()
+    report_one = Asked(server.port, reporting(one, 0, 1))
+    begins_to_write(recording, before)
+    asked = [Asked(server.port, looking(one)), Asked(server.port, looking(other)), Asked(server.port, listing(other))]
+    for client in [report_one, *asked]:
+        client.join()
+    look_one, look_other, list_other = asked
+    yield from differing(report_one.answer, done(1), "the report")
+    yield from differing(look_one.answer, answer(200, standing(one, 1)), "a look at the vehicle")
+    yield from differing(look_other.answer, answer(200, standing(other, 0)), "a look at the other")
+    yield from differing(list_other.answer, answer(200, {"events": []}), "a list of the other")
+    if min(report_one.at, look_one.at) < begun + 2 * SLOW:
+        yield f"the first vehicle's event was told after {min(report_one.at, look_one.at) - begun} s, before it was on the disk"
+    if max(look_other.at, list_other.at) > begun + SLOW:
+        yield f"answers about the other vehicle took {max(look_other.at, list_other.at) - begun} s"
+
+
+def looks_while_others_report(program):
+    """A look and a list of a vehicle don't wait for the disk where only others of its half were reported; a look at the reported one
+    does."""
+    one, other = device_at(0), device_at(2)
+    with tempfile.TemporaryDirectory() as folder:
+        path = Path(folder, "journal")
+        with Recording(path) as recording, Server(program, EACH, WORKERS, journal=path, env=recording.env) as server:
+            yield from differing(ask(server.port, registering(one, other)), done(2), "the registrations")
+            recording.set(pause=int(SLOW * 1000000))
+            yield from slow_answers(server, recording, one, other)
+
+
 def files_of(server):
     """The paths of the regular files that a server has open, those of its standard streams aside."""
     folder = Path(f"/proc/{server.child.pid}/fd")
@@ -181,6 +237,7 @@ RESTING = [
     ended_by_signals,
     ended_by_itself,
     without_any_request,
+    looks_while_others_report,
     vehicles_beside_a_server,
     without_a_journal,
     only_one_path,

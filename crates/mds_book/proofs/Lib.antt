@@ -7,5 +7,6 @@ pub mod Called
 pub mod Listed
 pub mod Accounts
 pub mod Gathers
+pub mod CopiedOf
 pub mod Copying
 pub mod SightLaws

@@ -1,5 +1,5 @@
 -- How far a shard's history was copied.
-use Rattle.std.specs.Prelude.{◌≡◌, ◌≤◌, ◌+◌, ◌++◌, ℕ, List, [], length, take, drop}
+use Rattle.std.specs.Prelude.{◌≡◌, ◌≤◌, ◌+◌, ◌++◌, ◌==◌, ℕ, List, [], length, take, drop, if◌then◌else◌}
 use mathlib.Core.List.{IsPrefix}
 use Rattle.mds_table.specs.Tables.{Tables}
 use Rattle.mds_core.specs.declared.request.Request.{Request}
@@ -14,6 +14,10 @@ pub record Progressed : Type 0 where
 -- the requests that were copied
 abbrev pub copied : Progressed → List Request
 copied progress = take progress.count progress.seen
+
+-- the requests that were copied of the shard of this number, of those of both
+abbrev pub copied_in : Progressed → Progressed → ℕ → List Request
+copied_in first second number = if number == 0 then copied first else copied second
 
 -- the most requests of a piece
 abbrev pub max_piece : ℕ

@@ -1,20 +1,22 @@
 //! The shards under their locks, and the calls that take them.
 ghost use Rattle.std.specs.Prelude.{◌≡◌, ◌↔◌, ◌<◌, ◌≤◌, ◌+◌, ◌++◌, ◌||◌, true, false, Err, Some, replicate, vec_len, vec_capacity, IsOk, IfOk, OnErr, option_map};
 ghost use Rattle.std.specs.Fn.{FnOnceReturnsAt};
-ghost use Rattle.mds_core.specs.History.{key_of};
+ghost use mathlib.Core.List.{IsPrefix};
+ghost use Rattle.mds_core.specs.History.{key_of, requests_of};
 ghost use Rattle.mds_core.specs.Headline.{is_done as outcome_is_done};
 ghost use Rattle.mds_book.specs.Shards.{shard_of as number_of, count_of};
-ghost use Rattle.mds_book.specs.Seats.{fresh, keeps_all, is_look, accepted_in, noted, IsCalled, IsListed};
+ghost use Rattle.mds_book.specs.Seats.{fresh, keeps_all, is_look, accepted_in, seen_in, noted, IsCalled, IsListed};
 ghost use Rattle.mds_book.specs.Sights.{IsSeenWhole, IsStepped, next_turn};
 ghost use Rattle.mds_book.specs.Books.{IsBadCount, GivesEvents, SeesShard, open_fault_text};
-ghost use Rattle.mds_book.specs.Copying.{IsCopied};
+ghost use Rattle.mds_book.specs.Copying.{IsCopied, copied, copied_in};
+ghost use Rattle.mds_log.specs.Log.{requests};
 
 use crate::gathered::Account;
 use crate::seat::Parts;
 use crate::slot::shard_of;
 use crate::{Blank, Keep, Part, Progress, Seat, ShardLedger, Slot};
 use mds_core::{Event, Key, Outcome, Reply, Request};
-use mds_log::Marks;
+use mds_log::{Front, Marks};
 use mds_settle::Note;
 use mds_shard::Shard;
 use mds_table::Tables;
@@ -270,6 +272,20 @@ fn copy_in<R: Wait, L: ShardLedger, const N: usize>(
     ensures unchanged { OnErr result (progress.new ≡ progress.old) }
 {
     slot.lock(rt).copy(alloc, progress)
+}
+
+/// Whether all requests about a vehicle that a front has seen were copied of the shard behind this lock.
+fn has_copied_in<R: Wait, L: ShardLedger, const N: usize>(
+    rt: &R,
+    slot: &Mutex<Slot<L, N>>,
+    seen: &Front<L>,
+    progress: &Progress<L>,
+    key: &Key,
+) -> bool
+    ensures { result ≡ true → IsPrefix (requests_of (requests seen.now) key.now)
+        (requests_of (copied progress.now) key.now) }
+{
+    slot.lock(rt).has_copied(seen, progress, key)
 }
 
 /// What a function answers on the shard behind this lock.
@@ -636,6 +652,27 @@ impl<L: ShardLedger, M: ShardLedger> Book<L, M> {
         ensures unchanged { OnErr result (progress.new ≡ progress.old) }
     {
         copy_in(rt, alloc, &self.second, progress)
+    }
+
+    /// Whether all requests about a vehicle that a seat has seen were copied of its shard. It may say no where others about the
+    /// vehicle were accepted meanwhile. It costs the same whatever the shard holds, and waits for its lock.
+    pub fn has_copied<R: Wait>(
+        &self,
+        rt: &R,
+        seat: &Seat<L, M>,
+        key: &Key,
+        first: &Progress<L>,
+        second: &Progress<M>,
+    ) -> bool
+        ensures { result ≡ true
+            → IsPrefix (requests_of (seen_in seat.now (number_of key.now)) key.now)
+            (requests_of (copied_in first.now second.now (number_of key.now)) key.now) }
+    {
+        if shard_of(key) == 0 {
+            has_copied_in(rt, &self.first, seat.first.sight.front(), first, key)
+        } else {
+            has_copied_in(rt, &self.second, seat.second.sight.front(), second, key)
+        }
     }
 
     /// What a function answers on the shard of this number, while it is locked. It waits for the shard's lock; a call on

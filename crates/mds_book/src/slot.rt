@@ -1,13 +1,13 @@
 //! What stands behind a lock: a shard, the ledger that counts what it accepted, and the keeper of its log.
-ghost use Rattle.std.specs.Prelude.{◌≡◌, [], length, ◌<◌, ◌≤◌, ◌+◌, ◌^◌, IfOk, IfSome, OnErr};
-ghost use Rattle.mds_core.specs.History.{key_of};
+ghost use Rattle.std.specs.Prelude.{◌≡◌, [], length, true, ◌<◌, ◌≤◌, ◌+◌, ◌^◌, IfOk, IfSome, OnErr};
+ghost use Rattle.mds_core.specs.History.{key_of, requests_of};
 ghost use Rattle.mds_core.specs.Machine.{Steps, LacksMemory};
 ghost use Rattle.mds_core.specs.Lawful.{IsLawful};
 ghost use mathlib.Core.List.{IsPrefix};
 ghost use Rattle.mds_log.specs.Log.{requests};
 ghost use Rattle.mds_book.specs.Shards.{shard_of as number_of, AreOfShard, count_of};
 ghost use Rattle.mds_book.specs.Sights.{IsShown, next_turn};
-ghost use Rattle.mds_book.specs.Copying.{IsCopied, IsPiece};
+ghost use Rattle.mds_book.specs.Copying.{IsCopied, IsPiece, copied};
 
 use crate::seat::Parts;
 use crate::{Blank, Part, Progress};
@@ -227,6 +227,21 @@ impl<L: ShardLedger, const N: usize> Slot<L, N> {
         let _ = self.shard.len();
         let mut seen = progress.front().again();
         self.keeper.show(&mut seen);
+    }
+
+    /// Whether all requests about a vehicle that a front has seen were copied. It changes nothing.
+    pub(crate) fn has_copied(&mut self, seen: &Front<L>, progress: &Progress<L>, key: &Key) -> bool
+        ensures slot { self.new ≡ self.old }
+        ensures copied { result ≡ true → IsPrefix (requests_of (requests seen.now) key.now)
+            (requests_of (copied progress.now) key.now) }
+    {
+        // This call's contract says that the history is no longer than a list can be.
+        let _ = self.shard.len();
+        let mut shown = seen.again();
+        self.keeper.show(&mut shown);
+        let end = self.shard.end_of(key);
+        self.tell_begins(progress);
+        end <= progress.count()
     }
 
     /// Answers a request about a vehicle of this shard, as [`Shard::step`] does, for a seat with this part of the shard, which

@@ -1,5 +1,5 @@
 -- What one connection does at a desk whose answers go out once what they rest on is recorded.
-use Rattle.std.specs.Prelude.{◌≡◌, ◌⊎◌, ℕ, ◌≤◌, List, length, take, Option, Bool, true, false, MatchBool}
+use Rattle.std.specs.Prelude.{◌≡◌, ◌⊎◌, ℕ, ◌≤◌, List, length, take, Option, Some, None, Bool, true, false, MatchBool}
 use Rattle.std.specs.Io.KnownBytes.{Appends, Keeps}
 use Rattle.mds_table.specs.Tables.{Tables}
 use Rattle.mds_core.specs.declared.key.Key.{Key}
@@ -27,6 +27,15 @@ is_of_history (asked.One key) = true
 is_of_history (asked.History key) = true
 is_of_history asked.Rows = false
 
+-- the one vehicle of which alone an answer tells, if there is one
+abbrev pub vehicle_of : Asked → Option Key
+vehicle_of (asked.Fixed fault) = None
+vehicle_of (asked.Vehicles items) = None
+vehicle_of (asked.Events items) = None
+vehicle_of (asked.One key) = Some key
+vehicle_of (asked.History key) = Some key
+vehicle_of asked.Rows = None
+
 -- so many bytes of the answer that says that something isn't recorded were written, all of them or fewer
 abbrev pub IsNotKeptAnswer : Option (List ℕ) → Option (List ℕ) → ℕ → Type 0
 IsNotKeptAnswer old new sent = (sent ≤ length not_kept_text) × Appends old new (take sent not_kept_text)
@@ -37,12 +46,13 @@ IsInstead keep.Memory old new fault = (sent : ℕ) × (fault ≡ Serve (serve.Me
 IsInstead keep.NotKept old new fault = (sent : ℕ) × (fault ≡ NotKept sent) × IsNotKeptAnswer old new sent
 IsInstead keep.Lost old new fault = (fault ≡ Lost) × Keeps old new
 
--- of a desk: as in `Serving`, and in which states all that its answers rest on is recorded, and where keeping leads
+-- of a desk: as in `Serving`, and in which states all that its answers rest on is recorded, those about one vehicle or, with none
+-- named, all, and where keeping leads
 module _ {S : Type 0} (Calls : S → Request → Option Reply → S → Type 0) (GivesEvents : S → Key → Option (List Reported) → S → Type 0) (GivesRows : S → Tables → Type 0)
-    (IsKept : S → Type 0) (KeepsDesk : S → S → Type 0) where
+    (IsKept : S → Option Key → Type 0) (KeepsDesk : S → S → Type 0) where
   -- what the answer rests on is recorded, if it rests on anything
   abbrev pub Leaves : Asked → S → S → Type 0
-  Leaves what middle new = MatchBool (is_of_history what) (KeepsDesk middle new × IsKept new) (new ≡ middle)
+  Leaves what middle new = MatchBool (is_of_history what) (KeepsDesk middle new × IsKept new (vehicle_of what)) (new ≡ middle)
 
   -- what is asked for was answered whole, once what the answer rests on was recorded
   pub record IsKeptAnswer (what : Asked) (old new : S) (written_old written_new : Option (List ℕ)) (served : Served) : Type 0 where

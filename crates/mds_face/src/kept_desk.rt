@@ -2,12 +2,13 @@
 ghost use Rattle.std.specs.Prelude.{◌≡◌, true, IfOk, IfErr, OnOk};
 ghost use Rattle.std.specs.Io.KnownBytes.{Appends};
 ghost use Rattle.mds_request.specs.Asked.{asked_in};
-ghost use Rattle.mds_face.specs.Kept.{IsInstead, IsKeptAnswer, IsKeptStop, IsServedKept, StopsKept, is_of_history};
+ghost use Rattle.mds_face.specs.Kept.{IsInstead, IsKeptAnswer, IsKeptStop, IsServedKept, StopsKept, is_of_history, vehicle_of};
 ghost use Rattle.mds_face.specs.Reading.{ReadsNoFurther};
 ghost use Rattle.mds_face.specs.Serving.{IsUnwritten};
 
 use crate::connection::{find, out_of_memory, served_of, write_answer};
 use crate::{Desk, ServeFault, Served, read_plan};
+use mds_core::Key;
 use mds_io::{ReadError, write_all_of};
 use mds_request::{Face, Plan};
 use mds_response::{bytes_of, not_kept_bytes};
@@ -27,21 +28,22 @@ pub enum KeepFault {
 
 /// A desk that can see to it that what its answers rest on is recorded.
 pub trait KeptDesk: Desk {
-    ghost use Rattle.std.specs.Prelude.{OnOk};
+    ghost use Rattle.std.specs.Prelude.{OnOk, Option};
+    ghost use Rattle.mds_core.specs.declared.key.Key.{Key as About};
 
-    /// In a state, all that its answers rest on is recorded.
-    ghost is_kept: { Self → Type 0 };
+    /// In a state, all is recorded that its answers about this vehicle rest on, or, with none named, all of its answers.
+    ghost is_kept: { Self → Option About → Type 0 };
 
     /// From a state, keeping leads to the next: its answers rest on the same.
     ghost keeps: { Self → Self → Type 0 };
 
-    /// Sees to it that all that its answers rest on is recorded.
+    /// Sees to it that all is recorded that its answers about a vehicle rest on, or, with none named, all of its answers.
     ///
     /// # Errors
     ///
     /// [`KeepFault`] says when each comes.
-    fn keep(&mut self) -> Result<(), KeepFault>
-        ensures kept { OnOk result (is_kept self.new) }
+    fn keep(&mut self, about: Option<Key>) -> Result<(), KeepFault>
+        ensures kept { OnOk result (is_kept self.new about) }
         ensures keeps { keeps self.old self.new };
 }
 
@@ -116,15 +118,16 @@ fn answer_kept<W: Write, D: KeptDesk>(
     };
     let served = served_of(&plan, &found);
     let of_history = is_of_history(&plan);
+    let about = vehicle_of(&plan);
     drop(found);
     drop(plan);
     if of_history {
-        match desk.keep() {
+        match desk.keep(about) {
             Ok(()) => {}
             Err(fault) => return Err(not_kept(writer, fault)),
         }
     }
-    match write_kept(writer, desk, of_history, &bytes) {
+    match write_kept(writer, desk, of_history, about, &bytes) {
         Ok(()) => Ok(served),
         Err(fault) => Err(KeptFault::Serve(fault)),
     }
@@ -140,6 +143,16 @@ fn is_of_history(plan: &Plan) -> bool
     }
 }
 
+/// The vehicle of which alone the answer to a plan tells: where it stands, or its events.
+fn vehicle_of(plan: &Plan) -> Option<Key>
+    ensures { result ≡ vehicle_of (asked_in plan.now) }
+{
+    match plan {
+        Plan::One(key) | Plan::History(key) => Some(*key),
+        Plan::Fixed(_) | Plan::Rows | Plan::Vehicles(_) | Plan::Events(_) => None,
+    }
+}
+
 /// Writes an answer at a desk: one that rests on what was accepted, once that is recorded.
 ///
 /// # Errors
@@ -149,9 +162,10 @@ fn write_kept<W: Write, D: KeptDesk>(
     writer: &mut W,
     _desk: &D,
     of_history: bool,
+    _about: Option<Key>,
     bytes: &[u8],
 ) -> Result<(), ServeFault>
-    requires { of_history ≡ true → D.is_kept _desk.now }
+    requires { of_history ≡ true → D.is_kept _desk.now _about }
     ensures ok { OnOk result (Appends (W.contents writer.old) (W.contents writer.new) bytes.now) }
     ensures err { IfErr result
         (IsUnwritten bytes.now (W.contents writer.old) (W.contents writer.new)) }

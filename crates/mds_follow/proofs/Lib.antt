@@ -1,5 +1,6 @@
 pub mod Parts
 pub mod Covering
+pub mod Vehicles
 pub mod Lives
 pub mod Safety
 pub mod Desks

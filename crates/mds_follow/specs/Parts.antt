@@ -1,10 +1,11 @@
 -- What is recorded of each shard.
-use Rattle.std.specs.Prelude.{◌≡◌, ℕ, ◌==◌, List, filter}
+use Rattle.std.specs.Prelude.{◌≡◌, ℕ, ◌==◌, List, filter, Option, Some, None}
 use mathlib.Core.List.{IsPrefix}
+use Rattle.mds_core.specs.declared.key.Key.{Key}
 use Rattle.mds_core.specs.declared.request.Request.{Request}
-use Rattle.mds_core.specs.History.{key_of}
+use Rattle.mds_core.specs.History.{key_of, requests_of}
 use Rattle.mds_book.specs.Shards.{shard_of}
-use Rattle.mds_book.specs.Seats.{Seated}
+use Rattle.mds_book.specs.Seats.{Seated, seen_in}
 use Rattle.mds_book.specs.Copying.{Progressed, copied}
 
 -- the requests about vehicles of the shard of this number, in their order
@@ -19,3 +20,12 @@ Follows number recorded progress = part number recorded ≡ copied progress
 pub record Covers (seat : Seated) (recorded : List Request) : Type 0 where
   pub first : IsPrefix seat.first_seen (part 0 recorded)
   pub second : IsPrefix seat.second_seen (part 1 recorded)
+
+-- what is recorded has all that a seat saw of this vehicle
+abbrev pub CoversVehicle : Key → Seated → List Request → Type 0
+CoversVehicle key seat recorded = IsPrefix (requests_of (seen_in seat (shard_of key)) key) (requests_of recorded key)
+
+-- what is recorded has all that a seat saw of a vehicle, or of every one
+abbrev pub CoversAbout : Option Key → Seated → List Request → Type 0
+CoversAbout (Some key) seat recorded = CoversVehicle key seat recorded
+CoversAbout None seat recorded = Covers seat recorded

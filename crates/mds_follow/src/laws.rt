@@ -1,5 +1,5 @@
 //! What holds of the definitions alone. Each law is a function that does nothing; its contract is the law.
-ghost use Rattle.mds_follow.specs.Lives.{AnswersStandInTheNextLife};
+ghost use Rattle.mds_follow.specs.Lives.{AnswersStandInTheNextLife, LooksStandInTheNextLife};
 
 use crate::Record;
 
@@ -8,4 +8,10 @@ use crate::Record;
 /// each answer of each life was judged by a beginning of it.
 pub fn answers_stand_in_the_next_life<F: Record>()
     ensures { AnswersStandInTheNextLife F.left_since }
+{}
+
+/// What an answer about one vehicle rested on in one life of a server begins what the next life has of that vehicle, where a
+/// receipt covered it for the vehicle: whatever crash came between, since it was recorded.
+pub fn looks_stand_in_the_next_life<F: Record>()
+    ensures { LooksStandInTheNextLife F.left_since }
 {}

@@ -2,12 +2,14 @@
 ghost use Rattle.std.specs.Prelude.{◌≡◌, true};
 ghost use mathlib.Core.List.{IsPrefix};
 ghost use Rattle.mds_log.specs.Log.{requests};
-ghost use Rattle.mds_follow.specs.Parts.{Covers, Follows};
+ghost use Rattle.mds_follow.specs.Parts.{Covers, CoversAbout, Follows};
 
 use crate::RecordLog;
-use mds_book::{Progress, Seat, ShardLedger};
+use mds_book::{Book, Progress, Seat, ShardLedger};
+use mds_core::Key;
 use mds_log::Front;
 use std::marker::Model;
+use std::sync::Wait;
 
 /// Requests that are recorded, and how much of each shard's history they are. Contracts see it as these requests, each with the
 /// moment at which it was recorded.
@@ -48,6 +50,26 @@ impl<L: ShardLedger, M: ShardLedger, J: RecordLog> Receipt<L, M, J> {
         ensures { result ≡ true → Covers seat.now (requests self.now) }
     {
         seat.is_within(&self.first, &self.second)
+    }
+
+    /// Whether all that a seat has seen of a vehicle is recorded, or of every one where none is named. What was accepted about other
+    /// vehicles need not be. Where the seat has seen more than is recorded, it waits for the lock of the vehicle's shard.
+    pub fn covers_about<R: Wait>(
+        &self,
+        rt: &R,
+        book: &Book<L, M>,
+        seat: &Seat<L, M>,
+        about: Option<Key>,
+    ) -> bool
+        ensures { result ≡ true → CoversAbout about seat.now (requests self.now) }
+    {
+        if self.covers(seat) {
+            return true;
+        }
+        match about {
+            Some(key) => book.has_copied(rt, seat, &key, &self.first, &self.second),
+            None => false,
+        }
     }
 
     /// Goes on to what another receipt has, where that is more.

@@ -2,10 +2,11 @@
 ghost use Rattle.std.specs.Prelude.{◌≡◌, OnOk, OnErr};
 ghost use mathlib.Core.List.{IsPrefix};
 ghost use Rattle.mds_log.specs.Log.{requests};
-ghost use Rattle.mds_follow.specs.Parts.{Covers};
+ghost use Rattle.mds_follow.specs.Parts.{Covers, CoversAbout};
 
 use crate::{Follower, Receipt, Record, RecordFault, RecordLog};
 use mds_book::{Book, Seat, ShardLedger};
+use mds_core::Key;
 use std::alloc::Global;
 use std::sync::{Mutex, Wait};
 
@@ -32,9 +33,10 @@ impl<F: Record, L: ShardLedger, M: ShardLedger, J: RecordLog> SharedFollower<F, 
         self.newest.lock(rt).again()
     }
 
-    /// Sees to it that all that a seat has seen is recorded, and says so by the receipt. Where the receipt says so already, it
-    /// takes no lock. Where the newest does, it waits for no file. Else it waits until it may follow the book itself: with what
-    /// the seat has seen it records what others had accepted meanwhile.
+    /// Sees to it that all that a seat has seen of a vehicle is recorded, or of every one where none is named, and says so by the
+    /// receipt. Where the receipt has all that the seat has seen, it takes no lock. Where the newest has what is wanted, it waits
+    /// for no file: so who asked about one vehicle doesn't wait for what others report of other vehicles. Else it waits until it
+    /// may follow the book itself: with what the seat has seen it records what others had accepted meanwhile.
     ///
     /// # Errors
     ///
@@ -45,16 +47,17 @@ impl<F: Record, L: ShardLedger, M: ShardLedger, J: RecordLog> SharedFollower<F, 
         alloc: Global,
         book: &Book<L, M>,
         seat: &Seat<L, M>,
+        about: Option<Key>,
         receipt: &mut Receipt<L, M, J>,
     ) -> Result<(), RecordFault>
-        ensures covers { OnOk result (Covers seat.now (requests receipt.new)) }
+        ensures covers { OnOk result (CoversAbout about seat.now (requests receipt.new)) }
         ensures begins { IsPrefix receipt.old receipt.new }
     {
         if receipt.covers(seat) {
             return Ok(());
         }
         self.read(rt, receipt);
-        if receipt.covers(seat) {
+        if receipt.covers_about(rt, book, seat, about) {
             return Ok(());
         }
         self.follow(rt, alloc, book, seat, receipt)?;

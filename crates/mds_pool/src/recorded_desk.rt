@@ -56,23 +56,25 @@ impl<R: Wait, L: ShardLedger, M: ShardLedger, K: Recorder<L, M>> KeptDesk
     for RecordedDesk<'_, R, L, M, K> {
     ghost use Rattle.std.specs.Prelude.{◌≡◌};
 
-    ghost is_kept = { λ own. K.covers own.receipt.now own.desk.seat.now };
+    ghost is_kept = { λ own about. K.covers own.receipt.now about own.desk.seat.now };
 
     ghost keeps = { λ old new. new.desk ≡ old.desk };
 
-    fn keep(&mut self) -> Result<(), KeepFault> {
+    fn keep(&mut self, about: Option<Key>) -> Result<(), KeepFault> {
         commit_seat(
             self.recorder,
             self.desk.rt,
             self.desk.alloc,
             self.desk.book,
             self.desk.seat,
+            about,
             self.receipt,
         )
     }
 }
 
-/// Sees to it that all is recorded that a seat has seen. The seat stays as it is.
+/// Sees to it that all is recorded that a seat has seen of a vehicle, or, with none named, of every one. The seat stays as it
+/// is.
 ///
 /// # Errors
 ///
@@ -83,10 +85,11 @@ fn commit_seat<R: Wait, L: ShardLedger, M: ShardLedger, K: Recorder<L, M>>(
     alloc: Global,
     book: &Book<L, M>,
     seat: &mut Seat<L, M>,
+    about: Option<Key>,
     receipt: &mut K::Receipt,
 ) -> Result<(), KeepFault>
-    ensures covers { OnOk result (K.covers receipt.new seat.new) }
+    ensures covers { OnOk result (K.covers receipt.new about seat.new) }
     ensures same { seat.new ≡ seat.old }
 {
-    recorder.commit(rt, alloc, book, seat, receipt)
+    recorder.commit(rt, alloc, book, seat, about, receipt)
 }

@@ -3,6 +3,7 @@ ghost use Rattle.std.specs.Prelude.{◌≡◌, OnOk};
 ghost use Rattle.mds_pool.specs.Recording.{keep_fault};
 
 use mds_book::{Book, Seat, ShardLedger};
+use mds_core::Key;
 use mds_face::KeepFault;
 use mds_follow::{Receipt, Record, RecordFault, RecordLog, SharedFollower};
 use std::alloc::Global;
@@ -10,19 +11,21 @@ use std::sync::Wait;
 
 /// What records what a book accepts, for any number of workers at once.
 pub trait Recorder<L: ShardLedger, M: ShardLedger> {
-    ghost use Rattle.std.specs.Prelude.{OnOk};
+    ghost use Rattle.std.specs.Prelude.{OnOk, Option};
+    ghost use Rattle.mds_core.specs.declared.key.Key.{Key as About};
     ghost use Rattle.mds_book.specs.Seats.{Seated};
 
     /// What a worker knows to be recorded.
     type Receipt: Drop;
 
-    /// By a receipt, all that a seat has seen is recorded.
-    ghost covers: { Self.Receipt → Seated → Type 0 };
+    /// By a receipt, all that a seat has seen of this vehicle is recorded, or, with none named, of every one.
+    ghost covers: { Self.Receipt → Option About → Seated → Type 0 };
 
     /// A receipt for a worker that begins.
     fn receipt<R: Wait>(&self, rt: &R) -> Self::Receipt;
 
-    /// Sees to it that all that a seat has seen is recorded, and says so by the receipt.
+    /// Sees to it that all that a seat has seen of a vehicle is recorded, or, with none named, of every one, and says so by the
+    /// receipt.
     ///
     /// # Errors
     ///
@@ -33,9 +36,10 @@ pub trait Recorder<L: ShardLedger, M: ShardLedger> {
         alloc: Global,
         book: &Book<L, M>,
         seat: &Seat<L, M>,
+        about: Option<Key>,
         receipt: &mut Self::Receipt,
     ) -> Result<(), KeepFault>
-        ensures { OnOk result (covers receipt.new seat.now) };
+        ensures { OnOk result (covers receipt.new about seat.now) };
 }
 
 /// Nothing is recorded, so no answer waits for that: all that the book accepts ends with the process.
@@ -47,7 +51,7 @@ impl<L: ShardLedger, M: ShardLedger> Recorder<L, M> for NoRecord {
 
     type Receipt = ();
 
-    ghost covers = { λ _ _. ⊤ };
+    ghost covers = { λ _ _ _. ⊤ };
 
     fn receipt<R: Wait>(&self, _rt: &R) {}
 
@@ -57,6 +61,7 @@ impl<L: ShardLedger, M: ShardLedger> Recorder<L, M> for NoRecord {
         _alloc: Global,
         _book: &Book<L, M>,
         _seat: &Seat<L, M>,
+        _about: Option<Key>,
         _receipt: &mut (),
     ) -> Result<(), KeepFault> {
         Ok(())
@@ -80,11 +85,11 @@ pub(crate) struct Journal<'a, F: Record, L: ShardLedger, M: ShardLedger, J: Reco
 impl<F: Record, L: ShardLedger, M: ShardLedger, J: RecordLog, A: Alarm> Recorder<L, M>
     for Journal<'_, F, L, M, J, A> {
     ghost use Rattle.mds_log.specs.Log.{requests};
-    ghost use Rattle.mds_follow.specs.Parts.{Covers};
+    ghost use Rattle.mds_follow.specs.Parts.{CoversAbout};
 
     type Receipt = Receipt<L, M, J>;
 
-    ghost covers = { λ receipt seat. Covers seat (requests receipt) };
+    ghost covers = { λ receipt about seat. CoversAbout about seat (requests receipt) };
 
     fn receipt<R: Wait>(&self, rt: &R) -> Receipt<L, M, J> {
         self.follower.receipt(rt)
@@ -96,9 +101,10 @@ impl<F: Record, L: ShardLedger, M: ShardLedger, J: RecordLog, A: Alarm> Recorder
         alloc: Global,
         book: &Book<L, M>,
         seat: &Seat<L, M>,
+        about: Option<Key>,
         receipt: &mut Receipt<L, M, J>,
     ) -> Result<(), KeepFault> {
-        match self.follower.commit(rt, alloc, book, seat, receipt) {
+        match self.follower.commit(rt, alloc, book, seat, about, receipt) {
             Ok(()) => Ok(()),
             Err(fault) => {
                 if fault == RecordFault::NotKept {

@@ -1,5 +1,5 @@
 -- What a shard keeps beside its history.
-use Rattle.std.specs.Prelude.{◌≡◌, ℕ, ◌++◌, ◌∷◌, ◌||◌, ◌&&◌, cond, List, [], length, take, Option, Some, None, slice_get}
+use Rattle.std.specs.Prelude.{◌≡◌, ℕ, ◌≤◌, ◌++◌, ◌∷◌, ◌||◌, ◌&&◌, cond, List, [], length, take, drop, Option, Some, None, slice_get}
 use Rattle.std.specs.declared.hash.RandomState.{RandomState}
 use Rattle.indexmap.specs.IndexMap.{IndexMap, get}
 use Rattle.indexmap.specs.IndexSet.{IndexSet, contains}
@@ -29,6 +29,11 @@ pub record IsLastPlace (history : List Request) (key : Key) (place : ℕ) : Type
 abbrev pub IsLastPlaceIf : List Request → Key → Option ℕ → Type 0
 IsLastPlaceIf history key None = requests_of history key ≡ []
 IsLastPlaceIf history key (Some place) = IsLastPlace history key place
+
+-- the least place of the history behind which no request is about the vehicle
+pub record IsEndOf (history : List Request) (key : Key) (end : ℕ) : Type 0 where
+  pub none : requests_of (drop end history) key ≡ []
+  pub least : (place : ℕ) → requests_of (drop place history) key ≡ [] → end ≤ place
 
 -- what is kept of a vehicle: nothing where it isn't registered, else where it stands and the place of its last request
 abbrev pub IsVehicle : List Request → Key → Option Vehicle → Type 0

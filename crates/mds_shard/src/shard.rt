@@ -5,7 +5,7 @@ ghost use Rattle.mds_core.specs.Answer.{MayBeDone};
 ghost use Rattle.mds_core.specs.Machine.{Steps, LacksMemory, standing_in as where_it_stands, events_in};
 ghost use Rattle.mds_core.specs.Lawful.{IsLawful};
 ghost use Rattle.mds_core.specs.Known.{is_repeated};
-ghost use Rattle.mds_shard.specs.Replay.{IsVehicle};
+ghost use Rattle.mds_shard.specs.Replay.{IsEndOf, IsVehicle};
 
 use crate::vehicle::{Vehicle, events_to, keep, last_in, standing_in};
 use indexmap::{IndexMap, IndexSet};
@@ -146,6 +146,16 @@ impl Shard {
         ensures { result ≡ where_it_stands self.now.history key.now }
     {
         standing_in(self.vehicle(key))
+    }
+
+    /// The place behind the last request about the vehicle, or 0 where there is none. It costs the same whatever the shard holds.
+    pub fn end_of(&self, key: &Key) -> usize
+        ensures { IsEndOf self.now.history key.now result }
+    {
+        match self.vehicles.get(key) {
+            Some(vehicle) => vehicle.last + 1,
+            None => 0,
+        }
     }
 
     /// The accepted events of the vehicle in their order, or `None` where it isn't registered. It costs what the vehicle

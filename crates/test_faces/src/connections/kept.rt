@@ -53,11 +53,11 @@ impl Desk for Recorded {
 impl KeptDesk for Recorded {
     ghost use Rattle.std.specs.Prelude.{◌≡◌, IsOk};
 
-    ghost is_kept = { λ desk. IsOk desk.end };
+    ghost is_kept = { λ desk _. IsOk desk.end };
 
     ghost keeps = { λ old new. new.fleet ≡ old.fleet };
 
-    fn keep(&mut self) -> Result<(), KeepFault> {
+    fn keep(&mut self, _about: Option<Key>) -> Result<(), KeepFault> {
         self.end
     }
 }

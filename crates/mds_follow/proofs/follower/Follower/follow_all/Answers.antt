@@ -1,4 +1,4 @@
-use Rattle.std.proofs.Common.{List, length, subst, arith, take_all}
+use Rattle.std.proofs.Common.{List, subst, arith, take_all}
 use Rattle.std.specs.List.{All}
 use Rattle.mds_log.specs.Log.{requests}
 use Rattle.mds_book.specs.Seats.{Seated}
