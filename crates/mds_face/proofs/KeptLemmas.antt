@@ -12,7 +12,7 @@ use Rattle.mds_face.specs.Serving.{IsAsked}
 use Rattle.mds_face.specs.Kept.{IsKeptAnswer, IsKeptStop, IsServedKept, StopsKept}
 
 module _ {S : Type 0} (Calls : S → Request → Option Reply → S → Type 0) (GivesEvents : S → Key → Option (List Reported) → S → Type 0) (GivesRows : S → Tables → Type 0)
-    (IsKept : S → Type 0) (KeepsDesk : S → S → Type 0) where
+    (IsKept : S → Option Key → Type 0) (KeepsDesk : S → S → Type 0) where
   -- what is known of the answer to what is asked for is known of the connection
   pub serves_kept : (input : Option (List ℕ)) (what : Asked) (old new : S) (written_old written_new : Option (List ℕ)) (result : Result Served KeptFault)
       → IsAsked input what → IfOk result (IsKeptAnswer Calls GivesEvents GivesRows IsKept KeepsDesk what old new written_old written_new)

@@ -1,5 +1,5 @@
 //! Serving one connection at a desk whose answers go out once what they rest on is recorded.
-ghost use Rattle.std.specs.Prelude.{◌≡◌, true, IfOk, IfErr, OnOk};
+ghost use Rattle.std.specs.Prelude.{◌≡◌, true, false, IfOk, IfErr, OnOk, IsOk, MatchBool};
 ghost use Rattle.std.specs.Io.KnownBytes.{Appends};
 ghost use Rattle.mds_request.specs.Asked.{asked_in};
 ghost use Rattle.mds_face.specs.Kept.{IsInstead, IsKeptAnswer, IsKeptStop, IsServedKept, StopsKept, is_of_history, vehicle_of};
@@ -121,16 +121,33 @@ fn answer_kept<W: Write, D: KeptDesk>(
     let about = vehicle_of(&plan);
     drop(found);
     drop(plan);
-    if of_history {
-        match desk.keep(about) {
-            Ok(()) => {}
-            Err(fault) => return Err(not_kept(writer, fault)),
-        }
+    // Each of the two calls takes one.
+    let vehicle = about;
+    match keep_if(desk, of_history, vehicle) {
+        Ok(()) => {}
+        Err(fault) => return Err(not_kept(writer, fault)),
     }
     match write_kept(writer, desk, of_history, about, &bytes) {
         Ok(()) => Ok(served),
         Err(fault) => Err(KeptFault::Serve(fault)),
     }
+}
+
+/// Sees to it that what an answer rests on is recorded, where it rests on what was accepted: about this vehicle, or, with none
+/// named, about all.
+///
+/// # Errors
+///
+/// As [`KeptDesk::keep`].
+fn keep_if<D: KeptDesk>(desk: &mut D, of_history: bool, about: Option<Key>) -> Result<(), KeepFault>
+    ensures kept { OnOk result (of_history ≡ true → D.is_kept desk.new about) }
+    ensures keeps { MatchBool of_history (D.keeps desk.old desk.new) (desk.new ≡ desk.old) }
+    ensures none { of_history ≡ false → IsOk result }
+{
+    if of_history {
+        return desk.keep(about);
+    }
+    Ok(())
 }
 
 /// Whether the answer to a plan rests on what was accepted. A fault of the request doesn't, and the tables don't.

@@ -66,7 +66,7 @@ module _ {S : Type 0} (Calls : S → Request → Option Reply → S → Type 0) 
   stops_unread_grow (TooManyTurns sent) old new written written_new stops = same_grows old new stops.0
 
   -- besides, of a desk that sees to it that what its answers rest on is recorded
-  module _ (IsKept : S → Type 0) (KeepsDesk : S → S → Type 0) (kept : (old new : S) → KeepsDesk old new → Grows old new) where
+  module _ (IsKept : S → Option Key → Type 0) (KeepsDesk : S → S → Type 0) (kept : (old new : S) → KeepsDesk old new → Grows old new) where
     pub leaves_grow : (what : Asked) (old new : S) → Leaves Calls GivesEvents GivesRows IsKept KeepsDesk what old new → Grows old new
     leaves_grow (asked.Fixed fault) old new leaves = same_grows old new leaves
     leaves_grow (asked.Vehicles items) old new leaves = kept old new leaves.0

@@ -1,5 +1,5 @@
 -- What is recorded while a port is served.
-use Rattle.std.specs.Prelude.{◌≡◌, ℕ, List, Result, Ok, Err}
+use Rattle.std.specs.Prelude.{ℕ, List, Err}
 use Rattle.std.specs.List.{All}
 use mathlib.Core.List.{IsPrefix}
 use Rattle.mds_table.specs.Tables.{Tables}
@@ -14,7 +14,7 @@ use Rattle.mds_follow.specs.declared.record.RecordFault.{RecordFault}
 use Rattle.mds_follow.specs.declared.record.RecordFault.TheVariants.{Memory, NotKept, Lost}
 use Rattle.mds_pool.specs.declared.recorded_book.RecordedStop.{RecordedStop}
 use Rattle.mds_pool.specs.declared.recorded_book.RecordedStop.TheVariants.{Serve, Journal}
-use Rattle.mds_pool.specs.Serving.{AtEnd, IsEnded}
+use Rattle.mds_pool.specs.Serving.{IsEnded}
 
 -- what a fault of a record says of the answers that rest on it
 abbrev pub keep_fault : RecordFault → KeepFault
