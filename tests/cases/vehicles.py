@@ -6,6 +6,8 @@ from harness.case import CLOSED, FOLDER, MAX_BYTES, NO_STREAMS, OUTPUT, Case, ca
 
 FORM = '{"form":"mds_city","version":1}'
 """The first line of a journal."""
+ROOM = "\n" * (1 << 20)
+"""What a server writes ahead behind the closed gate of a file at rest."""
 
 
 def registered(device):
@@ -78,6 +80,7 @@ def journals():
     for texts, vehicles in TAKEN:
         yield listed(journal(*texts), vehicles)
         yield listed(journal(*texts, end=""), vehicles)
+        yield listed(journal(*texts, end="#" + ROOM), vehicles)
         yield listed("", vehicles, words="vehicles -", given=journal(*texts))
     # behind a gate that isn't open, and in a line that was cut off, nothing counts
     for end in (f"#{WOKEN}\n {RESERVED}\n", "\n", "x {\n", f" {WOKEN}", " {", f" {WOKEN[:-1]}"):

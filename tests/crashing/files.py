@@ -12,7 +12,7 @@ from harness.counting import Unwell
 COUNTED = re.compile(rb"(?: [^\n]*\n)*")
 FORM_LINE = b" " + FORM.encode()
 GROUP_END = b"\n#"
-"""How a group ends that is written, and so a file at rest: with its last line, and a closed gate."""
+"""How a group ends that is written, and so a file at rest, but for the room behind it: with its last line, and a closed gate."""
 AT_REST = FORM_LINE + GROUP_END
 """A file at rest without any request."""
 
@@ -20,6 +20,11 @@ AT_REST = FORM_LINE + GROUP_END
 def counted(content):
     """The front of a file that counts: the whole lines behind open gates."""
     return COUNTED.match(content).group()
+
+
+def behind(content):
+    """What stands behind the lines that count, but for the room that was made."""
+    return content[len(counted(content)) :].rstrip(b"\n")
 
 
 class Lines:

@@ -9,8 +9,9 @@ import threading
 import time
 from pathlib import Path
 
+from cases.vehicles import ROOM
 from crashing.clients import report, side_by_side
-from crashing.files import AT_REST, GROUP_END, Lines, counted, listed_amiss, listed_by, vehicles_text
+from crashing.files import AT_REST, Lines, behind, counted, listed_amiss, listed_by, vehicles_text
 from crashing.recording import Recording
 from crashing.reports import device_at, listed, listing, looking, registering, reporting, standing
 from harness.counting import Unwell
@@ -52,8 +53,9 @@ def goes_on(program, path):
             yield from differing(server.ask(listing(device)), answer(200, {"events": events}), "a list")
         yield from differing(server.ask(reporting(DEVICES[0], COUNT, COUNT + 1)), done(1), "one more event")
         yield from server.end()
-    if not path.read_bytes().endswith(GROUP_END):
-        yield f"at rest the file ends with {path.read_bytes()[-50:]!r}"
+    content = path.read_bytes()
+    if behind(content) != b"#" or not 0 < len(content) - len(counted(content)) - 1 <= len(ROOM):
+        yield f"at rest there are {len(content)} bytes, of which {len(counted(content))} count, and then {behind(content)[:50]!r}"
     yield from listed_amiss(program, path)
 
 

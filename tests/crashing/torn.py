@@ -7,7 +7,7 @@ from concurrent.futures import ThreadPoolExecutor
 from pathlib import Path
 
 from crashing.clients import look_until, report, report_again, side_by_side, unanswered
-from crashing.files import Lines, counted, listed_amiss
+from crashing.files import Lines, behind, counted, listed_amiss
 from crashing.leaving import Disk
 from crashing.recording import SYNC, WRITE, Recording
 from crashing.reports import device_at, registering, reporting
@@ -113,8 +113,8 @@ class Made:
             self.kept[place] = content
 
     def torn_ends(self):
-        """Some, behind whose lines more stands than a closed gate."""
-        torn = sorted({content for content in self.kept if len(content) > len(counted(content)) + 1})
+        """Some, behind whose lines more stands than a closed gate and room."""
+        torn = sorted({content for content in self.kept if len(behind(content)) > 1})
         return self.chance.sample(torn, min(STARTS, len(torn)))
 
 

@@ -1,15 +1,17 @@
 -- How a group is added.
-use Rattle.std.proofs.Common.{◌≡◌, ℕ, ◌+◌, ◌-◌, ◌<◌, ◌≤◌, List, [], ◌∷◌, ◌++◌, length, take, drop, All, refl, sym, ◌∙◌, ap, subst, arith, length-append}
+use Rattle.std.proofs.Common.{◌≡◌, ℕ, ◌+◌, ◌-◌, ◌<◌, ◌≤◌, List, [], ◌∷◌, ◌++◌, length, take, drop, All, refl, sym, ◌∙◌, ap, subst, arith, length-append, Result, Ok, Err, OnOk, OnErr}
 use Rattle.std.proofs.lemmas.List.{take_rest}
 use Rattle.std.proofs.lemmas.List.Elements.{All-append}
 use Rattle.mds_journal.specs.Device.{Holds, Torn, TornFrom, Follows, Only, LeavesOnly}
 use Rattle.mds_journal.specs.Lines.{HasNoFeed, recovered, open_lines, at_rest}
 use Rattle.mds_journal.specs.Journal.{IsKept, IsStaged, IsBeforeOrAfter, IsReady, StandsFor}
+use Rattle.mds_journal.specs.declared.device.DeviceError.{DeviceError}
 use Rattle.mds_journal.specs.declared.group.TheConstants.{MAX_GROUP_BYTES}
 use Rattle.mds_journal.specs.declared.journal.Journal.{Journal}
 use Rattle.mds_journal.proofs.LineLemmas.{open_lines-append, length-at_rest, texts_have_no_feed}
+use Rattle.mds_journal.proofs.CallLemmas.{torn_written}
 use Rattle.mds_journal.proofs.MomentLemmas.{started, weaker, and_then}
-use Rattle.mds_journal.proofs.KeptLemmas.{kept_stands, kept_before, torn_behind, written_behind, torn_gate, written_gate}
+use Rattle.mds_journal.proofs.KeptLemmas.{kept_stands, kept_reaches, kept_before, torn_behind, written_behind, torn_gate, written_gate}
 
 -- the bytes of a group with lines begin with an open gate
 pub group_first : (group : List (List ℕ)) (all : List ℕ) → all ≡ at_rest group → (group ≡ [] → ⊥) → 32 ∷ drop 1 all ≡ at_rest group
@@ -115,3 +117,29 @@ module _ {D : Type 0} (seen : D → List ℕ) (may_leave : D → List ℕ → Ty
           → LeavesOnly moment left_since mid new (TornFrom old.end 1 (may_leave mid)) → LeavesOnly moment left_since old.device new (IsBeforeOrAfter texts group)
       both_leave moment left_since new one two =
           and_then moment left_since old.device mid new (IsBeforeOrAfter texts group) (first_leaves (length bytes) few moment left_since mid one) (second_leaves moment left_since new two)
+
+  module _ (old : Journal D) (ready : IsReady seen may_leave old) (room : List ℕ) (few : length room < MAX_GROUP_BYTES) where
+    -- room that was made, or not, leaves it ready
+    pub room_made : (is_true : Type 0) (result : Result (Unit {0}) DeviceError) (new : Journal D) → is_true → new.end ≡ old.end
+        → OnOk result (is_true → Holds (seen old.device) (old.end + 1) room (seen new.device)) → OnErr result (is_true → Torn (old.end + 1) (length room) (seen old.device) (seen new.device))
+        → Follows (Torn (old.end + 1) (length room)) (may_leave old.device) (may_leave new.device) → IsReady seen may_leave new × (recovered (seen new.device) ≡ recovered (seen old.device))
+    room_made is_true (Ok unit) new is same written torn crash =
+        let reaches : old.end + 1 ≤ length (seen old.device) = kept_reaches (recovered (seen old.device)) old.end ready.place (seen old.device) ready.file in
+        not_written old ready [] (length room) few new same (subst (λ (file : List ℕ). Torn (old.end + 1) (length room) (seen old.device) file) (sym (written is)) (torn_written (old.end + 1) room (seen old.device) reaches)) crash
+    room_made is_true (Err error) new is same written torn crash = not_written old ready [] (length room) few new same (torn is) crash
+
+    -- and a crash meanwhile leaves the same lines
+    pub room_leaves : (moment : D → ℕ) (left_since : D → ℕ → List ℕ → Type 0) (mid : D)
+        → LeavesOnly moment left_since old.device mid (TornFrom (old.end + 1) (length room) (may_leave old.device)) → LeavesOnly moment left_since old.device mid (IsKept (recovered (seen old.device)))
+    room_leaves moment left_since mid leaves =
+        weaker moment left_since old.device mid (TornFrom (old.end + 1) (length room) (may_leave old.device)) (IsKept (recovered (seen old.device))) (still_kept old ready [] (length room) few) leaves
+
+-- a group behind that
+pub room_and_group : {D : Type 0} (seen : D → List ℕ) (moment : D → ℕ) (left_since : D → ℕ → List ℕ → Type 0) (old mid new : D) (group : List (List ℕ))
+    → recovered (seen mid) ≡ recovered (seen old) → LeavesOnly moment left_since old mid (IsKept (recovered (seen old)))
+    → LeavesOnly moment left_since mid new (IsBeforeOrAfter (recovered (seen mid)) group) → LeavesOnly moment left_since old new (IsBeforeOrAfter (recovered (seen old)) group)
+room_and_group seen moment left_since old mid new group same one two =
+    let texts = recovered (seen old) in
+    and_then moment left_since old mid new (IsBeforeOrAfter texts group)
+    (weaker moment left_since old mid (IsKept texts) (IsBeforeOrAfter texts group) (λ c kept. kept_before texts group c (texts_have_no_feed (seen old)) kept) one)
+    (subst (λ (all : List (List ℕ)). LeavesOnly moment left_since mid new (IsBeforeOrAfter all group)) same two)

@@ -14,7 +14,7 @@ pub(crate) const OPEN_GATE: u8 = b' ';
 pub(crate) const CLOSED_GATE: u8 = b'#';
 
 /// What ends a line.
-const LINE_FEED: u8 = b'\n';
+pub(crate) const LINE_FEED: u8 = b'\n';
 
 /// The most bytes of a group, its gates and line feeds among them: 16 MiB.
 pub const MAX_GROUP_BYTES: usize = 16_777_216;

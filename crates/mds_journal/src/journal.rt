@@ -1,5 +1,5 @@
 //! Groups of lines that are added to a file.
-ghost use Rattle.std.specs.Prelude.{◌≡◌, ◌++◌, ◌+◌, ◌<◌, ◌↔◌, length};
+ghost use Rattle.std.specs.Prelude.{◌≡◌, ◌≢◌, ◌++◌, ◌+◌, ◌<◌, ◌≤◌, ◌↔◌, [], length};
 ghost use Rattle.std.specs.Prelude.{IsErrOf, OnOk, IfErr, Err};
 ghost use Rattle.mds_journal.specs.Device.{LeavesOnly};
 ghost use Rattle.mds_journal.specs.Lines.{recovered, open_lines, at_rest};
@@ -32,6 +32,8 @@ pub struct Journal<D: Device> {
     /// The file.
     pub device: D,
     pub(crate) end: usize,
+    /// Up to where bytes were written ahead. Nothing rests on it.
+    pub(crate) room: usize,
     pub(crate) is_lost: bool,
 }
 
@@ -85,6 +87,39 @@ impl<D: Device> Journal<D> {
         if self.end > MAX_BYTES - bytes.len() {
             return Err(AppendError::Full);
         }
+        self.make_room(bytes.len());
+        self.put(group)
+    }
+
+    /// Adds a group with lines for which the file is short enough.
+    ///
+    /// # Errors
+    ///
+    /// `NotWritten` and `Unknown`, as [`Journal::append`].
+    fn put(&mut self, group: &Group) -> Result<(), AppendError>
+        requires sound { IsSound D.seen D.may_leave D.may_be_used D.is_true self.old }
+        requires ready { MayGoOn self.old }
+        requires some { group.now ≢ [] }
+        requires fits { self.old.end + length (at_rest group.now) ≤ MAX_BYTES }
+
+        ensures sound { IsSound D.seen D.may_leave D.may_be_used D.is_true self.new }
+        ensures acknowledged { OnOk result (MayGoOn self.new × (D.is_true self.new.device
+            → StandsFor D.seen D.may_leave (recovered (D.seen self.old.device) ++ group.now)
+            self.new.device)) }
+        ensures any_moment { D.is_true self.new.device
+            → LeavesOnly D.moment D.left_since self.old.device self.new.device
+            (IsBeforeOrAfter (recovered (D.seen self.old.device)) group.now) }
+        ensures not_written { IfErr result (λ error. IsNotWritten error
+            → MayGoOn self.new × (D.is_true self.new.device
+            → StandsFor D.seen D.may_leave (recovered (D.seen self.old.device)) self.new.device)) }
+        ensures unknown { IfErr result (λ error. IsUnknown error → IsLost self.new) }
+        ensures refused { IfErr result (λ error. IsRefusal error → ⊥) }
+        ensures later { D.faults self.old.device ≤ D.faults self.new.device }
+        ensures failed { IfErr result (λ error. HasFailed error
+            → D.faults self.old.device < D.faults self.new.device) }
+        ensures was_true { D.is_true self.new.device → D.is_true self.old.device }
+    {
+        let bytes = group.bytes();
         match write_and_sync(&mut self.device, self.end + 1, &bytes[1..]) {
             Step::Done => {}
             Step::NotWritten(error) => return Err(AppendError::NotWritten(error)),

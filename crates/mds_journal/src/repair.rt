@@ -69,6 +69,7 @@ impl<D: Device> Opening<D> {
             Ok(()) => Ok(Journal {
                 device,
                 end,
+                room: end + 1,
                 is_lost: false,
             }),
             Err(error) => Err((OpenError::Device(error), device)),

@@ -1,10 +1,11 @@
 //! What the tests of several crates share: the vehicles and the events of the worked cases, the profile, a gate at which two
-//! workers meet, and the fences between which each growth of memory is refused.
+//! workers meet, the room behind the lines of a journal, and the fences between which each growth of memory is refused.
 #![tactic(auto)]
 
 mod asking;
 mod gate;
 mod growths;
+mod room;
 
 pub use asking::{
     A, Ask, B, C, DROP_OFF, E0, E1, E2, E3, E4, Lack, event_of, key, request_of, requests_of,
@@ -12,3 +13,4 @@ pub use asking::{
 };
 pub use gate::MeetingGate;
 pub use growths::{fence, profile, profile_again};
+pub use room::room_behind;

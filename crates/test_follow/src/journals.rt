@@ -21,7 +21,7 @@ use std::marker::Brand;
 use std::random::RandomSource;
 use std::sync::Wait;
 use test_fixtures::Ask::{Look, Register, Report};
-use test_fixtures::{A, Ask, B, C, DROP_OFF, E0, Lack, profile_again, requests_of};
+use test_fixtures::{A, Ask, B, C, DROP_OFF, E0, Lack, profile_again, requests_of, room_behind};
 use test_steps::hasher;
 
 /// The line that names the form.
@@ -47,7 +47,7 @@ struct Case {
     other: &'static [Ask],
     /// What is asked then, one after the other, each recorded before the next.
     asked: &'static [Ask],
-    /// What the file has in the end, or why the book isn't opened: the file is then as it was.
+    /// What the file has in the end, but for room behind it, or why the book isn't opened: the file is then as it was.
     end: Result<&'static [&'static str], StartFault>,
 }
 
@@ -286,11 +286,13 @@ fn comes_to_its_end<R: RandomSource + Wait>(
     case: &Case,
 ) -> Result<bool, Lack> {
     let (bytes, fault) = ended_again(rt, alloc, case)?;
-    let (parts, expected) = match case.end {
-        Ok(parts) => (parts, None),
-        Err(fault) => (case.parts, Some(fault)),
-    };
-    Ok(fault == expected && bytes == text_of(alloc, parts)?)
+    match case.end {
+        Ok(parts) => {
+            let room = room_behind(&bytes, &text_of(alloc, parts)?);
+            Ok(fault.is_none() && room.is_some())
+        }
+        Err(expected) => Ok(fault == Some(expected) && bytes == text_of(alloc, case.parts)?),
+    }
 }
 
 /// The number of the first case that comes to another end.

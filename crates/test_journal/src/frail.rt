@@ -1,8 +1,10 @@
 //! A device of which one call fails, and what a journal makes of that.
 ghost use Rattle.std.specs.Prelude.{◌≡◌, ◌+◌, true, false, IsTrue, cond};
 
+use crate::ahead::ROOM;
 use mds_journal::{AppendError, Device, DeviceError, Group, Memory, OpenError, read_all};
 use std::alloc::Global;
+use test_fixtures::room_behind;
 
 /// Which call fails.
 #[derive(Drop)]
@@ -94,8 +96,8 @@ impl<D: Device> Device for Frail<D> {
 }
 
 /// How many calls come before the one that fails, what comes of an opening, of a group that is added and of the same group
-/// again, and the file's bytes then. At first it is one open line and a closed gate.
-type Failing = (usize, Outcome, &'static [u8]);
+/// again, and the file's bytes then, behind which so many of the room stand. At first it is one open line and a closed gate.
+type Failing = (usize, Outcome, &'static [u8], usize);
 
 /// What came of it.
 #[derive(Clone, Copy, Debug, PartialEq, Eq)]
@@ -111,28 +113,32 @@ const UNKNOWN: Outcome = Outcome::Twice(
     Err(AppendError::Lost),
 );
 
-/// An opening syncs, reads, asks for the size, cuts, syncs, writes the gate and syncs. A group is written and synced, and its
-/// gate is written and synced.
+/// An opening syncs, reads, asks for the size, cuts, syncs, writes the gate and syncs. Room is made for the first group. A group
+/// is written and synced, and its gate is written and synced.
 const FAILING: &[Failing] = &[
-    (0, UNOPENED, b" one\n#"),
-    (1, UNOPENED, b" one\n#"),
-    (2, UNOPENED, b" one\n#"),
-    (3, UNOPENED, b" one\n#"),
-    (4, UNOPENED, b" one\n"),
-    (5, UNOPENED, b" one\n"),
-    (6, UNOPENED, b" one\n#"),
+    (0, UNOPENED, b" one\n#", 0),
+    (1, UNOPENED, b" one\n#", 0),
+    (2, UNOPENED, b" one\n#", 0),
+    (3, UNOPENED, b" one\n#", 0),
+    (4, UNOPENED, b" one\n", 0),
+    (5, UNOPENED, b" one\n", 0),
+    (6, UNOPENED, b" one\n#", 0),
+    // without room the group is kept, and room isn't tried again for the next
+    (7, Outcome::Twice(Ok(()), Ok(())), b" one\n two\n two\n#", 0),
     (
-        7,
+        8,
         Outcome::Twice(Err(AppendError::NotWritten(DeviceError::Failed)), Ok(())),
         b" one\n two\n#",
+        ROOM - 5,
     ),
-    (8, UNKNOWN, b" one\n#two\n#"),
-    (9, UNKNOWN, b" one\n#two\n#"),
-    (10, UNKNOWN, b" one\n two\n#"),
+    (9, UNKNOWN, b" one\n#two\n#", ROOM - 5),
+    (10, UNKNOWN, b" one\n#two\n#", ROOM - 5),
+    (11, UNKNOWN, b" one\n two\n#", ROOM - 5),
     (
-        11,
+        12,
         Outcome::Twice(Ok(()), Err(AppendError::NotWritten(DeviceError::Failed))),
         b" one\n two\n#",
+        ROOM - 5,
     ),
 ];
 
@@ -162,9 +168,9 @@ fn outcome_of(alloc: Global, before: usize) -> Option<(Outcome, Vec<u8>)> {
 
 /// Whether a case comes out so.
 fn is_so(alloc: Global, case: &Failing) -> bool {
-    let (before, wanted, bytes) = case;
+    let (before, wanted, bytes, room) = case;
     match outcome_of(alloc, *before) {
-        Some((found, left)) => found == *wanted && left.as_slice() == *bytes,
+        Some((found, left)) => found == *wanted && room_behind(&left, *bytes) == Some(*room),
         None => false,
     }
 }

@@ -1,20 +1,28 @@
 //! What no clause says: that the calls succeed, and the very bytes.
+use crate::ahead::ROOM;
 use mds_journal::{Device, Group, JournalFault, Memory, OpenError, Opening, read_all};
 use std::alloc::Global;
+use test_fixtures::room_behind;
 
-/// A file's bytes, the texts that are added to it, and its bytes then.
-type Case = (&'static [u8], &'static [&'static [u8]], &'static [u8]);
+/// A file's bytes, the texts that are added to it, and its bytes then, behind which so many of the room stand.
+type Case = (
+    &'static [u8],
+    &'static [&'static [u8]],
+    &'static [u8],
+    usize,
+);
 
 const CASES: &[Case] = &[
-    (b"", &[b"a"], b" a\n#"),
-    (b"#", &[], b"#"),
-    (b" one\n", &[b"two"], b" one\n two\n#"),
+    (b"", &[b"a"], b" a\n#", 0),
+    (b"#", &[], b"#", 0),
+    (b" one\n", &[b"two"], b" one\n two\n#", ROOM - 5),
     (
         b" one\n#torn\n x\n#",
         &[b"two", b"three"],
         b" one\n two\n three\n#",
+        ROOM - 12,
     ),
-    (b" one\n tw", &[], b" one\n#"),
+    (b" one\n tw", &[], b" one\n#", 0),
 ];
 
 /// The bytes of a file, once it was opened and a group of these texts was added, where memory allowed.
@@ -33,9 +41,9 @@ fn bytes_with(alloc: Global, file: &[u8], texts: &[&[u8]]) -> Option<Vec<u8>> {
 
 /// Whether a case comes to its bytes, at once or at a second try.
 fn is_so(alloc: Global, case: &Case) -> bool {
-    let (file, texts, wanted) = case;
+    let (file, texts, wanted, room) = case;
     match bytes_with(alloc, file, texts).or_else(|| bytes_with(alloc, file, texts)) {
-        Some(bytes) => bytes.as_slice() == *wanted,
+        Some(bytes) => room_behind(&bytes, *wanted) == Some(*room),
         None => false,
     }
 }

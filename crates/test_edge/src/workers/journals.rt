@@ -18,13 +18,13 @@ use std::random::RandomSource;
 use std::sync::Wait;
 use std::sync::atomic::{AtomicUsize, Ordering};
 use std::thread::Threads;
-use test_fixtures::Lack;
+use test_fixtures::{Lack, room_behind};
 
 /// A journal in which A is registered, and behind it the torn line of another.
 const BEFORE: &[u8] =
     b" {\"form\":\"mds_city\",\"version\":1}\n {\"device_id\":\"00000000-0000-4000-8000-00000000000a\",\"provider_id\":\"00000000-0000-4000-8000-000000000001\"}\n#{\"device_id\":\"00000000";
 
-/// The same once B is registered.
+/// The same once B is registered, but for room behind it.
 const AFTER: &[u8] =
     b" {\"form\":\"mds_city\",\"version\":1}\n {\"device_id\":\"00000000-0000-4000-8000-00000000000a\",\"provider_id\":\"00000000-0000-4000-8000-000000000001\"}\n {\"device_id\":\"00000000-0000-4000-8000-00000000000b\",\"provider_id\":\"00000000-0000-4000-8000-000000000001\"}\n#";
 
@@ -119,7 +119,7 @@ fn comes_to_its_end<R: Threads + Wait + RandomSource + Sync>(
         Err(Lack::Memory) => ended_over(rt, alloc)?,
         found => found?,
     };
-    Ok(accepted == 2 && bytes.as_slice() == AFTER && good >= 3)
+    Ok(accepted == 2 && room_behind(&bytes, AFTER).is_some() && good >= 3)
 }
 
 #[test]

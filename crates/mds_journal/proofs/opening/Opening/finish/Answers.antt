@@ -1,4 +1,4 @@
-use Rattle.std.proofs.Common.{◌≡◌, false, ℕ, List, sym, ap, subst, ◌∙◌, arith}
+use Rattle.std.proofs.Common.{◌≡◌, false, ℕ, ◌+◌, List, sym, ap, subst, ◌∙◌, arith}
 use Rattle.mds_journal.specs.Lines.{recovered, at_rest}
 use Rattle.mds_journal.specs.Journal.{IsKept}
 use Rattle.mds_journal.proofs.LineLemmas.{texts_have_no_feed}
@@ -26,7 +26,7 @@ returns-in-Ok-close_end-clause-sound g c = record {
       let new = g.D.Device.seen c.close_end.new.device in
       let rest : new ≡ at_rest texts = c.in-Ok-close_end.ensures.at_rest is ∙ ap (λ (l : List ℕ). at_rest (recovered l)) (c.size.ensures.untouched then).file in
       let kept : IsKept texts new = subst (λ (l : List ℕ). IsKept texts l) (sym rest) (kept_rest texts) in
-      ready_at g.D.Device.seen g.D.Device.may_leave texts (record { device = c.close_end.new.device; end = c.args.self.end; is_lost = false }) (texts_have_no_feed file)
+      ready_at g.D.Device.seen g.D.Device.may_leave texts (record { device = c.close_end.new.device; end = c.args.self.end; room = c.args.self.end + 1; is_lost = false }) (texts_have_no_feed file)
       (end_is file c.args.self.end read.within read.lines (c.requires.done was)) kept
       (λ f left. subst (λ (l : List ℕ). IsKept texts l) (sym (c.in-Ok-close_end.ensures.durable is f left)) kept);
 }
