@@ -1,4 +1,4 @@
-"""Disks without room, limits of a file's size, and calls on the file that fail."""
+"""Disks without room, limits of a file's size, calls on the file that fail, and starts without memory."""
 
 import os
 import resource
@@ -13,6 +13,7 @@ from crashing.clients import unanswered
 from crashing.files import Lines, counted, listed_amiss
 from crashing.recording import CUT, SYNC, WRITE, Recording
 from crashing.reports import NOT_KEPT, device_at, listed, listing, looking, registering, reporting, standing
+from harness.building import Refusal
 from harness.case import cannot_read
 from harness.counting import Skipped
 from harness.texts import differing
@@ -34,6 +35,9 @@ DEVICE, OTHER = device_at(1), device_at(2)
 TOLD_NOT_KEPT = "mds_city: journal not kept\n"
 LOST = "mds_city: journal\n"
 HELD_BACK = answer(503, NOT_KEPT)
+NO_MEMORY = "mds_city: out of memory\n"
+FEWEST_GROWTHS = 20
+"""Of a start over a journal."""
 
 
 def answered(server, request, wanted, what):
@@ -287,6 +291,41 @@ def starts_that_fail(program):
             yield from failing_starts(program, content, kind)
 
 
+def begun_without(program, path, number):
+    """How a start ended over a file, where this growth of memory was refused: None where it listened all the same; and whether it
+    came to that growth before."""
+    with Refusal(number) as refusal:
+        try:
+            with Server(program, 1, journal=path, env=refusal.env):
+                return None, refusal.came()
+        except NotListening as fault:
+            return fault.ended, refusal.came()
+
+
+def starts_over_without(program, content):
+    """What is wrong with starts over a file with this content, of which one growth of memory is refused, each of them in turn: it is
+    told, and the lines are the same."""
+    told = Lines().told(counted(content))
+    with tempfile.TemporaryDirectory() as folder:
+        path = Path(folder, "journal")
+        for number in range(1, EACH):
+            path.write_bytes(content)
+            found, came = begun_without(program, path, number)
+            if not came:
+                break
+            if found not in (None, (4, "", NO_MEMORY)):
+                yield f"growth {number} refused: it ended with {found}"
+            yield from (f"growth {number} refused: {it}" for it in kept_amiss(path, told))
+    if came or number < FEWEST_GROWTHS:
+        yield f"over {len(content)} bytes, a start takes {number} growths"
+
+
+def starts_without_memory(program):
+    """Each growth of memory of a start that is refused, over a file with a torn end and over one at rest."""
+    for end in ('#{"device_id":', "#"):
+        yield from starts_over_without(program, journal(registered(DEVICE), registered(OTHER), end=end).encode())
+
+
 LACKING = [
     room_that_a_call_misses,
     a_full_disk,
@@ -296,4 +335,5 @@ LACKING = [
     calls_that_fail,
     a_write_that_fails_once,
     starts_that_fail,
+    starts_without_memory,
 ]

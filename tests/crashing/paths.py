@@ -1,6 +1,7 @@
 """What stands at the path of a journal when a server starts: what is told where it can't be taken, and that it stays as it was."""
 
 import os
+import socket
 import stat
 import tempfile
 from pathlib import Path
@@ -139,6 +140,14 @@ def files_that_are_none(program):
     yield from refused(program, journal(new, WAKE).encode(), not_a_journal("refused 2"))
 
 
+def before_the_port(program):
+    """A file that isn't accepted is told of also where the port is taken: the journal is read first."""
+    with socket.create_server(("127.0.0.1", 0)) as taken:
+        port = taken.getsockname()[1]
+        yield from refused(program, journal(DROPPED).encode(), not_a_journal("refused 1"), port=port)
+        yield from refused(program, REGISTERED.encode(), "mds_city: socket\n", port=port)
+
+
 def too_much_behind_the_lines(program):
     """A file behind whose lines more stands than a group, of 2 GB too, is damaged; with as much as a group it is cut."""
     lines = counted(REGISTERED.encode())
@@ -186,6 +195,7 @@ PATHS = [
     links,
     one_server_at_a_time,
     files_that_are_none,
+    before_the_port,
     too_much_behind_the_lines,
     files_that_are_begun,
     told_anew,

@@ -5,3 +5,4 @@ pub mod FleetLemmas
 pub mod KeptLemmas
 pub mod ListedLemmas
 pub mod ReadingLemmas
+pub mod VehicleLemmas

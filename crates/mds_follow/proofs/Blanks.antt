@@ -2,11 +2,12 @@
 use Rattle.std.proofs.Common.{◌≡◌, ◌⊎◌, inl, inr, ℕ, suc, ◌<◌, ◌≤◌, List, [], ◌∷◌, ◌++◌, length, refl, sym, ap, ◌∙◌, subst, arith, append_assoc}
 use Rattle.mds_table.specs.Json.{max_bytes}
 use Rattle.mds_journal.specs.Lines.{HasNoFeed, recovered, open_lines}
-use Rattle.mds_journal.specs.Device.{LeavesOnly, Untouched}
+use Rattle.mds_journal.specs.Device.{LeavesOnly, Only, Untouched}
 use Rattle.mds_journal.specs.Opening.{IsTooLong, KeepsLines}
 use Rattle.mds_journal.specs.declared.fault.JournalFault.TheVariants.{Form, BadLine, TooLong, Refused, Damaged}
 use Rattle.mds_journal.proofs.LineLemmas.{parts}
 use Rattle.mds_journal.proofs.MomentLemmas.{started, weaker, and_then, after_none}
+use Rattle.mds_journal.proofs.RepairLemmas.{keeps_itself}
 use Rattle.mds_entries.specs.Entry.{Tells}
 use Rattle.mds_entries.specs.Form.{form_line}
 use Rattle.std.specs.List.{AllZip}
@@ -71,6 +72,45 @@ module _ {D : Type 0} (seen : D → List ℕ) (may_leave : D → List ℕ → Ty
   same_leaves device mid only none =
       after_none moment left_since seen may_leave device mid mid (MayBecome device) none
       (started moment left_since mid (MayBecome device) (λ c left. inl (none.outcomes c (only c left))))
+
+  -- a call that changed nothing
+  pub untouched_self : (device : D) → Untouched seen may_leave moment left_since device device
+  untouched_self device = record { file = refl; outcomes = λ c left. left; time = refl; past = λ t c left. left }
+
+  -- a file that is all on the disk, to which nothing was done
+  pub keeps_all : (device new : D) → Only (seen device) (may_leave device) → ((c : List ℕ) → left_since new (moment new) c → may_leave new c)
+      → Untouched seen may_leave moment left_since device new → LeavesOnly moment left_since device new (KeepsLines (seen device))
+  keeps_all device new durable only none =
+      after_none moment left_since seen may_leave device new new (KeepsLines (seen device)) none
+      (started moment left_since new (KeepsLines (seen device))
+      (λ c left. subst (λ (w : List ℕ). KeepsLines (seen device) w) (sym (durable c (none.outcomes c (only c left)))) (keeps_itself (seen device))))
+
+  -- nothing was done to it, and then a run that keeps its lines
+  pub then_keeps : (device mid new : D) → Untouched seen may_leave moment left_since device mid → LeavesOnly moment left_since mid new (KeepsLines (seen mid))
+      → LeavesOnly moment left_since device new (KeepsLines (seen device))
+  then_keeps device mid new none leaves =
+      after_none moment left_since seen may_leave device mid new (KeepsLines (seen device)) none
+      (subst (λ (w : List ℕ). LeavesOnly moment left_since mid new (KeepsLines w)) none.file leaves)
+
+  -- the form wasn't written: the file wasn't opened
+  pub not_opened : (device opened : D) → LeavesOnly moment left_since device opened (may_leave device) → LeavesOnly moment left_since device opened (MayBegin device)
+  not_opened device opened opens = weaker moment left_since device opened (may_leave device) (MayBegin device) (λ c may. inl may) opens
+
+  -- or its end wasn't closed
+  pub not_closed : (device opened closed : D) → IsBlank (seen device) → seen opened ≡ seen device → LeavesOnly moment left_since device opened (may_leave device)
+      → LeavesOnly moment left_since opened closed (KeepsLines (seen opened)) → LeavesOnly moment left_since device closed (MayBegin device)
+  not_closed device opened closed blank same opens closes =
+      let nothing : recovered (seen opened) ≡ [] = ap recovered same ∙ blank.none in
+      and_then moment left_since device opened closed (MayBegin device) (not_opened device opened opens)
+      (weaker moment left_since opened closed (KeepsLines (seen opened)) (MayBegin device) (λ c keeps. inr (inl (keeps.lines ∙ nothing))) closes)
+
+  -- it has its form, and wasn't opened
+  pub not_read : (device made opened : D) → ((t : ℕ) (c : List ℕ) → t ≤ moment made → may_leave made c → left_since made t c)
+      → LeavesOnly moment left_since device made (MayBecome device) → LeavesOnly moment left_since made opened (may_leave made)
+      → LeavesOnly moment left_since device opened (MayBecome device)
+  not_read device made opened counts first opens =
+      and_then moment left_since device made opened (MayBecome device) first
+      (weaker moment left_since made opened (may_leave made) (MayBecome device) (λ c may. first.each c (counts (moment device) c first.later may)) opens)
 
   -- and then it was opened
   pub open_leaves : (device made opened read : D) → ((t : ℕ) (c : List ℕ) → t ≤ moment made → may_leave made c → left_since made t c)

@@ -93,6 +93,9 @@ pub(crate) fn with_form<D: Device>(alloc: Global, mut device: D) -> Result<D, (S
     ensures any_moment { IfOk result (λ made. D.is_true made
         → LeavesOnly D.moment D.left_since device made
         (λ c. D.may_leave device c ⊎ KeepsOrBegins (D.seen device) c)) }
+    ensures any_moment_err { IfErr result (λ error. D.is_true error.1
+        → LeavesOnly D.moment D.left_since device error.1
+        (λ c. D.may_leave device c ⊎ KeepsOrBegins (D.seen device) c)) }
     ensures was_true { IfOk result (λ made. D.is_true made → D.is_true device) }
     ensures was_true_err { IfErr result (λ error. D.is_true error.1 → D.is_true device) }
     ensures fault { IfErr result (λ error. IsNoJournalFault error.0) }
@@ -117,6 +120,9 @@ fn make_form<D: Device>(alloc: Global, device: D) -> Result<D, (StartFault, D)>
         → recovered (D.seen made) ≡ form_line ∷ []) }
     ensures any_moment { IfOk result (λ made. D.is_true made
         → LeavesOnly D.moment D.left_since device made
+        (λ c. D.may_leave device c ⊎ MayBeBegun c)) }
+    ensures any_moment_err { IfErr result (λ error. D.is_true error.1
+        → LeavesOnly D.moment D.left_since device error.1
         (λ c. D.may_leave device c ⊎ MayBeBegun c)) }
     ensures was_true { IfOk result (λ made. D.is_true made → D.is_true device) }
     ensures was_true_err { IfErr result (λ error. D.is_true error.1 → D.is_true device) }

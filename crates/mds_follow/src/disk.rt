@@ -35,6 +35,7 @@ impl<D: Device> Disk<D> {
         mut journal: Journal<D>,
     ) -> Result<Disk<D>, (RecordFault, Journal<D>)>
         requires sound { IsSound D.seen D.may_leave D.may_be_used D.is_true journal }
+        requires ready { MayGoOn journal }
         requires none { D.is_true journal.device → recovered (D.seen journal.device) ≡ [] }
         ensures sound { IfOk result (λ disk.
             IsSound D.seen D.may_leave D.may_be_used D.is_true disk.journal) }
@@ -44,6 +45,8 @@ impl<D: Device> Disk<D> {
             → LeavesOnly D.moment D.left_since journal.device disk.journal.device MayBeBegun) }
         ensures was_true { IfOk result (λ disk. D.is_true disk.journal.device
             → D.is_true journal.device) }
+        ensures any_moment_err { IfErr result (λ error. D.is_true error.1.device
+            → LeavesOnly D.moment D.left_since journal.device error.1.device MayBeBegun) }
         ensures was_true_err { IfErr result (λ error. D.is_true error.1.device
             → D.is_true journal.device) }
     {

@@ -5,7 +5,7 @@ use crate::Record;
 
 /// What an answer rested on in one life of a server is the beginning of the history in the next life, where a receipt covered it:
 /// whatever crash came between, since it was recorded. So all lives have one history of each shard, that of the last one, and
-/// each answer of each life was judged by a beginning of it.
+/// each answer of each life was judged by a beginning of it, or of its vehicle's part of it.
 pub fn answers_stand_in_the_next_life<F: Record>()
     ensures { AnswersStandInTheNextLife F.left_since }
 {}

@@ -2,7 +2,8 @@
 //!
 //! A [`Follower`] copies what the shards accepted into the file, in their order, and knows how much of each shard's history is
 //! there. Workers share it as a [`SharedFollower`]. A [`Receipt`] is what a worker has of it: requests that are recorded, each
-//! of which every crash since leaves. [`SharedFollower::commit`] gives a worker a receipt that has all that its seat has seen.
+//! of which every crash since leaves. [`SharedFollower::commit`] gives a worker a receipt that has all that its seat has seen, of
+//! both shards or of one vehicle.
 //!
 //! At a start a [`RequestReader`] reads the file of an earlier run, and [`resume`] asks its requests of a new book, from the first
 //! to the last that counts, and goes on from there.

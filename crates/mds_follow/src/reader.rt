@@ -87,6 +87,9 @@ impl<D: Device> RequestReader<D> {
             → IsOpenFault (D.seen device) error.0) }
         ensures same { IfErr result (λ error. D.is_true error.1 → IsJournalFault error.0
             → D.seen error.1 ≡ D.seen device) }
+        ensures any_moment_err { IfErr result (λ error. D.is_true error.1
+            → LeavesOnly D.moment D.left_since device error.1
+            (λ c. D.may_leave device c ⊎ KeepsOrBegins (D.seen device) c)) }
         ensures was_true_err { IfErr result (λ error. D.is_true error.1 → D.is_true device) }
     {
         let group = match Group::new(alloc) {
@@ -179,6 +182,9 @@ impl<D: Device> RequestReader<D> {
             → IsEndFault (D.seen self.opening.device) error.0) }
         ensures same { IfErr result (λ error. D.is_true error.1 → IsJournalFault error.0
             → D.seen error.1 ≡ D.seen self.opening.device) }
+        ensures any_moment_err { IfErr result (λ error. D.is_true error.1
+            → LeavesOnly D.moment D.left_since self.opening.device error.1
+            (KeepsLines (D.seen self.opening.device))) }
         ensures was_true_err { IfErr result (λ error. D.is_true error.1
             → D.is_true self.opening.device) }
     {

@@ -55,6 +55,8 @@ pub trait Record: Tagged {
         ensures unchanged { IfErr result (λ fault. HasSame fault → is_true self.new
             → (told : List Requested) → stands self.old told → stands self.new told) }
         ensures lost { IfErr result (λ fault. may_go_on self.new → HasSame fault) }
+        ensures goes_on { IfErr result (λ fault. HasSame fault → may_go_on self.old
+            → may_go_on self.new) }
         ensures any_moment { is_true self.new → (told : List Requested)
             → (may_go_on self.old → stands self.old told)
             → Passes Self.tag left_since self.old self.new

@@ -7,9 +7,9 @@ ghost use Rattle.mds_book.specs.Shards.{shard_of};
 ghost use Rattle.mds_book.specs.Seats.{seen_in};
 ghost use Rattle.mds_log.specs.Log.{requests};
 ghost use Rattle.mds_table.specs.Json.{max_bytes};
-ghost use Rattle.mds_journal.specs.Device.{Untouched};
+ghost use Rattle.mds_journal.specs.Device.{LeavesOnly, Untouched};
 ghost use Rattle.mds_journal.specs.Lines.{recovered};
-ghost use Rattle.mds_journal.specs.Opening.{IsReading, limit_of, number_of, place_of, unread};
+ghost use Rattle.mds_journal.specs.Opening.{IsReading, KeepsLines, limit_of, number_of, place_of, unread};
 ghost use Rattle.mds_follow.specs.Disk.{IsTold};
 ghost use Rattle.mds_follow.specs.Record.{recorded_at};
 ghost use Rattle.mds_follow.specs.Reading.{HasNoMore, IsAtFirstRequest, IsEntryFault, IsJournalFault, IsStartFault};
@@ -196,6 +196,10 @@ pub fn resume<D: Device, L: ShardLedger, M: ShardLedger, J: RecordLog, R: Wait>(
         → IsStartFault book.now.tables (D.seen reader.opening.device) error.0) }
     ensures same { IfErr result (λ error. D.is_true error.1 → IsJournalFault error.0
         → D.seen error.1 ≡ D.seen reader.opening.device) }
+    // A crash at any moment leaves the same lines, also where the start fails.
+    ensures any_moment_err { IfErr result (λ error. D.is_true error.1
+        → LeavesOnly D.moment D.left_since reader.opening.device error.1
+        (KeepsLines (D.seen reader.opening.device))) }
     ensures was_true { IfErr result (λ error. D.is_true error.1
         → D.is_true reader.opening.device) }
 {

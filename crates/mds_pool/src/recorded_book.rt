@@ -2,7 +2,9 @@
 ghost use Rattle.std.specs.Prelude.{◌≡◌, ℕ, List, IfOk, IfErr, Ok, vec_len};
 ghost use Rattle.mds_table.specs.Tables.{Tables as Timed};
 ghost use Rattle.mds_core.specs.declared.request.Request.{Request as Requested};
+ghost use Rattle.mds_journal.specs.Device.{LeavesOnly};
 ghost use Rattle.mds_journal.specs.Lines.{recovered};
+ghost use Rattle.mds_journal.specs.Opening.{KeepsLines};
 ghost use Rattle.mds_book.specs.Books.{IsSeatCount};
 ghost use Rattle.mds_follow.specs.Disk.{IsTold};
 ghost use Rattle.mds_follow.specs.Reading.{IsAtFirstRequest, IsJournalFault, IsStartFault};
@@ -97,6 +99,9 @@ impl<D: Device, L: ShardLedger, M: ShardLedger, J: RecordLog> RecordedBook<Disk<
             → IsStartFault opening.tables (D.seen reader.opening.device) error.0) }
         ensures same { IfErr result (λ error. D.is_true error.1 → IsJournalFault error.0
             → D.seen error.1 ≡ D.seen reader.opening.device) }
+        ensures any_moment_err { IfErr result (λ error. D.is_true error.1
+            → LeavesOnly D.moment D.left_since reader.opening.device error.1
+            (KeepsLines (D.seen reader.opening.device))) }
         ensures was_true { IfErr result (λ error. D.is_true error.1
             → D.is_true reader.opening.device) }
     {
