@@ -1,7 +1,7 @@
 -- What workers leave.
 use Rattle.std.proofs.Common.{◌≡◌, ◌∙◌, ◌<◌, ℕ, List, length, false, refl, ap, subst, slice_index_or, slice_set, sym}
 use Rattle.std.specs.Prelude.{Ok, replicate}
-use Rattle.std.specs.List.{All, AllZip}
+use Rattle.std.specs.List.{AllZip}
 use Rattle.std.proofs.lemmas.List.{length-replicate, length-set, get_or-replicate}
 use Rattle.std.proofs.lemmas.List.Elements.{All-replicate, All-set, AllZip-get_or}
 use Rattle.std.proofs.lemmas.Slice.Zip.{AllZip-long}

@@ -1,6 +1,7 @@
 use Rattle.std.proofs.Common.{◌≡◌, ℕ, ap, subst, sym, slice_set}
 use Rattle.mds_book.specs.Books.{Opened}
 use Rattle.mds_pool.specs.Serving.{AreWorkers}
+use Rattle.mds_follow.proofs.Blanks.{keeps_all, untouched_self}
 use Rattle.mds_pool.proofs.EndLemmas.{first_resumed}
 use Rattle.mds_pool.proofs.recorded_book.RecordedBook+Disk+D+L+M+J.open.Goals as goal
 
@@ -11,3 +12,11 @@ invariant_of-result g c =
     subst (λ (n : ℕ). AreWorkers n (slice_set c.in-Ok.opened.1.items 0 c.resume.new.seat)) (sym many)
     (first_resumed c.args.opening.seats c.in-Ok.opened.1.items c.index_mut.result.now c.resume.new.seat c.requires.seats.0 c.in-Ok.ensures.seats
     c.index_mut.ensures.value c.resume.ensures.keep)
+
+-- nothing was done to the file
+pub returns-in-Err-clause-any_moment_err : goal.returns-in-Err-clause-any_moment_err
+returns-in-Err-clause-any_moment_err g c =
+    let device = c.args.reader.opening.device in
+    rw c.into_device.ensures (λ truth.
+    keeps_all g.D.Device.seen g.D.Device.may_leave g.D.Device.moment g.D.Device.left_since device device (c.requires.at_first.reading.read truth).durable (g.met.D.Device.only_now device)
+    (untouched_self g.D.Device.seen g.D.Device.may_leave g.D.Device.moment g.D.Device.left_since device))
