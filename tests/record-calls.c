@@ -8,11 +8,13 @@
    CONTROL: where it is given, a file of numbers of 8 bytes that are heeded while the program runs. ROOM: how many bytes the file
    may have, where it isn't negative. FAILING: the kind of call that fails, from the one of the number FROM on, counted from 1, and
    so MANY of them. A write that fails has put half of its bytes there. PAUSE: how many microseconds a sync waits before it begins.
-   Behind these stand the numbers of writes, cuts and syncs so far. */
+   Behind these stand the numbers of writes, cuts and syncs so far, and of syncs of the folder that the file is in. */
 #define _GNU_SOURCE
 #include <dlfcn.h>
 #include <errno.h>
 #include <fcntl.h>
+#include <libgen.h>
+#include <limits.h>
 #include <pthread.h>
 #include <stdint.h>
 #include <stdlib.h>
@@ -23,7 +25,7 @@
 #include <unistd.h>
 
 enum { WRITE = 1, CUT, SYNC, ENDED = 10, TAKEN = 20, RECEIVED, SENT };
-enum { ROOM, FAILING, FROM, MANY, PAUSE, COUNTS, NUMBERS = COUNTS + 3 };
+enum { ROOM, FAILING, FROM, MANY, PAUSE, COUNTS, FOLDERS = COUNTS + 3, NUMBERS };
 
 static int64_t nowhere[NUMBERS] = { -1 }, *control = nowhere;
 static pthread_mutex_t order = PTHREAD_MUTEX_INITIALIZER;
@@ -53,6 +55,16 @@ static int is_journal(int file)
 {
     struct stat found, named;
     if (!journal || fstat(file, &found) || stat(journal, &named))
+        return 0;
+    return found.st_dev == named.st_dev && found.st_ino == named.st_ino;
+}
+
+/* Whether this is the folder that the file is in. */
+static int is_its_folder(int file)
+{
+    char name[PATH_MAX];
+    struct stat found, named;
+    if (!journal || !realpath(journal, name) || fstat(file, &found) || stat(dirname(name), &named))
         return 0;
     return found.st_dev == named.st_dev && found.st_ino == named.st_ino;
 }
@@ -138,6 +150,8 @@ static int cut(cuts *next, int file, off_t size)
 
 static int synced(syncs *next, int file)
 {
+    if (is_its_folder(file))
+        __atomic_add_fetch(&control[FOLDERS], 1, __ATOMIC_SEQ_CST);
     if (!is_journal(file))
         return next(file);
     int bad = fails(SYNC);

@@ -10,6 +10,7 @@ from cases.replays import event
 from cases.tables import ONE_ROW
 from cases.vehicles import FORM, journal, not_a_journal, registered
 from crashing.files import AT_REST, counted, listed_by, vehicles_text
+from crashing.recording import Recording
 from crashing.reports import device_at, registering
 from harness.case import cannot_read
 from harness.counting import Skipped
@@ -105,6 +106,20 @@ def links(program):
                 yield f"{name}: {target.read_bytes()!r}"
 
 
+def names_in_folders(program):
+    """A file that is made, one that is there, and one behind a link in another folder: its folder is synced before the server
+    listens, so that no power cut takes the name away."""
+    with tempfile.TemporaryDirectory() as folder:
+        path, elsewhere = Path(folder, "journal"), Path(folder, "elsewhere")
+        elsewhere.mkdir()
+        link = Path(elsewhere, "link")
+        link.symlink_to(path)
+        for place in (path, path, link):
+            with Recording(place) as recording, Server(program, 1, journal=place, env=recording.env):
+                if recording.number("folders") != 1:
+                    yield f"{place.name}: its folder was synced {recording.number('folders')} times"
+
+
 def one_server_at_a_time(program):
     """A file that another server has: the second one doesn't start, the first goes on, and once it is gone another starts."""
     with tempfile.TemporaryDirectory() as folder:
@@ -193,6 +208,7 @@ PATHS = [
     places_that_are_none,
     a_file_without_leave,
     links,
+    names_in_folders,
     one_server_at_a_time,
     files_that_are_none,
     before_the_port,

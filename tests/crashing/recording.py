@@ -11,7 +11,7 @@ from harness.building import built
 WRITE, CUT, SYNC, TAKEN, RECEIVED, SENT = 1, 2, 3, 20, 21, 22
 ENDED = 10
 """Added to the kind of a call on the file where it is over."""
-NUMBERS = ("room", "failing", "first", "many", "pause", "writes", "cuts", "syncs")
+NUMBERS = ("room", "failing", "first", "many", "pause", "writes", "cuts", "syncs", "folders")
 """Those that are heeded while the server runs, and behind them those that it counts."""
 
 Entry = namedtuple("Entry", "kind file at data")
