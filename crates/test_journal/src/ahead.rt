@@ -15,7 +15,7 @@ fn group_of(alloc: Global, length: u32) -> Option<Group> {
 }
 
 /// How long a file of 6 bytes is behind each of some groups, and its bytes then.
-fn grown(alloc: Global) -> Option<([usize; 6], Vec<u8>)> {
+fn grown(alloc: Global) -> Option<(Vec<usize>, Vec<u8>)> {
     let (short, small) = (group_of(alloc, 10)?, group_of(alloc, 1_000)?);
     let (large, longer) = (group_of(alloc, 1_048_000)?, group_of(alloc, 1_048_576)?);
     let device = Memory::new(alloc, b" one\n#").ok()?;
@@ -34,14 +34,9 @@ fn grown(alloc: Global) -> Option<([usize; 6], Vec<u8>)> {
     let without = journal.device.bytes().len();
     journal.append(&short).ok()?;
     let bytes = Vec::from_slice(alloc, journal.device.bytes()).ok()?;
-    let lengths = [
-        made,
-        there,
-        nearly_full,
-        made_again,
-        without,
-        journal.device.bytes().len(),
-    ];
+    let last = bytes.len();
+    let found = [made, there, nearly_full, made_again, without, last];
+    let lengths = Vec::from_slice(alloc, &found).ok()?;
     Some((lengths, bytes))
 }
 
@@ -56,7 +51,7 @@ fn opened(alloc: Global, file: &[u8]) -> Option<(usize, usize)> {
 
 /// How long the file is: room is made behind the gate at 5, and is there for the next group, and for a large one; of it 550 bytes
 /// are left then, behind the gate at 1,048,031. A group that is longer than the room has none.
-const LENGTHS: [usize; 6] = [
+const LENGTHS: &[usize] = &[
     6 + ROOM,
     6 + ROOM,
     6 + ROOM,
@@ -68,7 +63,7 @@ const LENGTHS: [usize; 6] = [
 /// Whether the file grows so, and stands for its seven lines, behind which the room is cut off.
 fn is_so(alloc: Global) -> bool {
     match grown(alloc) {
-        Some((lengths, bytes)) => lengths == LENGTHS
+        Some((lengths, bytes)) => lengths.as_slice() == LENGTHS
             && opened(alloc, &bytes) == Some((7, 2_097_624)),
         None => false,
     }
