@@ -8,13 +8,16 @@ ghost use Rattle.mds_book.specs.Shards.{shard_of as number_of, count_of};
 ghost use Rattle.mds_book.specs.Seats.{fresh, keeps_all, is_look, accepted_in, seen_in, noted, IsCalled, IsListed};
 ghost use Rattle.mds_book.specs.Sights.{IsSeenWhole, IsStepped, next_turn};
 ghost use Rattle.mds_book.specs.Books.{IsBadCount, GivesEvents, SeesShard, open_fault_text};
+ghost use Rattle.mds_book.specs.Gathering.{IsGathered};
+ghost use Rattle.mds_book.specs.Settling.{AreBeginnings, IsSettledBook};
 ghost use Rattle.mds_book.specs.Copying.{IsCopied, copied, copied_in};
 ghost use Rattle.mds_log.specs.Log.{requests};
 
 use crate::gathered::Account;
 use crate::seat::Parts;
+use crate::settling::{Closing, count_all, retire_all};
 use crate::slot::shard_of;
-use crate::{Blank, Keep, Part, Progress, Seat, ShardLedger, Slot};
+use crate::{Blank, Gathered, Keep, Part, Progress, Seat, ShardLedger, Slot};
 use mds_core::{Event, Key, Outcome, Reply, Request};
 use mds_log::{Front, Marks};
 use mds_settle::Note;
@@ -55,7 +58,6 @@ impl fmt::Display for OpenFault {
 impl Error for OpenFault {}
 
 /// Two shards, each under a lock of its own. A vehicle's calls stand in the shard of its number.
-#[derive(Drop)]
 pub struct Book<L: ShardLedger, M: ShardLedger> {
     pub(crate) tables: Tables,
     pub(crate) seats: usize,
@@ -65,6 +67,21 @@ pub struct Book<L: ShardLedger, M: ShardLedger> {
     pub(crate) second_marks: Marks<M>,
     // Room for what is left of the seats, so that settling takes no memory.
     pub(crate) room: Vec<Account<L, M>>,
+}
+
+// By hand: a crate that drops a book then cites this function, and proves no destructor of what it holds.
+impl<L: ShardLedger, M: ShardLedger> Drop for Book<L, M> {
+    fn drop(self) {
+        let Book {
+            tables: _,
+            seats: _,
+            first: _,
+            second: _,
+            first_marks: _,
+            second_marks: _,
+            room: _,
+        } = self;
+    }
 }
 
 impl<L: ShardLedger, M: ShardLedger> Model for Book<L, M> {
@@ -673,6 +690,36 @@ impl<L: ShardLedger, M: ShardLedger> Book<L, M> {
         } else {
             has_copied_in(rt, &self.second, seat.second.sight.front(), second, key)
         }
+    }
+
+    /// Opens the locks of a book all of whose seats are handed in, and takes the seats back.
+    pub(crate) fn gather(self, mut seats: Vec<Seat<L, M>>) -> Gathered<L, M>
+        requires { vec_len seats ≡ self.seats }
+        ensures gathered { IsGathered self seats.items result }
+        ensures settled { IsSettledBook result }
+        ensures beginnings { AreBeginnings result }
+    {
+        let Book {
+            tables,
+            seats: _,
+            first,
+            second,
+            first_marks,
+            second_marks,
+            room,
+        } = self;
+        let mut first = Closing::of(first.into_inner(), first_marks);
+        let mut second = Closing::of(second.into_inner(), second_marks);
+        count_all(&mut first.slot, &mut second.slot, seats.as_mut_slice());
+        let accounts = retire_all(&mut first, &mut second, room, seats);
+        let gathered = Gathered {
+            tables,
+            first: first.slot,
+            second: second.slot,
+            seats: accounts,
+        };
+        gathered.tell();
+        gathered
     }
 
     /// What a function answers on the shard of this number, while it is locked. It waits for the shard's lock; a call on

@@ -71,9 +71,15 @@ impl<L: ShardLedger, M: ShardLedger> Model for Gathered<L, M> {
 /// What is left of a book whose seats all came back. Their notes fit the histories, and what each seat saw is a beginning of its
 /// shard's history. The histories are the order in which the accepted calls took place, shard by shard; each was noted once,
 /// and stands in its caller's order.
-#[derive(Drop)]
 pub struct Settled<L: ShardLedger, M: ShardLedger> {
     gathered: Gathered<L, M>,
+}
+
+// By hand: a crate that drops a settled book then cites this function, and proves no destructor of what it holds.
+impl<L: ShardLedger, M: ShardLedger> Drop for Settled<L, M> {
+    fn drop(self) {
+        let Settled { gathered: _ } = self;
+    }
 }
 
 impl<L: ShardLedger, M: ShardLedger> Model for Settled<L, M> {

@@ -6,7 +6,10 @@ ghost use Rattle.mds_book.specs.Shards.{count_of};
 ghost use Rattle.mds_book.specs.Seats.{accepted_in, is_look, fresh, keeps_all};
 ghost use Rattle.mds_book.specs.Sights.{after, next_turn};
 ghost use Rattle.mds_book.specs.Copying.{copied};
+ghost use Rattle.mds_book.specs.Retired.{IsRetired};
 
+use crate::gathered::Account;
+use crate::settling::Closing;
 use crate::{Progress, ShardLedger, Sight};
 use mds_core::{Outcome, Request};
 use mds_log::{Front, Keeper, Mark, Marks};
@@ -48,12 +51,23 @@ pub(crate) struct Parts<L: ShardLedger> {
 
 /// What a caller holds of the book of its type: its part of each shard, and the notes of its calls in their order. Each note is
 /// true to what the seat saw of the shards.
-#[derive(Drop)]
 pub struct Seat<L: ShardLedger, M: ShardLedger> {
     pub(crate) first: Part<L>,
     pub(crate) second: Part<M>,
     pub(crate) notes: Vec<Note>,
     pub(crate) keeps_all: bool,
+}
+
+// By hand: a crate that drops a seat then cites this function, and proves no destructor of what it holds.
+impl<L: ShardLedger, M: ShardLedger> Drop for Seat<L, M> {
+    fn drop(self) {
+        let Seat {
+            first: _,
+            second: _,
+            notes: _,
+            keeps_all: _,
+        } = self;
+    }
 }
 
 impl<L: ShardLedger, M: ShardLedger> Model for Seat<L, M> {
@@ -203,6 +217,37 @@ impl<L: ShardLedger, M: ShardLedger> Seat<L, M> {
         ensures { result ≡ (self.now.keeps_all || not (is_look request.now)) }
     {
         self.keeps_all || !matches!(request, Request::Look(_))
+    }
+
+    /// Takes the seat back beside both shards.
+    pub(crate) fn retire(
+        self,
+        first: &mut Closing<L, 0>,
+        second: &mut Closing<M, 1>,
+    ) -> Account<L, M>
+        ensures slots { (first.new.slot ≡ first.old.slot) × (second.new.slot ≡ second.old.slot) }
+        ensures logs { (first.new.log ≡ first.old.log) × (second.new.log ≡ second.old.log) }
+        ensures account { result ≡ self }
+        ensures first { IsRetired L.tables 0 first.old.log first.old.marks result first.new.marks }
+        ensures second { IsRetired M.tables 1 second.old.log second.old.marks result
+            second.new.marks }
+    {
+        let Seat {
+            first: one,
+            second: other,
+            notes,
+            keeps_all,
+        } = self;
+        let (first_count, first_sight) = first.retire(one);
+        let (second_count, second_sight) = second.retire(other);
+        Account {
+            first: first_count,
+            second: second_count,
+            notes,
+            keeps_all,
+            first_sight,
+            second_sight,
+        }
     }
 
     /// The notes of the seat's calls, in the order in which it made them.

@@ -3,10 +3,8 @@ ghost use Rattle.std.specs.Prelude.{◌≡◌, ◌≢◌, ◌+◌, ◌<◌, ◌�
 ghost use mathlib.Core.List.{IsPrefix};
 ghost use Rattle.mds_log.specs.Log.{requests};
 ghost use Rattle.mds_log.specs.Marks.{Has, HasNot};
-ghost use Rattle.mds_book.specs.Gathering.{IsGathered};
 ghost use Rattle.mds_book.specs.Reconciled.{IsReconciled};
-ghost use Rattle.mds_book.specs.Retired.{AreRetired, IsRetired};
-ghost use Rattle.mds_book.specs.Settling.{AreBeginnings, IsSettledBook};
+ghost use Rattle.mds_book.specs.Retired.{AreRetired};
 
 use crate::gathered::Account;
 use crate::{Book, Gathered, Part, Seat, Settled, ShardLedger, Sight, Slot};
@@ -35,7 +33,7 @@ pub enum SettleFault<L: ShardLedger, M: ShardLedger> {
 }
 
 /// Counts what the seats counted, all of them: it is what the histories hold. It changes nothing.
-fn count_all<L: ShardLedger, M: ShardLedger>(
+pub(crate) fn count_all<L: ShardLedger, M: ShardLedger>(
     first: &mut Slot<L, 0>,
     second: &mut Slot<M, 1>,
     seats: &mut [Seat<L, M>],
@@ -109,16 +107,16 @@ fn count_seats<L: ShardLedger, M: ShardLedger>(
 
 /// A shard that is settled: what stood behind its lock, a front of its whole log, and the marks that were handed back.
 #[derive(Drop)]
-struct Closing<L: ShardLedger, const N: usize> {
-    slot: Slot<L, N>,
-    log: Front<L>,
-    marks: Marks<L>,
+pub(crate) struct Closing<L: ShardLedger, const N: usize> {
+    pub(crate) slot: Slot<L, N>,
+    pub(crate) log: Front<L>,
+    pub(crate) marks: Marks<L>,
     ghost whole: { requests log ≡ slot.history },
 }
 
 impl<L: ShardLedger, const N: usize> Closing<L, N> {
     /// A shard whose lock was opened.
-    fn of(slot: Slot<L, N>, marks: Marks<L>) -> Closing<L, N>
+    pub(crate) fn of(slot: Slot<L, N>, marks: Marks<L>) -> Closing<L, N>
         ensures slot { result.slot ≡ slot }
         ensures marks { result.marks ≡ marks }
     {
@@ -127,7 +125,7 @@ impl<L: ShardLedger, const N: usize> Closing<L, N> {
     }
 
     /// Takes a seat's part of the shard back, with its mark, and hands out its count and what it saw: a beginning of the log.
-    fn retire(&mut self, part: Part<L>) -> (u64, Sight<L>)
+    pub(crate) fn retire(&mut self, part: Part<L>) -> (u64, Sight<L>)
         ensures slot { self.new.slot ≡ self.old.slot }
         ensures log { self.new.log ≡ self.old.log }
         ensures count { result.0 ≡ part.count }
@@ -149,36 +147,6 @@ impl<L: ShardLedger, const N: usize> Closing<L, N> {
     }
 }
 
-/// Takes a seat back beside both shards.
-fn retire<L: ShardLedger, M: ShardLedger>(
-    first: &mut Closing<L, 0>,
-    second: &mut Closing<M, 1>,
-    seat: Seat<L, M>,
-) -> Account<L, M>
-    ensures slots { (first.new.slot ≡ first.old.slot) × (second.new.slot ≡ second.old.slot) }
-    ensures logs { (first.new.log ≡ first.old.log) × (second.new.log ≡ second.old.log) }
-    ensures account { result ≡ seat }
-    ensures first { IsRetired L.tables 0 first.old.log first.old.marks result first.new.marks }
-    ensures second { IsRetired M.tables 1 second.old.log second.old.marks result second.new.marks }
-{
-    let Seat {
-        first: one,
-        second: other,
-        notes,
-        keeps_all,
-    } = seat;
-    let (first_count, first_sight) = first.retire(one);
-    let (second_count, second_sight) = second.retire(other);
-    Account {
-        first: first_count,
-        second: second_count,
-        notes,
-        keeps_all,
-        first_sight,
-        second_sight,
-    }
-}
-
 /// Puts an account behind the others, where there is room for it.
 fn put<L: ShardLedger, M: ShardLedger>(room: &mut Vec<Account<L, M>>, account: Account<L, M>)
     requires { vec_len room.old < vec_capacity room.old }
@@ -192,7 +160,7 @@ fn put<L: ShardLedger, M: ShardLedger>(room: &mut Vec<Account<L, M>>, account: A
 }
 
 /// Takes all seats back beside both shards, into room that was made when the book was opened.
-fn retire_all<L: ShardLedger, M: ShardLedger>(
+pub(crate) fn retire_all<L: ShardLedger, M: ShardLedger>(
     first: &mut Closing<L, 0>,
     second: &mut Closing<M, 1>,
     mut room: Vec<Account<L, M>>,
@@ -206,42 +174,10 @@ fn retire_all<L: ShardLedger, M: ShardLedger>(
     ensures second { AreRetired M.tables 1 second.new.log second.new.marks result.items }
 {
     for seat in seats {
-        let account = retire(first, second, seat);
+        let account = seat.retire(first, second);
         put(&mut room, account);
     }
     room
-}
-
-impl<L: ShardLedger, M: ShardLedger> Book<L, M> {
-    /// Opens the locks of a book all of whose seats are handed in, and takes the seats back.
-    fn gather(self, mut seats: Vec<Seat<L, M>>) -> Gathered<L, M>
-        requires { vec_len seats ≡ self.seats }
-        ensures gathered { IsGathered self seats.items result }
-        ensures settled { IsSettledBook result }
-        ensures beginnings { AreBeginnings result }
-    {
-        let Book {
-            tables,
-            seats: _,
-            first,
-            second,
-            first_marks,
-            second_marks,
-            room,
-        } = self;
-        let mut first = Closing::of(first.into_inner(), first_marks);
-        let mut second = Closing::of(second.into_inner(), second_marks);
-        count_all(&mut first.slot, &mut second.slot, seats.as_mut_slice());
-        let accounts = retire_all(&mut first, &mut second, room, seats);
-        let gathered = Gathered {
-            tables,
-            first: first.slot,
-            second: second.slot,
-            seats: accounts,
-        };
-        gathered.tell();
-        gathered
-    }
 }
 
 /// Settles a book: opens its locks, and takes back its seats, all of them. It takes no memory.

@@ -63,11 +63,21 @@ fn next_piece(alloc: Global, history: &[Request], from: usize) -> Result<Vec<Req
 
 /// What stands behind a lock of a book: the shard of number `N`, whose vehicles all have this number, the ledger that
 /// has counted each request that it accepted, and the keeper of the log that has them all.
-#[derive(Drop)]
 pub struct Slot<L: ShardLedger, const N: usize> {
     shard: Shard,
     accepted: Book<L>,
     keeper: Keeper<L>,
+}
+
+// By hand: a crate that drops a slot then cites this function, and proves no destructor of what it holds.
+impl<L: ShardLedger, const N: usize> Drop for Slot<L, N> {
+    fn drop(self) {
+        let Slot {
+            shard: _,
+            accepted: _,
+            keeper: _,
+        } = self;
+    }
 }
 
 impl<L: ShardLedger, const N: usize> Model for Slot<L, N> {

@@ -13,11 +13,21 @@ use std::sync::Wait;
 
 /// Requests that are recorded, and how much of each shard's history they are. Contracts see it as these requests, each with the
 /// moment at which it was recorded.
-#[derive(Drop)]
 pub struct Receipt<L: ShardLedger, M: ShardLedger, J: RecordLog> {
     pub(crate) record: Front<J>,
     pub(crate) first: Progress<L>,
     pub(crate) second: Progress<M>,
+}
+
+// By hand: a crate that drops a receipt then cites this function, and proves no destructor of what it holds.
+impl<L: ShardLedger, M: ShardLedger, J: RecordLog> Drop for Receipt<L, M, J> {
+    fn drop(self) {
+        let Receipt {
+            record: _,
+            first: _,
+            second: _,
+        } = self;
+    }
 }
 
 impl<L: ShardLedger, M: ShardLedger, J: RecordLog> Model for Receipt<L, M, J> {

@@ -29,11 +29,22 @@ use std::sync::Wait;
 use std::thread::Threads;
 
 /// A book that was opened over a record, and holds what that tells. Contracts see its tables, and the number of its seats.
-#[derive(Drop)]
 pub struct RecordedBook<F: Record, L: ShardLedger, M: ShardLedger, J: RecordLog> {
     book: Book<L, M>,
     seats: Vec<Seat<L, M>>,
     follower: Follower<F, L, M, J>,
+}
+
+// By hand: a crate that drops such a book then cites this function, and proves no destructor of what it holds.
+impl<F: Record + Drop, L: ShardLedger, M: ShardLedger, J: RecordLog> Drop
+    for RecordedBook<F, L, M, J> {
+    fn drop(self) {
+        let RecordedBook {
+            book: _,
+            seats: _,
+            follower: _,
+        } = self;
+    }
 }
 
 impl<F: Record, L: ShardLedger, M: ShardLedger, J: RecordLog> Model for RecordedBook<F, L, M, J> {

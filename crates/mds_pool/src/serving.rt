@@ -67,12 +67,21 @@ impl NewBook {
 }
 
 /// A settled book, and how many connections each of its workers answered.
-#[derive(Drop)]
 pub struct FinalBook<L: ShardLedger, M: ShardLedger> {
     /// The settled book. It tells how many requests were accepted in all.
     pub settled: Settled<L, M>,
     /// How many connections each worker answered, in the order of the seats.
     pub answered: Vec<AnswerCount>,
+}
+
+// By hand: a crate that drops a settled book then cites this function, and proves no destructor of what it holds.
+impl<L: ShardLedger, M: ShardLedger> Drop for FinalBook<L, M> {
+    fn drop(self) {
+        let FinalBook {
+            settled: _,
+            answered: _,
+        } = self;
+    }
 }
 
 impl<L: ShardLedger, M: ShardLedger> Model for FinalBook<L, M> {

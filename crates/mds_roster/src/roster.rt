@@ -16,11 +16,22 @@ use std::hash::RandomState;
 
 /// Where vehicles stand after requests that were accepted over some tables, and the names of their events. The requests
 /// themselves are not kept. Contracts say of which tables and which history this is the roster.
-#[derive(Debug, Drop)]
+#[derive(Debug)]
 pub struct Roster {
     tables: Tables,
     vehicles: IndexMap<Key, Standing, RandomState>,
     names: IndexSet<EventName, RandomState>,
+}
+
+// By hand: a crate that drops a roster then cites this function, and proves no destructor of what it holds.
+impl Drop for Roster {
+    fn drop(self) {
+        let Roster {
+            tables: _,
+            vehicles: _,
+            names: _,
+        } = self;
+    }
 }
 
 impl Roster {

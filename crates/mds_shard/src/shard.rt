@@ -23,13 +23,26 @@ use std::slice::from_ref;
 /// looks through the history.
 ///
 /// Every shard is such that its history could have been accepted, and what it keeps beside it is what the history says.
-#[derive(Debug, Drop)]
+#[derive(Debug)]
 pub struct Shard {
     tables: Tables,
     history: Vec<Request>,
     before: Vec<Option<usize>>,
     vehicles: IndexMap<Key, Vehicle, RandomState>,
     names: IndexSet<EventName, RandomState>,
+}
+
+// By hand: a crate that drops a shard then cites this function, and proves no destructor of what it holds.
+impl Drop for Shard {
+    fn drop(self) {
+        let Shard {
+            tables: _,
+            history: _,
+            before: _,
+            vehicles: _,
+            names: _,
+        } = self;
+    }
 }
 
 impl Model for Shard {

@@ -16,9 +16,16 @@ pub const MAX_TABLES: usize = 64;
 /// Tables of allowed transitions, each in force from its starting time until the next one starts: 1 to [`MAX_TABLES`], the
 /// first from 0, each from a later time than the one before, none from a time past [`MAX_TIME`]. Times are milliseconds
 /// since the Unix epoch. Contracts see the list of starting times and tables.
-#[derive(Debug, Drop)]
+#[derive(Debug)]
 pub struct Tables {
     entries: Vec<(u64, Table)>,
+}
+
+// By hand: a crate that drops tables then cites this function, and proves no destructor of what they hold.
+impl Drop for Tables {
+    fn drop(self) {
+        let Tables { entries: _ } = self;
+    }
 }
 
 impl Model for Tables {
