@@ -17,7 +17,7 @@ use Rattle.mds_core.specs.Reported.{Reported}
 use Rattle.mds_core.specs.History.{requests_of, key_of, same_key, report_of, reports, standing_of}
 use Rattle.mds_core.specs.Answer.{Gives, next}
 use Rattle.mds_core.specs.Run.{IsRun}
-use Rattle.mds_core.proofs.RunLaws.{one_run}
+use Rattle.mds_core.proofs.RunLaws.{one_run, accepts_exactly}
 use Rattle.mds_core.proofs.Histories.{requests_of-push_same, requests_of-push_other, same_key_is, same_key_refl}
 use Rattle.mds_batch.specs.declared.item.EventItem.{EventItem}
 use Rattle.mds_batch.specs.declared.item.EventItem.TheVariants.{Event, Fault as Faulty}
@@ -269,6 +269,7 @@ replayed_run tables items lines are requests same first =
       history = run.1;
       run = run.2;
       only = λ others left other. one_run tables [] requests others run.0 left run.1 other run.2;
+      exactly = accepts_exactly tables requests run.0 run.1 run.2;
       outcomes = run.3 ∙ judged.3;
       accepted = run.4.whole ∙ judged.4;
       kept = λ key registered. known_at requests kept run.1 key run.4 registered ∙ ap (λ events. as_requests key (prior_of key events)) judged.4;

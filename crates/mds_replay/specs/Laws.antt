@@ -11,6 +11,7 @@ use Rattle.mds_core.specs.declared.reply.Reply.{Reply}
 use Rattle.mds_core.specs.Reported.{Reported}
 use Rattle.mds_core.specs.History.{requests_of, reports}
 use Rattle.mds_core.specs.Run.{IsRun}
+use Rattle.mds_core.specs.Headline.{AcceptsExactly}
 use Rattle.mds_batch.specs.declared.item.EventItem.{EventItem}
 use Rattle.mds_replay.specs.declared.report.Opening.{Opening}
 use Rattle.mds_replay.specs.declared.report.Opening.TheVariants.{Removed}
@@ -41,7 +42,8 @@ outcomes_of_reports requests replies = filter_map (λ one. outcome_of_report one
 abbrev pub AreRegisteredFirst : List Request → Type 0
 AreRegisteredFirst requests = (i : ℕ) (event : Reported) → slice_get requests i ≡ Some (Report event) → Contains (take i requests) (Register event.key)
 
--- the machine has one run of the requests from nothing; the outcomes of its reports are those that the verdicts tell. The
+-- the machine has one run of the requests from nothing, which accepts exactly what is acceptable; the outcomes of its reports
+-- are those that the verdicts tell. The
 -- events that it keeps are those that the verdicts accept, in their order, and of each registered vehicle it keeps its
 -- registration and its events among these
 pub record IsRunOf (tables : Tables) (requests : List Request) (items : List EventItem) (lines : List Verdict) : Type 0 where
@@ -49,6 +51,7 @@ pub record IsRunOf (tables : Tables) (requests : List Request) (items : List Eve
   pub history : List Request
   pub run : IsRun tables [] requests replies history
   pub only : (others : List Reply) (left : List Request) → IsRun tables [] requests others left → (others ≡ replies) × (left ≡ history)
+  pub exactly : AcceptsExactly tables requests replies history
   pub outcomes : outcomes_of_reports requests replies ≡ filter_map outcome_told lines
   pub accepted : reports history ≡ accepted_of items lines
   pub kept : (key : Key) → Contains requests (Register key) → requests_of history key ≡ as_requests key (prior_of key (accepted_of items lines))

@@ -25,7 +25,7 @@ use Rattle.mds_trace.specs.SessionLaws.{LawfulReportsOpen}
 use Rattle.mds_trace.proofs.SessionLemmas.{held_at_take, none_open, open_push, order_more}
 
 -- the reports of events are the events
-reports_of : (events : List Reported) → reports (map Report events) ≡ events
+pub reports_of : (events : List Reported) → reports (map Report events) ≡ events
 reports_of [] = refl
 reports_of (event ∷ events) = ap (λ rest. event ∷ rest) (reports_of events)
 
@@ -38,7 +38,7 @@ last_is o (event ∷ next ∷ rest) last at =
     last_is (Some event) (next ∷ rest) last (subst (λ i. slice_get (event ∷ next ∷ rest) i ≡ Some last) place at)
 
 -- the state that the last event reports is the one held after all
-held_is : (events : List Reported) → option_map_or (λ (event : Reported). event.state) (last_or None events) Removed ≡ held_at Removed events (length events)
+pub held_is : (events : List Reported) → option_map_or (λ (event : Reported). event.state) (last_or None events) Removed ≡ held_at Removed events (length events)
 held_is [] = refl
 held_is (event ∷ rest) =
     let last = get_or (event ∷ rest) (length rest) event in

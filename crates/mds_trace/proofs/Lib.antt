@@ -4,3 +4,4 @@ pub mod Passed
 pub mod Lawful
 pub mod Accepted
 pub mod FeedingLemmas
+pub mod Told

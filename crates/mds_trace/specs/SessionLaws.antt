@@ -1,15 +1,22 @@
 -- What holds of sessions over lawful histories, and over the accepted events of a replay.
-use Rattle.std.specs.Prelude.{◌≡◌, ◌≢◌, ◌≤◌, ◌+◌, ℕ, List, [], length, take}
+use Rattle.std.specs.Prelude.{◌≡◌, ◌≢◌, ◌≤◌, ◌+◌, ℕ, List, [], length, take, slice_get, Some}
+use Rattle.mds_table.specs.declared.state.State.{State}
 use Rattle.mds_table.specs.declared.state.State.TheVariants.{Removed}
 use Rattle.mds_table.specs.Tables.{Tables}
 use Rattle.mds_core.specs.declared.key.Key.{Key}
 use Rattle.mds_core.specs.declared.request.Request.{Request}
+use Rattle.mds_core.specs.declared.reply.Standing.{Standing}
+use Rattle.mds_core.specs.Reported.{Reported}
 use Rattle.mds_core.specs.History.{requests_of, reports, state_of}
 use Rattle.mds_core.specs.Lawful.{IsLawful}
 use Rattle.mds_batch.specs.declared.item.EventItem.{EventItem}
+use Rattle.mds_batch.specs.declared.item.EventItem.TheVariants.{Event}
 use Rattle.mds_replay.specs.declared.report.Opening.TheVariants as opening
+use Rattle.mds_replay.specs.declared.report.Report.{Report}
 use Rattle.mds_replay.specs.declared.report.Verdict.{Verdict}
-use Rattle.mds_replay.specs.Replay.{prior_of, accepted_of, AreVerdicts}
+use Rattle.mds_replay.specs.declared.report.Verdict.TheVariants.{Accepted}
+use Rattle.mds_replay.specs.declared.report.VehicleEnd.{VehicleEnd}
+use Rattle.mds_replay.specs.Replay.{prior_of, accepted_of, AreVerdicts, IsReport}
 use Rattle.mds_trace.specs.Session.{AreOpenFrom, held_at}
 
 -- in a lawful history, a session over the events of a registered vehicle may be opened from removed, and the state held
@@ -26,3 +33,23 @@ abbrev pub AcceptedEventsOpen : Type 0
 AcceptedEventsOpen =
     (tables : Tables) (items : List EventItem) (lines : List Verdict) (key : Key) → AreVerdicts opening.Removed tables items lines
     → AreOpenFrom tables Removed (prior_of key (accepted_of items lines))
+
+-- the accepted events of a vehicle among the first so many items
+abbrev pub accepted_before : List EventItem → List Verdict → Key → ℕ → List Reported
+accepted_before items lines key n = prior_of key (accepted_of (take n items) (take n lines))
+
+-- a session over the accepted events of a vehicle, opened from removed, shows the states that the replay told: behind each
+-- accepted event the one of the item's verdict, and at its end the one of the vehicle's line
+pub record ShowsTold (tables : Tables) (items : List EventItem) (lines : List Verdict) (end : VehicleEnd) : Type 0 where
+  pub opens : AreOpenFrom tables Removed (prior_of end.key (accepted_of items lines))
+  pub told : (i : ℕ) (event : Reported) (state : State) → slice_get items i ≡ Some (Event event) → event.key ≡ end.key → slice_get lines i ≡ Some (Accepted state)
+      → held_at Removed (prior_of end.key (accepted_of items lines)) (length (accepted_before items lines end.key i) + 1) ≡ state
+  pub ended : (standing : Standing) → end.standing ≡ Some standing
+      → held_at Removed (prior_of end.key (accepted_of items lines)) (length (prior_of end.key (accepted_of items lines))) ≡ standing.state
+
+-- of a report of a replay in which each vehicle begins with a registration, a session shows the states that it told of each
+-- vehicle
+abbrev pub SessionsShowReports : Type 0
+SessionsShowReports =
+    (tables : Tables) (items : List EventItem) (report : Report) (n : ℕ) (end : VehicleEnd) → IsReport opening.Removed tables items report
+    → slice_get report.vehicles.items n ≡ Some end → ShowsTold tables items report.lines.items end

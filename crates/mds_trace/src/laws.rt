@@ -1,6 +1,6 @@
 //! What holds of the definitions alone: of verdicts and runs, and of sessions, whoever computes them. Each law is a
 //! function that does nothing; its contract is the law.
-ghost use Rattle.mds_trace.specs.SessionLaws.{LawfulReportsOpen, AcceptedEventsOpen};
+ghost use Rattle.mds_trace.specs.SessionLaws.{LawfulReportsOpen, AcceptedEventsOpen, SessionsShowReports};
 
 pub use mds_replay::laws::{replays_are_runs, replays_have_requests, reports_are_one};
 
@@ -14,4 +14,11 @@ pub fn lawful_reports_open()
 /// opened from removed: only want of memory keeps it from being opened.
 pub fn accepted_events_open()
     ensures { AcceptedEventsOpen }
+{}
+
+/// The debugger shows the states that the replayer told. Of a report of a replay with
+/// [`Opening::Removed`](crate::Opening::Removed), a session over a vehicle's accepted events, opened from removed, holds behind
+/// each of them the state of its verdict, and at its end that of the vehicle's line.
+pub fn sessions_show_reports()
+    ensures { SessionsShowReports }
 {}
