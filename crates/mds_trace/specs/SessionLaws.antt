@@ -38,18 +38,28 @@ AcceptedEventsOpen =
 abbrev pub accepted_before : List EventItem → List Verdict → Key → ℕ → List Reported
 accepted_before items lines key n = prior_of key (accepted_of (take n items) (take n lines))
 
--- a session over the accepted events of a vehicle, opened from removed, shows the states that the replay told: behind each
--- accepted event the one of the item's verdict, and at its end the one of the vehicle's line
-pub record ShowsTold (tables : Tables) (items : List EventItem) (lines : List Verdict) (end : VehicleEnd) : Type 0 where
-  pub opens : AreOpenFrom tables Removed (prior_of end.key (accepted_of items lines))
-  pub told : (i : ℕ) (event : Reported) (state : State) → slice_get items i ≡ Some (Event event) → event.key ≡ end.key → slice_get lines i ≡ Some (Accepted state)
-      → held_at Removed (prior_of end.key (accepted_of items lines)) (length (accepted_before items lines end.key i) + 1) ≡ state
+-- behind each accepted event of a vehicle a session over these events of it, opened from removed, holds the state of the
+-- item's verdict
+abbrev pub HoldsTold : List EventItem → List Verdict → Key → List Reported → Type 0
+HoldsTold items lines key events =
+    (i : ℕ) (event : Reported) (state : State)
+    → slice_get items i ≡ Some (Event event) → event.key ≡ key → slice_get lines i ≡ Some (Accepted state)
+    → held_at Removed events (length (accepted_before items lines key i) + 1) ≡ state
+
+-- a session over the accepted events of a vehicle opens from removed, and shows the states that the replay told: behind each
+-- event the one of the item's verdict, and at its end the one of the vehicle's line
+pub record ShowsTold (tables : Tables) (items : List EventItem) (lines : List Verdict)
+    (end : VehicleEnd) (events : List Reported) : Type 0 where
+  pub opens : AreOpenFrom tables Removed events
+  pub told : HoldsTold items lines end.key events
   pub ended : (standing : Standing) → end.standing ≡ Some standing
-      → held_at Removed (prior_of end.key (accepted_of items lines)) (length (prior_of end.key (accepted_of items lines))) ≡ standing.state
+      → held_at Removed events (length events) ≡ standing.state
 
 -- of a report of a replay in which each vehicle begins with a registration, a session shows the states that it told of each
 -- vehicle
 abbrev pub SessionsShowReports : Type 0
 SessionsShowReports =
-    (tables : Tables) (items : List EventItem) (report : Report) (n : ℕ) (end : VehicleEnd) → IsReport opening.Removed tables items report
-    → slice_get report.vehicles.items n ≡ Some end → ShowsTold tables items report.lines.items end
+    (tables : Tables) (items : List EventItem) (report : Report) (n : ℕ) (end : VehicleEnd)
+    → IsReport opening.Removed tables items report → slice_get report.vehicles.items n ≡ Some end
+    → ShowsTold tables items report.lines.items end
+      (prior_of end.key (accepted_of items report.lines.items))
