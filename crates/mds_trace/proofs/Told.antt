@@ -1,5 +1,5 @@
 -- What a replay tells of a vehicle's states, and what a session over its accepted events shows.
-use Rattle.std.proofs.Common.{◌≡◌, ◌+◌, ℕ, zero, suc, Bool, true, false, List, [], ◌∷◌, ◌++◌, length, take, cond, slice_get, Option, Some, None, refl, sym, ap, subst, ◌∙◌, add-one, append_assoc, arith, length-append}
+use Rattle.std.proofs.Common.{◌≡◌, ◌+◌, ℕ, zero, suc, true, List, [], ◌∷◌, ◌++◌, length, take, cond, slice_get, Some, None, sym, ap, subst, ◌∙◌, add-one, arith, length-append}
 use Rattle.std.specs.List.{AllZip, last_or}
 use Rattle.std.specs.Option.{option_map_or}
 use Rattle.std.proofs.lemmas.List.Elements.{filter-append}
@@ -14,14 +14,13 @@ use Rattle.mds_core.proofs.Histories.{same_key_refl}
 use Rattle.mds_batch.specs.declared.item.EventItem.{EventItem}
 use Rattle.mds_batch.specs.declared.item.EventItem.TheVariants.{Event, Fault as Faulty}
 use Rattle.mds_replay.specs.declared.report.Opening.TheVariants.{Removed}
-use Rattle.mds_replay.specs.declared.report.Report.{Report}
 use Rattle.mds_replay.specs.declared.report.Verdict.{Verdict}
 use Rattle.mds_replay.specs.declared.report.Verdict.TheVariants.{Accepted, Refused, NoOpening, Fault}
 use Rattle.mds_replay.specs.declared.report.VehicleEnd.{VehicleEnd}
 use Rattle.mds_replay.specs.Items.{events_of, vehicles_of}
-use Rattle.mds_replay.specs.Replay.{accepted_by, accepted_of, prior_of, as_requests, IsEnd, IsReport, IsVerdict}
+use Rattle.mds_replay.specs.Replay.{accepted_by, accepted_of, prior_of, as_requests, IsEnd, IsVerdict}
 use Rattle.mds_trace.specs.Session.{held_at}
-use Rattle.mds_trace.specs.SessionLaws.{accepted_before, ShowsTold, SessionsShowReports}
+use Rattle.mds_trace.specs.SessionLaws.{accepted_before, SessionsShowReports}
 use Rattle.mds_trace.proofs.Accepted.{accepted_events_open}
 use Rattle.mds_trace.proofs.Lawful.{reports_of, held_is}
 
