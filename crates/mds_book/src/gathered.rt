@@ -42,12 +42,23 @@ impl<L: ShardLedger, M: ShardLedger> Model for Account<L, M> {
 
 /// The histories of both shards, and the notes of all seats, with nothing judged. What the seats counted is what the
 /// histories hold.
-#[derive(Drop)]
 pub struct Gathered<L: ShardLedger, M: ShardLedger> {
     pub(crate) tables: Tables,
     pub(crate) first: Slot<L, 0>,
     pub(crate) second: Slot<M, 1>,
     pub(crate) seats: Vec<Account<L, M>>,
+}
+
+// By hand: a crate that drops what was gathered then cites this function, and proves no destructor of what it holds.
+impl<L: ShardLedger, M: ShardLedger> Drop for Gathered<L, M> {
+    fn drop(self) {
+        let Gathered {
+            tables: _,
+            first: _,
+            second: _,
+            seats: _,
+        } = self;
+    }
 }
 
 impl<L: ShardLedger, M: ShardLedger> Model for Gathered<L, M> {

@@ -9,9 +9,15 @@ use std::alloc::{AllocError, Global};
 use std::marker::Model;
 
 /// The routes that requests are matched against.
-#[derive(Drop)]
 pub struct Face {
     router: Router<Route>,
+}
+
+// By hand: a crate that drops the routes then cites this function, and proves no destructor of what it holds.
+impl Drop for Face {
+    fn drop(self) {
+        let Face { router: _ } = self;
+    }
 }
 
 impl Model for Face {
