@@ -1,6 +1,7 @@
 //! What no clause says: that workers work side by side, and what comes of their connections.
 mod gates;
 mod journals;
+mod loopback;
 
 ghost use Rattle.std.specs.Prelude.{◌≡◌, IfOk};
 ghost use Rattle.mds_book.specs.Books.{IsSeatCount};

@@ -1,0 +1,88 @@
+//! Three connections over loopback, of a server and its client in one process.
+use super::{A, Came, once, served};
+use mds_book::OpenGate;
+use mds_io::{read_front, write_all_of};
+use mds_socket::SocketPort;
+use std::alloc::Global;
+use std::net::{Ipv4Addr, Net, TcpListener, TcpStream};
+use std::random::RandomSource;
+use std::sync::Wait;
+use std::thread;
+use std::thread::Threads;
+use std::time::Clock;
+use test_fixtures::Lack;
+
+/// The first event of the vehicle that is registered, and a look at it.
+const EVENT: &[u8] =
+    b"POST /events HTTP/1.1\r\nContent-Length: 236\r\n\r\n{\"provider_id\":\"00000000-0000-4000-8000-000000000001\",\"device_id\":\"00000000-0000-4000-8000-00000000000a\",\"event_id\":\"00000000-0000-4000-8000-0000000000e1\",\"vehicle_state\":\"available\",\"event_types\":[\"provider_drop_off\"],\"timestamp\":1000}";
+
+const LOOK: &[u8] =
+    b"GET /vehicles/00000000-0000-4000-8000-000000000001/00000000-0000-4000-8000-00000000000a HTTP/1.1\r\n\r\n";
+
+/// What is answered to one item that was accepted, and to the look.
+const DONE: &[u8] =
+    b"HTTP/1.1 200 OK\r\ncontent-type: application/json\r\ncontent-length: 37\r\nconnection: close\r\n\r\n{\"failures\":[],\"success\":1,\"total\":1}";
+
+const SEEN: &[u8] =
+    b"HTTP/1.1 200 OK\r\ncontent-type: application/json\r\ncontent-length: 175\r\nconnection: close\r\n\r\n{\"device_id\":\"00000000-0000-4000-8000-00000000000a\",\"events\":1,\"last\":1000,\"location_e7\":null,\"provider_id\":\"00000000-0000-4000-8000-000000000001\",\"vehicle_state\":\"available\"}";
+
+/// Requests, each on a connection of its own, and their answers.
+const TALK: &[(&[u8], &[u8])] = &[(A, DONE), (EVENT, DONE), (LOOK, SEEN)];
+
+/// Whether a request has this answer, and nothing behind it, at the port of this number.
+fn is_answered<R: Net>(rt: &R, alloc: Global, number: u16, request: &[u8], answer: &[u8]) -> bool {
+    let Ok(mut stream) = TcpStream::connect(rt, (Ipv4Addr::LOCALHOST, number)) else {
+        return false;
+    };
+    if write_all_of(&mut stream, request).is_err() {
+        return false;
+    }
+    match read_front(alloc, &mut stream, 1000) {
+        Ok(bytes) => bytes.as_slice() == answer,
+        Err(_) => false,
+    }
+}
+
+/// How many of the requests are answered otherwise. Each is made, so that the server comes to its end.
+fn other_answers<R: Net>(rt: &R, alloc: Global, number: u16, talk: &[(&[u8], &[u8])]) -> usize {
+    let mut others = 0usize;
+    for (request, answer) in talk {
+        if !is_answered(rt, alloc, number, request, answer) {
+            others = others.saturating_add(1);
+        }
+    }
+    others
+}
+
+/// What serving three connections of a socket by one worker comes to, and how many of them were answered otherwise.
+fn served_over_loopback<
+    R: Threads
+        + Wait
+        + RandomSource
+        + Clock
+        + Net<Listener = TcpListener, Stream = TcpStream>
+        + Copy
+        + Send
+        + Sync,
+>(rt: &R, alloc: Global) -> Result<(Came, usize), Lack> {
+    let Ok(port) = SocketPort::bind(rt, alloc, *rt, 0) else {
+        return Err(Lack::Case);
+    };
+    let Ok(number) = port.number() else {
+        return Err(Lack::Case);
+    };
+    let (came, others) = thread::join(
+        rt,
+        || served(rt, alloc, &port, &OpenGate, once(1, 3)),
+        || other_answers(rt, alloc, number, TALK),
+    );
+    Ok((came?, others))
+}
+
+#[test]
+fn three_connections_over_loopback(rt: HostRuntime) {
+    assert_eq!(rt;
+        served_over_loopback(&rt, rt.alloc()),
+        Ok(((None, 1, Some(2)), 0))
+    );
+}
