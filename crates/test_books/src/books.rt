@@ -13,7 +13,7 @@ use mds_book::{
     reconcile,
 };
 use mds_core::Outcome::{Done, Seen};
-use mds_core::{Reply, Request};
+use mds_core::{Event, Reply, Request};
 use mds_table::Tables;
 use std::alloc::{AllocError, Global};
 use std::hash::RandomState;
@@ -164,7 +164,28 @@ fn ask_in_threads<
     );
 }
 
-/// How many events a vehicle has, if it is registered. A list for the seat has as many as one for nobody.
+/// The events of a vehicle, for nobody. They are asked for while the other shard is locked, and don't wait for that one.
+fn listed_beside<L: ShardLedger, M: ShardLedger, R: Wait>(
+    rt: &R,
+    alloc: Global,
+    book: &Book<L, M>,
+    device: u64,
+) -> Result<Option<Vec<Event>>, AllocError> {
+    let key = key(device);
+    let other = 1 - book.shard_of(&key);
+    book.with_shard(rt, other, |_| book.vehicle_events(rt, alloc, &key))
+}
+
+/// Whether two lists are the same, or neither is there.
+fn are_same(one: &Option<Vec<Event>>, other: &Option<Vec<Event>>) -> bool {
+    match (one, other) {
+        (Some(one), Some(other)) => one.as_slice() == other.as_slice(),
+        (None, None) => true,
+        _ => false,
+    }
+}
+
+/// How many events a vehicle has, if it is registered. A list for the seat has the same as one for nobody.
 fn events_of<L: ShardLedger, M: ShardLedger, R: Wait>(
     rt: &R,
     alloc: Global,
@@ -176,15 +197,14 @@ fn events_of<L: ShardLedger, M: ShardLedger, R: Wait>(
         Err(_) => book.seat_events(rt, alloc, seat, &key(device))?,
         Ok(listed) => listed,
     };
-    let events = match book.vehicle_events(rt, alloc, &key(device)) {
-        Err(_) => book.vehicle_events(rt, alloc, &key(device))?,
+    let events = match listed_beside(rt, alloc, book, device) {
+        Err(_) => listed_beside(rt, alloc, book, device)?,
         Ok(events) => events,
     };
-    let count = events.map(|events| events.len());
-    if listed.map(|listed| listed.len()) != count {
+    if !are_same(&listed, &events) {
         return Err(Lack::Case);
     }
-    Ok(count)
+    Ok(events.map(|events| events.len()))
 }
 
 /// What a book tells without memory.

@@ -11,13 +11,20 @@ use std::random::RandomSource;
 use std::sync::Wait;
 use std::thread::Threads;
 use test_fixtures::Ask::{self, Look, Register, Report, ReportAt};
-use test_fixtures::{A, B, DROP_OFF, E0, E1, E2, E3, E4, Lack, request_of};
+use test_fixtures::{A, B, C, DROP_OFF, E0, E1, E2, E3, E4, Lack, key, request_of};
 use test_steps::{
     AVAILABLE, CASES as CASES_OF_SHARDS, DROPPED_OFF, NEW, PROFILE, STUCK_AVAILABLE, STUCK_REMOVED,
     Step, WAKE_THEN_REST, WorkedCase, most_tables, put, tables_of, turns,
 };
 
 const LOW: &[&str] = &["battery_low"];
+
+/// Seventeen types: a battery goes low, and is charged and goes low again, time after time.
+const LOW_AGAIN: &[&str] = rows! {
+    "battery_low",
+    "battery_charged", "battery_low", "battery_charged", "battery_low", "battery_charged", "battery_low", "battery_charged", "battery_low",
+    "battery_charged", "battery_low", "battery_charged", "battery_low", "battery_charged", "battery_low", "battery_charged", "battery_low",
+};
 
 /// Vehicles of both shards; and what is known of a vehicle whichever seat asks.
 const CASES: &[WorkedCase] = rows! {
@@ -54,6 +61,14 @@ const CASES: &[WorkedCase] = rows! {
         (DROPPED_OFF, 2, Refused(Repeated)),
         (Register(A), 2, Refused(AlreadyRegistered)),
     ], &[]),
+    ("two events of each of two vehicles, with positions and without, of one type and of many", PROFILE, &[
+        (Register(B), 0, Done),
+        (Register(A), 0, Done),
+        (ReportAt(A, E1, DROP_OFF, Available, 1000, (525_200_000, 134_050_000)), 1, Done),
+        (ReportAt(B, E1, DROP_OFF, Available, 1000, (-900_000_000, 1_800_000_000)), 1, Done),
+        (Report(A, E2, LOW_AGAIN, NonOperational, 2000), 2, Done),
+        (ReportAt(B, E2, LOW, NonOperational, 2000, (1, -1)), 2, Done),
+    ], &[]),
     ("just before the rules change, as they do, and a vehicle of the other shard before that", WAKE_THEN_REST, &[
         (Register(A), 0, Done),
         (Report(A, E1, &["wake"], Available, 1999), 1, Done),
@@ -68,7 +83,12 @@ const CASES: &[WorkedCase] = rows! {
 /// How many seats take the steps by turns, and what they note.
 type Way = (usize, Keep);
 
-const WAYS: &[Way] = &[(1, Keep::Accepted), (1, Keep::All), (3, Keep::All)];
+const WAYS: &[Way] = &[
+    (1, Keep::Accepted),
+    (1, Keep::All),
+    (3, Keep::Accepted),
+    (3, Keep::All),
+];
 
 /// The number of the shard that is asked.
 fn shard_of(asked: &Ask) -> usize {
@@ -117,7 +137,19 @@ fn fleet_after(alloc: Global, tables: Tables, steps: &[Step]) -> Result<Option<F
     Ok(Some(fleet))
 }
 
-/// Whether a book over the tables replies as the steps say, notes that, and has the history of a fleet that does the same.
+/// How many events A, B and C have in a fleet.
+fn events_in(alloc: Global, fleet: &Fleet) -> Result<[Option<usize>; 3], AllocError> {
+    let mut counts = [None; 3];
+    for (device, count) in [A, B, C].iter().zip(counts.iter_mut()) {
+        if let Some(events) = fleet.events(alloc, &key(*device))? {
+            *count = Some(events.len());
+        }
+    }
+    Ok(counts)
+}
+
+/// Whether a book over the tables replies as the steps say, notes that, and has the history and the events of a fleet that does
+/// the same.
 fn is_so<R: Threads + Wait + RandomSource + Sync>(
     rt: &R,
     alloc: Global,
@@ -138,6 +170,7 @@ fn is_so<R: Threads + Wait + RandomSource + Sync>(
         told.shown.others == [None, None]
             && told.notes == notes_of(alloc, steps, way)?
             && told.shown.lengths == [told.first.len(), told.second.len()]
+            && told.events == events_in(alloc, &fleet)?
             && are_of_shard(&told.first, fleet.history(), 0)
             && are_of_shard(&told.second, fleet.history(), 1),
     )
