@@ -253,13 +253,13 @@ fn read_again(alloc: Global) -> Result<Vec<u8>, ReadError> {
     Ok(bytes)
 }
 
-/// Two lines, laid out and put out on a page of their own.
-fn two_lines(alloc: Global) -> Result<Vec<u8>, PrintError> {
+/// Two lines, laid out and put out on a page of their own, and how many bytes the page has then.
+fn two_lines(alloc: Global) -> Result<(Vec<u8>, usize), PrintError> {
     let mut out = Vec::new(alloc);
     let mut page = String::new(alloc);
     add_line(&mut out, &mut page, &"accepted 3")?;
     end_page(&mut out, &mut page, &7)?;
-    Ok(out)
+    Ok((out, page.len()))
 }
 
 /// Each call that takes memory, made again where its growth is refused (by `tests/refused-growths`).
@@ -268,9 +268,11 @@ fn calls_succeed_after_a_refused_growth(rt: HostRuntime) {
     let front = again!(read_front(rt.alloc(), &mut b"abc".as_slice(), 9)).map(|bytes| bytes.len());
     let bytes = read_again(rt.alloc()).map(|bytes| bytes.as_slice()
         == b"abcdefghijklmnop".as_slice());
-    let lines = again!(two_lines(rt.alloc())).map(|lines| lines.as_slice()
-        == b"accepted 3\n7\n".as_slice());
-    assert_eq!(rt; (front, bytes, lines), (Ok(3), Ok(true), Ok(true)));
+    let lines = again!(two_lines(rt.alloc())).map(|told| (
+        told.0.as_slice() == b"accepted 3\n7\n".as_slice(),
+        told.1,
+    ));
+    assert_eq!(rt; (front, bytes, lines), (Ok(3), Ok(true), Ok((true, 0))));
 }
 
 /// What comes of three bytes and of a page that go out to a stream, how many bytes more that takes, and how many the

@@ -13,6 +13,6 @@ fn pass<G: Gate>(gate: &G, worker: usize, pieces: usize) {
 #[test]
 fn the_open_gate_is_passed_with_every_growth_refused(rt: HostRuntime) {
     let _begun = fence(rt.alloc());
-    pass(&OpenGate, 3, 2);
+    pass(&OpenGate, 3, 100);
     let _ended = fence(rt.alloc());
 }

@@ -205,6 +205,27 @@ fn first_other_write(
     Ok(None)
 }
 
+/// What is told, and how many bytes are written, where a peer takes 1,000 bytes of the table, which are fewer than all, and then
+/// does this.
+fn cut_far_behind(alloc: Global, last: Last) -> Result<(Result<Served, ServeFault>, usize), Lack> {
+    let mut server = server_of(alloc)?;
+    let client = client_of(b"GET /table HTTP/1.1\r\n\r\n", 46, Last::Ends);
+    let (told, _, taken, _) = came_of(alloc, &mut server, client, 1000, last)?;
+    Ok((told, taken.len()))
+}
+
+#[test]
+fn writes_that_fail_far_behind(rt: HostRuntime) {
+    let found = [
+        cut_far_behind(rt.alloc(), Last::Fails),
+        cut_far_behind(rt.alloc(), Last::Ends),
+        cut_far_behind(rt.alloc(), Last::Pauses),
+    ];
+    let write = Ok((Err(ServeFault::Write { sent: 1000 }), 1000));
+    let turns = Ok((Err(ServeFault::TooManyTurns { sent: 1000 }), 1000));
+    assert_eq!(rt; found, [write, write, turns]);
+}
+
 /// The answer has 127 bytes.
 #[test]
 fn writes_that_fail(rt: HostRuntime) {
