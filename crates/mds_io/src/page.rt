@@ -69,6 +69,7 @@ pub fn end_page<W: Write, D: Display>(
     ensures ok { OnOk result (IfSome (D.output line.now) (λ text.
         Appends (W.contents writer.old) (W.contents writer.new)
         (string_bytes page.old ++ with_newline text))) }
+    ensures emptied { OnOk result (string_bytes page.new ≡ []) }
     ensures err { OnErr result (IfSome (D.output line.now) (λ text.
         AppendsFront (W.contents writer.old) (W.contents writer.new)
         (string_bytes page.old ++ with_newline text))) }
