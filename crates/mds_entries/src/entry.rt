@@ -41,10 +41,16 @@ impl From<BatchFault> for EntryFault {
 }
 
 /// A reader of lines. What it needs to read one it keeps for the next.
-#[derive(Drop)]
 pub struct EntryReader {
     alloc: Global,
     items: ItemReader,
+}
+
+// By hand: a crate that drops a reader then cites this function, and proves no destructor of what it holds.
+impl Drop for EntryReader {
+    fn drop(self) {
+        let EntryReader { alloc: _, items: _ } = self;
+    }
 }
 
 impl EntryReader {
