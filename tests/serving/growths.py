@@ -5,6 +5,7 @@ import re
 import time
 import uuid
 from concurrent.futures import ThreadPoolExecutor
+from dataclasses import dataclass
 
 from cases.replays import A, B, P, batch, item
 from harness.building import Refusal
@@ -30,97 +31,129 @@ def out_of_memory(index):
     return answer(503, {"error": "out_of_memory", "index": index})
 
 
+@dataclass
+class Turn:
+    """An exchange, whose request is made again where it was answered 503."""
+
+    exchange: Exchange
+    places: tuple = ()
+    """The places of its items that aren't at fault."""
+    others: tuple = ()
+    """What the same request is answered once the first of these items stands, once two do, and so on."""
+
+    def lacks(self):
+        """The answers that tell of want of memory, each with what the same request is answered then. Where an item is told that
+        had none, those before it stand, and it and those behind it don't; else none stands, or all do."""
+        stood = [self.exchange.answer, *self.others]
+        told = {(out_of_memory(place), answered) for place, answered in zip(self.places, stood)}
+        return told | {(FIXED, stood[0]), (FIXED, stood[-1])}
+
+
 def turns():
-    """Exchanges, and what else may be answered where they were answered 503 before: where one of their items stands, where two do."""
+    """The worked answers: of two registrations, a batch whose second item is at fault, looks, lists and the table."""
     again = [{"error": "already_registered", "index": index} for index in (0, 1)]
-    repeated = {"error": "repeated", "index": 0}
-    both = registered(A, B)
-    first = Exchange(post("/events", batch([item()])), done(1))
-    yield both, [done(2, again[:1]), done(2, again)]
-    yield first, [done(1, [repeated])]
-    yield Exchange(get(f"/vehicles/{P}/{A}"), answer(200, LOOK)), []
-    yield Exchange(get(f"/vehicles/{P}/{A}/events"), answer(200, f'{{"events":[{E1}]}}')), []
-    yield look(B, "removed", 0, None), []
-    yield Exchange(get("/table"), answer(200, {"rows": Table().listed()})), []
+    yield Turn(registered(A, B), (0, 1), (done(2, again[:1]), done(2, again)))
+    repeated = [{"error": "repeated", "index": index} for index in (0, 2)]
+    missing = {"error": "missing_param", "index": 1, "param": "device_id"}
+    three = post("/events", batch([item(), item(device_id=None), item(device_id=f'"{B}"')]))
+    stood = done(3, [repeated[0], missing]), done(3, [repeated[0], missing, repeated[1]])
+    yield Turn(Exchange(three, done(3, [missing])), (0, 2), stood)
+    yield Turn(Exchange(get(f"/vehicles/{P}/{A}"), answer(200, LOOK)))
+    yield Turn(Exchange(get(f"/vehicles/{P}/{A}/events"), answer(200, f'{{"events":[{E1}]}}')))
+    yield Turn(look(B, "available", 1, 1000))
+    yield Turn(Exchange(get("/table"), answer(200, {"rows": Table().listed()})))
 
 
 TURNS = list(turns())
-ACCEPTED = 3
+ACCEPTED = 4
 
 
-def one_turn(port, exchange, others):
-    """Asks, and once more where there was no memory; how many connections that took, and what was wrong. Where an item is told that
-    had none, those before it stand, and it and those behind it don't. No answer at all means that the server ended."""
-    found = ask(port, exchange.request)
+def one_turn(port, turn):
+    """The answer to a request, and where that isn't the right one what it is answered when it is made again. No answer at all
+    means that the server ended."""
+    found = ask(port, turn.exchange.request)
     if not found:
         raise ConnectionAbortedError
-    if found == exchange.answer:
-        return 1, []
-    stood = [exchange.answer, *others]
-    told = {FIXED: stood, **{out_of_memory(count): [stood[count]] for count in range(len(others))}}
-    if found not in told:
-        return 1, [f"{exchange.request[:60]!r} was answered {found!r}"]
-    after = ask(port, exchange.request)
-    if after not in told[found]:
-        return 2, [f"{exchange.request[:60]!r} was answered {found!r}, and then {after!r}"]
-    return 2, []
+    return (found,) if found == turn.exchange.answer else (found, ask(port, turn.exchange.request))
 
 
 def served(server):
-    """Whether all was answered, and what was wrong."""
-    complaints = []
-    for exchange, others in TURNS:
-        try:
-            connections, wrong = one_turn(server.port, exchange, others)
-        except OSError:
-            return False, complaints
-        server.count(connections)
-        complaints += wrong
-    return True, complaints
+    """The answers of each turn, as far as they came."""
+    answers = []
+    try:
+        for turn in TURNS:
+            answers.append(one_turn(server.port, turn))
+            server.count(len(answers[-1]))
+    except OSError:
+        pass
+    return answers
 
 
-def refused(program, number):
-    """What is wrong with a run with this growth refused, and whether the run came to it."""
-    with Refusal(number) as refusal:
-        try:
-            with Server(program, len(TURNS) + 1, env=refusal.env) as server:
-                wrong = list(judged(server))
-        except NotListening as fault:
-            allowed = [(4, "", NO_MEMORY), (3, "", SOCKET)]
-            wrong = [] if fault.ended in allowed else [str(fault)]
-        return [f"growth {number}: {text}" for text in wrong], refusal.came()
+def other_answers(answers):
+    """What is wrong with answers that aren't the right ones."""
+    for turn, found in zip(TURNS, answers):
+        if len(found) > 1 and found not in turn.lacks():
+            yield f"{turn.exchange.request[:60]!r} was answered {found[0]!r}, and then {found[1]!r}"
 
 
-def judged(server):
-    """What is wrong with a server that has come to listen. Each connection is answered, also one for which there was no memory
-    at first; or the server had none for itself, and says so."""
-    whole, complaints = served(server)
-    yield from complaints
-    while whole and server.left:
+def ended_otherwise(server, is_whole, refusal):
+    """What is wrong with the end of a server. Each connection is answered, also one for which there was no memory at first; or the
+    server had none for itself, and says so."""
+    while is_whole and server.left:
         found = ask(server.port, get("/"))
         server.count()
-        whole = found != b""
+        is_whole = found != b""
         if found not in (b"", error(404, "not_found"), FIXED):
             yield f"at the end, {found!r}"
     ended = server.ended()
-    allowed = [(0, f"accepted {ACCEPTED}\n", "")] if whole else []
-    if ended not in (*allowed, (4, "", NO_MEMORY)):
-        yield f"ended with {ended}, {'all' if whole else 'not all'} answered"
+    allowed = [(0, f"accepted {ACCEPTED}\n", "")] if is_whole else []
+    allowed += [(4, "", NO_MEMORY)] if refusal.came() else []
+    if ended not in allowed:
+        yield f"ended with {ended}, {'all' if is_whole else 'not all'} answered"
+
+
+def refused(program, number):
+    """A run with this growth refused: what is wrong with it, the answers of each turn, and whether the run came to the growth."""
+    answers = []
+    with Refusal(number) as refusal:
+        try:
+            with Server(program, len(TURNS) + 1, env=refusal.env) as server:
+                answers = served(server)
+                wrong = [*other_answers(answers), *ended_otherwise(server, len(answers) == len(TURNS), refusal)]
+        except NotListening as fault:
+            allowed = [(4, "", NO_MEMORY), (3, "", SOCKET)]
+            wrong = [] if refusal.came() and fault.ended in allowed else [str(fault)]
+        if not refusal.came() and max(map(len, answers), default=1) > 1:
+            wrong.append("an answer of status 503, where no growth was refused")
+        return [f"growth {number}: {text}" for text in wrong], answers, refusal.came()
+
+
+def never_told(came):
+    """Which wants of memory no refused growth led to, in words. A call that finds none isn't made again for the same request: so
+    each item has a growth by which that is told of it, and each answer one by which its bytes had none."""
+    for turn, found in zip(TURNS, came):
+        for told, then in sorted(turn.lacks() - found):
+            yield f"no growth has {turn.exchange.request[:60]!r} answered {told!r}, and then {then!r}"
 
 
 def each_growth_refused(program):
     """Each growth in turn, until they run out: each answer is the right one, or one of the two that say that there was no
     memory, after which the same request is answered; what is accepted is counted; and where the server ends for want of
-    memory, it says so. None ends it by a connection."""
+    memory, it says so. None ends it by a connection. Each want that may be told is, at some growth."""
+    came = [set() for _ in TURNS]
     with ThreadPoolExecutor(os.cpu_count()) as pool:
         for start in range(1, MOST, AT_ONCE):
             numbers = range(start, start + AT_ONCE)
             ends = list(pool.map(lambda number: refused(program, number), numbers))
-            for wrong, _ in ends:
+            for wrong, answers, _ in ends:
                 yield from wrong
-            if start == 1 and not ends[0][1]:
+                for found, answered in zip(came, answers):
+                    found.add(answered)
+            if start == 1 and not ends[0][2]:
                 yield "the program takes no memory by `malloc`, so that nothing was refused"
-            if not all(came for _, came in ends):
+                return
+            if not all(refusal_came for _, _, refusal_came in ends):
+                yield from never_told(came)
                 return
         yield f"{MOST} growths, and no end"
 
