@@ -12,6 +12,7 @@ from cases.debugging import BAD, EVENTS, MAX_SCRIPT, NOBODY, SECOND, START, UNKN
 from cases.replays import A, B, P, batch, event, identifier, item
 from cases.streams import LONG, LONG_FILES
 from cases.tables import ONE_ROW, ONE_ROW_PRINTED, PROFILE, table_printed
+from cases.vehicles import journal, registered
 from harness.building import Counting
 from harness.case import MAX_BYTES, OUTPUT, Case, cannot_read, not_a_batch, not_a_table
 from harness.running import differences, outcome
@@ -22,7 +23,7 @@ EVERY = MOST_CALLS // 5
 INPUT, OUT, FAULTS, FILE = range(4)
 """The descriptors of the standard streams, and of the first file that is opened."""
 MOVED = MOST_CALLS // EVERY
-FILES = {"events.json": EVENTS, "table.json": ONE_ROW}
+FILES = {"events.json": EVENTS, "table.json": ONE_ROW, "journal": journal(registered(A))}
 DEBUG = f"debug events.json {P} {A}"
 STARTED = f"events 2 refused 0\n{START}"
 
@@ -41,6 +42,7 @@ WRITES = [
     ("table", OUT, (3, table_printed(PROFILE)[:MOVED], OUTPUT)),
     ("replay events.json", OUT, (3, "0 ok non_contactable"[:MOVED], OUTPUT)),
     (DEBUG, OUT, (3, STARTED[:MOVED], OUTPUT)),
+    ("vehicles journal", OUT, (3, "vehicle"[:MOVED], OUTPUT)),
     ("serve --port 0 --each 0", OUT, (3, "listening"[:MOVED], OUTPUT)),
     ("replay missing.json", FAULTS, (3, "", cannot_read("missing.json")[:MOVED])),
     (f"debug events.json {P} {B}", FAULTS, (1, "", NOBODY[:MOVED])),

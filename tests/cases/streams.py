@@ -4,21 +4,27 @@ import subprocess
 import tempfile
 from pathlib import Path
 
-from cases.replays import A, P, batch, history, item, replayed
+from cases.replays import A, P, batch, history, identifier, item, replayed
 from cases.tables import MOST_ROWS, ONE_ROW, table_file
+from cases.vehicles import journal, registered
 from harness.case import FULL, NO_MEMORY, NO_STREAMS, OUTPUT, Case, cannot_read, not_a_batch, not_a_table, told
 
 ONE = batch([item()])
-EVENTS = 5000
-"""Of a vehicle: what is printed of each command then, is more than a page, and more than a pipe holds."""
+EVENTS, VEHICLES = 5000, 2000
+"""Of a vehicle, and of a journal: what is printed of each command then, is more than a page, and more than a pipe holds."""
 LONG = {
     "replay events.json": "",
     "replay -": batch(history(A, 0, EVENTS)),
     "table --table table.json": "",
     f"debug events.json {P} {A}": "step\nchain\n" * EVENTS,
+    "vehicles journal": "",
 }
 """The words of commands, and their standard input."""
-LONG_FILES = {"events.json": batch(history(A, 0, EVENTS)), "table.json": table_file(MOST_ROWS)}
+LONG_FILES = {
+    "events.json": batch(history(A, 0, EVENTS)),
+    "table.json": table_file(MOST_ROWS),
+    "journal": journal(*[registered(identifier(1, number)) for number in range(VEHICLES)]),
+}
 FRONT, MOST_WAITING = 1000, (1 << 16) + 1000
 """Bytes that are read of standard output, and as many as that and a pipe hold."""
 SECONDS = 60
