@@ -97,8 +97,8 @@ def other_answers(answers):
 
 
 def ended_otherwise(server, is_whole, refusal):
-    """What is wrong with the end of a server. Each connection is answered, also one for which there was no memory at first; or the
-    server had none for itself, and says so."""
+    """What is wrong with the end of a server. Each connection is answered, also one for which there was no memory at first; or
+    the server had none for itself, and says so."""
     while is_whole and server.left:
         found = ask(server.port, get("/"))
         server.count()
