@@ -1,6 +1,7 @@
 """Batches and their items, good and faulty."""
 
 import json
+import re
 
 from cases.replays import MEMBERS, A, B, batch, item, replayed
 from cases.tables import ONE_ROW
@@ -10,6 +11,8 @@ from harness.case import MAX_BYTES, MAX_ITEMS, lists, not_a_batch, padded, start
 NO_UTF8 = [b"\x80", b"\xbf", b"\xc0\x80", b"\xc1\xbf", b"\xc3", b"\xc3(", b"\xe0\x9f\xbf", b"\xe2\x82"]
 NO_UTF8 += [b"\xed\xa0\x80", b"\xed\xbf\xbf", b"\xf0\x8f\xbf\xbf", b"\xf0\x9f\x98", b"\xf4\x90\x80\x80"]
 NO_UTF8 += [b"\xf5\x80\x80\x80", b"\xfe", b"\xff"]
+NO_NAMES = ["\\ud800", "\\udc00", "\\udc00\\ud800", "\\u12", "\\x41", "\\", '":"', "\n", "\0"]
+"""What no name of a member ends with."""
 FAULTS = [
     (" " * (MAX_BYTES + 1), "too_long"),
     (padded("[]", MAX_BYTES + 1), "too_long"),
@@ -31,6 +34,8 @@ FAULTS = [
     (item(more=lists(127)), "not_json"),
     (batch([item(more=lists(126))]), "not_json"),
     (batch([item(), "}"]), "not_json"),
+    # no names
+    *[(item().replace("timestamp", f"timestamp{it}"), "not_json") for it in NO_NAMES],
     ("7", "not_list"),
     ("null", "not_list"),
     ("true", "not_list"),
@@ -65,7 +70,8 @@ def batches():
 NAMES = list(MEMBERS)
 ONE_TYPE_TOO_MANY = json.dumps(["trip_end"] * 65)
 BACKWARDS = "{%s}" % ", ".join(f'"{name}": {MEMBERS[name]}' for name in NAMES[::-1])
-ESCAPED = item().replace("timestamp", "time\\u0073tamp")
+# Each name with its last letter escaped.
+ESCAPED = re.sub(r'(\w)":', lambda it: f'\\u{ord(it[1]):04x}":', item())
 # Texts of JSON that are no objects.
 NO_OBJECTS = ["7", "null", "[]", '"text"', "false", '["provider_id"]']
 # Texts of JSON that no member that has to be there takes.
@@ -83,10 +89,18 @@ def first_of(name, behind):
     ]
 
 
+def near(name):
+    """Other names that are near this one."""
+    return name[:-1], f"{name}s", f"x{name}", f" {name}", f"{name} ", f"{name}\\u0000", f"\\u0000{name}", f"{name}\\\\"
+
+
 # Members of an item that are changed, and its fault.
 FAULTY = [
     *[({name: None}, f"missing_param {name}") for name in NAMES],
     *[({name: text}, f"bad_param {name}") for name in NAMES for text in OTHERS],
+    # other names, and a member twice, of which the last counts
+    *[({name: None, other: MEMBERS[name]}, f"missing_param {name}") for name in NAMES for other in near(name)],
+    *[({name: f'{MEMBERS[name]}, "{name}": 7.5'}, f"bad_param {name}") for name in NAMES],
     ({"provider_id": '"00000000-0000-4000-8000"'}, "bad_param provider_id"),
     ({"device_id": "12"}, "bad_param device_id"),
     ({"device_id": f'"{A[:-1]}g"'}, "bad_param device_id"),
@@ -130,6 +144,7 @@ FAULTY = [
     ({"location_e7": "{}"}, "bad_param location_e7"),
     ({"location_e7": '{"lat": 0}'}, "bad_param location_e7"),
     ({"location_e7": '{"lng": 0}'}, "bad_param location_e7"),
+    *[({"location_e7": f'{{"{it}": 0, "lng": 0}}'}, "bad_param location_e7") for it in ("la", "lats", "Lat", "lng")],
     *[({"location_e7": f'{{"lat": {text}, "lng": 0}}'}, "bad_param location_e7") for text in NO_DEGREES],
     ({"location_e7": '{"lat": 0, "lng": null}'}, "bad_param location_e7"),
     ({"location_e7": '{"lat": 900000001, "lng": 0}'}, "bad_param location_e7"),
@@ -155,7 +170,7 @@ ACCEPTED = [
     {"event_types": json.dumps(["provider_drop_off"] + 8 * ["battery_low", "battery_charged"])},
     # members written twice, of which the last counts
     {"timestamp": '-1, "timestamp": 3000'},
-    {"device_id": f'7, "device_id": "{A}"'},
+    *[{name: f'7, "{name}": {MEMBERS[name]}'} for name in NAMES],
     # identifiers in the other forms
     {"device_id": f'"{A.upper()}"', "provider_id": MEMBERS["provider_id"].replace("-", "")},
     {"device_id": f'"urn:uuid:{A}"', "event_id": '"{%s}"' % A.upper()},
