@@ -23,7 +23,7 @@ use std::sync::Wait;
 use std::thread;
 use std::thread::Threads;
 use test_fixtures::Ask::{Look, Register};
-use test_fixtures::{A, B, C, Lack, fence, key, profile_again, request_of};
+use test_fixtures::{A, B, C, Lack, again, fence, key, profile_again, request_of};
 use test_steps::{DROPPED_OFF, NEW, Step, hasher};
 
 /// What is asked of a book of so many seats: steps, each by the next seat; then lists, each by a seat and in a thread of its
@@ -193,14 +193,8 @@ fn events_of<L: ShardLedger, M: ShardLedger, R: Wait>(
     seat: &mut Seat<L, M>,
     device: u64,
 ) -> Result<Option<usize>, Lack> {
-    let listed = match book.seat_events(rt, alloc, seat, &key(device)) {
-        Err(_) => book.seat_events(rt, alloc, seat, &key(device))?,
-        Ok(listed) => listed,
-    };
-    let events = match listed_beside(rt, alloc, book, device) {
-        Err(_) => listed_beside(rt, alloc, book, device)?,
-        Ok(events) => events,
-    };
+    let listed = again!(book.seat_events(rt, alloc, seat, &key(device)))?;
+    let events = again!(listed_beside(rt, alloc, book, device))?;
     if !are_same(&listed, &events) {
         return Err(Lack::Case);
     }
@@ -489,15 +483,8 @@ fn told_again<R: Threads + Wait + RandomSource + Sync>(
         each: &[],
         quiet,
     };
-    let found = match told_anew(rt, alloc, profile_again(alloc)?, asking) {
-        Err(Lack::Memory) => told_anew(rt, alloc, profile_again(alloc)?, asking)?,
-        found => found?,
-    };
-    let Some(told) = found else {
-        return Ok(None);
-    };
-    let events = told.events;
-    Ok(Some((told.shown, told.end, events)))
+    let told = again!(told_anew(rt, alloc, profile_again(alloc)?, asking))?;
+    Ok(told.map(|told| (told.shown, told.end, told.events)))
 }
 
 /// A registration of A and its first event, and a look between them.

@@ -2,12 +2,6 @@
 //! by themselves.
 #![tactic(auto)]
 
-/// The rows of a table of cases, one to a line.
-#[cfg(test)]
-macro_rules! rows {
-    ($($row:expr),* $(,)?) => { &[$($row),*] };
-}
-
 #[cfg(test)]
 mod books;
 #[cfg(test)]

@@ -15,8 +15,5 @@ pub fn profile(alloc: Global) -> Result<Tables, AllocError> {
 
 /// The same, asked for again where a growth is refused.
 pub fn profile_again(alloc: Global) -> Result<Tables, AllocError> {
-    match profile(alloc) {
-        Err(_) => profile(alloc),
-        tables => tables,
-    }
+    again!(profile(alloc))
 }

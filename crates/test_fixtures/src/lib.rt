@@ -2,6 +2,23 @@
 //! workers meet, the room behind the lines of a journal, and the fences between which each growth of memory is refused.
 #![tactic(auto)]
 
+/// The rows of a table of cases, one to a line.
+#[macro_export]
+macro_rules! rows {
+    ($($row:expr),* $(,)?) => { &[$($row),*] };
+}
+
+/// What a call answers, or what it answers where it's made again, if the first answer was an error.
+#[macro_export]
+macro_rules! again {
+    ($call:expr) => {
+        match $call {
+            Err(_) => $call,
+            done => done,
+        }
+    };
+}
+
 mod asking;
 mod gate;
 mod growths;

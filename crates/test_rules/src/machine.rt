@@ -1,5 +1,4 @@
 //! The machine: the worked cases, its events, growths that are refused, and calls that take no memory.
-mod cases;
 mod events;
 mod fleets;
 mod refused;

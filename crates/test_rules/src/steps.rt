@@ -4,7 +4,6 @@ mod cases;
 mod events;
 mod lists;
 mod refused;
-mod sets;
 
 use mds_steps::{NoChain, StateSet};
 use mds_table::State;

@@ -1,7 +1,5 @@
-//! Tables of allowed transitions, and tables that change at stated times: values from outside, files and their faults, growths
-//! that are refused, and calls that take no memory.
-mod files;
+//! Tables of allowed transitions, and tables that change at stated times: values from outside, growths that are refused, and
+//! calls that take no memory.
 mod names;
 mod quiet;
 mod refused;
-mod starts;

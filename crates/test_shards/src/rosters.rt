@@ -8,7 +8,7 @@ use std::alloc::{AllocError, Global};
 use std::hash::RandomState;
 use std::random::RandomSource;
 use test_fixtures::Ask::{Look, Register};
-use test_fixtures::{A, C, Lack, fence, key, profile, profile_again, request_of};
+use test_fixtures::{A, C, Lack, fence, key, profile, profile_again, request_of, rows};
 use test_steps::{AVAILABLE, CASES, DROPPED_OFF, NEW, Step, WorkedCase, hasher, tables_of};
 
 /// The place of the first step that the roster judges otherwise.
@@ -28,7 +28,7 @@ fn first_difference<R: RandomSource>(
     alloc: Global,
     cases: &[WorkedCase],
 ) -> Result<Option<&'static str>, Lack> {
-    for (name, file, steps, _) in cases {
+    for (name, file, steps) in cases {
         let mut roster = Roster::open(alloc, tables_of(alloc, *file)?, hasher(rt)?);
         if first_other(&mut roster, steps)?.is_some() {
             return Ok(Some(*name));

@@ -1,6 +1,5 @@
 //! What no clause says: the worked cases, and that each call can succeed.
 mod cases;
-mod many;
 mod verdicts;
 
 use mds_settle::Note;

@@ -1,18 +1,13 @@
 //! What the tests of shards and of books share: steps and the tables that judge them, the worked cases of vehicles, and notes.
 #![tactic(auto)]
 
-/// The rows of a table of cases, one to a line.
-macro_rules! rows {
-    ($($row:expr),* $(,)?) => { &[$($row),*] };
-}
-
 mod notes;
 mod steps;
 mod worked;
 
 pub use notes::{Noted, put};
 pub use steps::{
-    AVAILABLE, DROPPED_OFF, NEW, PROFILE, STUCK_AVAILABLE, STUCK_REMOVED, Step, WAKE_THEN_REST,
-    hasher, most_tables, tables_of, turns,
+    AVAILABLE, DEPOT, DROPPED_OFF, NEW, PROFILE, STUCK_AVAILABLE, STUCK_REMOVED, Step,
+    WAKE_THEN_REST, hasher, most_tables, tables_of, turns,
 };
 pub use worked::{CASES, FIRST_EVENT, WorkedCase};

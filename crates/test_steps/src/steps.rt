@@ -24,6 +24,14 @@ pub const WAKE_THEN_REST: Option<&str> = Some(
 {"from_time":2000,"rows":[{"from":"available","type":"rest","to":"removed"}]}]}"#,
 );
 
+/// A file of a table by which vehicles are stored in a depot and go out again.
+pub const DEPOT: Option<&str> = Some(
+    r#"{"rows":[
+{"from":"removed","type":"wake","to":"available"},
+{"from":"available","type":"store","to":"in_depot"},
+{"from":"in_depot","type":"go","to":"available"}]}"#,
+);
+
 /// The first event of A.
 pub const DROPPED_OFF: Ask = Report(A, E1, DROP_OFF, Available, 1000);
 

@@ -11,7 +11,7 @@ use std::random::RandomSource;
 use std::sync::Wait;
 use std::thread::Threads;
 use test_fixtures::Ask::{self, Look, Register, Report, ReportAt};
-use test_fixtures::{A, B, C, DROP_OFF, E0, E1, E2, E3, E4, Lack, key, request_of};
+use test_fixtures::{A, B, C, DROP_OFF, E0, E1, E2, E3, E4, Lack, key, request_of, rows};
 use test_steps::{
     AVAILABLE, CASES as CASES_OF_SHARDS, DROPPED_OFF, NEW, PROFILE, STUCK_AVAILABLE, STUCK_REMOVED,
     Step, WAKE_THEN_REST, WorkedCase, most_tables, put, tables_of, turns,
@@ -35,12 +35,12 @@ const CASES: &[WorkedCase] = rows! {
         (Report(B, E1, DROP_OFF, Available, 1000), 1, Done),
         (DROPPED_OFF, 2, Refused(Repeated)),
         (Report(A, E1, DROP_OFF, Available, 999), 2, Refused(Repeated)),
-    ], &[]),
+    ]),
     ("a registration between two looks", PROFILE, &[
         (Look(B), 0, Refused(Unregistered)),
         (Register(B), 0, Done),
         (Look(B), 1, Seen(NEW)),
-    ], &[]),
+    ]),
     ("one vehicle of all seats", PROFILE, &[
         (Register(A), 0, Done),
         (DROPPED_OFF, 1, Done),
@@ -49,7 +49,7 @@ const CASES: &[WorkedCase] = rows! {
         (Register(A), 2, Refused(AlreadyRegistered)),
         (Report(A, E2, LOW, NonOperational, 999), 2, Refused(Late { last: 1000 })),
         (Report(A, E2, LOW, NonOperational, 1000), 2, Done),
-    ], &[]),
+    ]),
     ("what others did between a seat's own requests", PROFILE, &[
         (Look(A), 0, Refused(Unregistered)),
         (DROPPED_OFF, 0, Refused(Unregistered)),
@@ -60,7 +60,7 @@ const CASES: &[WorkedCase] = rows! {
         (Look(A), 2, Seen(AVAILABLE)),
         (DROPPED_OFF, 2, Refused(Repeated)),
         (Register(A), 2, Refused(AlreadyRegistered)),
-    ], &[]),
+    ]),
     ("two events of each of two vehicles, with positions and without, of one type and of many", PROFILE, &[
         (Register(B), 0, Done),
         (Register(A), 0, Done),
@@ -68,7 +68,7 @@ const CASES: &[WorkedCase] = rows! {
         (ReportAt(B, E1, DROP_OFF, Available, 1000, (-900_000_000, 1_800_000_000)), 1, Done),
         (Report(A, E2, LOW_AGAIN, NonOperational, 2000), 2, Done),
         (ReportAt(B, E2, LOW, NonOperational, 2000, (1, -1)), 2, Done),
-    ], &[]),
+    ]),
     ("just before the rules change, as they do, and a vehicle of the other shard before that", WAKE_THEN_REST, &[
         (Register(A), 0, Done),
         (Report(A, E1, &["wake"], Available, 1999), 1, Done),
@@ -77,7 +77,7 @@ const CASES: &[WorkedCase] = rows! {
         (Report(A, E4, &["wake"], Available, 2000), 3, STUCK_REMOVED),
         (Register(B), 0, Done),
         (Report(B, E1, &["wake"], Available, 1000), 1, Done),
-    ], &[]),
+    ]),
 };
 
 /// How many seats take the steps by turns, and what they note.
@@ -183,7 +183,7 @@ fn first_difference<R: Threads + Wait + RandomSource + Sync>(
     cases: &[WorkedCase],
     ways: &[Way],
 ) -> Result<Option<(&'static str, usize)>, Lack> {
-    for (name, file, steps, _) in cases {
+    for (name, file, steps) in cases {
         let tables = tables_of(alloc, *file)?;
         for way in ways {
             if !is_so(rt, alloc, &tables, steps, *way)? {

@@ -3,7 +3,7 @@
 use mds_book::{Book, Progress, ShardLedger};
 use std::alloc::Global;
 use std::sync::Wait;
-use test_fixtures::Lack;
+use test_fixtures::{Lack, again};
 
 /// Copies a piece of each shard, which is asked for again where there was no memory.
 pub(super) fn copy_once<L: ShardLedger, M: ShardLedger, R: Wait>(
@@ -13,12 +13,8 @@ pub(super) fn copy_once<L: ShardLedger, M: ShardLedger, R: Wait>(
     first: &mut Progress<L>,
     second: &mut Progress<M>,
 ) -> Result<(), Lack> {
-    if book.copy_first(rt, alloc, first).is_err() {
-        book.copy_first(rt, alloc, first)?;
-    }
-    if book.copy_second(rt, alloc, second).is_err() {
-        book.copy_second(rt, alloc, second)?;
-    }
+    again!(book.copy_first(rt, alloc, first))?;
+    again!(book.copy_second(rt, alloc, second))?;
     Ok(())
 }
 

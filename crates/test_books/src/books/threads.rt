@@ -12,7 +12,7 @@ use std::sync::Wait;
 use std::thread::Threads;
 use test_fixtures::Ask::{self, Look, Register, Report};
 use test_fixtures::{
-    A, B, C, DROP_OFF, E0, E1, E2, E3, E4, Lack, profile, request_of, requests_of,
+    A, B, C, DROP_OFF, E0, E1, E2, E3, E4, Lack, profile, request_of, requests_of, rows,
 };
 use test_steps::{
     AVAILABLE, DROPPED_OFF, PROFILE, STUCK_AVAILABLE, STUCK_REMOVED, Step, WAKE_THEN_REST,

@@ -1,66 +1,9 @@
-//! Positions and events.
+//! Events and positions: what is told of them while each growth is refused, and what an event prints.
 use mds_core::{Event, EventFault, Key, MAX_EVENT_TYPES, Position};
 use mds_table::{MAX_TIME, State, TypeName};
-use std::alloc::Global;
-use test_fixtures::{A, B, E0, E1, fence, key, type_of, uuid};
+use std::alloc::{AllocError, Global};
+use test_fixtures::{A, B, DROP_OFF, E0, E1, Lack, event_of, fence, key, type_of, uuid};
 use uuid::Uuid;
-
-/// Latitudes and longitudes, and whether they are on Earth.
-const PLACES: &[(i64, i64, bool)] = &[
-    (525_200_000, 134_050_000, true),
-    (900_000_000, 1_800_000_000, true),
-    (-900_000_000, -1_800_000_000, true),
-    (900_000_001, 0, false),
-    (-900_000_001, 0, false),
-    (0, 1_800_000_001, false),
-    (0, -1_800_000_001, false),
-];
-
-/// The first of them that is on Earth and is to be none, or that isn't given back.
-fn first_other_place(places: &[(i64, i64, bool)]) -> Option<(i64, i64)> {
-    for (lat, lng, on_earth) in places {
-        let found = match Position::new(*lat, *lng) {
-            Some(place) => (place.lat(), place.lng(), true),
-            None => (*lat, *lng, false),
-        };
-        if found != (*lat, *lng, *on_earth) {
-            return Some((*lat, *lng));
-        }
-    }
-    None
-}
-
-#[test]
-fn positions_end_at_their_limits(rt: HostRuntime) {
-    assert_eq!(rt; first_other_place(PLACES), None);
-}
-
-/// The number of types of an event, its time, and its fault.
-type Faulty = (usize, u64, Option<EventFault>);
-
-const FAULTS: &[Faulty] = rows! {
-    (0, MAX_TIME + 1, Some(EventFault::NoTypes)),
-    (MAX_EVENT_TYPES + 1, MAX_TIME + 1, Some(EventFault::TooManyTypes)),
-    (MAX_EVENT_TYPES + 1, 0, Some(EventFault::TooManyTypes)),
-    (MAX_EVENT_TYPES, MAX_TIME + 1, Some(EventFault::BadTime)),
-    (MAX_EVENT_TYPES, MAX_TIME, None),
-    (1, 0, None),
-};
-
-/// The first of them where a new event, or one that becomes another, has another fault, or one that has a fault doesn't stay.
-fn first_other_fault(event: &mut Event, rows: &[Faulty]) -> Option<Faulty> {
-    for (count, time, fault) in rows {
-        let types = [type_of("located"); MAX_EVENT_TYPES + 1];
-        let types = types.get(..*count).unwrap_or(&[]);
-        let made = Event::new(key(A), uuid(E1), State::Missing, types, *time, None);
-        let before = event.copy();
-        let became = event.assign(key(B), uuid(E0), State::Removed, types, *time, None);
-        if made.err() != *fault || became.err() != *fault || fault.is_some() && *event != before {
-            return Some((*count, *time, *fault));
-        }
-    }
-    None
-}
 
 /// What an event tells: what names it; its state, how many types it has, the first of them, and its time; and where it was.
 type Told = (
@@ -84,22 +27,14 @@ fn told(event: &Event) -> Told {
     ((*event.key(), event.id()), parts, place)
 }
 
-#[test]
-fn event_faults_come_in_order(rt: HostRuntime) {
-    let types = [type_of("located"); MAX_EVENT_TYPES];
-    let found = match Event::new(key(A), uuid(E1), State::Missing, &types, 7, None) {
-        Ok(mut event) => (first_other_fault(&mut event, FAULTS), Some(told(&event))),
-        Err(_) => (None, None),
-    };
-    let parts = (State::Removed, 1, Some(type_of("located")), 0);
-    assert_eq!(rt; found, (None, Some(((key(B), uuid(E0)), parts, None))));
-}
-
-/// What is told of an event of A, and of one of B that becomes another of A, while each growth is refused (by
+/// What is told of an event of A with the most types, and of one of B that becomes another of A, while each growth is refused (by
 /// `tests/refused-growths`).
 fn both_told(alloc: Global) -> Result<[Told; 2], EventFault> {
     let _begun = fence(alloc);
-    let (low, trip) = ([type_of("battery_low")], [type_of("trip_start")]);
+    let (low, trip) = (
+        [type_of("battery_low"); MAX_EVENT_TYPES],
+        [type_of("trip_start")],
+    );
     let place = Position::new(1, -2);
     let event = Event::new(key(A), uuid(E1), State::Missing, &low, MAX_TIME, place)?;
     let mut changed = Event::new(key(B), uuid(E0), State::Missing, &low, 7, None)?;
@@ -115,7 +50,7 @@ fn both_told(alloc: Global) -> Result<[Told; 2], EventFault> {
 fn events_are_told_of_with_every_growth_refused(rt: HostRuntime) {
     let low = (
         State::Missing,
-        1,
+        64,
         Some(type_of("battery_low")),
         9_007_199_254_740_991,
     );
@@ -123,4 +58,25 @@ fn events_are_told_of_with_every_growth_refused(rt: HostRuntime) {
     let event = ((key(A), uuid(E1)), low, Some((1, -2)));
     let other = ((key(A), uuid(E0)), trip, Some((1, -2)));
     assert_eq!(rt; both_told(rt.alloc()), Ok([event, other]));
+}
+
+/// Whether what an event prints by `Debug` has the list of its types, and no other.
+fn prints_types(alloc: Global, event: &Event) -> Result<bool, AllocError> {
+    let types = event.types();
+    let (text, list) = (
+        format!(in alloc; "{event:?}")?,
+        format!(in alloc; " {types:?},")?,
+    );
+    Ok(text.contains(list.as_str()))
+}
+
+/// The same of an event of one type.
+fn prints_one_type(alloc: Global) -> Result<bool, Lack> {
+    let event = event_of(A, E1, DROP_OFF, State::Available, 1, None).ok_or(Lack::Case)?;
+    Ok(prints_types(alloc, &event)?)
+}
+
+#[test]
+fn an_event_prints_its_own_types(rt: HostRuntime) {
+    assert_eq!(rt; prints_one_type(rt.alloc()), Ok(true));
 }

@@ -7,7 +7,7 @@ use mds_core::{
 use mds_table::{State, Tables};
 use std::alloc::{AllocError, Global};
 use test_fixtures::{
-    A, Ask, DROP_OFF, E1, Lack, fence, key, profile, profile_again, request_of, requests_of,
+    A, Ask, DROP_OFF, E1, Lack, again, fence, key, profile, profile_again, request_of, requests_of,
 };
 
 /// A registration of A, and its first event.
@@ -25,10 +25,8 @@ fn counts(alloc: Global, asked: &[Ask]) -> Result<([usize; 2], Option<usize>), L
         again!(fleet.step(request))?;
     }
     let counts = [replies.len(), fleet.history().len()];
-    match again!(fleet.events(alloc, &key(A)))? {
-        Some(events) => Ok((counts, Some(events.len()))),
-        None => Ok((counts, None)),
-    }
+    let events = again!(fleet.events(alloc, &key(A)))?;
+    Ok((counts, events.map(|events| events.len())))
 }
 
 #[test]

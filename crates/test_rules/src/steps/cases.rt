@@ -3,6 +3,7 @@ use mds_table::State::{
     self, Available, Elsewhere, InDepot, Missing, NonContactable, NonOperational, OnTrip, Removed,
     Reserved,
 };
+use test_fixtures::rows;
 
 /// A question, and its answer.
 #[derive(Clone, Copy)]

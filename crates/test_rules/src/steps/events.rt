@@ -1,11 +1,11 @@
 //! The worked cases.
 use super::cases::{Asked, Case, PROFILED, STORED};
 use super::{place_of, set_of};
-use crate::shared::DEPOT;
 use mds_steps::{admit, forward, least_chain, openings, stuck_from};
-use mds_table::{Table, TableFault, TypeName};
+use mds_table::{Table, TypeName};
 use std::alloc::{AllocError, Global};
-use test_fixtures::type_of;
+use test_fixtures::{Lack, type_of};
+use test_steps::{DEPOT, PROFILE, tables_of};
 
 /// So many types, these two by turns.
 fn turns_of(alloc: Global, names: [&str; 2], count: usize) -> Result<Vec<TypeName>, AllocError> {
@@ -57,11 +57,10 @@ fn first_others(
     alloc: Global,
     profiled: &[Case],
     stored: &[Case],
-) -> Result<[Option<usize>; 2], TableFault> {
-    let profile = Table::profile(alloc)?;
-    let depot = Table::from_json(alloc, DEPOT.as_bytes())?;
-    let first = first_other(alloc, &profile, profiled)?;
-    Ok([first, first_other(alloc, &depot, stored)?])
+) -> Result<[Option<usize>; 2], Lack> {
+    let (profile, depot) = (tables_of(alloc, PROFILE)?, tables_of(alloc, DEPOT)?);
+    let first = first_other(alloc, profile.at(0), profiled)?;
+    Ok([first, first_other(alloc, depot.at(0), stored)?])
 }
 
 #[test]

@@ -1,9 +1,10 @@
 //! Sets of states answer as plain lists of states do, which ask the table for each row.
 use super::place_of;
-use crate::shared::DEPOT;
 use mds_steps::admit;
-use mds_table::{State, Table, TableFault, TypeName};
+use mds_table::{State, Table, TypeName};
 use std::alloc::{AllocError, Global};
+use test_fixtures::Lack;
+use test_steps::{DEPOT, PROFILE, tables_of};
 
 /// The states to which rows of this type lead from one of these states.
 fn next_in_list(
@@ -95,11 +96,10 @@ fn count_all_alike(alloc: Global, table: &Table) -> Result<usize, AllocError> {
 }
 
 /// The same of the profile, and of the table of the depot.
-fn counts_alike(alloc: Global) -> Result<[usize; 2], TableFault> {
-    let profile = Table::profile(alloc)?;
-    let depot = Table::from_json(alloc, DEPOT.as_bytes())?;
-    let first = count_all_alike(alloc, &profile)?;
-    Ok([first, count_all_alike(alloc, &depot)?])
+fn counts_alike(alloc: Global) -> Result<[usize; 2], Lack> {
+    let (profile, depot) = (tables_of(alloc, PROFILE)?, tables_of(alloc, DEPOT)?);
+    let first = count_all_alike(alloc, profile.at(0))?;
+    Ok([first, count_all_alike(alloc, depot.at(0))?])
 }
 
 /// (27 + 27 * 27) * 81 cases over the profile, and (3 + 3 * 3) * 81 over a table that leads to the ninth state, too.

@@ -5,7 +5,7 @@ use mds_steps::{StateSet, admit, forward, least_chain, openings, stuck_from};
 use mds_table::State::{self, Available, NonOperational, OnTrip};
 use mds_table::{Table, TypeName};
 use std::alloc::{AllocError, Global};
-use test_fixtures::{fence, profile_again, type_of};
+use test_fixtures::{again, fence, profile_again, type_of};
 
 /// Whether the least chain of a trip that ends is these states.
 fn is_chain(alloc: Global, states: &[State]) -> Result<bool, AllocError> {
@@ -46,8 +46,8 @@ fn event_told(
     (are_right, stuck_from(table, &StateSet::all(), types))
 }
 
-/// What is told of the set of no state, of that of all and of a pair, and of a trip that ends with a low battery.
-type Told = ([(u16, usize, bool); 3], ([bool; 3], usize));
+/// What is told of the set of no state, of that of all, of one and of a pair, and of a trip that ends with a low battery.
+type Told = ([(u16, usize, bool); 4], ([bool; 3], usize));
 
 /// The same, between two fences.
 fn told_between(alloc: Global) -> Result<Told, AllocError> {
@@ -58,6 +58,7 @@ fn told_between(alloc: Global) -> Result<Told, AllocError> {
     let sets = [
         told(&StateSet::empty()),
         told(&StateSet::all()),
+        told(&StateSet::of(OnTrip)),
         told(&pair.copy()),
     ];
     let event = event_told(&table, OnTrip, &types, NonOperational);
@@ -67,7 +68,12 @@ fn told_between(alloc: Global) -> Result<Told, AllocError> {
 
 #[test]
 fn events_are_admitted_with_every_growth_refused(rt: HostRuntime) {
-    let sets = [(0, 0, true), (511, 9, false), (18, 2, false)];
+    let sets = [
+        (0, 0, true),
+        (511, 9, false),
+        (16, 1, false),
+        (18, 2, false),
+    ];
     let event = ([true, true, true], 2);
     assert_eq!(rt; told_between(rt.alloc()), Ok((sets, event)));
 }

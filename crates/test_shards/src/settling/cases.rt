@@ -3,7 +3,7 @@ use mds_core::Outcome::{self, Done, Refused, Seen};
 use mds_core::Refusal::{Late, Repeated, Unregistered};
 use mds_table::State::{Available, NonOperational, Removed};
 use test_fixtures::Ask::{self, Look, Register, Report};
-use test_fixtures::{A, B, C, DROP_OFF, E1, E2, E3, E4};
+use test_fixtures::{A, B, C, E1, E2, E3, E4, rows};
 use test_steps::{
     AVAILABLE, DROPPED_OFF, NEW, Noted, PROFILE, STUCK_AVAILABLE, STUCK_REMOVED, WAKE_THEN_REST,
 };
@@ -59,36 +59,20 @@ pub const LAWFUL: &[Case] = rows! {
     ("a look from before its caller's own accepted call", PROFILE, 0, A_ALONE,
         &[&[A_FIRST, (0, Look(A), 0, UNREGISTERED)]], Some(0)),
     ("a look that was made before the call", PROFILE, 0, A_ALONE, &[&[(0, Look(A), 0, UNREGISTERED), A_FIRST]], None),
-    ("another caller's look is from before the call", PROFILE, 0, A_ALONE,
-        &[&[A_FIRST], &[(0, Look(A), 0, UNREGISTERED)]], None),
     ("two accepted notes at one place", PROFILE, 0, A_AND_C, &[&[A_FIRST, C_SECOND], &[C_SECOND]], Some(1)),
     ("a look past the end", PROFILE, 0, A_ALONE,
         &[&[A_FIRST], &[(0, Look(A), 1, Seen(NEW)), (0, Look(A), 2, Seen(NEW))]], Some(2)),
-    ("an accepted note past the end", PROFILE, 0, A_ALONE, &[&[A_FIRST, C_SECOND]], Some(1)),
     ("an accepted note with another request, whose reply would be right", PROFILE, 0, A_AND_C,
         &[&[(0, Register(C), 0, Done)], &[C_SECOND]], Some(0)),
-    ("the second entry isn't noted", PROFILE, 0, A_AND_C, &[&[A_FIRST], &[(0, Look(C), 2, Seen(NEW))]], Some(1)),
     ("a place that falls", PROFILE, 0, A_ALONE, &[&[(0, Look(A), 1, Seen(NEW)), A_FIRST]], Some(0)),
-    ("the least of several: an entry that isn't noted before one that is twice", PROFILE, 0, A_AND_C,
-        &[&[C_SECOND], &[C_SECOND]], Some(0)),
-    ("the least of several: an entry noted twice before one that isn't noted, and a wrong look", PROFILE, 0, A_AND_C,
-        &[&[A_FIRST], &[A_FIRST, (0, Look(A), 2, UNREGISTERED)]], Some(0)),
     ("the least of several: a late look before a wrong one", PROFILE, 0, A_AND_C,
         &[&[A_FIRST, C_SECOND, (0, Look(A), 1, Seen(NEW))], &[(0, Look(A), 2, UNREGISTERED)]], Some(1)),
     ("a look after an event, and two refusals", PROFILE, 0, A_DROPPED_OFF, &[
         &[A_FIRST, (0, DROPPED_OFF, 1, Done), (0, Look(A), 2, Seen(AVAILABLE))],
         &[(0, DROPPED_OFF, 2, Refused(Repeated)), (0, LATE, 2, Refused(Late { last: 1000 }))],
     ], None),
-    ("another time of the last event", PROFILE, 0, A_DROPPED_OFF,
-        &[&[A_FIRST, (0, DROPPED_OFF, 1, Done)], &[(0, LATE, 2, Refused(Late { last: 1001 }))]], Some(2)),
-    ("an event of another time than the entry", PROFILE, 0, A_DROPPED_OFF,
-        &[&[A_FIRST, (0, Report(A, E1, DROP_OFF, Available, 1001), 1, Done)]], Some(1)),
-    ("an event of another type than the entry", PROFILE, 0, A_DROPPED_OFF,
-        &[&[A_FIRST, (0, Report(A, E1, &["agency_drop_off"], Available, 1000), 1, Done)]], Some(1)),
     ("notes of the other shard don't count, right or wrong", PROFILE, 0, A_ALONE,
         &[&[(1, Register(B), 0, Done), (1, Register(B), 0, Done), (1, Look(B), 9, UNREGISTERED), A_FIRST]], None),
-    ("a note of the other shard stands for no entry", PROFILE, 0, A_ALONE, &[&[(1, Register(A), 0, Done)]], Some(0)),
-    ("a note of the first shard stands for no entry of the other", PROFILE, 1, A_ALONE, &[&[A_FIRST]], Some(0)),
     ("the other shard", PROFILE, 1, &[Register(B)],
         &[&[A_FIRST, (1, Register(B), 0, Done), (0, Look(A), 0, UNREGISTERED)]], None),
     ("around a start, and then an event from before it", WAKE_THEN_REST, 0,
@@ -100,22 +84,13 @@ pub const LAWFUL: &[Case] = rows! {
             ],
             &[C_SECOND, (0, C_WAKES, 4, Done)],
         ], None),
-    ("refused by the second table before it starts", WAKE_THEN_REST, 0, A_ALONE,
-        &[&[A_FIRST, (0, A_WAKES, 1, STUCK_REMOVED)]], Some(1)),
-    ("refused by the first table when the second starts", WAKE_THEN_REST, 0, &[Register(A), A_WAKES],
-        &[&[A_FIRST, (0, A_WAKES, 1, Done), (0, A_RESTS, 2, STUCK_AVAILABLE)]], Some(2)),
 };
 
 /// Histories that aren't lawful.
 pub const UNLAWFUL: &[Case] = rows! {
     ("a vehicle registered twice", PROFILE, 0, &[Register(A), Register(A)], &[&[A_FIRST, (0, Register(A), 1, Done)]],
         Some(1)),
-    ("an event of nobody", PROFILE, 0, &[DROPPED_OFF], &[&[(0, DROPPED_OFF, 0, Done)]], Some(0)),
     ("a look as an entry", PROFILE, 0, &[Look(A)], &[&[(0, Look(A), 0, Done)]], Some(0)),
-    ("a look as an entry that nobody noted", PROFILE, 0, &[Register(A), Look(A)],
-        &[&[A_FIRST, (0, Look(A), 1, Seen(NEW))]], Some(1)),
     ("accepted by the first table when the second starts", WAKE_THEN_REST, 0, &[Register(A), A_WAKES_AFTER],
         &[&[A_FIRST, (0, A_WAKES_AFTER, 1, Done)]], Some(1)),
-    ("accepted by the second table before it starts", WAKE_THEN_REST, 0, &[Register(A), A_WAKES, A_RESTS_BEFORE],
-        &[&[A_FIRST, (0, A_WAKES, 1, Done), (0, A_RESTS_BEFORE, 2, Done)]], Some(2)),
 };

@@ -1,4 +1,4 @@
-//! Verdicts on the cases, and on notes over as many tables as there may be.
+//! Verdicts on the cases.
 ghost use Rattle.mds_core.specs.Lawful.{IsLawful};
 
 use super::cases::{Case, LAWFUL, UNLAWFUL};
@@ -8,7 +8,7 @@ use mds_settle::{Note, NoteList, judge, judge_lawful};
 use mds_table::Tables;
 use std::alloc::{AllocError, Global};
 use test_fixtures::{Lack, fence, requests_of};
-use test_steps::{Noted, Step, most_tables, put, tables_of, turns};
+use test_steps::{Noted, tables_of};
 
 /// The lists of the callers.
 fn lists_of(alloc: Global, callers: &[&[Noted]]) -> Result<Vec<Vec<Note>>, Lack> {
@@ -108,55 +108,4 @@ fn first_misjudged_lawful(alloc: Global, cases: &[Case]) -> Result<Option<&'stat
 #[test]
 fn lawful_cases_with_every_growth_refused(rt: HostRuntime) {
     assert_eq!(rt; first_misjudged_lawful(rt.alloc(), LAWFUL), Ok(None));
-}
-
-/// What a caller of shard 0 notes of these steps.
-fn notes_of_steps(alloc: Global, steps: &[Step]) -> Result<Vec<Note>, Lack> {
-    let mut notes = Vec::with_capacity(alloc, steps.len())?;
-    for (asked, place, outcome) in steps {
-        put(&mut notes, &(0, *asked, *place, *outcome))?;
-    }
-    Ok(notes)
-}
-
-/// The requests of the notes.
-fn requests_in(alloc: Global, notes: &[Note]) -> Result<Vec<Request>, AllocError> {
-    let mut requests = Vec::with_capacity(alloc, notes.len())?;
-    for note in notes {
-        requests.push(note.request)?;
-    }
-    Ok(requests)
-}
-
-/// How many of the requests that its caller noted a machine over these tables accepts, and the places of the faults
-/// by them and by the first of them alone.
-fn faults_over(
-    alloc: Global,
-    tables: Tables,
-    notes: Vec<Note>,
-) -> Result<(usize, [Option<usize>; 2]), AllocError> {
-    let first = Tables::one(alloc, tables.at(0).copy(alloc)?)?;
-    let requests = requests_in(alloc, &notes)?;
-    let (fleet, _) = run(alloc, tables, &requests)?;
-    let (history, lists) = (fleet.history(), [notes]);
-    let faults = [
-        judge(fleet.tables(), 0, history, &lists).err(),
-        judge(&first, 0, history, &lists).err(),
-    ];
-    Ok((history.len(), faults))
-}
-
-/// The same over as many tables as there may be, and how many notes there are.
-fn faults_over_most(alloc: Global) -> Result<(usize, (usize, [Option<usize>; 2])), Lack> {
-    let notes = notes_of_steps(alloc, &turns(alloc)?)?;
-    Ok((notes.len(), faults_over(alloc, most_tables(alloc)?, notes)?))
-}
-
-/// By the first table alone, the second event isn't allowed.
-#[test]
-fn most_tables_in_turn(rt: HostRuntime) {
-    assert_eq!(rt;
-        faults_over_most(rt.alloc()),
-        Ok((128, (65, [None, Some(2)])))
-    );
 }

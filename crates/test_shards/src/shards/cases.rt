@@ -1,38 +1,27 @@
 //! The worked cases of vehicles, and tables that change at stated times, through a shard.
 use super::first_other;
 use mds_core::Outcome::Done;
-use mds_core::{Event, Request, Standing};
+use mds_core::{Event, Request};
 use mds_shard::Shard;
 use mds_table::State::{Available, Removed};
 use std::alloc::{AllocError, Global};
 use std::random::RandomSource;
 use test_fixtures::Ask::{Register, Report};
-use test_fixtures::{A, C, E0, E1, E2, Lack, key, profile, request_of};
+use test_fixtures::{A, C, E0, E1, E2, Lack, key, profile, request_of, rows};
 use test_steps::{
     CASES, DROPPED_OFF, FIRST_EVENT, STUCK_AVAILABLE, Step, WorkedCase, hasher, most_tables,
     tables_of, turns,
 };
 
-/// The first of these vehicles that stands otherwise in the shard.
-fn first_elsewhere(shard: &Shard, stand: &[(u64, Option<Standing>)]) -> Option<u64> {
-    for (device, standing) in stand {
-        if shard.standing(&key(*device)) != *standing {
-            return Some(*device);
-        }
-    }
-    None
-}
-
-/// The name of the first case in which a shard replies otherwise, or a vehicle stands otherwise.
+/// The name of the first case in which a shard replies otherwise.
 fn first_difference<R: RandomSource>(
     rt: &R,
     alloc: Global,
     cases: &[WorkedCase],
 ) -> Result<Option<&'static str>, Lack> {
-    for (name, file, steps, stand) in cases {
+    for (name, file, steps) in cases {
         let mut shard = Shard::open(alloc, tables_of(alloc, *file)?, hasher(rt)?);
-        let other = first_other(&mut shard, steps)?;
-        if other.is_some() || first_elsewhere(&shard, stand).is_some() {
+        if first_other(&mut shard, steps)?.is_some() {
             return Ok(Some(*name));
         }
     }
@@ -45,50 +34,33 @@ fn cases_of_vehicles(rt: HostRuntime) {
 }
 
 /// How many events the vehicle has, and the first one; nothing where it isn't registered.
-fn events_of(
+type Events = Option<(usize, Option<Event>)>;
+
+fn events_of(alloc: Global, shard: &Shard, device: u64) -> Result<Events, AllocError> {
+    let events = shard.events(alloc, &key(device))?;
+    Ok(events.map(|events| (events.len(), events.first().copied())))
+}
+
+/// What a shard tells after these steps, in which it replies so: the last entry of its history, its length, and the events of
+/// A and of C.
+fn told_after<R: RandomSource>(
+    rt: &R,
     alloc: Global,
-    shard: &Shard,
-    device: u64,
-) -> Result<Option<(usize, Option<Event>)>, AllocError> {
-    match shard.events(alloc, &key(device))? {
-        Some(events) => Ok(Some((events.len(), events.first().copied()))),
-        None => Ok(None),
-    }
-}
-
-/// What a shard tells after these steps: the first in which it replies otherwise, the last entry of its history, its
-/// length and the number of rows; and the events of A and of C.
-#[derive(Debug, PartialEq, Eq, Drop)]
-struct Told {
-    other: Option<usize>,
-    last: Option<Request>,
-    counts: [usize; 2],
-    of_a: Option<(usize, Option<Event>)>,
-    of_c: Option<(usize, Option<Event>)>,
-}
-
-fn told_after<R: RandomSource>(rt: &R, alloc: Global, steps: &[Step]) -> Result<Told, Lack> {
+    steps: &[Step],
+) -> Result<(Option<Request>, usize, [Events; 2]), Lack> {
     let mut shard = Shard::open(alloc, profile(alloc)?, hasher(rt)?);
-    let other = first_other(&mut shard, steps)?;
-    Ok(Told {
-        other,
-        last: shard.history().last().copied(),
-        counts: [shard.len(), shard.tables().at(0).row_count()],
-        of_a: events_of(alloc, &shard, A)?,
-        of_c: events_of(alloc, &shard, C)?,
-    })
+    if first_other(&mut shard, steps)?.is_some() {
+        return Err(Lack::Case);
+    }
+    let events = [events_of(alloc, &shard, A)?, events_of(alloc, &shard, C)?];
+    Ok((shard.history().last().copied(), shard.len(), events))
 }
 
 #[test]
 fn a_shard_after_a_first_event(rt: HostRuntime) {
-    let event = request_of(&DROPPED_OFF).and_then(|report| report.event().copied());
-    let told = Told {
-        other: None,
-        last: request_of(&DROPPED_OFF),
-        counts: [2, 74],
-        of_a: Some((1, event)),
-        of_c: None,
-    };
+    let report = request_of(&DROPPED_OFF);
+    let event = report.and_then(|report| report.event().copied());
+    let told = (report, 2, [Some((1, event)), None]);
     assert_eq!(rt; told_after(&rt, rt.alloc(), FIRST_EVENT), Ok(told));
 }
 

@@ -10,7 +10,7 @@ use std::alloc::{AllocError, Global};
 use std::hash::RandomState;
 use std::random::RandomSource;
 use test_fixtures::Ask::{Look, Register};
-use test_fixtures::{A, C, Lack, fence, key, profile, profile_again, request_of};
+use test_fixtures::{A, C, Lack, again, fence, key, profile, profile_again, request_of, rows};
 use test_steps::{DROPPED_OFF, NEW, Step, hasher};
 
 /// Whether a shard accepts the request at this place; it's asked again where a growth is refused, which changes
@@ -40,10 +40,7 @@ fn accepted_again(
     let report = request_of(&DROPPED_OFF).ok_or(Lack::Case)?;
     let registered = is_accepted(&mut shard, &Request::Register(key(A)), 0)?;
     let are_accepted = [registered, is_accepted(&mut shard, &report, 1)?];
-    let events = match shard.events(alloc, &key(A)) {
-        Err(_) => shard.events(alloc, &key(A))?,
-        Ok(events) => events,
-    };
+    let events = again!(shard.events(alloc, &key(A)))?;
     Ok((are_accepted, events.map(|events| events.len())))
 }
 
