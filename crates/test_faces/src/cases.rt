@@ -1,7 +1,7 @@
 //! Requests and answers, told in a few words.
 use mds_table::Tables;
 use std::alloc::{AllocError, Global};
-use test_fixtures::{Lack, profile_again};
+use test_fixtures::{Lack, again, profile_again};
 
 /// An answer: what stands in the status line behind the version, the fields behind the last one that every answer has, and
 /// the body.
@@ -27,11 +27,11 @@ pub const UNKNOWN: Answer = (NONE, "", r#"{"error":"unregistered"}"#);
 
 const NO_METHOD: &str = "405 Method Not Allowed";
 
-const METHOD: &str = r#"{"error":"method_not_allowed"}"#;
-
-pub const POST_ONLY: Answer = (NO_METHOD, "allow: POST\r\n", METHOD);
-
-pub const GET_ONLY: Answer = (NO_METHOD, "allow: GET\r\n", METHOD);
+pub const POST_ONLY: Answer = (
+    NO_METHOD,
+    "allow: POST\r\n",
+    r#"{"error":"method_not_allowed"}"#,
+);
 
 pub const NO_LENGTH: Answer = ("411 Length Required", "", r#"{"error":"length_required"}"#);
 

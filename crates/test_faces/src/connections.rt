@@ -12,6 +12,7 @@ use crate::cases::{Answer, answer_text};
 use mds_face::{Desk, Face, ServeFault, Served, serve_one};
 use std::alloc::{AllocError, Global};
 use std::io::{self, Error, ErrorKind, Read, Write};
+use test_fixtures::again;
 
 /// What a device does once it has given or taken the bytes that it is to.
 #[derive(Clone, Copy, Debug, PartialEq, Eq)]

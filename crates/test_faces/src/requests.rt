@@ -1,51 +1,10 @@
 //! What requests from outside ask for, and that each call can succeed.
 use crate::cases::{EMPTY, THREE};
 use mds_batch::{EventItem, ItemFault, Member, VehicleItem};
-use mds_core::Key;
-use mds_request::{Aim, Face, HeadStatus, HttpFault, Plan, plan_of};
+use mds_request::{Face, HttpFault, Plan, plan_of};
 use mds_table::State;
 use std::alloc::{AllocError, Global};
-use test_fixtures::{A, B, DROP_OFF, E1, E2, event_of, fence, key};
-
-/// What bytes say of a whole head: what is asked for, where the body starts, and how many bytes it has.
-fn complete(aim: Aim<Key>, start: usize, len: usize) -> HeadStatus {
-    HeadStatus::Complete { aim, start, len }
-}
-
-/// The first bytes that say something else of the head, and what.
-fn first_other(
-    alloc: Global,
-    fronts: &[(&'static str, HeadStatus)],
-) -> Result<Option<(&'static str, HeadStatus)>, AllocError> {
-    let face = Face::open(alloc)?;
-    for (front, expected) in fronts {
-        let status = face.head_status(front.as_bytes());
-        if status != *expected {
-            return Ok(Some((front, status)));
-        }
-    }
-    Ok(None)
-}
-
-/// A head of a body that is as long as one may be, and the front of it.
-const LONGEST: &str = "POST /vehicles HTTP/1.1\r\nContent-Length: 4194304\r\n\r\n[]more";
-
-#[test]
-fn fronts_say_this_of_heads(rt: HostRuntime) {
-    let no_route = HeadStatus::Rejected(HttpFault::NotFound);
-    let fronts = [
-        ("GET /table HTTP/1.1\r\nx: y\r\n", HeadStatus::Partial),
-        ("GET /table HTTP/2", HeadStatus::Invalid),
-        ("PUT /x HTTP/1.1\r\n\r\n", no_route),
-        (
-            "GET /table HTTP/1.1\r\n\r\nmore",
-            complete(Aim::Rows, 23, 0),
-        ),
-        (EMPTY, complete(Aim::Events, 44, 2)),
-        (LONGEST, complete(Aim::Vehicles, 52, 4_194_304)),
-    ];
-    assert_eq!(rt; first_other(rt.alloc(), &fronts), Ok(None));
-}
+use test_fixtures::{A, B, DROP_OFF, E1, E2, again, event_of, fence, key};
 
 /// The first event of a vehicle; a fault that no item here has, were it none.
 fn first_event(device: u64, id: u64) -> EventItem {

@@ -9,7 +9,7 @@ use mds_request::{HttpFault, Plan};
 use mds_response::{Found, bytes_of, memory_bytes, status_of};
 use mds_table::State;
 use std::alloc::{AllocError, Global};
-use test_fixtures::{A, DROP_OFF, E1, E2, Lack, event_of, fence, key};
+use test_fixtures::{A, DROP_OFF, E1, E2, Lack, again, event_of, fence, key, rows};
 
 /// What becomes of an item.
 #[derive(Clone, Copy)]
@@ -31,6 +31,8 @@ enum Case {
     Events(&'static [Item]),
     /// The two events of A.
     History,
+    /// The two tables.
+    Rows,
 }
 
 /// What is found, and the answer.
@@ -40,9 +42,16 @@ const ANSWERS: &[(Case, Answer)] = rows! {
     (Case::Events(&[Item::Done, NO_DEVICE, Item::Done]), FAULTY_AMONG_THREE),
     (Case::Events(&[Item::Out]), LACKING_AT_0),
     (Case::Events(&[NO_DEVICE, Item::Done, Item::Out, NO_DEVICE, Item::Out]), LACKING_AT_2),
-    (Case::Events(&[NO_DEVICE, NO_DEVICE, Item::Out]), LACKING_AT_2),
+    (Case::Events(&[Item::Refused(Refusal::Repeated), NO_OBJECT]), TWO_FAILURES),
     (Case::History, TWO_EVENTS),
+    (Case::Rows, ok!(WAKE_AND_REST)),
 };
+
+const NO_OBJECT: Item = Item::Faulty(ItemFault::NotObject);
+
+const TWO_FAILURES: Answer = ok!(
+    r#"{"failures":[{"error":"repeated","index":0},{"error":"not_object","index":1}],"success":0,"total":2}"#
+);
 
 const TWO_EVENTS: Answer = ok!(
     r#"{"events":[{"device_id":"00000000-0000-4000-8000-00000000000a","event_id":"00000000-0000-4000-8000-0000000000e1","event_types":["provider_drop_off"],"location_e7":null,"provider_id":"00000000-0000-4000-8000-000000000001","timestamp":1000,"vehicle_state":"available"},{"device_id":"00000000-0000-4000-8000-00000000000a","event_id":"00000000-0000-4000-8000-0000000000e2","event_types":["battery_low","x_1"],"location_e7":{"lat":-900000000,"lng":-1},"provider_id":"00000000-0000-4000-8000-000000000001","timestamp":9007199254740991,"vehicle_state":"non_operational"}]}"#
@@ -98,6 +107,15 @@ fn replies(alloc: Global, items: &[Item]) -> Result<Found, AllocError> {
     Ok(Found::Replies(replies))
 }
 
+/// Two tables of one row each.
+fn tables(alloc: Global) -> Result<(Plan, Found), Lack> {
+    let tables = tables_of(alloc, WAKE_AND_REST)?;
+    let mut listed = Vec::new(alloc);
+    pushed(&mut listed, (0, again!(tables.at(0).rows(alloc))?))?;
+    pushed(&mut listed, (2000, again!(tables.at(2000).rows(alloc))?))?;
+    Ok((Plan::Rows, Found::Rows(listed)))
+}
+
 /// What is asked for, and what is found.
 fn asked_and_found(alloc: Global, case: Case) -> Result<(Plan, Found), Lack> {
     Ok(match case {
@@ -109,15 +127,16 @@ fn asked_and_found(alloc: Global, case: Case) -> Result<(Plan, Found), Lack> {
             pushed(&mut events, last_event()?)?;
             (Plan::History(key(A)), Found::History(Some(events)))
         }
+        Case::Rows => tables(alloc)?,
     })
 }
 
-/// The place of the first case whose answer is another one.
+/// The place of the first case whose answer is another one, made again where there was no memory for it.
 fn first_other(alloc: Global, cases: &[(Case, Answer)]) -> Result<Option<usize>, Lack> {
     for (place, (case, answer)) in cases.iter().enumerate() {
         let (plan, found) = asked_and_found(alloc, *case)?;
-        let bytes = bytes_of(alloc, &plan, &found)?;
-        let expected = answer_text(alloc, *answer)?;
+        let bytes = again!(bytes_of(alloc, &plan, &found))?;
+        let expected = again!(answer_text(alloc, *answer))?;
         if bytes.as_slice() != expected.as_bytes() {
             return Ok(Some(place));
         }
@@ -125,46 +144,10 @@ fn first_other(alloc: Global, cases: &[(Case, Answer)]) -> Result<Option<usize>,
     Ok(None)
 }
 
-#[test]
-fn answers_are_these(rt: HostRuntime) {
-    assert_eq!(rt; first_other(rt.alloc(), ANSWERS), Ok(None));
-}
-
-/// Two tables of one row each.
-fn tables(alloc: Global) -> Result<(Plan, Found), Lack> {
-    let tables = tables_of(alloc, WAKE_AND_REST)?;
-    let mut listed = Vec::new(alloc);
-    pushed(&mut listed, (0, again!(tables.at(0).rows(alloc))?))?;
-    pushed(&mut listed, (2000, again!(tables.at(2000).rows(alloc))?))?;
-    Ok((Plan::Rows, Found::Rows(listed)))
-}
-
-/// How many bytes the answer has, made again where there was no memory for it.
-fn length(alloc: Global, asked_and_found: (Plan, Found)) -> Result<usize, AllocError> {
-    let (plan, found) = asked_and_found;
-    Ok(again!(bytes_of(alloc, &plan, &found))?.len())
-}
-
-/// The lengths of the answers by a fault, of two events, to a batch of which an item is refused and one faulty, and of two
-/// tables.
-fn lengths(alloc: Global) -> Result<[usize; 4], Lack> {
-    let fault = Case::Fault(HttpFault::NotFound);
-    let items = &[
-        Item::Refused(Refusal::Repeated),
-        Item::Faulty(ItemFault::NotObject),
-    ];
-    Ok([
-        length(alloc, asked_and_found(alloc, fault)?)?,
-        length(alloc, asked_and_found(alloc, Case::History)?)?,
-        length(alloc, asked_and_found(alloc, Case::Events(items))?)?,
-        length(alloc, tables(alloc)?)?,
-    ])
-}
-
 /// By `tests/refused-growths`, as the other of such a name.
 #[test]
 fn answer_is_whole_after_a_refused_growth(rt: HostRuntime) {
-    assert_eq!(rt; lengths(rt.alloc()), Ok([118, 656, 191, 256]));
+    assert_eq!(rt; first_other(rt.alloc(), ANSWERS), Ok(None));
 }
 
 /// The answer where there is no memory for one.

@@ -1,15 +1,14 @@
 //! The worked answers, each asked of a fleet.
 use super::{Exchange, answered, first_other};
 use crate::cases::{
-    Answer, BAD_LENGTH, CODED, CUT_SHORT, EMPTY, FAULTY_AMONG_THREE, GET_ONLY, NO_LENGTH, NO_ROUTE,
-    NONE_DONE, NOT_JSON, NOT_LIST, POST_ONLY, PROFILE, THREE, TOO_LONG, UNKNOWN, WAKE_AND_REST,
-    tables_of,
+    Answer, BAD_LENGTH, CODED, CUT_SHORT, EMPTY, FAULTY_AMONG_THREE, NO_LENGTH, NO_ROUTE,
+    NONE_DONE, NOT_JSON, NOT_LIST, POST_ONLY, PROFILE, THREE, TOO_LONG, UNKNOWN, tables_of,
 };
 use mds_core::Fleet;
 use mds_face::Face;
 use std::alloc::Global;
 use std::str::from_utf8;
-use test_fixtures::Lack;
+use test_fixtures::{Lack, rows};
 
 /// A registration of A, and registrations of A and B.
 const A_REGISTERS: &str =
@@ -31,12 +30,9 @@ const LOOK_AT_A: &str =
 const LOOK_AT_B: &str =
     "GET /vehicles/00000000-0000-4000-8000-000000000001/00000000-0000-4000-8000-00000000000b HTTP/1.0\r\n\r\n";
 
-/// Their events are looked at.
+/// The events of A are looked at.
 const LIST_A: &str =
     "GET /vehicles/00000000-0000-4000-8000-000000000001/00000000-0000-4000-8000-00000000000a/events HTTP/1.1\r\n\r\n";
-
-const LIST_B: &str =
-    "GET /vehicles/00000000-0000-4000-8000-000000000001/00000000-0000-4000-8000-00000000000b/events HTTP/1.1\r\n\r\n";
 
 /// One item, or each of two, accepted; and A registered already.
 const ONE_DONE: Answer = ok!(r#"{"failures":[],"success":1,"total":1}"#);
@@ -68,37 +64,6 @@ pub const AMONG_THREE: &[Exchange] = &[
     (LOOK_AT_B, B_IS_AVAILABLE),
 ];
 
-/// A wakes and rests one millisecond before 2000, and rests and wakes at 2000; later B wakes at 1000.
-const ROUND_THE_START: &str =
-    "POST /events HTTP/1.1\r\nContent-Length: 1126\r\n\r\n[{\"provider_id\":\"00000000-0000-4000-8000-000000000001\",\"device_id\":\"00000000-0000-4000-8000-00000000000a\",\n\
-\"event_id\":\"00000000-0000-4000-8000-0000000000e1\",\"vehicle_state\":\"available\",\"event_types\":[\"wake\"],\"timestamp\":1999},\n\
-{\"provider_id\":\"00000000-0000-4000-8000-000000000001\",\"device_id\":\"00000000-0000-4000-8000-00000000000a\",\n\
-\"event_id\":\"00000000-0000-4000-8000-0000000000e2\",\"vehicle_state\":\"removed\",\"event_types\":[\"rest\"],\"timestamp\":1999},\n\
-{\"provider_id\":\"00000000-0000-4000-8000-000000000001\",\"device_id\":\"00000000-0000-4000-8000-00000000000a\",\n\
-\"event_id\":\"00000000-0000-4000-8000-0000000000e3\",\"vehicle_state\":\"removed\",\"event_types\":[\"rest\"],\"timestamp\":2000},\n\
-{\"provider_id\":\"00000000-0000-4000-8000-000000000001\",\"device_id\":\"00000000-0000-4000-8000-00000000000a\",\n\
-\"event_id\":\"00000000-0000-4000-8000-0000000000e4\",\"vehicle_state\":\"available\",\"event_types\":[\"wake\"],\"timestamp\":2000},\n\
-{\"provider_id\":\"00000000-0000-4000-8000-000000000001\",\"device_id\":\"00000000-0000-4000-8000-00000000000b\",\n\
-\"event_id\":\"00000000-0000-4000-8000-0000000000e1\",\"vehicle_state\":\"available\",\"event_types\":[\"wake\"],\"timestamp\":1000}]";
-
-/// Two of those events are refused; A rests then.
-const TWO_REFUSED: Answer = ok!(
-    r#"{"failures":[{"at":0,"error":"no_chain","held":"available","index":1},{"at":0,"error":"no_chain","held":"removed","index":3}],"success":3,"total":5}"#
-);
-
-const A_IS_REMOVED: Answer = ok!(
-    r#"{"device_id":"00000000-0000-4000-8000-00000000000a","events":2,"last":2000,"location_e7":null,"provider_id":"00000000-0000-4000-8000-000000000001","vehicle_state":"removed"}"#
-);
-
-/// Registrations, those events, the tables and where A and B stand.
-pub const TWO_IN_TURN: &[Exchange] = &[
-    (BOTH_REGISTER, TWO_DONE),
-    (ROUND_THE_START, TWO_REFUSED),
-    ("GET /table HTTP/1.1\r\n\r\n", ok!(WAKE_AND_REST)),
-    (LOOK_AT_A, A_IS_REMOVED),
-    (LOOK_AT_B, B_IS_AVAILABLE),
-];
-
 /// Lists, one within the other, as many as there may be and one more; the first is no vehicle.
 const DEEP: &str =
     "POST /vehicles HTTP/1.1\r\nContent-Length: 254\r\n\r\n[[[[[[[[[[[[[[[[[[[[[[[[[[[[[[[[[[[[[[[[[[[[[[[[[[[[[[[[[[[[[[[[[[[[[[[[[[[[[[[[[[[[[[[[[[[[[[[[[[[[[[[[[[[[[[[[[[[[[[[[[[[[[[[]]]]]]]]]]]]]]]]]]]]]]]]]]]]]]]]]]]]]]]]]]]]]]]]]]]]]]]]]]]]]]]]]]]]]]]]]]]]]]]]]]]]]]]]]]]]]]]]]]]]]]]]]]]]]]]]]]]]]]]]]]]]]]]";
@@ -120,13 +85,11 @@ const ONE_AFTER_THE_OTHER: &[Exchange] = rows! {
     (LOOK_AT_A, A_IS_AVAILABLE),
     (LIST_A, EVENTS_OF_A),
     (LOOK_AT_B, UNKNOWN),
-    (LIST_B, UNKNOWN),
     (DEEP, NO_OBJECT),
     (TOO_DEEP, NOT_JSON),
     ("GET /vehicles/00000000-0000-4000-8000-000000000001/x HTTP/1.1\r\n\r\n", NO_ROUTE),
     ("GET /vehicles/ HTTP/1.1\r\n\r\n", NO_ROUTE),
     ("DELETE /events HTTP/1.1\r\n\r\n", POST_ONLY),
-    ("POST /table HTTP/1.1\r\nContent-Length: 2\r\n\r\n[]", GET_ONLY),
     ("POST /events HTTP/1.1\r\n\r\n", NO_LENGTH),
     ("POST /events HTTP/1.1\r\nContent-Length: 2\r\ncontent-length: 2\r\n\r\n[]", BAD_LENGTH),
     ("POST /events HTTP/1.1\r\nContent-Length: 12x\r\n\r\n[]", BAD_LENGTH),
@@ -137,14 +100,8 @@ const ONE_AFTER_THE_OTHER: &[Exchange] = rows! {
     ("POST /events HTTP/1.1\r\nTransfer-Encoding: chunked\r\n\r\n", CODED),
 };
 
-/// The file of a fleet's tables, what is asked in turn, and what is answered.
-type Talk = (&'static str, &'static [Exchange]);
-
-const TALKS: &[Talk] = rows! {
-    (PROFILE, ONE_AFTER_THE_OTHER),
-    (PROFILE, AMONG_THREE),
-    (WAKE_AND_REST, TWO_IN_TURN),
-};
+/// What is asked in turn, each of a new fleet.
+const TALKS: &[&[Exchange]] = &[ONE_AFTER_THE_OTHER, AMONG_THREE];
 
 /// A fleet over the tables of this file.
 pub fn fleet_over(alloc: Global, file: &str) -> Result<Fleet, Lack> {
@@ -154,12 +111,12 @@ pub fn fleet_over(alloc: Global, file: &str) -> Result<Fleet, Lack> {
 /// The first talk in which a fleet answers otherwise what comes so many bytes a call, and the place there.
 fn first_other_talk(
     alloc: Global,
-    talks: &[Talk],
+    talks: &[&[Exchange]],
     piece: usize,
 ) -> Result<Option<(usize, usize)>, Lack> {
     let face = Face::open(alloc)?;
-    for (talk, (file, exchanges)) in talks.iter().enumerate() {
-        let mut fleet = fleet_over(alloc, file)?;
+    for (talk, exchanges) in talks.iter().enumerate() {
+        let mut fleet = fleet_over(alloc, PROFILE)?;
         if let Some(place) = first_other(alloc, &face, &mut fleet, exchanges, piece)? {
             return Ok(Some((talk, place)));
         }

@@ -1,10 +1,7 @@
 //! Readers and writers that fail, end or are interrupted: what is told, what is written, and how many calls it takes.
 use super::answers::fleet_over;
 use super::{Client, Last, answer_of, client_of, peer_of};
-use crate::cases::{
-    Answer, BAD_HEAD, CODED, CUT_SHORT, EMPTY, NO_LENGTH, NO_ROUTE, NONE_DONE, NOT_JSON, POST_ONLY,
-    PROFILE, TOO_LONG, answer_text,
-};
+use crate::cases::{Answer, BAD_HEAD, CUT_SHORT, EMPTY, NONE_DONE, PROFILE, answer_text};
 use mds_core::Fleet;
 use mds_face::{Face, ServeFault, Served, serve_one};
 use std::alloc::{AllocError, Global};
@@ -26,42 +23,18 @@ const BARE: (&str, usize) = ("", 0);
 
 const WHOLE: usize = usize::MAX;
 
-/// Requests that come at once or byte by byte, and have bytes behind them that say nothing of what is asked for; long bodies,
-/// which take as few calls as their pieces allow; and a head that is too long.
+/// A request that comes at once or byte by byte, and has bytes behind it that say nothing of what is asked for; long bodies, which
+/// take as few calls as their pieces allow; and a head that is too long.
 const WAYS: &[Way] = &[
     (EMPTY, BARE, WHOLE, Last::Fails, NONE_DONE, 1, 0),
     (EMPTY, ("x", 2), 1, Last::Fails, NONE_DONE, 46, 2),
-    (NOWHERE, BARE, 1, Last::Fails, NO_ROUTE, 37, 3),
-    (DELETE, BARE, 1, Last::Fails, POST_ONLY, 46, 2),
-    (NO_BODY, BARE, 1, Last::Fails, NOT_JSON, 44, 2),
-    (LENGTHLESS, BARE, 1, Last::Fails, NO_LENGTH, 25, 2),
-    (LONG, BARE, 1, Last::Fails, TOO_LONG, 50, 1),
-    (CHUNKED, BARE, 1, Last::Fails, CODED, 53, 5),
-    (NO_HEAD, BARE, 1, Last::Fails, BAD_HEAD, 4, 20),
     (BODY, (" ", 40_001), WHOLE, Last::Fails, NONE_DONE, 3, 3),
     (BODY, (" ", 39_997), WHOLE, Last::Ends, CUT_SHORT, 4, 0),
-    (LONGEST_BODY, BARE, WHOLE, Last::Ends, CUT_SHORT, 2, 0),
     ("", ("a", 16_385), WHOLE, Last::Fails, BAD_HEAD, 1, 1),
     ("", ("a", 16_385), 1, Last::Fails, BAD_HEAD, 16_384, 1),
 ];
 
-const NOWHERE: &str = "\r\n\nGET /nothing HTTP/1.1\nHost: city\n\nGET";
-
-const NO_HEAD: &str = "GET\0 /table HTTP/1.1\r\n\r\n";
-
-const DELETE: &str = "DELETE /events HTTP/1.1\r\nContent-Length: 9\r\n\r\n[]";
-
-const NO_BODY: &str = "POST /events HTTP/1.1\r\nContent-Length: 0\r\n\r\n[]";
-
-const LENGTHLESS: &str = "POST /events HTTP/1.1\r\n\r\n[]";
-
-const LONG: &str = "POST /events HTTP/1.1\r\nContent-Length: 4194305\r\n\r\n[";
-
-const CHUNKED: &str = "POST /events HTTP/1.1\r\nTransfer-Encoding: chunked\r\n\r\n0\r\n\r\n";
-
 const BODY: &str = "POST /events HTTP/1.1\r\nContent-Length: 40000\r\n\r\n[]";
-
-const LONGEST_BODY: &str = "POST /events HTTP/1.1\r\nContent-Length: 4194304\r\n\r\n[]";
 
 /// What comes of a connection: what is told, how many calls of `read` and of `write` were made, what was written, and
 /// how many bytes the client has left.

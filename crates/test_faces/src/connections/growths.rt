@@ -5,10 +5,10 @@ use super::answers::fleet_over;
 use super::{Last, Peer, answer_of, answered, client_of, peer_of};
 use crate::cases::{Answer, LACKING_AT_2, PROFILE, THREE, answer_text};
 use mds_core::{Event, Fleet, Key, Reply, Request};
-use mds_face::{Desk, Face, Plan, ServeFault, Served, memory_bytes, read_plan, serve_one};
+use mds_face::{Desk, Face, Plan, ServeFault, Served, read_plan, serve_one};
 use mds_table::{Row, State};
 use std::alloc::{AllocError, Global};
-use test_fixtures::{A, B, Lack, key};
+use test_fixtures::{A, B, Lack, again, key};
 
 /// Registers a vehicle, where memory allows at once or at a second try.
 pub fn register(fleet: &mut Fleet, device: u64) -> Result<Reply, AllocError> {
@@ -89,35 +89,6 @@ fn refused_growth_inside_a_batch(rt: HostRuntime) {
     let states = [Some(State::Available), Some(State::Removed)];
     let told = (answer_of(503, 1), true, states);
     assert_eq!(rt; partial_batch(rt.alloc(), LACKING_AT_2), Ok(told));
-}
-
-/// What a GET asks for that finds no memory.
-const LOOKS: &[&str] = &[
-    "GET /vehicles/00000000-0000-4000-8000-000000000001/00000000-0000-4000-8000-00000000000a HTTP/1.1\r\n\r\n",
-    "GET /vehicles/00000000-0000-4000-8000-000000000001/00000000-0000-4000-8000-00000000000a/events HTTP/1.1\r\n\r\n",
-    "GET /table HTTP/1.1\r\n\r\n",
-];
-
-/// The first of these that isn't answered by the fixed answer where a fleet finds no memory.
-fn first_other_look(alloc: Global, looks: &[&'static str]) -> Result<Option<&'static str>, Lack> {
-    let (mut fleet, face) = registered(alloc)?;
-    let mut desk = Wanting {
-        fleet: &mut fleet,
-        left: 0,
-    };
-    for look in looks {
-        let (served, written) = answered(alloc, &face, &mut desk, look.as_bytes(), 1)?;
-        let is_fixed = written.as_slice() == memory_bytes();
-        if (served, is_fixed) != (Err(ServeFault::Memory { sent: 74 }), true) {
-            return Ok(Some(*look));
-        }
-    }
-    Ok(None)
-}
-
-#[test]
-fn refused_growth_of_a_look(rt: HostRuntime) {
-    assert_eq!(rt; first_other_look(rt.alloc(), LOOKS), Ok(None));
 }
 
 /// What is told of a request, how many bytes were written and how many requests the fleet holds then.
