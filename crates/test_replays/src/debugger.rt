@@ -12,7 +12,7 @@ use mds_table::State::{Available, OnTrip, Removed};
 use mds_trace::{Session, SessionFault, Verdict};
 use std::alloc::{AllocError, Global};
 use std::io::{self, Error, ErrorKind, Read, Write};
-use test_fixtures::{A, B, E1, E2, Lack, fence, key, profile};
+use test_fixtures::{A, B, E1, E2, Lack, again, fence, key, profile};
 
 /// A reader that gives so many line feeds, with an interruption before each call, and then fails so or is at its end.
 #[derive(Drop)]
@@ -117,21 +117,14 @@ const SAID: &[Said] = &[STEP, None, BACK, NEXT, CHAIN, QUIT];
 fn is_read(alloc: Global) -> Result<bool, AllocError> {
     let mut reader = SCRIPT;
     let script = read_script(alloc, &mut reader)?;
-    let said = match script_of(alloc, &script.bytes) {
-        Err(_) => script_of(alloc, &script.bytes)?,
-        Ok(said) => said,
-    };
+    let said = again!(script_of(alloc, &script.bytes))?;
     Ok(script.end == ScriptEnd::Whole && said.as_slice() == SAID)
 }
 
 /// Each call, made again where its growth is refused (by `tests/refused-growths`).
 #[test]
 fn a_script_is_read_after_a_refused_growth(rt: HostRuntime) {
-    let is_read = match is_read(rt.alloc()) {
-        Err(_) => is_read(rt.alloc()),
-        read => read,
-    };
-    assert_eq!(rt; is_read, Ok(true));
+    assert_eq!(rt; again!(is_read(rt.alloc())), Ok(true));
 }
 
 /// Two events of A, of which the second comes too soon, between one of B.
@@ -218,11 +211,7 @@ fn walked(alloc: Global, script: &[Said], rest: &'static [u8]) -> Result<Printed
 
 #[test]
 fn a_start_is_printed_after_a_refused_growth(rt: HostRuntime) {
-    let printed = match started(rt.alloc()) {
-        Err(_) => started(rt.alloc()),
-        printed => printed,
-    };
-    assert_eq!(rt; printed, Ok((Ok(()), true)));
+    assert_eq!(rt; again!(started(rt.alloc())), Ok((Ok(()), true)));
 }
 
 /// A short script, and what it prints.
@@ -232,10 +221,7 @@ const WALKED: &[u8] = b"removed available\n1 0 available possible available\nunk
 
 #[test]
 fn a_walk_is_printed_after_a_refused_growth(rt: HostRuntime) {
-    let printed = match walked(rt.alloc(), WALK, WALKED) {
-        Err(_) => walked(rt.alloc(), WALK, WALKED),
-        printed => printed,
-    };
+    let printed = again!(walked(rt.alloc(), WALK, WALKED));
     assert_eq!(rt; printed, Ok((Ok(()), true)));
 }
 

@@ -3,7 +3,7 @@ use crate::told::{Expected, FIVE_REPORT, NOTHING, is_report};
 use mds_batch::ItemFault;
 use mds_trace::{LineFault, LineReplay, Opening, Report, Verdict};
 use std::alloc::{AllocError, Global};
-use test_fixtures::{Lack, fence, profile};
+use test_fixtures::{Lack, again, fence, profile};
 
 /// The five-event run, an event a line, with an empty line after the second.
 const FIVE_EVENTS: &str =
@@ -137,11 +137,7 @@ const IN_PIECES: Stream = (FIVE_EVENTS, 300, Opening::Any, FIVE);
 /// The replay of the five events, begun anew where a growth is refused (by `tests/refused-growths`).
 #[test]
 fn lines_are_replayed_after_a_refused_growth(rt: HostRuntime) {
-    let comes = match comes_out(rt.alloc(), &IN_PIECES) {
-        Err(_) => comes_out(rt.alloc(), &IN_PIECES),
-        comes => comes,
-    };
-    assert_eq!(rt; comes, Ok(true));
+    assert_eq!(rt; again!(comes_out(rt.alloc(), &IN_PIECES)), Ok(true));
 }
 
 /// Feeds the five events and a last line: whether each call after a fault answers it again, and the end is that fault, or
@@ -160,10 +156,7 @@ fn keeps_its_fault(mut replay: LineReplay) -> bool {
 
 /// The same of a replay that is opened again where a growth is refused.
 fn memory_is_kept(alloc: Global) -> Result<bool, AllocError> {
-    Ok(keeps_its_fault(match opened(alloc, Opening::Any) {
-        Err(_) => opened(alloc, Opening::Any)?,
-        Ok(replay) => replay,
-    }))
+    Ok(keeps_its_fault(again!(opened(alloc, Opening::Any))?))
 }
 
 /// Want of memory is kept, as any fault is (growths are refused by `tests/refused-growths`).

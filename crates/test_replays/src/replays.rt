@@ -1,8 +1,5 @@
 //! The worked cases of replays, as a whole, item by item and by several workers.
-use crate::told::{
-    CHANGING, End, Expected, FAULT, FIVE, FIVE_REPORT, NOTHING, PROFILE, Rules, Told, is_report,
-    items_of, tables_of,
-};
+use crate::told::{End, Expected, FIVE, FIVE_REPORT, NOTHING, Told, is_report, items_of};
 use mds_batch::{EventItem, ItemFault};
 use mds_core::Refusal;
 use mds_gate::OpenGate;
@@ -11,23 +8,14 @@ use mds_table::State::{Available, Elsewhere, OnTrip, Removed, Reserved};
 use mds_table::{State, Tables};
 use std::alloc::{AllocError, Global};
 use std::thread::Threads;
-use test_fixtures::{A, B, C, E1, E2, E3, E4, Lack, fence, profile, profile_again};
+use test_fixtures::{A, B, E1, E2, E3, Lack, again, fence, profile, profile_again};
 
-/// A further vehicle.
-const D: u64 = 0x0d;
-
-/// Events, the tables, what vehicles are taken to hold first, and what the replay comes to.
-type Case = (&'static [Told], Rules, Opening, &'static Expected);
+/// Events, what vehicles are taken to hold first, and what the replay by the profile comes to.
+type Case = (&'static [Told], Opening, &'static Expected);
 
 /// The verdict on an event that leads nowhere from removed.
 const NOT_REMOVED: Verdict = Verdict::Refused(Refusal::NoChain {
     held: Removed,
-    at: 0,
-});
-
-/// The verdict on one that leads nowhere from available.
-const NOT_AVAILABLE: Verdict = Verdict::Refused(Refusal::NoChain {
-    held: Available,
     at: 0,
 });
 
@@ -62,90 +50,13 @@ const FROM_REMOVED: Expected = Expected(
     (0, 3),
 );
 
-/// An event of A, repeated for B and then, at an earlier time, for A, with a faulty item between.
-const REPEATED: &[Told] = &[
-    Told(A, E1, &["provider_drop_off"], Available, 1000),
-    Told(A, E2, &[], Available, 1000),
-    Told(B, E1, &["provider_drop_off"], Available, 1000),
-    Told(A, E1, &["provider_drop_off"], Available, 999),
-];
-
-/// What they come to.
-const REPEATED_REPORT: Expected = Expected(
-    &[
-        Verdict::Accepted(Available),
-        Verdict::Fault(FAULT),
-        Verdict::Accepted(Available),
-        Verdict::Refused(Refusal::Repeated),
-    ],
-    &[
-        End(A, &[Removed], Some((Available, 1))),
-        End(B, &[Removed], Some((Available, 1))),
-    ],
-    (2, 2),
-);
-
-/// Events one millisecond before the tables change and exactly then, and one of another vehicle that happened before them.
-const AT_CHANGE: &[Told] = &[
-    Told(A, E1, &["wake"], Available, 1999),
-    Told(A, E2, &["rest"], Removed, 1999),
-    Told(A, E3, &["rest"], Removed, 2000),
-    Told(A, E4, &["wake"], Available, 2000),
-    Told(B, E1, &["wake"], Available, 1000),
-];
-
-/// What they come to.
-const AT_REPORT: Expected = Expected(
-    &[
-        Verdict::Accepted(Available),
-        NOT_AVAILABLE,
-        Verdict::Accepted(Removed),
-        NOT_REMOVED,
-        Verdict::Accepted(Available),
-    ],
-    &[
-        End(A, &[Removed], Some((Removed, 2))),
-        End(B, &[Removed], Some((Available, 1))),
-    ],
-    (3, 2),
-);
-
-/// First events of four vehicles, of which two don't fit the table in force at their time.
-const FIRST_EVENTS: &[Told] = &[
-    Told(C, E1, &["rest"], Removed, 2000),
-    Told(D, E1, &["wake"], Available, 2000),
-    Told(A, E1, &["wake"], Available, 1999),
-    Told(B, E1, &["rest"], Removed, 1999),
-];
-
-/// What they come to from any state.
-const FIRST_REPORT: Expected = Expected(
-    &[
-        Verdict::Accepted(Removed),
-        Verdict::NoOpening { at: 0 },
-        Verdict::Accepted(Available),
-        Verdict::NoOpening { at: 0 },
-    ],
-    &[
-        End(C, &[Available], Some((Removed, 1))),
-        End(D, &State::ALL, None),
-        End(A, &[Removed], Some((Available, 1))),
-        End(B, &State::ALL, None),
-    ],
-    (2, 2),
-);
-
-/// The worked cases: among them openings without registration, and identifiers per vehicle.
+/// The worked cases: among them openings without registration.
 const CASES: &[Case] = &[
-    (FIVE, PROFILE, Opening::Removed, &FIVE_REPORT),
-    (FIVE, PROFILE, Opening::Any, &FIVE_REPORT),
-    (UNREGISTERED, PROFILE, Opening::Any, &FROM_ANY),
-    (UNREGISTERED, PROFILE, Opening::Removed, &FROM_REMOVED),
-    (REPEATED, PROFILE, Opening::Removed, &REPEATED_REPORT),
-    (AT_CHANGE, CHANGING, Opening::Removed, &AT_REPORT),
-    (AT_CHANGE, CHANGING, Opening::Any, &AT_REPORT),
-    (FIRST_EVENTS, CHANGING, Opening::Any, &FIRST_REPORT),
-    (&[], PROFILE, Opening::Any, &NOTHING),
+    (FIVE, Opening::Removed, &FIVE_REPORT),
+    (FIVE, Opening::Any, &FIVE_REPORT),
+    (UNREGISTERED, Opening::Any, &FROM_ANY),
+    (UNREGISTERED, Opening::Removed, &FROM_REMOVED),
+    (&[], Opening::Any, &NOTHING),
 ];
 
 /// The replay of these items, taken one after the other, and again where a growth was refused.
@@ -157,9 +68,7 @@ fn taken(
 ) -> Result<Report, AllocError> {
     let mut replayer = Replayer::open(alloc, tables, opening);
     for item in items {
-        if replayer.take(item).is_err() {
-            replayer.take(item)?;
-        }
+        again!(replayer.take(item))?;
     }
     replayer.finish()
 }
@@ -184,9 +93,9 @@ fn comes_by_workers<R: Threads + Sync>(
 
 /// Whether the replay comes to what is expected, in each way.
 fn comes_out<R: Threads + Sync>(rt: &R, alloc: Global, case: &Case) -> Result<bool, Lack> {
-    let (told, rules, opening, expected) = *case;
+    let (told, opening, expected) = *case;
     let items = items_of(alloc, told)?;
-    let tables = tables_of(alloc, rules)?;
+    let tables = profile(alloc)?;
     let whole = replay(alloc, tables.copy(alloc)?, &items, opening)?;
     let one_by_one = taken(alloc, tables.copy(alloc)?, &items, opening)?;
     let by_workers = comes_by_workers(rt, alloc, &tables, &items, (opening, expected))?;
@@ -214,19 +123,13 @@ fn worked_replays(rt: HostRuntime) {
 
 /// The items of the five events, made again where a growth is refused.
 pub fn five_again(alloc: Global) -> Result<Vec<EventItem>, Lack> {
-    match items_of(alloc, FIVE) {
-        Err(_) => items_of(alloc, FIVE),
-        items => items,
-    }
+    again!(items_of(alloc, FIVE))
 }
 
 /// Whether the replay of the five events comes to its report, made again where a growth is refused.
 fn replayed_again(alloc: Global) -> Result<bool, Lack> {
     let items = five_again(alloc)?;
-    let report = match replay(alloc, profile_again(alloc)?, &items, Opening::Any) {
-        Err(_) => replay(alloc, profile(alloc)?, &items, Opening::Any)?,
-        Ok(report) => report,
-    };
+    let report = again!(replay(alloc, profile_again(alloc)?, &items, Opening::Any))?;
     Ok(is_report(&report, &FIVE_REPORT))
 }
 
@@ -239,10 +142,7 @@ fn replay_succeeds_after_a_refused_growth(rt: HostRuntime) {
 /// for the first time.
 fn taken_again(alloc: Global) -> Result<bool, Lack> {
     let items = five_again(alloc)?;
-    let report = match taken(alloc, profile_again(alloc)?, &items, Opening::Removed) {
-        Err(_) => taken(alloc, profile(alloc)?, &items, Opening::Removed)?,
-        Ok(report) => report,
-    };
+    let report = again!(taken(alloc, profile_again(alloc)?, &items, Opening::Removed))?;
     Ok(is_report(&report, &FIVE_REPORT))
 }
 

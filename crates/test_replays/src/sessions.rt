@@ -1,13 +1,13 @@
 //! The worked cases of sessions, by the profile and by tables that change, and that each call can succeed.
 use self::Call::{Back, Next, RunTo, Step};
-use crate::told::{CHANGING, PROFILE, Rules, Told, events_of, tables_of};
+use crate::told::{Told, events_of};
 use mds_table::State;
 use mds_table::State::{
     Available, Elsewhere, NonContactable, NonOperational, OnTrip, Removed, Reserved,
 };
 use mds_trace::{Halt, Place, Session, SessionFault};
 use std::alloc::{AllocError, Global};
-use test_fixtures::{A, B, E1, E2, E3, E4, Lack, fence};
+use test_fixtures::{A, E1, E2, Lack, again, fence, profile};
 
 /// A call of a session.
 #[derive(Clone, Copy)]
@@ -23,9 +23,9 @@ enum Call {
 #[derive(Clone, Copy)]
 struct Moved(Call, Option<Halt>, (usize, usize), State, &'static [State]);
 
-/// Where a session begins: the tables, the state held before the events, and these.
+/// Where a session by the profile begins: the state held before the events, and these.
 #[derive(Clone, Copy)]
-struct Start(Rules, State, &'static [Told]);
+struct Start(State, &'static [Told]);
 
 /// Where a session begins, a walk through it, and the chains that it shows at each event from the first on.
 type Walk = (Start, &'static [Moved], &'static [Option<&'static [State]>]);
@@ -36,7 +36,6 @@ const START: Option<Halt> = Some(Halt::AtStart);
 
 /// Two events of A: contact is lost, and it comes back as a trip ends.
 const LOST_AND_BACK: Start = Start(
-    PROFILE,
     Removed,
     &[
         Told(A, E1, &["comms_lost"], NonContactable, 1000),
@@ -74,38 +73,9 @@ const LOST_AND_BACK_WALK: &[Moved] = &[
 const TRIP_END: Told = Told(A, E1, &["trip_end"], Available, 1000);
 
 /// A session over it.
-const ONE_TRIP: Start = Start(PROFILE, OnTrip, &[TRIP_END]);
+const ONE_TRIP: Start = Start(OnTrip, &[TRIP_END]);
 
-/// Vehicles go and come back: until 2000 they are available or elsewhere in between, from then on on a trip.
-const GO_AND_COME: Rules = Rules::File(
-    br#"{"tables":[
-{"from_time":0,"rows":[
-{"from":"removed","type":"go","to":"available"},{"from":"removed","type":"go","to":"elsewhere"},
-{"from":"available","type":"come","to":"removed"},{"from":"elsewhere","type":"come","to":"removed"}]},
-{"from_time":2000,"rows":[
-{"from":"removed","type":"go","to":"on_trip"},{"from":"on_trip","type":"come","to":"removed"}]}]}"#,
-);
-
-/// The same types one millisecond before the change and at it.
-const ALIKE: Start = Start(
-    GO_AND_COME,
-    Removed,
-    &[
-        Told(A, E1, &["go", "come"], Removed, 1999),
-        Told(A, E2, &["go", "come"], Removed, 2000),
-    ],
-);
-
-/// A removed vehicle wakes one millisecond before the change.
-const WAKE: Told = Told(A, E1, &["wake"], Available, 1999);
-
-/// It rests exactly at the change.
-const REST_AT: Told = Told(A, E3, &["rest"], Removed, 2000);
-
-/// It wakes exactly at the change.
-const WAKE_AT: Told = Told(A, E4, &["wake"], Available, 2000);
-
-/// The debugger's script; back to the opening state; no events; tables that change, and the same types by each of them.
+/// The debugger's script; back to the opening state; no events.
 const WALKS: &[Walk] = &[
     (
         LOST_AND_BACK,
@@ -126,55 +96,19 @@ const WALKS: &[Walk] = &[
         &[Some(&[OnTrip, Available])],
     ),
     (
-        Start(PROFILE, Removed, &[]),
+        Start(Removed, &[]),
         &[
             Moved(Step, END, (0, 0), Removed, &[Removed]),
             Moved(Back, START, (0, 0), Removed, &[Removed]),
         ],
         &[None],
     ),
-    (
-        Start(CHANGING, Removed, &[WAKE, REST_AT]),
-        &[
-            Moved(Step, None, (0, 1), Removed, &[Available]),
-            Moved(Step, None, (1, 0), Available, &[Available]),
-            Moved(Step, None, (1, 1), Available, &[Removed]),
-            Moved(Step, None, (2, 0), Removed, &[Removed]),
-            Moved(Back, None, (1, 1), Available, &[Removed]),
-            Moved(Back, None, (1, 0), Available, &[Available]),
-            Moved(Back, None, (0, 1), Removed, &[Available]),
-            Moved(Back, None, (0, 0), Removed, &[Removed]),
-            Moved(RunTo(Available), None, (1, 0), Available, &[Available]),
-            Moved(Next, None, (2, 0), Removed, &[Removed]),
-        ],
-        &[Some(&[Removed, Available]), Some(&[Available, Removed])],
-    ),
-    (
-        ALIKE,
-        &[
-            Moved(Step, None, (0, 1), Removed, &[Available, Elsewhere]),
-            Moved(Step, None, (0, 2), Removed, &[Removed]),
-            Moved(Step, None, (1, 0), Removed, &[Removed]),
-            Moved(Step, None, (1, 1), Removed, &[OnTrip]),
-            Moved(Back, None, (1, 0), Removed, &[Removed]),
-            Moved(Back, None, (0, 2), Removed, &[Removed]),
-            Moved(Back, None, (0, 1), Removed, &[Available, Elsewhere]),
-            Moved(Next, None, (1, 0), Removed, &[Removed]),
-            Moved(Next, None, (2, 0), Removed, &[Removed]),
-            Moved(Back, None, (1, 2), Removed, &[Removed]),
-            Moved(Back, None, (1, 1), Removed, &[OnTrip]),
-        ],
-        &[
-            Some(&[Removed, Available, Removed]),
-            Some(&[Removed, OnTrip, Removed]),
-        ],
-    ),
 ];
 
 /// What comes of opening a session; of want of memory there is nothing to compare.
 fn opened(alloc: Global, start: &Start) -> Result<Result<Session, SessionFault>, Lack> {
-    let events = events_of(alloc, start.2)?;
-    match Session::open(alloc, tables_of(alloc, start.0)?, start.1, events) {
+    let events = events_of(alloc, start.1)?;
+    match Session::open(alloc, profile(alloc)?, start.0, events) {
         Err(SessionFault::Memory) => Err(Lack::Memory),
         opened => Ok(opened),
     }
@@ -268,44 +202,21 @@ fn sessions_move_with_every_growth_refused(rt: HostRuntime) {
     assert_eq!(rt; script_goes_so(rt.alloc()), Ok(true));
 }
 
-/// The faults of the first event, the second and the third, which lead nowhere.
-const FIRST_STUCK: Option<SessionFault> = Some(SessionFault::Unlawful { event: 0, at: 0 });
-
-const SECOND_STUCK: Option<SessionFault> = Some(SessionFault::Unlawful { event: 1, at: 0 });
-
-const THIRD_STUCK: Option<SessionFault> = Some(SessionFault::Unlawful { event: 2, at: 0 });
-
-/// The fault of a second event that may not follow the first.
-const BAD_ORDER: Option<SessionFault> = Some(SessionFault::BadOrder { event: 1 });
-
-/// The end of another vehicle's trip, and an earlier one.
-const OTHER: Told = Told(B, E2, &["trip_end"], Available, 1000);
-
-const EARLIER: Told = Told(A, E2, &["trip_end"], Available, 999);
-
-/// A vehicle rests before the change.
-const REST: Told = Told(A, E2, &["rest"], Removed, 1999);
-
 /// Where a session begins, and why it doesn't.
 #[derive(Clone, Copy)]
 struct Opening(Start, Option<SessionFault>);
 
 const OPENINGS: &[Opening] = &[
     Opening(ONE_TRIP, None),
-    Opening(Start(PROFILE, Reserved, &[TRIP_END]), FIRST_STUCK),
-    Opening(Start(PROFILE, OnTrip, &[TRIP_END; 2]), BAD_ORDER),
-    Opening(Start(PROFILE, OnTrip, &[TRIP_END, OTHER]), BAD_ORDER),
-    Opening(Start(PROFILE, OnTrip, &[TRIP_END, EARLIER]), BAD_ORDER),
-    Opening(Start(PROFILE, Reserved, &[TRIP_END; 2]), FIRST_STUCK),
-    Opening(Start(CHANGING, Removed, &[WAKE]), None),
-    Opening(Start(CHANGING, Removed, &[WAKE_AT]), FIRST_STUCK),
-    Opening(Start(CHANGING, Removed, &[WAKE, REST]), SECOND_STUCK),
-    Opening(Start(CHANGING, Removed, &[WAKE, REST_AT]), None),
-    Opening(AT_LAST, THIRD_STUCK),
+    Opening(
+        Start(Reserved, &[TRIP_END]),
+        Some(SessionFault::Unlawful { event: 0, at: 0 }),
+    ),
+    Opening(
+        Start(OnTrip, &[TRIP_END; 2]),
+        Some(SessionFault::BadOrder { event: 1 }),
+    ),
 ];
-
-/// A vehicle wakes before the change, and at it it rests and wakes again.
-const AT_LAST: Start = Start(CHANGING, Removed, &[WAKE, REST_AT, WAKE_AT]);
 
 /// The place of the first session that is opened otherwise.
 fn first_opened_otherwise(alloc: Global, cases: &[Opening]) -> Result<Option<usize>, Lack> {
@@ -324,15 +235,9 @@ fn sessions_that_open_or_not(rt: HostRuntime) {
 
 /// Whether a session over the end of a trip shows its chain, where each is asked for again if a growth is refused.
 fn chain_again(alloc: Global) -> Result<bool, Lack> {
-    let session = match session_of(alloc, &ONE_TRIP) {
-        Err(_) => session_of(alloc, &ONE_TRIP)?,
-        Ok(session) => session,
-    };
+    let session = again!(session_of(alloc, &ONE_TRIP))?;
     let expected = Some([OnTrip, Available].as_slice());
-    match has_chain(alloc, &session, expected) {
-        Err(_) => Ok(has_chain(alloc, &session, expected)?),
-        Ok(has_chain) => Ok(has_chain),
-    }
+    Ok(again!(has_chain(alloc, &session, expected))?)
 }
 
 #[test]

@@ -1,13 +1,13 @@
 //! Events in a few words, the worked runs of them, and what replays come to.
-use mds_batch::{EventItem, ItemFault, Member};
+use mds_batch::EventItem;
 use mds_core::{Event, Refusal};
 use mds_replay::{Report, VehicleEnd, Verdict};
+use mds_table::State;
 use mds_table::State::{Available, NonOperational, OnTrip, Removed};
-use mds_table::{State, Tables, TablesFault};
 use std::alloc::Global;
-use test_fixtures::{A, B, E1, E2, E3, E4, Lack, event_of, key, profile};
+use test_fixtures::{A, B, E1, E2, E3, E4, Lack, event_of, key};
 
-/// What an event reports: its vehicle, its identifier, its types, its state and its time. One without types is none.
+/// What an event reports: its vehicle, its identifier, its types, its state and its time.
 #[derive(Clone, Copy)]
 pub struct Told(
     pub u64,
@@ -16,37 +16,6 @@ pub struct Told(
     pub State,
     pub u64,
 );
-
-/// The tables that events are judged by.
-#[derive(Clone, Copy)]
-pub enum Rules {
-    /// The profile's table, in force from 0 on.
-    Profile,
-    /// Those of a file.
-    File(&'static [u8]),
-}
-
-/// The profile's table, in force from 0 on.
-pub const PROFILE: Rules = Rules::Profile;
-
-/// Until 2000 removed vehicles wake; from then on available ones rest.
-pub const CHANGING: Rules = Rules::File(
-    br#"{"tables":[
-{"from_time":0,"rows":[{"from":"removed","type":"wake","to":"available"}]},
-{"from_time":2000,"rows":[{"from":"available","type":"rest","to":"removed"}]}]}"#,
-);
-
-/// The tables.
-pub fn tables_of(alloc: Global, rules: Rules) -> Result<Tables, Lack> {
-    let Rules::File(text) = rules else {
-        return Ok(profile(alloc)?);
-    };
-    match Tables::from_json(alloc, text) {
-        Ok(tables) => Ok(tables),
-        Err(TablesFault::Memory) => Err(Lack::Memory),
-        Err(_) => Err(Lack::Case),
-    }
-}
 
 /// The event that is told, or `None` where it is none.
 fn event_told(told: &Told) -> Option<Event> {
@@ -62,17 +31,11 @@ pub fn events_of(alloc: Global, told: &[Told]) -> Result<Vec<Event>, Lack> {
     Ok(events)
 }
 
-/// The fault of each item here that is no event.
-pub const FAULT: ItemFault = ItemFault::Missing(Member::EventId);
-
-/// The items of what is told, of which some are no events.
+/// The items of these events.
 pub fn items_of(alloc: Global, told: &[Told]) -> Result<Vec<EventItem>, Lack> {
     let mut items = Vec::new(alloc);
     for one in told {
-        items.push(match event_told(one) {
-            Some(event) => EventItem::Event(event),
-            None => EventItem::Fault(FAULT),
-        })?;
+        items.push(EventItem::Event(event_told(one).ok_or(Lack::Case)?))?;
     }
     Ok(items)
 }
