@@ -11,7 +11,7 @@ use mds_core::Position;
 use mds_table::State;
 use std::alloc::{AllocError, Global};
 pub use takers::Few;
-use test_fixtures::{A, E1, event_of, key};
+use test_fixtures::{A, E1, again, event_of, key};
 
 /// How many items a text lists and the fault of the first, or why it lists none.
 pub type First = Result<(usize, Option<ItemFault>), BatchFault>;

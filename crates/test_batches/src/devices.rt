@@ -8,7 +8,7 @@ use mds_io::{
 };
 use std::alloc::{AllocError, Global};
 use std::io::{self, Error, ErrorKind, Read, Write};
-use test_fixtures::fence;
+use test_fixtures::{again, fence, rows};
 
 /// How a stream ends behind the bytes that it gives or takes.
 #[derive(Clone, Copy)]

@@ -4,6 +4,7 @@ ghost use Rattle.std.specs.Prelude.{◌≡◌, []};
 use super::{TWO_ITEMS, text_of};
 use mds_batch::{BatchFault, EventItem, MAX_ITEMS, TakesItems, each_event};
 use std::alloc::{AllocError, Global};
+use test_fixtures::rows;
 
 /// Takes items up to so many, and finds no memory for another one.
 #[derive(Drop)]

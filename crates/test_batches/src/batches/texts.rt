@@ -2,6 +2,7 @@
 use super::{BERLIN, EVENT, First, Firsts, firsts, report, text_of};
 use mds_batch::{BatchFault, BatchItem, EventItem, ItemFault, ItemReader, Member, read_item};
 use std::alloc::{AllocError, Global};
+use test_fixtures::{again, rows};
 
 /// What a text is: how many items it lists, or why none; and the fault of the item that it is itself.
 type Text = (Result<usize, BatchFault>, Result<ItemFault, BatchFault>);
@@ -24,27 +25,18 @@ type Texts = (&'static [(&'static str, usize)], Text);
 const TEXTS: &[Texts] = rows! {
     (&[("[]| [ ] \n|\t\r\n [\t\r\n ]\t\r\n ", 1)], (Ok(0), NO_OBJECT)),
     (&[("{}| {} \r\n", 1)], (Ok(1), NO_PROVIDER)),
-    (&[("[{}]|[[]]", 1)], (Ok(1), NO_OBJECT)),
-    (&[("[null,{}]", 1)], (Ok(2), NO_OBJECT)),
-    (&[("7|null|-0|1e308|\"[]\"|\"{}\"|\"\\u0000\"", 1)], NO_LIST),
-    // no values, and what is no blank
-    (&[("| \t\r\n|{|\"[]|[{}|[1,]|[1e999]|1e309|\u{feff}[]|\u{a0}[]|\u{c}[]|[]\0|// c\n[]|[]/**/|[]#", 1)], NO_JSON),
-    // more or less than one value
-    (&[("[] []|[][]|{}{}|{} {}|[]1|[]7|1 2|[],|{},|,[]|[]]|{}}|{}]|{]|\"a\":1|'[]'", 1)], NO_JSON),
+    (&[("7|null|-0|\"[]\"", 1)], NO_LIST),
+    (&[("|{|[1,]|[1e999]|[] []", 1)], NO_JSON),
     // deepest nesting
     (&[("[", 127), ("]", 127)], (Ok(1), NO_OBJECT)),
     (&[("[", 128), ("]", 128)], NO_JSON),
     (&[("{\"x\":", 1), ("[", 126), ("]", 126), ("}", 1)], (Ok(1), NO_PROVIDER)),
-    (&[("{\"x\":", 1), ("[", 127), ("]", 127), ("}|", 1), ("[", 1_000_000), ("|", 1), ("{\"x\":", 500_000)], NO_JSON),
-    // most items
+    (&[("{\"x\":", 1), ("[", 127), ("]", 127), ("}", 1)], NO_JSON),
+    // most items, and most bytes
     (&[("[", 1), ("0,", 9999), ("0]|[", 1), ("{},", 9999), ("{}]", 1)], (Ok(10000), NO_OBJECT)),
-    (&[("[", 1), ("0,", 10000), ("0]|[", 1), ("[{}],", 10000), ("{}]", 1)], TOO_MANY),
-    (&[("[", 1), ("0,", 10000), ("0]]|[", 1), ("0,", 10000), ("1e309]|[", 1), ("{},", 10000), ("{}", 1)], NO_JSON),
-    // most bytes
+    (&[("[", 1), ("0,", 10000), ("0]", 1)], TOO_MANY),
     (&[("[]", 1), (" ", 4194302)], (Ok(0), NO_OBJECT)),
-    (&[("{}", 1), (" ", 4194302)], (Ok(1), NO_PROVIDER)),
-    (&[(" ", 4194304)], NO_JSON),
-    (&[("[]", 1), (" ", 4194303), ("|", 1), (" ", 4194305), ("|", 1), ("\0", 4194305)], TOO_LONG),
+    (&[(" ", 4194305)], TOO_LONG),
 };
 
 /// What is read of a text: as batches, and as an item.
@@ -103,14 +95,6 @@ fn texts_are_these(rt: HostRuntime) {
     assert_eq!(rt; first_other(rt.alloc(), TEXTS), Ok(None));
 }
 
-/// The event, read again where there was no memory.
-fn item_again(alloc: Global) -> Result<EventItem, BatchFault> {
-    match read_item(alloc, EVENT.as_bytes()) {
-        Err(BatchFault::Memory) => read_item(alloc, EVENT.as_bytes()),
-        other => other,
-    }
-}
-
 /// The event that a reader reads.
 fn read_by(reader: &mut ItemReader) -> Result<EventItem, BatchFault> {
     Ok(*reader.read(EVENT.as_bytes())?)
@@ -119,26 +103,13 @@ fn read_by(reader: &mut ItemReader) -> Result<EventItem, BatchFault> {
 /// The event, read again by the same reader where there was no memory.
 fn read_again(alloc: Global) -> Result<EventItem, BatchFault> {
     let mut reader = ItemReader::new(alloc);
-    match read_by(&mut reader) {
-        Err(BatchFault::Memory) => read_by(&mut reader),
-        other => other,
-    }
-}
-
-/// Whether both are what is expected.
-fn are_read_again(alloc: Global) -> bool {
-    let expected = report(1000, BERLIN);
-    let Ok(first) = item_again(alloc) else {
-        return false;
-    };
-    let Ok(second) = read_again(alloc) else {
-        return false;
-    };
-    first == expected && second == expected
+    again!(read_by(&mut reader))
 }
 
 /// Each call, made again where its growth is refused (by `tests/refused-growths`).
 #[test]
 fn an_item_is_read_after_a_refused_growth(rt: HostRuntime) {
-    assert!(rt; are_read_again(rt.alloc()));
+    let first = again!(read_item(rt.alloc(), EVENT.as_bytes()));
+    let event = report(1000, BERLIN);
+    assert_eq!(rt; [first, read_again(rt.alloc())], [Ok(event), Ok(event)]);
 }
