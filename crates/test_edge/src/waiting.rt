@@ -2,6 +2,7 @@
 use mds_waiting::{Given, MAX_WAITING, Waiter, Waiting};
 use std::alloc::{AllocError, Global};
 use std::io::Read;
+use test_fixtures::again;
 
 /// A connection of this number that began then and holds these bytes, and whose time is over 100 milliseconds later.
 fn waiter(alloc: Global, number: u32, begun: u64, bytes: &[u8]) -> Result<Waiter<u32>, AllocError> {
@@ -37,66 +38,46 @@ fn three(alloc: Global) -> Result<Waiting<u32>, AllocError> {
 
 /// Who is told of: the eldest, the eldest with bytes, who is late first, and who is without a clock; how many wait, what they
 /// hold, and how long may be waited.
-type Told = (
-    Option<usize>,
-    Option<usize>,
-    Option<usize>,
-    Option<usize>,
-    usize,
-    usize,
-    u64,
-);
+type Told = ([Option<usize>; 4], [usize; 2], u64);
 
-fn told(alloc: Global) -> Result<Told, AllocError> {
-    let mut waiting = three(alloc)?;
+fn told(waiting: &mut Waiting<u32>) -> Told {
     let early = waiting.late(Some(109));
     let late = waiting.late(Some(110)).filter(|_| early.is_none());
-    Ok((
+    let who = [
         waiting.eldest(0),
         waiting.eldest(1),
         late,
         waiting.late(None),
-        waiting.len(),
-        waiting.held(),
-        waiting.patience(Some(60)),
-    ))
+    ];
+    let counts = [waiting.len(), waiting.held()];
+    (who, counts, waiting.patience(Some(60)))
 }
 
-#[test]
-fn the_eldest_and_the_late_are_told_of(rt: HostRuntime) {
-    assert_eq!(rt;
-        told(rt.alloc()),
-        Ok((Some(1), Some(2), Some(1), Some(1), 3, 3, 50))
-    );
-}
-
-/// The numbers of the connections that come out under keys, one of them twice, and the key that is free behind that.
-fn taken(alloc: Global) -> Result<([Option<u32>; 3], Option<usize>), AllocError> {
+/// What is told of three connections; the numbers of those that come out under a key, and under it again; the key that is free
+/// then; and how many wait once there is no key left, and who leaves for others that are too many.
+fn told_in_turn(
+    alloc: Global,
+) -> Result<(Told, [Option<u32>; 3], Option<usize>, usize), AllocError> {
     let mut waiting = three(alloc)?;
-    let first = waiting.take(2).map(|waiter| waiter.state);
-    let again = waiting.take(2).map(|waiter| waiter.state);
-    let other = waiting.take(0).map(|waiter| waiter.state);
-    Ok(([first, again, other], waiting.vacancy()?))
-}
-
-#[test]
-fn what_comes_out_was_put_there(rt: HostRuntime) {
-    assert_eq!(rt; taken(rt.alloc()), Ok(([Some(3), None, Some(1)], Some(0))));
-}
-
-/// How many keys there are, and whether the one with bytes leaves for others that are too many.
-fn full(alloc: Global) -> Result<(usize, bool), AllocError> {
-    let mut waiting = three(alloc)?;
+    let told = told(&mut waiting);
+    let first = waiting.take(0).map(|waiter| waiter.state);
+    let again = waiting.take(0).map(|waiter| waiter.state);
+    let free = waiting.vacancy()?;
     for _ in 0..MAX_WAITING {
         add(&mut waiting, waiter(alloc, 4, 40, b"")?)?;
     }
     let left = waiting.make_room(usize::MAX).map(|waiter| waiter.state);
-    Ok((waiting.len(), left == Some(3)))
+    Ok((told, [first, again, left], free, waiting.len()))
 }
 
 #[test]
-fn room_has_its_bounds(rt: HostRuntime) {
-    assert_eq!(rt; full(rt.alloc()), Ok((MAX_WAITING - 1, true)));
+fn connections_wait_and_leave(rt: HostRuntime) {
+    let told = ([Some(1), Some(2), Some(1), Some(1)], [3, 3], 50);
+    let numbers = [Some(1), None, Some(3)];
+    assert_eq!(rt;
+        told_in_turn(rt.alloc()),
+        Ok((told, numbers, Some(0), MAX_WAITING - 1))
+    );
 }
 
 /// Bytes that are read three at a time.
@@ -117,11 +98,7 @@ fn bytes_come_in_their_order(rt: HostRuntime) {
 /// Whether a key is found behind a growth that was refused.
 fn goes_on(alloc: Global) -> bool {
     let mut waiting: Waiting<u32> = Waiting::new(alloc);
-    let key = match waiting.vacancy() {
-        Ok(key) => key,
-        Err(AllocError) => waiting.vacancy().unwrap_or(None),
-    };
-    key == Some(0)
+    again!(waiting.vacancy()) == Ok(Some(0))
 }
 
 #[test]

@@ -17,7 +17,7 @@ use std::random::RandomSource;
 use std::sync::Wait;
 use std::sync::atomic::{AtomicUsize, Ordering};
 use std::thread::Threads;
-use test_fixtures::{Lack, MeetingGate, fence, profile_again};
+use test_fixtures::{Lack, MeetingGate, again, fence, profile_again};
 
 /// Requests that register two vehicles, of different shards.
 const A: &[u8] =
@@ -102,10 +102,7 @@ struct Turns {
 
 /// The routes, where memory allows at once or at a second try.
 fn routes(alloc: Global) -> Result<Face, Lack> {
-    match Face::open(alloc) {
-        Ok(face) => Ok(face),
-        Err(_) => Ok(Face::open(alloc)?),
-    }
+    Ok(again!(Face::open(alloc))?)
 }
 
 /// A port, and how it is served.
@@ -354,10 +351,7 @@ fn served_in_two_rounds<R: Threads + Wait + RandomSource + Sync>(
         each: 1,
         rounds: 2,
     };
-    match came_of(rt, alloc, &OpenGate, TWICE, turns) {
-        Ok((came, _, _)) => Ok(came),
-        Err(_) => Ok(came_of(rt, alloc, &OpenGate, TWICE, turns)?.0),
-    }
+    Ok(again!(came_of(rt, alloc, &OpenGate, TWICE, turns))?.0)
 }
 
 /// By `tests/refused-growths`, as the other of such a name.

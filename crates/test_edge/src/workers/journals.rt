@@ -18,7 +18,7 @@ use std::random::RandomSource;
 use std::sync::Wait;
 use std::sync::atomic::{AtomicUsize, Ordering};
 use std::thread::Threads;
-use test_fixtures::{Lack, room_behind};
+use test_fixtures::{Lack, again, room_behind};
 
 /// A journal in which A is registered, and behind it the torn line of another.
 const BEFORE: &[u8] =
@@ -115,10 +115,7 @@ fn comes_to_its_end<R: Threads + Wait + RandomSource + Sync>(
     rt: &R,
     alloc: Global,
 ) -> Result<bool, Lack> {
-    let (accepted, bytes, good) = match ended_over(rt, alloc) {
-        Err(Lack::Memory) => ended_over(rt, alloc)?,
-        found => found?,
-    };
+    let (accepted, bytes, good) = again!(ended_over(rt, alloc))?;
     Ok(accepted == 2 && room_behind(&bytes, AFTER).is_some() && good >= 3)
 }
 
