@@ -9,7 +9,7 @@ use std::alloc::Global;
 use std::io;
 use std::io::{ErrorKind, Read, Write};
 use std::thread::Threads;
-use test_fixtures::fence;
+use test_fixtures::{again, fence};
 
 /// The five-event run, and the lines that it prints.
 const FIVE_EVENTS: &str = r#"[
@@ -191,44 +191,36 @@ fn came_again<P: Threads + Sync>(rt: &P, alloc: Global, run: &Run) -> Came {
     }
 }
 
-#[test]
-fn replay_succeeds_after_a_refused_growth(rt: HostRuntime) {
-    let run = (Asked::Replay(Form::Batch), FIVE_EVENTS, FIVE_LINES);
-    assert_eq!(rt; came_again(&rt, rt.alloc(), &run), (1, true, false));
+/// Each command, its status, and what it prints.
+const RUNS: &[(u8, Run)] = &[
+    (1, (Asked::Replay(Form::Batch), FIVE_EVENTS, FIVE_LINES)),
+    (1, (Asked::ByFour, FIVE_EVENTS, FIVE_LINES)),
+    (
+        1,
+        (Asked::Replay(Form::Lines), FIVE_EVENT_LINES, FIVE_LINES),
+    ),
+    (0, (Asked::Table, ONE_ROW, ONE_ROW_LINES)),
+    (0, (Asked::Table, TWO_TABLES, TWO_TABLES_LINES)),
+    (0, (Asked::Debug(DEVICE, SCRIPT), TWO_EVENTS, SCRIPT_LINES)),
+    (
+        1,
+        (Asked::Debug(DEVICE, "run on_trip"), FIVE_EVENTS, FIVE_SHOWN),
+    ),
+];
+
+/// The place of the first command that comes to something else.
+fn first_other<P: Threads + Sync>(rt: &P, alloc: Global, runs: &[(u8, Run)]) -> Option<usize> {
+    for (at, (status, run)) in runs.iter().enumerate() {
+        if came_again(rt, alloc, run) != (*status, true, false) {
+            return Some(at);
+        }
+    }
+    None
 }
 
 #[test]
-fn replay_by_workers_succeeds_after_a_refused_growth(rt: HostRuntime) {
-    let run = (Asked::ByFour, FIVE_EVENTS, FIVE_LINES);
-    assert_eq!(rt; came_again(&rt, rt.alloc(), &run), (1, true, false));
-}
-
-#[test]
-fn replay_of_lines_succeeds_after_a_refused_growth(rt: HostRuntime) {
-    let run = (Asked::Replay(Form::Lines), FIVE_EVENT_LINES, FIVE_LINES);
-    assert_eq!(rt; came_again(&rt, rt.alloc(), &run), (1, true, false));
-}
-
-#[test]
-fn table_succeeds_after_a_refused_growth(rt: HostRuntime) {
-    let one = (Asked::Table, ONE_ROW, ONE_ROW_LINES);
-    let two = (Asked::Table, TWO_TABLES, TWO_TABLES_LINES);
-    let (one, two) = (
-        came_again(&rt, rt.alloc(), &one),
-        came_again(&rt, rt.alloc(), &two),
-    );
-    assert_eq!(rt; (one, two), ((0, true, false), (0, true, false)));
-}
-
-#[test]
-fn debug_succeeds_after_a_refused_growth(rt: HostRuntime) {
-    let two = (Asked::Debug(DEVICE, SCRIPT), TWO_EVENTS, SCRIPT_LINES);
-    let five = (Asked::Debug(DEVICE, "run on_trip"), FIVE_EVENTS, FIVE_SHOWN);
-    let (two, five) = (
-        came_again(&rt, rt.alloc(), &two),
-        came_again(&rt, rt.alloc(), &five),
-    );
-    assert_eq!(rt; (two, five), ((0, true, false), (1, true, false)));
+fn commands_succeed_after_a_refused_growth(rt: HostRuntime) {
+    assert_eq!(rt; first_other(&rt, rt.alloc(), RUNS), None);
 }
 
 /// Bad words are told without memory, before the file is looked at.
@@ -243,20 +235,13 @@ fn bad_words_are_told_with_every_growth_refused(rt: HostRuntime) {
 
 /// A file of this text, if one is given.
 fn source_of(text: Option<&'static str>) -> Option<Source<'static, &'static [u8]>> {
-    match text {
-        Some(text) => Some(file("T", text)),
-        None => None,
-    }
+    Some(file("T", text?))
 }
 
 /// How many tables are had of a file, or where none is given, asked for again where a growth is refused; 0 where there are none
 /// to be had.
 fn table_count(alloc: Global, text: Option<&'static str>) -> usize {
-    let tables = match tables_in(alloc, source_of(text)) {
-        Err(Problem::Memory) => tables_in(alloc, source_of(text)),
-        tables => tables,
-    };
-    match tables {
+    match again!(tables_in(alloc, source_of(text))) {
         Ok(tables) => tables.len(),
         Err(_) => 0,
     }

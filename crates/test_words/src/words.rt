@@ -8,22 +8,6 @@ type Case<'a> = (&'a [&'a str], Result<Command<'a>, WordsErrorKind>);
 
 const CASES: &[Case<'static>] = &[
     (
-        &[
-            "mds_city",
-            "serve",
-            "--each=1000000",
-            "--port=65535",
-            "--journal=J",
-        ],
-        Ok(Command::Serve {
-            port: 65535,
-            each: 1_000_000,
-            workers: 4,
-            table: None,
-            journal: Some("J"),
-        }),
-    ),
-    (
         &["mds_city", "replay", "--workers=64", "F", "--any"],
         Ok(Command::Replay {
             file: "F",
@@ -33,18 +17,8 @@ const CASES: &[Case<'static>] = &[
             workers: 64,
         }),
     ),
-    (
-        &["mds_city", "debug", "-", "--table=T", "a", "b"],
-        Ok(Command::Debug {
-            file: "-",
-            provider: "a",
-            device: "b",
-            table: Some("T"),
-        }),
-    ),
     (&["mds_city", "table"], Ok(Command::Table { table: None })),
     (&["mds_city", "replay", "-", "--workers=65"], MISTAKE),
-    (&["mds_city", "table", "X"], MISTAKE),
     (&[], MISTAKE),
     (&["mds_city", "--help"], Err(WordsErrorKind::Help)),
 ];
