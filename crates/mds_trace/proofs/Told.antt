@@ -52,9 +52,9 @@ stands_behind key (suc i) (item ∷ items) (line ∷ lines) event state there sa
     let first = prior_of key (accepted_by item line) in
     let before = accepted_before items lines key i in
     let whole : prior_of key (accepted_of (item ∷ items) (line ∷ lines)) ≡ first ++ prior_of key (accepted_of items lines) =
-      filter-append mine (accepted_by item line) (accepted_of items lines) in
+    filter-append mine (accepted_by item line) (accepted_of items lines) in
     let front : accepted_before (item ∷ items) (line ∷ lines) key (suc i) ≡ first ++ before =
-      filter-append mine (accepted_by item line) (accepted_of (take i items) (take i lines)) in
+    filter-append mine (accepted_by item line) (accepted_of (take i items) (take i lines)) in
     ap (λ (all : List Reported). slice_get all (length (accepted_before (item ∷ items) (line ∷ lines) key (suc i)))) whole
     ∙ ap (λ n. slice_get (first ++ prior_of key (accepted_of items lines)) n) (ap length front ∙ length-append first before)
     ∙ behind first (prior_of key (accepted_of items lines)) (length before)
@@ -94,12 +94,12 @@ pub sessions_show_reports : SessionsShowReports
 sessions_show_reports tables items report n end is at = record {
   opens = accepted_events_open tables items report.lines.items end.key is.lines;
   told = λ i event state there same told.
-    let accepted = prior_of end.key (accepted_of items report.lines.items) in
-    let own : same_key event.key end.key ≡ true = subst (λ key. same_key event.key key ≡ true) same (same_key_refl event.key) in
-    held_behind accepted (length (accepted_before items report.lines.items end.key i)) event (stands_behind end.key i items report.lines.items event state there own told)
-    ∙ told_is_reported tables (accepted_of (take i items) (take i report.lines.items)) event state (is.lines.each i (Event event) (Accepted state) there told);
+      let accepted = prior_of end.key (accepted_of items report.lines.items) in
+      let own : same_key event.key end.key ≡ true = subst (λ key. same_key event.key key ≡ true) same (same_key_refl event.key) in
+      held_behind accepted (length (accepted_before items report.lines.items end.key i)) event (stands_behind end.key i items report.lines.items event state there own told)
+      ∙ told_is_reported tables (accepted_of (take i items) (take i report.lines.items)) event state (is.lines.each i (Event event) (Accepted state) there told);
   ended = λ standing stands.
-    let accepted = accepted_of items report.lines.items in
-    held_at_end end.key (prior_of end.key accepted) standing
-    (sym (end_of tables accepted (vehicles_of (events_of items)) report.vehicles.items n end is.vehicles at) ∙ stands);
+      let accepted = accepted_of items report.lines.items in
+      held_at_end end.key (prior_of end.key accepted) standing
+      (sym (end_of tables accepted (vehicles_of (events_of items)) report.vehicles.items n end is.vehicles at) ∙ stands);
 }

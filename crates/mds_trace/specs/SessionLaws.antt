@@ -62,4 +62,4 @@ SessionsShowReports =
     (tables : Tables) (items : List EventItem) (report : Report) (n : ℕ) (end : VehicleEnd)
     → IsReport opening.Removed tables items report → slice_get report.vehicles.items n ≡ Some end
     → ShowsTold tables items report.lines.items end
-      (prior_of end.key (accepted_of items report.lines.items))
+    (prior_of end.key (accepted_of items report.lines.items))
