@@ -1,3 +1,4 @@
 -- Lemmas of this crate.
 pub mod SlotLemmas
 pub mod LeastLemmas
+pub mod PeerLemmas

@@ -1,3 +1,6 @@
 -- Definitions that the contracts cite.
 pub mod Least
+pub mod Limits
+pub mod Peers
+pub mod Requests
 pub mod Waiting

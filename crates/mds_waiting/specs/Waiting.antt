@@ -79,6 +79,14 @@ module _ {S : Type 0} where
   HasLeft old new waiter = (key : ℕ) × IsEldest 1 old key
       × (slice_get old key ≡ Some (Some waiter)) × (new ≡ slice_set old key None)
 
+  -- the eldest of all has left
+  abbrev pub LeavesEldest : List (Option (Waiter S)) → List (Option (Waiter S)) → Type 0
+  LeavesEldest old new = (key : ℕ) × IsEldest 0 old key × (new ≡ slice_set old key None)
+
+  -- the same connections wait, or all but the eldest of them
+  abbrev pub SameOrLeavesEldest : List (Option (Waiter S)) → List (Option (Waiter S)) → ℕ → Type 0
+  SameOrLeavesEldest old new key = SameWaiters old new ⊎ LeavesEldest old new
+
   -- what is kept of the slots: how many connections they have, how much these hold, which is in bounds, and a time before which
   -- nobody's is over
   pub record IsKept (slots : List (Option (Waiter S))) (count holding soonest : ℕ) : Type 0 where

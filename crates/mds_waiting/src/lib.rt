@@ -6,11 +6,24 @@
 //! milliseconds on a clock that never goes back.
 #![tactic(auto)]
 
+mod admission;
+mod coming;
 mod given;
 mod least;
+mod leaving;
+mod look;
+mod outgoing;
+mod part;
+mod peer;
 mod waiter;
 mod waiting;
 
+pub use coming::Coming;
 pub use given::Given;
+pub use leaving::Leaving;
+pub use look::Look;
+pub use outgoing::Outgoing;
+pub use part::Part;
+pub use peer::Peer;
 pub use waiter::{MAX_HELD, Waiter};
 pub use waiting::{MAX_WAITING, Waiting};

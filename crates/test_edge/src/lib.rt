@@ -2,6 +2,8 @@
 #![tactic(auto)]
 
 #[cfg(test)]
+mod peers;
+#[cfg(test)]
 mod waiting;
 #[cfg(test)]
 mod workers;

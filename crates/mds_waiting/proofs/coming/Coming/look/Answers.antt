@@ -1,0 +1,18 @@
+use Rattle.std.proofs.Common.{Some, ap, arith, ◌∙◌}
+use Rattle.std.proofs.lemmas.Option.{none-some, same_Some}
+use Rattle.mds_waiting.proofs.PeerLemmas.{grows_then}
+use Rattle.mds_waiting.proofs.coming.Coming.look.Goals as goal
+
+pub returns-in-Some-clause-whole : goal.returns-in-Some-clause-whole
+returns-in-Some-clause-whole g c = λ is. c.in-Some.ensures.whole (ap Some is)
+
+pub returns-in-Some-clause-grows : goal.returns-in-Some-clause-grows
+returns-in-Some-clause-grows g c = λ other.
+    grows_then _ _ _ _ _ _ c.loop.invariant.grows (c.in-Some.ensures.grows (λ same. other (same_Some _ _ same)))
+
+pub loop-preserved : goal.loop-preserved
+loop-preserved g c = record {
+  grows = grows_then _ _ _ _ _ _ c.loop.invariant.grows (c.in_default.ensures.grows (λ same. absurd (none-some _ same)));
+  bound = omega (arith, c.loop.invariant.bound, c.look_once.ensures.bound);
+  room = c.look_once.ensures.room ∙ c.loop.invariant.room;
+}

@@ -1,0 +1,11 @@
+use Rattle.std.proofs.Common.{◌≡◌, ◌≤◌, length, max}
+use Rattle.mds_waiting.specs.Peers.{Grows}
+use Rattle.mds_waiting.specs.Requests.{max_request}
+use Rattle.mds_waiting.proofs.coming.Coming.look.Given as goal
+
+abbrev pub invariant-loop : goal.invariant-loop
+invariant-loop g l = record {
+  grows : Grows (g.S.Peer.coming l.initial.self.peer) (g.S.Peer.coming l.self.peer) l.initial.bytes.items l.bytes.items;
+  bound : length l.bytes.items ≤ max (length l.initial.bytes.items) max_request;
+  room : length l.room ≡ 16_384;
+}

@@ -1,0 +1,57 @@
+//! Who leaves where one more connection is to wait.
+ghost use Rattle.std.specs.Prelude.{◌≡◌, All, IsTrue, IfSome, None, true, false};
+ghost use Rattle.mds_waiting.specs.Waiting.{HasRoom, HoldsFewer, IsVacant, LeavesEldest, SameOrLeavesEldest};
+
+use crate::waiting::{MAX_WAITING, Waiting};
+use std::alloc::AllocError;
+
+impl<S: Drop> Waiting<S> {
+    /// A key for one more connection, which holds so many bytes, and room for it: the eldest ones that hold bytes leave where
+    /// there is no room for it, and the eldest one of all where each key has a connection. `None` for want of memory.
+    pub fn key_for(&mut self, count: usize) -> Option<usize>
+        ensures vacant { IfSome result (IsVacant self.new) }
+        ensures room { IfSome result (λ _. HasRoom self.new count) }
+    {
+        self.clear_room(count);
+        let key = self.clear_key()?;
+        let is_clear = self.is_vacant(key) && self.has_room(count);
+        is_clear.then_some(key)
+    }
+
+    /// Lets go of the eldest ones that hold bytes, one after the other, until there is room for so many more.
+    fn clear_room(&mut self, count: usize) {
+        for _ in 0..=MAX_WAITING {
+            if self.make_room(count).is_none() {
+                return;
+            }
+        }
+    }
+
+    /// A key that no connection has: the eldest connection leaves where each key has one. `None` for want of memory.
+    fn clear_key(&mut self) -> Option<usize>
+        ensures { IfSome result (SameOrLeavesEldest self.old self.new) }
+    {
+        match self.vacancy() {
+            Ok(Some(key)) => return Some(key),
+            Ok(None) => {}
+            Err(AllocError) => return None,
+        }
+        let key = self.eldest(0)?;
+        let _ = self.take(key);
+        Some(key)
+    }
+
+    /// Lets go of the connection that began to wait first: whether one waited.
+    pub fn let_eldest_go(&mut self) -> bool
+        ensures left { result ≡ true → LeavesEldest self.old self.new }
+        ensures none { result ≡ false → All (HoldsFewer 0) self.old }
+    {
+        match self.eldest(0) {
+            Some(key) => {
+                let _ = self.take(key);
+                true
+            }
+            None => false,
+        }
+    }
+}
