@@ -137,18 +137,16 @@ def hanging_up(program):
             body = request.index(b"\r\n\r\n") + 4
             for part in (0, 10, body, len(request) - 1):
                 for reset in (False, True):
-                    server.count()
                     hang_up(server.port, request[:part], reset)
         if any(is_registered(server, device) for device in devices):
             yield "a registration that wasn't sent whole was taken in"
         for at, request in enumerate(requests):
-            server.count()
             hang_up(server.port, request, reset=at % 2 == 1)
         found = [is_registered(server, device) for device in devices]
         server.count(0, sum(found))
         if not all(found[::2]):
             yield "a registration that was sent whole wasn't taken in"
-        yield from server.end()
+        yield from server.drain()
 
 
 def hanging_up_before_a_long_answer(program):
@@ -158,10 +156,9 @@ def hanging_up_before_a_long_answer(program):
         yield from talk_over(server, registered(A))
         for reset in 5 * (False, True):
             for request in (post("/events", many), get("/table")):
-                server.count()
                 hang_up(server.port, request, reset)
         yield from talk_over(server, look(A, "removed", 0, None))
-        yield from server.end()
+        yield from server.drain()
 
 
 def long_list(server, device):
@@ -174,7 +171,7 @@ def long_list(server, device):
 
 def hanging_up_amid_its_answer(program):
     """Clients that read the start of an answer that is longer than the system takes in, and hang up then, with an end and with a
-    reset: a client that waits behind them is answered once they have gone, and not before."""
+    reset: the only worker answers another client beside them."""
     with Server(program, 12) as server:
         yield from long_list(server, A)
         for reset in (False, True, True, False):
@@ -183,12 +180,10 @@ def hanging_up_amid_its_answer(program):
             reading.sendall(get(f"/vehicles/{P}/{A}/events"))
             if not reading.recv(100).startswith(b"HTTP/1.1 200 OK\r\n"):
                 yield "no answer began"
-            with connect(server.port) as waiting:
-                waiting.sendall(get(f"/vehicles/{P}/{B}"))
-                if not silent(waiting, 0.3):
-                    yield "an answer while the only worker writes to another client"
-                close(reading, reset)
-                yield from differing(read_all(waiting), error(404, "unregistered"))
+            with connect(server.port) as other:
+                other.sendall(get(f"/vehicles/{P}/{B}"))
+                yield from differing(read_all(other), error(404, "unregistered"))
+            close(reading, reset)
         yield from server.end()
 
 
@@ -197,9 +192,8 @@ def is_registered(server, device):
 
 
 def silent_beside_working(program):
-    """As many silent clients as there are workers but one: another client is answered by the one that is left. With one more
-    silent client, the next one waits until a silent one has gone on. All of it is tried again where it took so long that silent
-    clients may have been let go meanwhile."""
+    """As many silent clients as there are workers: others are answered beside them, and silent ones that go on are answered too.
+    All of it is tried again where it took so long that silent clients may have been let go meanwhile."""
     for _ in range(TRIES):
         start = time.monotonic()
         try:
@@ -215,21 +209,14 @@ def working_beside_silent(program):
     """What is wrong with the answers, where all of it takes less time than a silent client is kept."""
     request = get(f"/vehicles/{P}/{A}")
     with Server(program, 7, workers=MOST_WORKERS) as server:
-        quiet = [connect(server.port) for _ in range(MOST_WORKERS - 1)]
-        server.count(MOST_WORKERS - 1)
+        quiet = [connect(server.port) for _ in range(MOST_WORKERS)]
+        server.count(MOST_WORKERS)
         yield from talk_over(server, registered(A))
         for _ in range(4):
             yield from talk_over(server, look(A, "removed", 0, None))
-        quiet.append(connect(server.port))
-        with connect(server.port) as waiting:
-            server.count(2)
-            waiting.sendall(EVENT)
-            if not silent(waiting, 0.5):
-                yield "an answer where each worker has a silent client"
-            for connection in quiet[: MOST_WORKERS // 2]:
-                connection.sendall(request)
-            yield from differing(read_all(waiting), done(1))
-            server.count(0, 1)
+        yield from talk_over(server, Exchange(EVENT, done(1)))
+        for connection in quiet[: MOST_WORKERS // 2]:
+            connection.sendall(request)
         yield from answers_of(quiet[: MOST_WORKERS // 2])
         for connection in quiet[MOST_WORKERS // 2 :]:
             connection.close()
@@ -238,13 +225,10 @@ def working_beside_silent(program):
 
 
 def answers_of(connections):
-    """What is wrong with the answers to looks that were sent beside an event."""
-    before, after = look(A, "removed", 0, None).answer, look(A, "available", 1, 1000).answer
+    """What is wrong with the answers to silent clients that went on, and looked."""
     for connection in connections:
         with connection:
-            found = read_all(connection)
-            if found not in (before, after):
-                yield f"a silent client that went on was answered {found[:200]!r}"
+            yield from differing(read_all(connection), look(A, "available", 1, 1000).answer)
 
 
 CONNECTIONS = [

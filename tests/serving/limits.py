@@ -1,12 +1,10 @@
-"""How long one client, or a lack of open files or of memory for a connection, may hold the server.
+"""How long one client is waited for, and lacks of open files and of memory for a connection.
 
 These tests wait more than they work. So tests/clients runs them beside the others, each in a thread of its own."""
 
 import os
-import socket
 import threading
 import time
-from pathlib import Path
 
 from cases.replays import A, B, P
 from harness.building import Refusal, built
@@ -25,103 +23,84 @@ NOWHERE = get("/")
 HEAD = (8, 20)
 """Between how many seconds a client is let go whose head doesn't come: 10."""
 CALL = (25, 45)
-"""The same for one that keeps a read of its body waiting: 30."""
+"""The same for one of whose body nothing more comes: 30."""
 WHOLE = (55, 80)
 """The same for one that goes on sending its request, and for one that goes on taking its answer: 60."""
 WRITING = (25, 80)
-"""The same for one that doesn't read a long answer: 30 for each call of `write`, and 60 in all."""
-MOST_BEHIND = 1.5
-"""How many seconds after a late client is let go the next one may be answered. Nothing more is read of the late one: else it
-would be 2 seconds, or 10 where that goes on sending."""
-LAST_READ = (1, 5)
+"""The same for one that doesn't read a long answer: 30 in which it takes nothing, and 60 in all."""
+LAST_READ = (1, 8)
 """The same for a client that sends nothing behind its answer: 2."""
 AT_ITS_END = (-1, 1)
 """The same for one whose request was granted, so that nothing more is expected of it: it isn't waited for."""
-LAST_READS = (8, 16)
-"""The same for one that goes on sending: 10, and the read before it."""
-MOST_LAST_SECONDS = 8
-"""How long a client may be read from that sends all that it can: the limit of bytes comes first."""
+LAST_READS = (8, 20)
+"""The same for one that goes on sending: 10."""
+FLOODED = (-1, 12)
+"""The same for one that sends all that it can: the limit of bytes comes first, or that of time."""
+MOST_BESIDE = 5
+"""How many seconds another client may wait for its answer meanwhile, on a machine that is busy with other tests."""
 IDLE = 33
-"""How long no client comes, in seconds: longer than the system waits for a connection in one call."""
-OPEN_FILES = 6
-"""Standard input, output and error, the listening socket by two descriptors, and one connection."""
-LACK, MOST_LACK = 15, 36
-"""A lack of open files, in seconds, that passes, and one that is longer than the server waits for."""
+"""How long no client comes, in seconds."""
+OPEN_FILES = 7
+"""Standard input, output and error, the listening socket by two descriptors, what the system is asked by about sockets, and one
+connection."""
+LACK = 15
+"""A lack of open files, in seconds, that passes."""
 WAITS, LONGEST, TOO_LONG = 8640, 29, 31
 """How many waits of 10 seconds come before a client does, a day of them; and lacks of the two kinds, on a clock that is moved
 on."""
 MOST_GROWTHS = 2000
 """More growths of memory than a server makes before its first connection."""
-FEW, SOME, TOO_MANY = 3, 20, 301
-"""How often memory for a connection is refused: the connection is tried again after each of 300 pauses."""
-SOME_PAUSES, ALL_PAUSES = (1.9, 15), (29, 50)
-"""How long these refusals take, in seconds: a tenth of one each."""
 AT_ONCE = 1 << 16
 SLOW = MOST_WORKERS + 16
 """Clients that send a byte a second: more than there are workers."""
 
 
 class LetGo(threading.Thread):
-    """Waits until the server lets go of a connection, no sooner than after so many seconds, and keeps when that was."""
+    """Waits until the server has no more sockets than before, and keeps after how many seconds that was."""
 
-    def __init__(self, server, connection, least):
+    def __init__(self, server, before, most):
         super().__init__(daemon=True)
-        ends = (server.port, connection.getsockname()[1])
-        self.row = "{:04X} 0100007F:{:04X} 01 ".format(*ends).encode()
-        """What the system's list of sockets has of the server's end, as long as that is established."""
-        self.server, self.least, self.time = server, least, None
+        self.server, self.before, self.most, self.seconds = server, before, most, None
+        self.begun = time.monotonic()
         self.start()
 
-    def is_held(self):
-        return self.server.child.poll() is None and self.row in Path("/proc/net/tcp").read_bytes()
-
     def run(self):
-        time.sleep(self.least)
-        # The list may lack a socket, once, where others go while it is read.
-        while self.is_held() or self.is_held():
+        while (seconds := time.monotonic() - self.begun) < self.most:
+            if self.server.sockets() <= self.before:
+                self.seconds = seconds
+                return
             time.sleep(0.2)
-        self.time = time.monotonic()
 
-    def behind(self):
-        """What is wrong with how much later the next client was answered, which was now."""
-        now = time.monotonic()
-        self.join(MOST_LACK)
-        if self.time is None:
-            yield "the next client was answered, and the late one wasn't let go"
-        elif now - self.time > MOST_BEHIND:
-            yield f"the next client was answered {now - self.time:.1f} s after the late one was let go"
+    def within(self, least):
+        """What is wrong with when that was: after so many seconds at least, and in time."""
+        self.join()
+        if self.seconds is None:
+            yield f"a late client wasn't let go after {self.most} s"
+        elif self.seconds < least:
+            yield f"a client was let go after {self.seconds:.1f} s, in place of {least} at least"
 
 
-def next_answer(server, least, most, late=None):
-    """What is wrong with the next client's answer, while another one holds the only worker: it comes so many seconds later; and
-    where that one is late, as soon as it is let go."""
+def beside(server):
+    """What is wrong with another client's answer, which no slow client holds up."""
     start = time.monotonic()
-    let_go = LetGo(server, late, least) if late else None
-    server.count()
-    with connect(server.port) as waiting:
-        waiting.settimeout(most)
-        waiting.sendall(NOWHERE)
-        try:
-            found = read_all(waiting)
-        except socket.timeout:
-            raise Unwell(f"the next client had no answer after {most} s") from None
-        if let_go:
-            yield from let_go.behind()
+    yield from talk_over(server, Exchange(NOWHERE, error(404, "not_found")))
     seconds = time.monotonic() - start
-    yield from differing(found, error(404, "not_found"))
-    if not least < seconds < most:
-        yield f"the next client was answered after {seconds:.1f} s, in place of {least} to {most}"
+    if seconds > MOST_BESIDE:
+        yield f"another client was answered after {seconds:.1f} s"
 
 
 def let_go_before_its_answer(program, part, least, most, port=0):
-    """A client that keeps the server waiting for the rest of its request is let go, without an answer."""
+    """A client that keeps the server waiting for the rest of its request is let go, without an answer, and no worker counts it.
+    The only worker answers another one beside it."""
     with Server(program, 2, port=port) as server:
-        server.count()
-        keeping = connect(server.port)
-        keeping.sendall(part)
-        yield from next_answer(server, least, most, keeping)
-        if not is_over(keeping):
-            yield "something was answered to a request that wasn't whole"
+        before = server.sockets()
+        with connect(server.port) as keeping:
+            keeping.sendall(part)
+            let_go = LetGo(server, before, most)
+            yield from beside(server)
+            yield from let_go.within(least)
+            if not is_over(keeping):
+                yield "something was answered to a request that wasn't whole"
         yield from server.end()
 
 
@@ -165,19 +144,21 @@ def is_sent(connection, piece):
         return False
 
 
-def let_go_though_they_trickle(program, requests, workers, least, most):
-    """Clients that each send the front of a request, and then a piece each second, are let go without an answer: another client,
-    behind them, is answered after so long."""
-    with Server(program, 2, workers=workers) as server:
+def let_go_though_they_trickle(program, requests, least, most):
+    """Clients that each send the front of a request, and then a piece each second, are let go without an answer. The only worker
+    answers another one beside them."""
+    with Server(program, 2) as server:
+        before = server.sockets()
         slow = [(connect(server.port), piece) for _, piece in requests]
-        server.count(len(slow))
         for (connection, _), (front, _) in zip(slow, requests):
             connection.sendall(front)
         over = threading.Event()
         sender = threading.Thread(target=trickle, args=(slow, over))
+        let_go = LetGo(server, before, most)
         sender.start()
         try:
-            yield from next_answer(server, least, most, slow[0][0])
+            yield from beside(server)
+            yield from let_go.within(least)
         finally:
             over.set()
             sender.join()
@@ -187,18 +168,17 @@ def let_go_though_they_trickle(program, requests, workers, least, most):
 
 
 def trickling_in_their_heads(program):
-    """More clients than there are workers, which each send a little a second: of a method, of empty lines before a request, of
-    fields."""
+    """Many clients, which each send a little a second: of a method, of empty lines before a request, of fields."""
     line = b"GET / HTTP/1.1\r\n"
     kinds = [(b"", b"x"), (b"", b"\n"), (b"", b"\r\n"), (line, b"x"), (line, b"x:\n"), (line, b"x:\r\n")]
     requests = [kinds[at % len(kinds)] for at in range(SLOW)]
-    return let_go_though_they_trickle(program, requests, MOST_WORKERS, *HEAD)
+    return let_go_though_they_trickle(program, requests, *HEAD)
 
 
 def trickling_in_its_body(program):
     """A client whose head came whole, and which sends a byte of its body a second."""
     head = EVENT[: EVENT.index(b"\r\n\r\n") + 4]
-    return let_go_though_they_trickle(program, [(head, b" ")], 1, *WHOLE)
+    return let_go_though_they_trickle(program, [(head, b" ")], *WHOLE)
 
 
 def with_a_long_answer(program, reading, least, most):
@@ -207,13 +187,15 @@ def with_a_long_answer(program, reading, least, most):
     with Server(program, 5) as server:
         yield from long_list(server, A)
         server.count()
-        over = threading.Event()
+        before, over = server.sockets(), threading.Event()
         with connect(server.port, room=SMALL_ROOM) as keeping:
             reader = threading.Thread(target=reading, args=(keeping, over))
             keeping.sendall(get(f"/vehicles/{P}/{A}/events"))
             reader.start()
+            let_go = LetGo(server, before, most)
             try:
-                yield from next_answer(server, least, most, keeping)
+                yield from beside(server)
+                yield from let_go.within(least)
             finally:
                 over.set()
                 reader.join()
@@ -262,13 +244,15 @@ def going_on(connection, piece, pause, over):
 def let_go_behind_its_answer(program, least, most, piece=None, pause=0.0):
     """A client that doesn't end behind its answer, and goes on sending this piece, if one is given, is let go."""
     with Server(program, 2) as server:
-        over = threading.Event()
+        before, over = server.sockets(), threading.Event()
         with answered(server) as connection:
             sender = threading.Thread(target=going_on, args=(connection, piece, pause, over))
+            let_go = LetGo(server, before, most)
             if piece:
                 sender.start()
             try:
-                yield from next_answer(server, least, most)
+                yield from beside(server)
+                yield from let_go.within(least)
             finally:
                 over.set()
                 connection.close()
@@ -278,14 +262,15 @@ def let_go_behind_its_answer(program, least, most, piece=None, pause=0.0):
 
 
 def silent_behind_a_granted_request(program):
-    """A client that neither sends nor ends behind the answer to a granted request: it holds nobody up."""
+    """A client that neither sends nor ends behind the answer to a granted request is let go at once."""
     with Server(program, 3) as server:
         yield from talk_over(server, registered(A))
         server.count()
+        before = server.sockets()
         with connect(server.port) as kept:
             kept.sendall(look(A, "removed", 0, None).request)
             yield from differing(read_all(kept), look(A, "removed", 0, None).answer)
-            yield from next_answer(server, *AT_ITS_END)
+            yield from LetGo(server, before, AT_ITS_END[1]).within(AT_ITS_END[0])
         yield from server.end()
 
 
@@ -321,48 +306,37 @@ def trickling_behind_its_answer(program):
 
 def flooding_behind_its_answer(program):
     """A client that sends all that it can behind its answer, without end."""
-    return let_go_behind_its_answer(program, -1, MOST_LAST_SECONDS, piece=b"x" * AT_ONCE)
+    return let_go_behind_its_answer(program, *FLOODED, piece=b"x" * AT_ONCE)
 
 
 def short_of_open_files(program):
-    """Two workers, of which one has no file to open for a while: when the other's client has gone, the next one is answered."""
-    with Server(program, 4, workers=2, open_files=OPEN_FILES) as server:
+    """Where there is no file to open for a connection, the eldest one is let go whose request isn't whole."""
+    with Server(program, 2, workers=2, open_files=OPEN_FILES) as server:
         yield from talk_over(server, registered(A))
-        server.count(2)
-        with connect(server.port) as held, connect(server.port) as waiting:
+        with connect(server.port) as held:
             held.sendall(EVENT[:-1])
-            waiting.sendall(get(f"/vehicles/{P}/{A}"))
-            if not silent(waiting, LACK):
-                yield "an answer where no file could be opened for its connection"
-            held.sendall(EVENT[-1:])
-            found = read_all(held)
-            server.count(0, success_of(found))
-            yield from differing(found, done(1))
-            held.close()
-            yield from differing(read_all(waiting), look(A, "available", 1, 1000).answer)
+            yield from talk_over(server, look(A, "removed", 0, None))
+            if not is_over(held):
+                yield "something was answered to a request that wasn't whole"
         yield from talk_over(server, Exchange(get(f"/vehicles/{P}/{B}"), error(404, "unregistered")))
         yield from server.end()
 
 
-def short_of_open_files_for_long(program):
-    """The same lack for longer than the server waits: one worker gives up, the other goes on, and the end tells of it. The other
-    is held meanwhile by a body that comes slowly, and is answered."""
-    request = post("/vehicles", " " * MOST_LACK + compact([vehicle()]))
-    start = request.index(b"\r\n\r\n") + 4
-    with Server(program, 3, workers=2, open_files=OPEN_FILES) as server:
-        with connect(server.port) as held:
-            server.count()
-            held.sendall(request[:start])
-            for at in range(start, start + MOST_LACK):
-                held.sendall(request[at : at + 1])
-                time.sleep(1)
-            held.sendall(request[start + MOST_LACK :])
-            yield from differing(read_all(held), done(1))
-        for _ in range(2):
-            yield from talk_over(server, Exchange(NOWHERE, error(404, "not_found")))
-        ended, wanted = server.ended(), (3, "", SOCKET)
-        if ended != wanted:
-            yield f"ended with {ended}, in place of {wanted}"
+def short_of_open_files_for_a_while(program):
+    """Where none has a request that isn't whole, the next connection waits: for a client, say, that takes its answer."""
+    with Server(program, 4, workers=2, open_files=OPEN_FILES) as server:
+        yield from long_list(server, A)
+        server.count(2)
+        with connect(server.port, room=SMALL_ROOM) as held, connect(server.port) as waiting:
+            held.sendall(get(f"/vehicles/{P}/{A}/events"))
+            held.recv(100)
+            waiting.sendall(get(f"/vehicles/{P}/{B}"))
+            if not silent(waiting, LACK):
+                yield "an answer where no file could be opened for its connection"
+            read_all(held)
+            held.close()
+            yield from differing(read_all(waiting), error(404, "unregistered"))
+        yield from server.end()
 
 
 def moved_on(waits=0, lack=0):
@@ -388,50 +362,33 @@ def lacking_open_files_for_too_long(program):
 
 
 def growth_of_a_connection(program):
-    """The number of the growth that a server's first connection makes first: with those before it refused the server ends."""
+    """The number of the growth that a server's first connection makes first: where it is refused, that is closed, and the next one
+    is answered."""
     for number in range(1, MOST_GROWTHS):
-        with Refusal(number, FEW) as refusal:
+        with Refusal(number) as refusal:
             try:
                 with Server(program, 1, env=refusal.env) as server:
-                    if ask(server.port, NOWHERE):
+                    if not answer_at(server) and answer_at(server):
                         return number
-            except (NotListening, ConnectionError):
+            except NotListening:
                 pass
-    raise Unwell("no server answered its first connection")
+    raise Unwell("no server closed its first connection and answered the next")
 
 
-def seconds_until(done):
-    """What a call comes to, and how long it takes."""
-    start = time.monotonic()
-    found = done()
-    return found, time.monotonic() - start
+def answer_at(server):
+    """What is answered to a client, which may be let go."""
+    try:
+        return ask(server.port, NOWHERE)
+    except ConnectionError:
+        return b""
 
 
 def without_memory_for_a_connection(program):
-    """A connection for which there is no memory at first is kept, and answered once there is; its worker goes on."""
-    with Refusal(growth_of_a_connection(program), SOME) as refusal:
-        with Server(program, 3, env=refusal.env) as server:
-            exchange = registered(A)
-            found, seconds = seconds_until(lambda: server.ask(exchange.request))
-            yield from differing(found, exchange.answer)
-            if not SOME_PAUSES[0] < seconds < SOME_PAUSES[1]:
-                yield f"the answer came after {seconds:.1f} s, in place of {SOME_PAUSES}"
-            yield from talk_over(server, look(A, "removed", 0, None))
-            yield from server.end()
-
-
-def without_memory_for_a_connection_for_long(program):
-    """A connection for which there is no memory for longer than the server waits is closed. It isn't counted, and its worker
-    answers the next one."""
-    with Refusal(growth_of_a_connection(program), TOO_MANY) as refusal:
+    """A connection for which there is no memory is closed. It isn't counted, and the next one is answered."""
+    with Refusal(growth_of_a_connection(program)) as refusal:
         with Server(program, 2, env=refusal.env) as server:
-            keeping = connect(server.port)
-            keeping.sendall(NOWHERE)
-            over, seconds = seconds_until(lambda: is_over(keeping))
-            if not over:
+            if answer_at(server):
                 yield "an answer where there was no memory for the connection"
-            if not ALL_PAUSES[0] < seconds < ALL_PAUSES[1]:
-                yield f"the connection was closed after {seconds:.1f} s, in place of {ALL_PAUSES}"
             yield from talk_over(server, registered(A))
             yield from server.end()
 
@@ -450,10 +407,9 @@ LIMITS = [
     idle_for_a_day,
     lacking_open_files_for_too_long,
     without_memory_for_a_connection,
-    without_memory_for_a_connection_for_long,
     silent_behind_its_answer,
     trickling_behind_its_answer,
     flooding_behind_its_answer,
     short_of_open_files,
-    short_of_open_files_for_long,
+    short_of_open_files_for_a_while,
 ]

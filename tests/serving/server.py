@@ -1,5 +1,6 @@
 """The built server as a process."""
 
+import os
 import re
 import socket
 import subprocess
@@ -93,6 +94,11 @@ class Server:
         self.count(1, success_of(answered))
         return answered
 
+    def sockets(self):
+        """How many sockets it has open."""
+        folder = Path(f"/proc/{self.child.pid}/fd")
+        return sum(is_socket(path) for path in folder.iterdir())
+
     def memory(self):
         """How many bytes the process holds."""
         return self.bytes_of("VmRSS")
@@ -128,6 +134,29 @@ class Server:
         wanted = (0, f"accepted {self.success}\n", "")
         if ended != wanted:
             yield f"ended with {ended}, in place of {wanted}"
+
+    def drain(self):
+        """Makes connections until it ends, where it isn't known how many others were taken by a worker, and says what is wrong
+        with their answers and with how it then ends."""
+        while self.child.poll() is None:
+            try:
+                answered = self.ask(get("/"))
+            except ConnectionError:
+                break
+            if answered not in (b"", error(404, "not_found")):
+                yield f"a connection at the end, {answered[:200]!r}"
+        ended = self.ended()
+        wanted = (0, f"accepted {self.success}\n", "")
+        if ended != wanted:
+            yield f"ended with {ended}, in place of {wanted}"
+
+
+def is_socket(path):
+    """Whether a descriptor of a process, by its path, is a socket; one that is closed meanwhile is none."""
+    try:
+        return os.readlink(path).startswith("socket:")
+    except OSError:
+        return False
 
 
 SUCCESS = re.compile(rb'"success":([0-9]+),"total":[0-9]+\}$')

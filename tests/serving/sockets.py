@@ -2,9 +2,9 @@
 
 import ctypes
 import errno
+import fcntl
 import os
 import socket
-import struct
 import time
 from pathlib import Path
 
@@ -24,18 +24,6 @@ LISTENING = "0A"
 OTHER_ADDRESS = "127.0.0.2"
 PIDFD_GETFD = 438
 SECONDS = 10
-PAUSE = 0.2
-"""How long the first read of a connection waits for a head, in seconds: the second waits for what is left."""
-HEADS = [
-    b"POST /vehicles HTTP/1.1\r\nContent-Length: 9\r\n\r\n",
-    b"POST /vehicles HTTP/1.1\nContent-Length: 9\n\n",
-    b"POST /vehicles HTTP/1.1\r\nContent-Length: 9\n\r\n",
-    b"POST /vehicles HTTP/1.1\nContent-Length: 9\r\n\n",
-    b"\r\n\n\r\nPOST /vehicles HTTP/1.1\r\nContent-Length: 9\r\nx:\r\ny: \t\r\n\r\n",
-]
-"""Heads, whose lines end in each way, that a body follows."""
-
-
 def addresses_of(port):
     """The addresses at which a socket listens on this port, by the system's lists."""
     for name in ("tcp", "tcp6"):
@@ -101,8 +89,7 @@ def is_end_of(number, connection):
 
 
 def options_of_a_connection(program):
-    """What is written is sent at once. A read waits 10 seconds at first, and no longer until the head is there; then it waits 30.
-    A write waits 30."""
+    """What is written is sent at once, and no call waits."""
     yield from options_at(program, 0)
 
 
@@ -112,45 +99,17 @@ def options_at_a_port_of_a_number(program):
 
 
 def options_at(program, port):
-    """What is wrong with the options of the connections of a server at this port, 0 for a free one."""
+    """What is wrong with the options of a connection of a server at this port, 0 for a free one."""
     if not hasattr(os, "pidfd_open"):
         raise Skipped("no `pidfd_open` here")
-    with Server(program, len(HEADS), port=port) as server:
-        for head in HEADS:
-            server.count()
-            with connect(server.port) as connection, taken_by(server, connection) as other:
-                if not other.getsockopt(socket.IPPROTO_TCP, socket.TCP_NODELAY):
-                    yield "TCP_NODELAY isn't set"
-                if waits_of(other) != (10, 30):
-                    yield f"a read and a write wait for {waits_of(other)} seconds, in place of {(10, 30)}"
-                for complaint in longer_behind(connection, other, head):
-                    yield f"{head!r}: {complaint}"
+    with Server(program, 1, port=port) as server:
+        server.count()
+        with connect(server.port) as connection, taken_by(server, connection) as other:
+            if not other.getsockopt(socket.IPPROTO_TCP, socket.TCP_NODELAY):
+                yield "TCP_NODELAY isn't set"
+            if not fcntl.fcntl(other, fcntl.F_GETFL) & os.O_NONBLOCK:
+                yield "its calls wait"
         yield from server.end()
-
-
-def longer_behind(connection, other, head):
-    """What is wrong with how long reads wait before the last byte of a head, and behind it."""
-    time.sleep(PAUSE)
-    for piece, least, most in ((head[:-1], 0, 10 - PAUSE), (head[-1:], 30, 30)):
-        connection.sendall(piece)
-        if not waits_soon(other, least, most):
-            yield f"behind {piece!r} reads wait for {waits_of(other)[0]} seconds, in place of {least} to {most}"
-
-
-def waits_soon(connection, least, most):
-    """Whether its reads come to wait for so many seconds."""
-    for _ in range(10 * SECONDS):
-        if least <= waits_of(connection)[0] <= most:
-            return True
-        time.sleep(0.1)
-    return False
-
-
-def waits_of(connection):
-    """How many seconds one read of a connection waits, and one write."""
-    size = struct.calcsize("ll")
-    found = [connection.getsockopt(socket.SOL_SOCKET, name, size) for name in (socket.SO_RCVTIMEO, socket.SO_SNDTIMEO)]
-    return tuple(seconds + micros / 1000000 for seconds, micros in (struct.unpack("ll", it) for it in found))
 
 
 def last_line_that_nobody_reads(program):

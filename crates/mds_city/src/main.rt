@@ -15,52 +15,63 @@ use mds_socket::{SocketIn, SocketOut, SocketPort};
 use std::alloc::Global;
 use std::io::Write;
 use std::marker::Brand;
+use std::net::Net;
 use std::process::ExitCode;
+use std::sync::Wait;
+use std::time::Clock;
 use std::{env, fs};
 
-impl Opens for HostRuntime {
+/// What the program runs on: its files, its sockets and its standard streams. `main` alone has a runtime that may wait, so
+/// what listens is written for any that may.
+#[derive(Clone, Copy)]
+struct Host<R> {
+    rt: R,
+}
+
+impl Opens for Host<HostRuntime> {
     type File = fs::File;
 
     fn open(&self, path: &str) -> Option<fs::File> {
-        fs::open(self, path).ok()
+        fs::open(&self.rt, path).ok()
     }
 }
 
-impl Listens for HostRuntime {
-    type In = SocketIn<HostRuntime>;
+impl<R: Net + Wait + Clock + Copy + Send + Sync> Listens for Host<R> {
+    type In = SocketIn;
 
-    type Out = SocketOut<HostRuntime>;
+    type Out = SocketOut;
 
-    type Listening = SocketPort<HostRuntime>;
+    type Listening = SocketPort<R>;
 
-    fn listen(&self, alloc: Global, number: u16) -> Option<(SocketPort<HostRuntime>, u16)> {
-        let port = SocketPort::bind(self, alloc, *self, number).ok()?;
+    fn listen(&self, alloc: Global, number: u16) -> Option<(SocketPort<R>, u16)> {
+        let port = SocketPort::bind(&self.rt, alloc, self.rt, number).ok()?;
         let number = port.number().ok()?;
         Some((port, number))
     }
 }
 
-impl OpensJournals for HostRuntime {
+impl OpensJournals for Host<HostRuntime> {
     type Journal = DiskFile<Brand>;
 
     fn open_journal(&self, path: &str) -> Result<DiskFile<Brand>, FileFault> {
-        open_file(self, path)
+        open_file(&self.rt, path)
     }
 
     fn tell_not_kept(&self) {
-        let _ = self.stderr().write(b"mds_city: journal not kept\n");
+        let _ = self.rt.stderr().write(b"mds_city: journal not kept\n");
     }
 }
 
 fn main(rt: HostRuntime) -> ExitCode {
     let alloc = rt.alloc();
+    let host = Host { rt };
     let mut faults = rt.stderr();
     let status = match words_of(alloc, env::args(&rt)) {
         Ok(words) => run(
             &rt,
             alloc,
             words.as_slice(),
-            &rt,
+            &host,
             rt.stdin(),
             &mut rt.stdout(),
             &mut faults,

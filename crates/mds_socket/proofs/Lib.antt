@@ -1,2 +1,1 @@
 -- Lemmas of this crate.
-pub mod HeadEndLemmas

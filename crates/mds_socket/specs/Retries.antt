@@ -2,8 +2,8 @@
 use Rattle.std.specs.Prelude.{ℕ, ◌==◌, ◌||◌, ℤ, pos, negsuc, Option, Some, None, if◌then◌else◌}
 use Rattle.std.specs.declared.io.ErrorKind.{ErrorKind}
 use Rattle.std.specs.declared.io.ErrorKind.TheVariants.{Interrupted, WouldBlock, ConnectionAborted, ConnectionReset, TimedOut, NetworkDown, NetworkUnreachable, HostUnreachable, PermissionDenied, Unsupported, OutOfMemory}
-use Rattle.mds_socket.specs.declared.socket.Retry.{Retry}
-use Rattle.mds_socket.specs.declared.socket.Retry.TheVariants.{AtOnce, Later, ForAWhile, Never}
+use Rattle.mds_socket.specs.declared.retry.Retry.{Retry}
+use Rattle.mds_socket.specs.declared.retry.Retry.TheVariants.{OnceReady, AtOnce, Later, ForAWhile, Never}
 
 -- at once after ENONET, EPROTO, ENOPROTOOPT and EHOSTDOWN, of the connection's own network; later, however often, after
 -- ENOBUFS, of memory for sockets; for a while after ENFILE and EMFILE, of open files; these numbers are Linux's
@@ -19,12 +19,12 @@ retry_by_code None = Never
 retry_by_code (Some (pos number)) = retry_by_number number
 retry_by_code (Some (negsuc number)) = Never
 
--- at once after an interruption, where no connection came for a while, or where the one connection was lost or its own
+-- where none is there, it is waited for; at once after an interruption, or where the one connection was lost or its own
 -- network was at fault; later, however often, where there was no memory, or where the system stood in the way of the one
 -- connection; and else by the number
 abbrev pub retry_by_kind : ErrorKind → Option ℤ → Retry
 retry_by_kind Interrupted code = AtOnce
-retry_by_kind WouldBlock code = AtOnce
+retry_by_kind WouldBlock code = OnceReady
 retry_by_kind ConnectionAborted code = AtOnce
 retry_by_kind ConnectionReset code = AtOnce
 retry_by_kind TimedOut code = AtOnce

@@ -1,11 +1,5 @@
 //! What holds of the definitions alone. Each law is a function that does nothing; its contract is the law.
-ghost use Rattle.mds_socket.specs.Laws.{WantOfMemoryIsWaitedFor, WholeHeadsEnd};
-
-/// Each head that the reader of requests takes is seen to end, with its last byte at the latest. So a body gets the time of
-/// a request.
-pub fn whole_heads_end()
-    ensures { WholeHeadsEnd }
-{}
+ghost use Rattle.mds_socket.specs.Laws.{WantOfMemoryIsWaitedFor};
 
 /// Where there is no memory for one more connection, as the kind of the error says or its number, it is waited for, however
 /// long: no such error ends a worker.

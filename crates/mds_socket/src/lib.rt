@@ -1,12 +1,12 @@
 //! Connections over TCP, at an address of this machine.
 #![tactic(auto)]
 
-mod connection;
-mod head;
 mod lack;
 pub mod laws;
-mod limits;
+mod retry;
 mod socket;
+mod tables;
+mod watch;
 
-pub use connection::{SocketIn, SocketOut};
-pub use socket::SocketPort;
+pub use mds_waiting::Given as SocketIn;
+pub use socket::{SocketOut, SocketPort};

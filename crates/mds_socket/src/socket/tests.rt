@@ -1,42 +1,11 @@
-//! Which errors of taking a connection are tried again, by Linux's numbers, and a port without memory.
-use super::{Retry, SocketPort, retry_of};
+//! A port over the sockets of the system: where there is no memory, and that takes what comes.
+use super::SocketPort;
 use mds_pool::{Ending, Port};
 use std::alloc::{AllocError, Global};
-use std::io;
-use std::net::{Ipv4Addr, TcpStream};
+use std::io::{self, Read, Write};
+use std::net::{Ipv4Addr, Net, Shutdown, TcpListener, TcpStream};
+use std::sync::Wait;
 use std::time::Clock;
-
-/// Errors by their numbers: EINTR, EAGAIN, ECONNABORTED, ECONNRESET, and those of a connection's network and protocol; ENOMEM,
-/// ENOBUFS, EPERM, EACCES and EOPNOTSUPP; EMFILE and ENFILE; EBADF, EINVAL, ENOTSOCK and ENOTTY.
-const AT_ONCE: &[i32] = &[4, 11, 103, 104, 64, 71, 92, 112, 100, 101, 113, 110];
-
-const LATER: &[i32] = &[12, 105, 1, 13, 95];
-
-const FOR_A_WHILE: &[i32] = &[24, 23];
-
-const NEVER: &[i32] = &[9, 22, 88, 25];
-
-/// The first of these errors of which something else becomes.
-fn first_other(retry: Retry, numbers: &[i32]) -> Option<i32> {
-    let mut numbers = numbers.iter().copied();
-    numbers.find(|number| retry_of(&io::Error::from_raw_os_error(*number)) != retry)
-}
-
-#[test]
-fn errors_by_their_numbers(rt: HostRuntime) {
-    let (at_once, later) = (
-        first_other(Retry::AtOnce, AT_ONCE),
-        first_other(Retry::Later, LATER),
-    );
-    let (for_a_while, never) = (
-        first_other(Retry::ForAWhile, FOR_A_WHILE),
-        first_other(Retry::Never, NEVER),
-    );
-    assert_eq!(rt;
-        (at_once, later, for_a_while, never),
-        (None, None, None, None)
-    );
-}
 
 /// A growth of a size of its own: `tests/refused-growths` refuses each one between two of these.
 #[inline(never)]
@@ -44,31 +13,64 @@ fn fence(alloc: Global) -> Result<Vec<u8>, AllocError> {
     Vec::with_capacity(alloc, 12_347)
 }
 
-/// Takes a connection and closes it: whether one was taken.
-fn takes<C: Clock + Copy>(port: &SocketPort<C>) -> bool {
-    let Ok((input, output)) = port.accept() else {
-        return false;
-    };
+/// A request, and the answer that it is given.
+const REQUEST: &[u8] = b"GET /table HTTP/1.1\r\n\r\n";
+
+const ANSWER: &[u8] = b"HTTP/1.1 200 OK\r\n\r\n";
+
+/// A client that has sent this, and its end.
+fn client<R: Net<Stream = TcpStream>>(rt: &R, number: u16, sent: &[u8]) -> io::Result<TcpStream> {
+    let mut stream = TcpStream::connect(rt, (Ipv4Addr::LOCALHOST, number))?;
+    stream.write_all(sent)?;
+    stream.shutdown(Shutdown::Write)?;
+    Ok(stream)
+}
+
+/// Takes a connection, answers it and ends it: how many bytes its request has. `None` where none was taken, or the answer failed.
+fn takes<R: Wait + Clock + Copy>(port: &SocketPort<R>) -> Option<usize> {
+    let (mut input, mut output) = port.accept().ok()?;
+    let count = input.read(&mut [0u8; 64]).ok()?;
+    output.write_all(ANSWER).ok()?;
     port.end(input, output, Ending::AtOnce);
-    true
+    Some(count)
 }
 
-/// Whether a port that was bound where there may be no memory takes a connection that came there, and the next one.
-fn goes_on(rt: HostRuntime) -> io::Result<bool> {
-    let alloc = rt.alloc();
+/// A port that is bound where there may be no memory, or else again.
+fn bound<R: Net<Listener = TcpListener, Stream = TcpStream> + Wait + Clock + Copy>(
+    rt: R,
+    alloc: Global,
+) -> io::Result<SocketPort<R>> {
     let _begun = fence(alloc);
-    let port = SocketPort::bind(&rt, alloc, rt, 0)?;
-    let number = port.number()?;
-    let _first = TcpStream::connect(&rt, (Ipv4Addr::LOCALHOST, number))?;
+    let first = SocketPort::bind(&rt, alloc, rt, 0);
     let _ended = fence(alloc);
-    let is_first_taken = takes(&port);
-    let _second = TcpStream::connect(&rt, (Ipv4Addr::LOCALHOST, number))?;
-    Ok(is_first_taken && takes(&port))
+    match first {
+        Ok(port) => Ok(port),
+        Err(error) if error.kind() == io::ErrorKind::OutOfMemory => SocketPort::bind(
+            &rt, alloc, rt, 0,
+        ),
+        Err(error) => Err(error),
+    }
 }
 
-/// A port is bound and tells its number without memory, and a connection comes to it. Both that and the next one are taken once
-/// there is memory (`tests/refused-growths` refuses each growth up to there).
+/// How many bytes the requests of two clients have that come to such a port, and what the second one is answered.
+fn taken<R: Net<Listener = TcpListener, Stream = TcpStream> + Wait + Clock + Copy>(
+    rt: R,
+    alloc: Global,
+) -> io::Result<(Option<usize>, Option<usize>, bool)> {
+    let port = bound(rt, alloc)?;
+    let number = port.number()?;
+    let _first = client(&rt, number, b"")?;
+    let first = takes(&port);
+    let mut second = client(&rt, number, REQUEST)?;
+    let count = takes(&port);
+    let mut room = [0u8; 64];
+    let answered = second.read(&mut room)?;
+    Ok((first, count, room.get(..answered) == Some(ANSWER)))
+}
+
+/// A port is bound without memory, or says that there is none, and connections come to it.
 #[test]
 fn a_port_is_bound_with_every_growth_refused(rt: HostRuntime) {
-    assert!(rt; matches!(goes_on(rt), Ok(true)));
+    let taken = taken(rt, rt.alloc());
+    assert!(rt; matches!(taken, Ok((Some(0), Some(23), true))));
 }
