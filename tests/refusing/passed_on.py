@@ -32,8 +32,8 @@ PASSED_ON = {
     "mds_pool/recorded_book.rt": {"RecordedBook::serve": ["Face::open", "serve_round"]},
     "mds_pool/serving.rt": {"serve_and_settle": ["Face::open", "serve_round"]},
     "mds_request/face.rt": {"add_route": ["router.insert"]},
-    "mds_socket/socket.rt": {"SocketPort::bind": ["Face::open"]},
     "mds_shard/vehicle.rt": {"keep_name": ["names.insert"], "keep": ["keep_name", "vehicles.insert"]},
+    "mds_socket/socket.rt": {"SocketPort::bind": ["Face::open"]},
     "mds_table/json.rt": {"value_of": ["Value::from_slice if error.is_memory()"]},
     "mds_trace/line_replay.rt": {"LineReplay::finish": ["replayer.finish"]},
 }
