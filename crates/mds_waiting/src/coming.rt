@@ -50,8 +50,8 @@ impl<S: Peer> Coming<S> {
         Look::Waits
     }
 
-    #[tactic(auto, using(crate::proofs::PeerLemmas::grows_nothing))]
     /// The same with one call, for as many bytes as there is room for. `None` where more may be there.
+    #[tactic(auto, using(crate::proofs::PeerLemmas::grows_nothing))]
     fn look_once(&mut self, face: &Face, bytes: &mut Vec<u8>, room: &mut [u8]) -> Option<Look>
         requires { 0 < length room.old }
         ensures whole { result ≡ Some Look.Done → IsWhole bytes.new.items
