@@ -1,6 +1,5 @@
 """Many clients that are idle or slow, beside clients that work."""
 
-import select
 import time
 
 from cases.replays import A, P
@@ -56,14 +55,14 @@ def idle_beside_working(program):
 def let_go(idle, start):
     """What is wrong with idle connections: each is over in time, without an answer."""
     for connection in idle:
-        left = start + HEAD[1] - time.monotonic()
-        if not select.select([connection], [], [], max(left, 0))[0]:
-            yield "an idle connection wasn't let go"
-            return
+        connection.settimeout(max(start + HEAD[1] - time.monotonic(), 0.1))
         try:
             found = connection.recv(1000)
         except ConnectionResetError:
             found = b""
+        except TimeoutError:
+            yield "an idle connection wasn't let go"
+            return
         if found:
             yield f"{found!r} to a client that sent nothing"
     if time.monotonic() - start < HEAD[0]:

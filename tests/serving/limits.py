@@ -25,9 +25,9 @@ HEAD = (8, 20)
 CALL = (25, 45)
 """The same for one of whose body nothing more comes: 30."""
 WHOLE = (55, 80)
-"""The same for one that goes on sending its request, and for one that goes on taking its answer: 60."""
+"""The same for one that goes on sending its request: 60."""
 WRITING = (25, 80)
-"""The same for one that doesn't read a long answer: 30 in which it takes nothing, and 60 in all."""
+"""The same for one that is slow to read a long answer: 30 in which the system takes nothing of it, and 60 in all."""
 LAST_READ = (1, 8)
 """The same for a client that sends nothing behind its answer: 2."""
 AT_ITS_END = (-1, 1)
@@ -51,20 +51,26 @@ on."""
 MOST_GROWTHS = 2000
 """More growths of memory than a server makes before its first connection."""
 AT_ONCE = 1 << 16
+TAKEN = 5
+"""How many seconds the server may take to take a connection, on a machine that is busy with other tests."""
 SLOW = MOST_WORKERS + 16
 """Clients that send a byte a second: more than there are workers."""
 
 
 class LetGo(threading.Thread):
-    """Waits until the server has no more sockets than before, and keeps after how many seconds that was."""
+    """Waits until the server has no more sockets than before, and keeps after how many seconds that was. Unless the connection
+    was taken already, it waits for that first."""
 
-    def __init__(self, server, before, most):
+    def __init__(self, server, before, most, is_taken=False):
         super().__init__(daemon=True)
         self.server, self.before, self.most, self.seconds = server, before, most, None
-        self.begun = time.monotonic()
+        self.is_taken, self.begun = is_taken, time.monotonic()
         self.start()
 
     def run(self):
+        while not self.is_taken and time.monotonic() - self.begun < TAKEN:
+            time.sleep(0.05)
+            self.is_taken = self.server.sockets() > self.before
         while (seconds := time.monotonic() - self.begun) < self.most:
             if self.server.sockets() <= self.before:
                 self.seconds = seconds
@@ -208,9 +214,8 @@ def let_go_without_reading(program):
 
 
 def let_go_though_it_reads(program):
-    """A client that takes its answer a byte at a time."""
-
-    return with_a_long_answer(program, byte_by_byte, *WHOLE)
+    """A client that takes its answer a byte at a time: so slowly that the system may take none from the server for 30 seconds."""
+    return with_a_long_answer(program, byte_by_byte, *WRITING)
 
 
 def byte_by_byte(connection, over):
@@ -247,7 +252,7 @@ def let_go_behind_its_answer(program, least, most, piece=None, pause=0.0):
         before, over = server.sockets(), threading.Event()
         with answered(server) as connection:
             sender = threading.Thread(target=going_on, args=(connection, piece, pause, over))
-            let_go = LetGo(server, before, most)
+            let_go = LetGo(server, before, most, is_taken=True)
             if piece:
                 sender.start()
             try:
@@ -270,7 +275,7 @@ def silent_behind_a_granted_request(program):
         with connect(server.port) as kept:
             kept.sendall(look(A, "removed", 0, None).request)
             yield from differing(read_all(kept), look(A, "removed", 0, None).answer)
-            yield from LetGo(server, before, AT_ITS_END[1]).within(AT_ITS_END[0])
+            yield from LetGo(server, before, AT_ITS_END[1], is_taken=True).within(AT_ITS_END[0])
         yield from server.end()
 
 
@@ -354,8 +359,8 @@ def idle_for_a_day(program):
 
 
 def lacking_open_files_for_too_long(program):
-    """A lack of open files that is a little longer than the server waits ends its only worker, and so the server."""
-    with Server(program, 2, env=moved_on(0, TOO_LONG)) as server:
+    """A lack of open files for a client that is a little longer than the server waits ends its only worker, and so the server."""
+    with Server(program, 2, env=moved_on(0, TOO_LONG)) as server, connect(server.port):
         ended, wanted = server.ended(), (3, "", SOCKET)
         if ended != wanted:
             yield f"ended with {ended}, in place of {wanted}"

@@ -50,6 +50,8 @@ enum Looked {
     Whole(Ends),
     /// No such one, but another was looked at.
     Other,
+    /// A new connection can be taken.
+    New,
     /// None was ready.
     Nothing,
 }
@@ -99,7 +101,7 @@ impl<R: Wait + Clock + Copy> SocketPort<R> {
             match self.look_after(0) {
                 Looked::Whole(ends) => return Ok(Some(ends)),
                 Looked::Other => return Ok(None),
-                Looked::Nothing => self.turn.store(0, Ordering::SeqCst),
+                Looked::New | Looked::Nothing => self.turn.store(0, Ordering::SeqCst),
             }
         }
         match self.listener.accept() {
@@ -119,12 +121,25 @@ impl<R: Wait + Clock + Copy> SocketPort<R> {
             }
             Retry::AtOnce => {}
             Retry::Later => pause(&self.rt),
-            Retry::ForAWhile if self.let_eldest_go() => {}
-            Retry::ForAWhile if *pauses < MAX_PAUSES => {
+            Retry::ForAWhile => return self.go_on_without_files(pauses),
+            Retry::Never => return Err(PortFault),
+        }
+        Ok(None)
+    }
+
+    /// Goes on where there are too many open files for one more. The system says so also where no new connection is there
+    /// (accept(2)). Where one is, the eldest is let go whose request isn't whole; where there is none, a pause is made, so often
+    /// at most.
+    fn go_on_without_files(&self, pauses: &mut u32) -> Result<Option<Ends>, PortFault> {
+        match self.look_after(MAX_WAIT) {
+            Looked::Whole(ends) => return Ok(Some(ends)),
+            Looked::New if self.let_eldest_go() => {}
+            Looked::New if *pauses < MAX_PAUSES => {
                 *pauses += 1;
                 pause(&self.rt);
             }
-            Retry::ForAWhile | Retry::Never => return Err(PortFault),
+            Looked::New => return Err(PortFault),
+            Looked::Other | Looked::Nothing => {}
         }
         Ok(None)
     }
@@ -135,7 +150,8 @@ impl<R: Wait + Clock + Copy> SocketPort<R> {
             return Looked::Other;
         };
         match self.watch.wait(longest.min(patience)) {
-            None | Some(Ready::Listener) => Looked::Nothing,
+            None => Looked::Nothing,
+            Some(Ready::Listener) => Looked::New,
             Some(Ready::Coming(key)) => match self.take_coming(key) {
                 Some(waiter) => self.look_at_coming(waiter),
                 None => Looked::Other,
@@ -187,7 +203,7 @@ impl<R: Wait + Clock + Copy> SocketPort<R> {
         };
         match self.look_at_coming(waiter) {
             Looked::Whole(ends) => Some(ends),
-            Looked::Other | Looked::Nothing => None,
+            Looked::Other | Looked::New | Looked::Nothing => None,
         }
     }
 
