@@ -483,8 +483,11 @@ fn told_again<R: Threads + Wait + RandomSource + Sync>(
         each: &[],
         quiet,
     };
-    let told = again!(told_anew(rt, alloc, profile_again(alloc)?, asking))?;
-    Ok(told.map(|told| (told.shown, told.end, told.events)))
+    let Some(told) = again!(told_anew(rt, alloc, profile_again(alloc)?, asking))? else {
+        return Ok(None);
+    };
+    let events = told.events;
+    Ok(Some((told.shown, told.end, events)))
 }
 
 /// A registration of A and its first event, and a look between them.

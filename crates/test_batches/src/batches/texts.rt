@@ -106,10 +106,20 @@ fn read_again(alloc: Global) -> Result<EventItem, BatchFault> {
     again!(read_by(&mut reader))
 }
 
+/// Whether both are what is expected.
+fn are_read_again(alloc: Global) -> bool {
+    let expected = report(1000, BERLIN);
+    let Ok(first) = again!(read_item(alloc, EVENT.as_bytes())) else {
+        return false;
+    };
+    let Ok(second) = read_again(alloc) else {
+        return false;
+    };
+    first == expected && second == expected
+}
+
 /// Each call, made again where its growth is refused (by `tests/refused-growths`).
 #[test]
 fn an_item_is_read_after_a_refused_growth(rt: HostRuntime) {
-    let first = again!(read_item(rt.alloc(), EVENT.as_bytes()));
-    let event = report(1000, BERLIN);
-    assert_eq!(rt; [first, read_again(rt.alloc())], [Ok(event), Ok(event)]);
+    assert!(rt; are_read_again(rt.alloc()));
 }
