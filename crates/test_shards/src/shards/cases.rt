@@ -41,26 +41,42 @@ fn events_of(alloc: Global, shard: &Shard, device: u64) -> Result<Events, AllocE
     Ok(events.map(|events| (events.len(), events.first().copied())))
 }
 
-/// What a shard tells after these steps, in which it replies so: the last entry of its history, its length, and the events of
-/// A and of C.
-fn told_after<R: RandomSource>(
-    rt: &R,
-    alloc: Global,
-    steps: &[Step],
-) -> Result<(Option<Request>, usize, [Events; 2]), Lack> {
+/// What a shard tells.
+#[derive(Debug, PartialEq)]
+struct Told {
+    /// The last entry of its history.
+    last: Option<Request>,
+    /// Its length.
+    count: usize,
+    of_a: Events,
+    of_c: Events,
+}
+
+/// What a shard tells after these steps, in which it replies so.
+fn told_after<R: RandomSource>(rt: &R, alloc: Global, steps: &[Step]) -> Result<Told, Lack> {
     let mut shard = Shard::open(alloc, profile(alloc)?, hasher(rt)?);
     if first_other(&mut shard, steps)?.is_some() {
         return Err(Lack::Case);
     }
-    let events = [events_of(alloc, &shard, A)?, events_of(alloc, &shard, C)?];
-    Ok((shard.history().last().copied(), shard.len(), events))
+    let of_a = events_of(alloc, &shard, A)?;
+    let of_c = events_of(alloc, &shard, C)?;
+    Ok(Told {
+        last: shard.history().last().copied(),
+        count: shard.len(),
+        of_a,
+        of_c,
+    })
 }
 
 #[test]
 fn a_shard_after_a_first_event(rt: HostRuntime) {
-    let report = request_of(&DROPPED_OFF);
-    let event = report.and_then(|report| report.event().copied());
-    let told = (report, 2, [Some((1, event)), None]);
+    let event = request_of(&DROPPED_OFF).and_then(|report| report.event().copied());
+    let told = Told {
+        last: request_of(&DROPPED_OFF),
+        count: 2,
+        of_a: Some((1, event)),
+        of_c: None,
+    };
     assert_eq!(rt; told_after(&rt, rt.alloc(), FIRST_EVENT), Ok(told));
 }
 
