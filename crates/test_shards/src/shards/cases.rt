@@ -42,7 +42,7 @@ fn events_of(alloc: Global, shard: &Shard, device: u64) -> Result<Events, AllocE
 }
 
 /// What a shard tells.
-#[derive(Debug, PartialEq)]
+#[derive(Debug, PartialEq, Drop)]
 struct Told {
     /// The last entry of its history.
     last: Option<Request>,
