@@ -1,5 +1,5 @@
 /* A listening socket to which no client comes for long, and for which open files are lacking then, on a clock that is moved on.
-   Loaded before the C library by tests/clients; no part of the program.
+   Loaded before the C library by tests/clients and tests/crash; no part of the program.
 
    IDLE: how many calls that take a connection wait in vain, WAIT seconds each. LACK: for how many seconds behind them there is
    no open file. Nothing is really waited for. */

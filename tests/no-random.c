@@ -1,4 +1,5 @@
-/* A system that gives no random numbers. Loaded before the C library by tests/clients; no part of the program. */
+/* A system that gives no random numbers. Loaded before the C library by tests/program, tests/clients and
+   tests/crash; no part of the program. */
 #include <errno.h>
 #include <stddef.h>
 

@@ -6,6 +6,7 @@ from cases.commands import commands, examples, orders, paths, spaced_paths, wron
 from cases.debugging import faults, long_sessions, scripts, starts_before_its_script
 from cases.depot import depots
 from cases.helps import help_asked_for
+from cases.inputs import input_that_stays_open
 from cases.largest import largest
 from cases.lines import line_files
 from cases.pictures import PICTURED
@@ -15,7 +16,7 @@ from cases.streams import memory, output_that_ends_midway, streams
 from cases.tables import table_files
 from cases.timed import changing_tables, tables_files
 from cases.values import values
-from cases.vehicles import journal_faults, journals
+from cases.vehicles import journal_faults, journals, without_random_numbers
 from cases.workers import workers
 
 SUBJECTS = [
@@ -38,6 +39,7 @@ SUBJECTS = [
     workers,
     journals,
     journal_faults,
+    without_random_numbers,
     scripts,
     long_sessions,
     largest,
@@ -50,5 +52,5 @@ SUBJECTS = [
     outputs_of_serve,
 ]
 """What yields cases."""
-INTERPLAYS = [starts_before_its_script, output_that_ends_midway, *CALLS, *PICTURED]
+INTERPLAYS = [starts_before_its_script, input_that_stays_open, output_that_ends_midway, *CALLS, *PICTURED]
 """What runs the program by itself, or a tool, and says what is wrong."""

@@ -1,8 +1,10 @@
 """Journals, and what `vehicles` prints of them."""
 
 from cases.replays import A, B, P, event
-from cases.tables import ONE_ROW
-from harness.case import CLOSED, FOLDER, MAX_BYTES, NO_STREAMS, OUTPUT, Case, cannot_read, not_a_table, padded, told
+from cases.tables import ONE_ROW, ONE_ROW_PRINTED
+from harness.building import no_random_numbers
+from harness.case import CLOSED, FOLDER, MAX_BYTES, NO_STREAMS, OUTPUT, RANDOM
+from harness.case import Case, cannot_read, not_a_table, padded, told
 
 FORM = '{"form":"mds_city","version":1}'
 """The first line of a journal."""
@@ -108,3 +110,17 @@ def journal_faults():
         yield told(words, not_a_table("not_json"), files={"journal": journal(), "table.json": "{"})
     for stdout in NO_STREAMS:
         yield told("vehicles journal", OUTPUT, files={"journal": journal(*NEW)}, stdout=stdout)
+
+
+def without_random_numbers():
+    """Where the system gives no random numbers that is told, before the journal is read and behind the table file. Commands that
+    want none go on."""
+    files = {"journal": journal(*NEW), "bad": "no journal", "folder": FOLDER, "table.json": ONE_ROW, "bad-table.json": "{"}
+    more = {"files": files, "env": no_random_numbers(), "name": "without random numbers"}
+    for name in ("journal", "bad", "folder", "nowhere", "-"):
+        yield told(f"vehicles {name}", RANDOM, given="no journal", **more)
+        yield told(f"vehicles {name} --table table.json", RANDOM, **more)
+        yield told(f"vehicles {name} --table bad-table.json", not_a_table("not_json"), **more)
+        yield told(f"vehicles {name} --table nowhere", cannot_read("nowhere"), **more)
+    yield Case("table --table table.json", out=ONE_ROW_PRINTED, **more)
+    yield Case("replay -", out="accepted 0 refused 0\n", given="[]", **more)

@@ -1,4 +1,4 @@
-"""Disks without room, limits of a file's size, calls on the file that fail, and starts without memory."""
+"""Disks without room, limits of a file's size, calls on the file and ports that fail, and starts without memory."""
 
 import os
 import resource
@@ -14,14 +14,15 @@ from crashing.files import Lines, counted, listed_amiss
 from crashing.recording import CUT, SYNC, WRITE, Recording
 from crashing.reports import NOT_KEPT, device_at, listed, listing, looking, registering, reporting, standing
 from harness.building import Refusal
-from harness.case import cannot_read
+from harness.case import SOCKET, cannot_read
 from harness.counting import Skipped
 from harness.texts import differing
 from model.http import answer, error
 from model.tables import Table
 from serving.http import done
+from serving.limits import TOO_LONG, moved_on
 from serving.server import NotListening, Server
-from serving.wire import ask, get, post
+from serving.wire import ask, connect, get, post
 
 EACH = 1000
 WORKERS = 2
@@ -36,6 +37,8 @@ TOLD_NOT_KEPT = "mds_city: journal not kept\n"
 LOST = "mds_city: journal\n"
 HELD_BACK = answer(503, NOT_KEPT)
 NO_MEMORY = "mds_city: out of memory\n"
+STANDARD = 3
+"""Open files, of the standard streams."""
 FEWEST_GROWTHS = 20
 """Of a start over a journal."""
 
@@ -223,6 +226,33 @@ def calls_that_fail(program):
                 yield f"call {after + 1} of kind {kind}: {complaint}"
 
 
+def ended_by_its_port(server):
+    """What is wrong with the end of a server that lacks open files for the next client for too long: what was accepted is recorded,
+    so that it tells of the port."""
+    with connect(server.port):
+        found, wanted = server.ended(), (3, "", SOCKET)
+        if found != wanted:
+            yield f"it ended with {found}, in place of {wanted}"
+
+
+def a_port_that_fails(program):
+    """A server that lacks open files for too long, before its first client and behind answers: all that was answered stands."""
+    with tempfile.TemporaryDirectory() as folder:
+        path = Path(folder, "journal")
+        with Server(program, EACH, journal=path, env=moved_on(0, TOO_LONG)) as server:
+            yield from ended_by_its_port(server)
+        yield from kept_amiss(path, {})
+        with Server(program, EACH, workers=WORKERS, journal=path, env=moved_on()) as server:
+            yield from answered(server, registering(DEVICE, OTHER), done(2), "before")
+            yield from answered(server, reporting(DEVICE, 0, FIRST), done(FIRST), "before")
+            resource.prlimit(server.child.pid, resource.RLIMIT_NOFILE, (STANDARD, STANDARD))
+            yield from ended_by_its_port(server)
+        yield from kept_amiss(path, {DEVICE: FIRST, OTHER: 0})
+        behind = outcome_of_start(program, path, FIRST + 2)
+        if behind is not None:
+            yield f"the next start came to {behind}"
+
+
 def a_write_that_fails_once(program):
     """A group of which a half was written: it isn't kept, and is with the next answer."""
     with tempfile.TemporaryDirectory() as folder:
@@ -333,6 +363,7 @@ LACKING = [
     the_signal_of_a_limit,
     full_at_its_end,
     calls_that_fail,
+    a_port_that_fails,
     a_write_that_fails_once,
     starts_that_fail,
     starts_without_memory,

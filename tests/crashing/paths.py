@@ -12,7 +12,8 @@ from cases.vehicles import FORM, journal, not_a_journal, registered
 from crashing.files import AT_REST, counted, listed_by, vehicles_text
 from crashing.recording import Recording
 from crashing.reports import device_at, registering
-from harness.case import cannot_read
+from harness.building import no_random_numbers
+from harness.case import RANDOM, SOCKET, cannot_read, not_a_table
 from harness.counting import Skipped
 from harness.texts import differing
 from serving.http import done
@@ -160,7 +161,27 @@ def before_the_port(program):
     with socket.create_server(("127.0.0.1", 0)) as taken:
         port = taken.getsockname()[1]
         yield from refused(program, journal(DROPPED).encode(), not_a_journal("refused 1"), port=port)
-        yield from refused(program, REGISTERED.encode(), "mds_city: socket\n", port=port)
+        yield from refused(program, REGISTERED.encode(), SOCKET, port=port)
+
+
+def without_random_numbers(program):
+    """Where the system gives no random numbers that is told, behind the table file, and before the file is opened or made, or the
+    port asked for: no file is there then, an empty or a torn one stays as it is, and one that is none, is a folder or that another
+    server has isn't told of."""
+    lacking = {"env": no_random_numbers()}
+    for content in (b"", b"no journal", b"#" + AT_REST[1:], REGISTERED.encode() + b" {"):
+        yield from (f"{content[:50]!r}: {it}" for it in refused(program, content, RANDOM, **lacking))
+    yield from refused(program, b"", not_a_table("not_rows"), table="[]", **lacking)
+    with tempfile.TemporaryDirectory() as folder, socket.create_server(("127.0.0.1", 0)) as taken:
+        path = Path(folder, "journal")
+        for place in (path, Path(folder), Path(folder, "nowhere/journal")):
+            for port in (0, taken.getsockname()[1]):
+                yield from (f"{place.name}: {it}" for it in not_started(program, place, RANDOM, port=port, **lacking))
+        if os.listdir(folder):
+            yield f"there are {os.listdir(folder)}"
+        with Server(program, 1, journal=path) as server:
+            yield from not_started(program, path, RANDOM, **lacking)
+            yield from server.end()
 
 
 def too_much_behind_the_lines(program):
@@ -212,6 +233,7 @@ PATHS = [
     one_server_at_a_time,
     files_that_are_none,
     before_the_port,
+    without_random_numbers,
     too_much_behind_the_lines,
     files_that_are_begun,
     told_anew,

@@ -32,6 +32,12 @@ def loading_client():
     return built("client", "bench/client.c", "-O2", "-pthread")
 
 
+def no_random_numbers():
+    """The environment of a run to which the system gives no random numbers."""
+    shim = built("no-random.so", "tests/no-random.c", "-shared", "-fPIC")
+    return {**os.environ, "LD_PRELOAD": str(shim)}
+
+
 class Refusal:
     """Growths of memory that are refused: so many from the one of this number on, counted from 1, or none for 0; and all between
     two that have so many bytes. As a context it has the environment of the run that it is for, and says whether the run came to

@@ -10,6 +10,8 @@ FULL, GONE, CLOSED = "a full device", "a pipe that nobody reads", "closed"
 """Streams in place of a pipe. Standard input may be a folder, too."""
 NO_STREAMS = (FULL, GONE, CLOSED)
 """Those that can't be written."""
+OPEN = "a pipe that stays open"
+"""Standard input of which nothing comes, and no end."""
 
 MAX_BYTES = 4194304
 MAX_ITEMS = 10000

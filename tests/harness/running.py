@@ -7,12 +7,14 @@ import subprocess
 import tempfile
 from pathlib import Path
 
-from harness.case import CLOSED, FOLDER, FULL, GONE, SOME
+from harness.case import CLOSED, FOLDER, FULL, GONE, OPEN, SOME
 from harness.texts import as_bytes, difference
 
 NAME = "mds_city"
 """The name that the program is run by, which its help has."""
 SECONDS = 600
+SILENT, WRITER = os.pipe()
+"""A pipe to which nothing is written, and that has no end while this process runs."""
 
 
 def words_of(case):
@@ -25,6 +27,8 @@ def opened(stream, flags):
         return subprocess.PIPE
     if stream == CLOSED:
         return None
+    if stream == OPEN:
+        return os.dup(SILENT)
     if stream == GONE:
         reading, writing = os.pipe()
         os.close(reading)
@@ -57,8 +61,22 @@ def start(program, case, folder):
     return child
 
 
+def files_changed(folder, files):
+    """The names of the files that aren't as they were when they were laid out, that are gone or that were made."""
+    there = {str(path.relative_to(folder)): path for path in Path(folder).rglob("*")}
+    laid = {os.fsdecode(name): text for name, text in files.items()}
+    for name in sorted({*there, *laid}):
+        if name not in there or name not in laid:
+            yield name
+        elif there[name].is_dir() != (laid[name] is FOLDER):
+            yield name
+        elif laid[name] is not FOLDER and there[name].read_bytes() != as_bytes(laid[name]):
+            yield name
+
+
 def outcome(program, case, seconds=SECONDS):
-    """The status, the output and the faults of a run of the case in a folder of its own."""
+    """The status, the output and the faults of a run of the case in a folder of its own. Where a file isn't as before, the status
+    tells that."""
     with tempfile.TemporaryDirectory() as folder:
         for name, text in case.files.items():
             path = Path(folder, os.fsdecode(name))
@@ -73,7 +91,9 @@ def outcome(program, case, seconds=SECONDS):
             child.kill()
             child.communicate()
             return f"none after {seconds} seconds", b"", b""
-    return child.returncode, out or b"", faults or b""
+        changed = ", ".join(files_changed(folder, case.files))
+    status = f"{child.returncode} with other files, {changed}" if changed else child.returncode
+    return status, out or b"", faults or b""
 
 
 def mismatch(found, wanted):

@@ -9,7 +9,7 @@ import time
 from pathlib import Path
 
 from cases.replays import A, batch, item
-from harness.building import built
+from harness.building import no_random_numbers
 from harness.case import OUTPUT, RANDOM
 from harness.counting import Skipped, Unwell
 from model.http import error
@@ -129,8 +129,7 @@ def last_line_that_nobody_reads(program):
 def without_random_numbers(program):
     """Where the system gives no random numbers it doesn't listen, and tells why: before it asks for its port, which another has,
     and behind a table file that can't be read."""
-    shim = built("no-random.so", "tests/no-random.c", "-shared", "-fPIC")
-    env = {**os.environ, "LD_PRELOAD": str(shim)}
+    env = no_random_numbers()
     with socket.create_server(("127.0.0.1", 0)) as other:
         taken = other.getsockname()[1]
         for table, port, told in ((None, 0, RANDOM), (None, taken, RANDOM), ("[]", taken, "not_rows\n")):

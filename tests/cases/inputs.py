@@ -1,0 +1,48 @@
+"""Standard input that isn't read."""
+
+from cases.debugging import BAD, EVENTS, NOBODY
+from cases.helps import ALL, SERVE
+from cases.replays import A, B, P
+from cases.serve import NO_CONNECTION, SERVED
+from cases.tables import ONE_ROW, ONE_ROW_PRINTED, PROFILE, table_printed
+from cases.vehicles import journal, listed, not_a_journal, registered
+from harness.building import no_random_numbers
+from harness.case import OPEN, RANDOM, SOME, Case, cannot_read, not_a_batch, not_a_table, told
+from harness.running import differences, label, outcome
+
+SECONDS = 60
+"""How long a run may take that waits for nothing."""
+REPLAYED = f"0 ok non_contactable\n1 ok available\nvehicle {P} {A} available 2\naccepted 2 refused 0\n"
+FILES = {"events.json": EVENTS, "table.json": ONE_ROW, "bad": "7", "journal": journal(registered(A))}
+
+
+def unread():
+    """Commands that name other files, and those that come to an end before standard input would be read."""
+    for words in ("--help", "-h", "help"):
+        yield Case(words, out=ALL)
+    yield Case("serve --help", out=SERVE)
+    for words in ("", "tables", "replay", "replay - more", "vehicles --bogus -"):
+        yield Case(words, status=2, faults=SOME)
+    yield Case("table", out=table_printed(PROFILE))
+    yield Case("table --table table.json", out=ONE_ROW_PRINTED, files=FILES)
+    for words in ("replay events.json", "replay --workers 4 events.json"):
+        yield Case(words, out=REPLAYED, files=FILES)
+    yield Case("replay --lines events.json", status=1, out="0 fault not_object\naccepted 0 refused 1\n", files={"events.json": "7"})
+    yield listed(journal(registered(A)), [(A, "removed", 0)])
+    yield Case(NO_CONNECTION, out=SERVED)
+    for words in ("table --table bad", "replay - --table bad", "vehicles - --table bad", f"debug events.json {P} {A} --table bad"):
+        yield told(words, not_a_table("not_rows"), files=FILES)
+    yield told("replay bad", not_a_batch("not_list"), files=FILES)
+    yield told("vehicles bad", not_a_journal("form"), files=FILES)
+    yield told("vehicles -", RANDOM, env=no_random_numbers())
+    for words in ("table --table missing", "replay missing", "replay --lines missing", "vehicles missing", f"debug missing {P} {A}"):
+        yield told(words, cannot_read("missing"))
+    yield Case(f"debug events.json {P} x", status=2, faults=BAD, files=FILES)
+    yield Case(f"debug events.json {P} {B}", status=1, faults=NOBODY, files=FILES)
+
+
+def input_that_stays_open(program):
+    """What doesn't read standard input ends, though no byte of that comes, and no end."""
+    for case in unread():
+        case.stdin = OPEN
+        yield from (f"{label(case)}: {it}" for it in differences(case, *outcome(program, case, SECONDS)))
