@@ -1,5 +1,6 @@
 """Disks without room, limits of a file's size, calls on the file and ports that fail, and starts without memory."""
 
+import contextlib
 import os
 import resource
 import signal
@@ -229,7 +230,9 @@ def calls_that_fail(program):
 def ended_by_its_port(server):
     """What is wrong with the end of a server that lacks open files for the next client for too long: what was accepted is recorded,
     so that it tells of the port."""
-    with connect(server.port):
+    with contextlib.ExitStack() as client:
+        with contextlib.suppress(ConnectionRefusedError):  # where it has ended
+            client.enter_context(connect(server.port))
         found, wanted = server.ended(), (3, "", SOCKET)
         if found != wanted:
             yield f"it ended with {found}, in place of {wanted}"
