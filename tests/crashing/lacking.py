@@ -231,7 +231,7 @@ def ended_by_its_port(server):
     """What is wrong with the end of a server that lacks open files for the next client for too long: what was accepted is recorded,
     so that it tells of the port."""
     with contextlib.ExitStack() as client:
-        with contextlib.suppress(ConnectionRefusedError):  # where it has ended
+        with contextlib.suppress(ConnectionError):  # where it has ended
             client.enter_context(connect(server.port))
         found, wanted = server.ended(), (3, "", SOCKET)
         if found != wanted:

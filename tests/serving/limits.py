@@ -332,15 +332,17 @@ def short_of_open_files_for_a_while(program):
     with Server(program, 4, workers=2, open_files=OPEN_FILES) as server:
         yield from long_list(server, A)
         server.count(2)
-        with connect(server.port, room=SMALL_ROOM) as held, connect(server.port) as waiting:
+        with connect(server.port, room=SMALL_ROOM) as held:
             held.sendall(get(f"/vehicles/{P}/{A}/events"))
-            held.recv(100)
-            waiting.sendall(get(f"/vehicles/{P}/{B}"))
-            if not silent(waiting, LACK):
-                yield "an answer where no file could be opened for its connection"
-            read_all(held)
-            held.close()
-            yield from differing(read_all(waiting), error(404, "unregistered"))
+            held.recv(1)
+            with connect(server.port) as waiting:
+                waiting.sendall(get(f"/vehicles/{P}/{B}"))
+                if not silent(waiting, LACK):
+                    yield "an answer where no file could be opened for its connection"
+                while held.recv(AT_ONCE):
+                    pass
+                held.close()
+                yield from differing(read_all(waiting), error(404, "unregistered"))
         yield from server.end()
 
 
