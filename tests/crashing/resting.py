@@ -106,9 +106,9 @@ def without_any_request(program):
 
 def beside(program, path, ended, told):
     """Reads the file by `vehicles` until clients are done, and once more, and adds what it told each time."""
-    readings = 0
-    while not ended.is_set() or readings < READINGS:
-        readings += 1
+    readings, is_last = 0, False
+    while not is_last or readings < READINGS:
+        readings, is_last = readings + 1, ended.is_set()
         status, out, faults = listed_by(program, path)
         if status or faults or not out.endswith("\n"):
             raise Unwell(f"`vehicles` said {(status, out[-200:], faults)}")
