@@ -27,7 +27,9 @@ TRIES = 5
 
 def silent(connection, seconds):
     """Whether nothing comes on a connection for so long."""
-    return not select.select([connection], [], [], seconds)[0]
+    poll = select.poll()  # takes a descriptor of any number
+    poll.register(connection, select.POLLIN)
+    return not poll.poll(1000 * seconds)
 
 
 def three_connections(program):
