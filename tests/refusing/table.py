@@ -65,8 +65,7 @@ TESTED = {
         "RecordedBook::open",
         "RecordedBook::serve",
     ],
-    ("mds_waiting", "test_edge", "a_key_is_found_after_a_refused_growth"): ["Waiting::vacancy", "Waiting::key_for"],
-    ("mds_waiting", "test_edge", "requests_come_after_a_refused_growth"): ["Coming::look", "Outgoing::write"],
+    ("mds_waiting", "test_edge", "a_key_is_found_after_a_refused_growth"): ["Waiting::vacancy"],
     ("mds_args", "test_words", "words_are_read_after_a_refused_growth"): ["parse_words"],
     ("mds_journal", "test_journal", "lines_are_added_after_a_refused_growth"): [
         "Group::new",
