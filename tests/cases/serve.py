@@ -80,6 +80,7 @@ def ports():
 
 def outputs_of_serve():
     """A first line that can't be written."""
-    for stdout in NO_STREAMS:
-        yield told(NO_CONNECTION, OUTPUT, stdout=stdout)
-        yield told(NO_CONNECTION, "", stdout=stdout, stderr="/dev/full")
+    for words in (NO_CONNECTION, f"{NO_CONNECTION} --journal journal"):
+        for stdout in NO_STREAMS:
+            yield told(words, OUTPUT, stdout=stdout)
+            yield told(words, "", stdout=stdout, stderr="/dev/full")

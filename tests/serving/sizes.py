@@ -46,8 +46,15 @@ def files_of_looks(folder):
 
 
 def many_connections_of_one_worker(program):
-    """One worker that has more connections than 16 bits can count answers each of them, and ends then."""
-    with tempfile.TemporaryDirectory() as folder, Server(program, CONNECTIONS + 1) as server:
+    """One worker that has more connections than 16 bits can count answers each of them, and ends then, with a journal too."""
+    with tempfile.TemporaryDirectory() as folder:
+        yield from many_connections(program, folder)
+        yield from many_connections(program, folder, Path(folder, "journal"))
+
+
+def many_connections(program, folder, journal=None):
+    """What is wrong with the answers of one worker, and with its end."""
+    with Server(program, CONNECTIONS + 1, journal=journal) as server:
         yield from talk_over(server, registered(A))
         words = [loading_client(), str(server.port), *files_of_looks(folder)]
         ran = subprocess.run(words, capture_output=True, text=True, timeout=300)

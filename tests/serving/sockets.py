@@ -5,6 +5,7 @@ import errno
 import fcntl
 import os
 import socket
+import tempfile
 import time
 from pathlib import Path
 
@@ -113,8 +114,15 @@ def options_at(program, port):
 
 
 def last_line_that_nobody_reads(program):
-    """Where nobody reads the last line any more, that is told, as of any other output."""
-    with Server(program, 3) as server:
+    """Where nobody reads the last line any more, that is told, as of any other output, with a journal too."""
+    with tempfile.TemporaryDirectory() as folder:
+        yield from unread_last_line(program)
+        yield from unread_last_line(program, Path(folder, "journal"))
+
+
+def unread_last_line(program, journal=None):
+    """What is wrong with the end of a server whose last line nobody reads."""
+    with Server(program, 3, journal=journal) as server:
         server.child.stdout.close()
         for exchange in (registered(A), Exchange(post("/events", batch([item()])), done(1))):
             yield from talk_over(server, exchange)

@@ -1,0 +1,134 @@
+"""Calls of the system that fail under a server, and a server that is stopped for a while."""
+
+import errno
+import signal
+import tempfile
+import time
+from pathlib import Path
+
+from cases.replays import A, B, P
+from model.http import error
+from serving.connections import EVENT, SMALL_ROOM, long_list, silent
+from serving.http import Exchange, look, registered
+from serving.limits import is_over, moved_on
+from serving.server import Server
+from serving.talking import talk_over
+from serving.wire import connect, get
+
+LOST = [
+    errno.ECONNABORTED,
+    errno.ECONNRESET,
+    errno.EINTR,
+    errno.ENONET,
+    errno.EPROTO,
+    errno.ENOPROTOOPT,
+    errno.ETIMEDOUT,
+    errno.EHOSTDOWN,
+    errno.EHOSTUNREACH,
+    errno.ENETDOWN,
+    errno.ENETUNREACH,
+]
+"""What a call that takes a connection says of that one connection (accept(2))."""
+HINDERED = [errno.ENOBUFS, errno.ENOMEM, errno.EPERM, errno.EACCES, errno.EOPNOTSUPP]
+"""What it says where the system can't give it at this moment."""
+PAUSES = 400
+"""More pauses than a lack of open files is waited for."""
+STOPPED = 1.5
+"""For how many seconds a server is stopped: longer than one wait."""
+LET_GO = 10
+"""Within how many seconds a client is let go where no time can be told, on a machine that is busy with other tests."""
+MOST_BESIDE = 30
+"""Within how many seconds the last line comes, while an answer leaves that nobody reads."""
+
+
+def failing(errors, times=1):
+    """The environment of a server in which the first calls that take a connection fail so, each number so often."""
+    return {**moved_on(), "ERRORS": " ".join(map(str, errors)), "TIMES": str(times)}
+
+
+def answers_two(program, env):
+    """What is wrong with a server of one worker that answers two clients."""
+    with Server(program, 2, env=env) as server:
+        yield from talk_over(server, registered(A))
+        yield from talk_over(server, look(A, "removed", 0, None))
+        yield from server.end()
+
+
+def connections_that_are_lost(program):
+    """A connection that is lost before it is taken, for any cause, ends no worker."""
+    return answers_two(program, failing(LOST, 3))
+
+
+def connections_that_are_hindered(program):
+    """Nor does one that the system can't give at this moment, however often it is tried again."""
+    for number in HINDERED:
+        yield from answers_two(program, failing([number], PAUSES))
+
+
+def without_a_clock(program):
+    """Where the clock fails a whole request is answered, and a client is let go whose request doesn't come whole."""
+    with Server(program, 2, env={**moved_on(), "NO_CLOCK": "1"}) as server:
+        yield from talk_over(server, registered(A))
+        with connect(server.port) as slow:
+            slow.sendall(EVENT[:-1])
+            if silent(slow, LET_GO):
+                yield f"a client wasn't let go after {LET_GO} s"
+            elif not is_over(slow):
+                yield "something was answered to a request that wasn't whole"
+        yield from talk_over(server, look(A, "removed", 0, None))
+        yield from server.end()
+
+
+def stopped_for_a_while(program):
+    """A server that is stopped and goes on, as by a terminal, answers as before."""
+    with Server(program, 2, workers=2) as server:
+        yield from talk_over(server, registered(A))
+        server.child.send_signal(signal.SIGSTOP)
+        time.sleep(STOPPED)
+        server.child.send_signal(signal.SIGCONT)
+        yield from talk_over(server, look(A, "removed", 0, None))
+        yield from talk_over(server, Exchange(get(f"/vehicles/{P}/{B}"), error(404, "unregistered")))
+        yield from server.end()
+
+
+def last_line_before_the_last_answer(program):
+    """The last line comes while an answer still leaves, with a journal and without one."""
+    with tempfile.TemporaryDirectory() as folder:
+        for journal in (None, Path(folder, "journal")):
+            yield from last_line_amid_an_answer(program, journal)
+
+
+def last_line_amid_an_answer(program, journal):
+    """What is wrong with when the last line comes, where the last client reads nothing of its answer."""
+    with Server(program, 4, journal=journal) as server:
+        yield from long_list(server, A)
+        server.count(1)
+        with connect(server.port, room=SMALL_ROOM) as slow:
+            slow.sendall(get(f"/vehicles/{P}/{A}/events"))
+            start = time.monotonic()
+            line, wanted = server.child.stdout.readline().decode(), f"accepted {server.success}\n"
+            seconds = time.monotonic() - start
+            if line != wanted or seconds > MOST_BESIDE:
+                yield f"the last line was {line!r} after {seconds:.1f} s, in place of {wanted!r} at once"
+        status = server.child.wait(timeout=120)
+        if status != 0:
+            yield f"ended with {status}"
+
+
+def most_workers_over_a_journal(program):
+    """As many workers as there may be over a journal: each answers, and a journal tells what they accepted."""
+    with tempfile.TemporaryDirectory() as folder:
+        with Server(program, 1, workers=64, journal=Path(folder, "journal")) as server:
+            yield from talk_over(server, registered(A))
+            yield from talk_over(server, look(A, "removed", 0, None))
+            yield from server.end()
+
+
+FAILING = [
+    connections_that_are_lost,
+    connections_that_are_hindered,
+    without_a_clock,
+    stopped_for_a_while,
+    last_line_before_the_last_answer,
+    most_workers_over_a_journal,
+]
