@@ -6,9 +6,10 @@
  * A file is a list of requests, each behind its length, four bytes with the lowest first. All threads start at once, and each
  * sends the requests of its file in order, each as soon as the answer before it has ended. It prints one line: the number of
  * answers, those of status 200, the sum of what they say under "success", the seconds from the start to the last answer, the
- * 50th and the 99th percentile of the times of an answer in microseconds (from before the connection to its end), and the
- * processor time that the client itself took. The files behind `--` are sent beside: each of their threads ends before its next
- * request once all others have ended, and a second line tells of them. It is built with -O2 -pthread. */
+ * 50th and the 99th percentile of the times of an answer in microseconds (from before the connection to its end), the
+ * processor time that the client itself took, and the longest of those times. The files behind `--` are sent beside: each of
+ * their threads ends before its next request once all others have ended, and a second line tells of them. It is built with
+ * -O2 -pthread. */
 
 #define _GNU_SOURCE
 #include <arpa/inet.h>
@@ -156,8 +157,8 @@ static void tell(struct client *clients, int many, double begin) {
     struct rusage used;
     getrusage(RUSAGE_SELF, &used);
     double own = used.ru_utime.tv_sec + used.ru_stime.tv_sec + (used.ru_utime.tv_usec + used.ru_stime.tv_usec) * 1e-6;
-    printf("%zu %zu %llu %.6f %.1f %.1f %.3f\n", count, good, success, end - begin, times[(count - 1) / 2] * 1e6,
-           times[(size_t)((count - 1) * 0.99)] * 1e6, own);
+    printf("%zu %zu %llu %.6f %.1f %.1f %.3f %.1f\n", count, good, success, end - begin, times[(count - 1) / 2] * 1e6,
+           times[(size_t)((count - 1) * 0.99)] * 1e6, own, times[count - 1] * 1e6);
 }
 
 int main(int words, char **word) {

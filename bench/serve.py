@@ -125,7 +125,7 @@ class ServeBench:
                 sys.exit(f"{told} of {count} requests")
             server.count(count, count * success)
             ended(server)
-        seconds, half, most, own = map(float, told[3:])
+        seconds, half, most, own = map(float, told[3:7])
         return count / seconds, half, most, used / count * 1e6, own / count * 1e6
 
     def measure(self):

@@ -1,50 +1,64 @@
 """Many clients that are idle or slow, beside clients that work."""
 
+import resource
+import socket
 import time
 
-from cases.replays import A, P
-from serving.connections import EVENT, SMALL_ROOM, long_list
-from serving.http import look, registered
-from serving.limits import HEAD
+from cases.replays import A, B, P, batch, history, item
+from harness.case import padded
+from harness.counting import Skipped
+from serving.connections import SMALL_ROOM, long_list
+from serving.http import Exchange, done, look, registered
+from serving.limits import HEAD, is_sent
+from serving.looking import PAUSE, Looks
 from serving.server import Server
 from serving.talking import talk_over
-from serving.wire import connect, get
+from serving.wire import connect, get, post
 
 IDLE = 1000
-SLOW = 200
+SLOW = 1000
 LONG_ANSWERS = 20
 """Clients that ask for a long answer, and read none of it: each holds some megabytes of the server."""
-LOOKS = 100
+EVENTS = 250
+"""Those of a list of some 60 kB: as many as there are slow clients are no more than the server holds."""
+SEGMENT = 536
+"""How many bytes of an answer come at once at most, so that the system takes in few that aren't read."""
+SLOW_HEAD = b"GET / HTTP/1.1\r\nHost: "
+SLOW_BODY = post("/events", padded(batch([item()]), 4000))[:-1000]
 WORKERS = 4
-EACH = 100
+EACH = 3000
+SECONDS = 30
+"""How long slow clients go on, and others work beside them."""
 MOST_MEMORY = 8 * 2**20
 """How many bytes the server may have grown by, with all idle connections open."""
-MOST_SECONDS = 5
-"""How long a client may wait that works beside the others, on a machine that is busy with other tests."""
+OPEN_FILES = 8192
+"""More than what these tests open at once, and others beside them."""
 
 
-def looks(server, count=LOOKS):
-    """What is wrong with the answers to clients that look, one after the other, and with how long one waits."""
-    for _ in range(count):
-        start = time.monotonic()
-        yield from talk_over(server, look(A, "removed", 0, None))
-        seconds = time.monotonic() - start
-        if seconds > MOST_SECONDS:
-            yield f"a look was answered after {seconds:.1f} s, in place of {MOST_SECONDS} at most"
+def many_open_files(count=OPEN_FILES):
+    """Lets this process have so many open files, and those that it starts from now on."""
+    soft, hard = resource.getrlimit(resource.RLIMIT_NOFILE)
+    if hard != resource.RLIM_INFINITY and hard < count:
+        raise Skipped(f"{hard} open files at most here, where {count} are wanted")
+    if soft != resource.RLIM_INFINITY and soft < count:
+        resource.setrlimit(resource.RLIMIT_NOFILE, (count, hard))
 
 
 def idle_beside_working(program):
-    """A thousand idle connections at four workers: others are answered beside them, in the time that they always take. The idle
-    ones are let go after theirs, without an answer, and no worker counts them."""
-    with Server(program, EACH, workers=WORKERS) as server:
+    """A thousand idle connections at four workers: a thousand looks are answered beside them, in the time that they always take.
+    The idle ones are let go after theirs, without an answer, and no worker counts them."""
+    many_open_files()
+    asked = look(A, "removed", 0, None)
+    with Server(program, IDLE // 2, workers=WORKERS) as server, Looks(server, asked) as looks:
         yield from talk_over(server, registered(A))
         before, start = server.memory(), time.monotonic()
         idle = [connect(server.port) for _ in range(IDLE)]
         try:
-            yield from looks(server)
+            yield from looks.times(10)
             grown = server.memory() - before
             if grown > MOST_MEMORY:
                 yield f"{grown} bytes more beside {IDLE} idle connections, in place of {MOST_MEMORY}"
+            yield from looks.judged(f"{IDLE} idle connections")
             yield from let_go(idle, start)
         finally:
             for connection in idle:
@@ -69,44 +83,98 @@ def let_go(idle, start):
         yield "the idle connections were let go too soon"
 
 
-def slow_heads(server):
-    """Connections whose heads come slowly."""
-    return [begun(server, EVENT[:20]) for _ in range(SLOW)]
+class Slow:
+    """Clients that each send the front of a request, and then a byte now and then. One that is let go comes again."""
+
+    def __init__(self, server, front):
+        self.server, self.front = server, front
+        self.connections = [self.begun() for _ in range(SLOW)]
+
+    def begun(self):
+        connection = connect(self.server.port)
+        connection.sendall(self.front)
+        return connection
+
+    def go_on(self):
+        for at, connection in enumerate(self.connections):
+            if not is_sent(connection, b" "):
+                connection.close()
+                self.connections[at] = self.begun()
+
+    def close(self):
+        for connection in self.connections:
+            connection.close()
 
 
-def slow_bodies(server):
-    """Connections whose bodies come slowly."""
-    return [begun(server, EVENT[:-10]) for _ in range(SLOW)]
+class Reading(Slow):
+    """Clients that each ask for a list, and read a byte of it now and then."""
+
+    def begun(self):
+        connection = socket.socket()
+        connection.setsockopt(socket.SOL_SOCKET, socket.SO_RCVBUF, SMALL_ROOM)
+        connection.setsockopt(socket.IPPROTO_TCP, socket.TCP_MAXSEG, SEGMENT)
+        connection.connect(("127.0.0.1", self.server.port))
+        connection.sendall(self.front)
+        return connection
+
+    def go_on(self):
+        for connection in self.connections:
+            try:
+                connection.recv(1, socket.MSG_DONTWAIT)
+            except (BlockingIOError, ConnectionError):
+                pass
 
 
-def slow_readers(server):
-    """Connections whose clients ask for a long answer, and read nothing."""
-    server.count(LONG_ANSWERS)
-    request = get(f"/vehicles/{P}/{P}/events")
-    return [begun(server, request, SMALL_ROOM) for _ in range(LONG_ANSWERS)]
-
-
-def begun(server, piece, room=None):
-    connection = connect(server.port, room=room)
-    connection.sendall(piece)
-    return connection
-
-
-def slow_beside_working(program):
-    """Clients of each slow kind, many more than there are workers: others are answered beside them."""
-    with Server(program, EACH, workers=WORKERS) as server:
-        yield from talk_over(server, registered(A))
-        yield from long_list(server, P)
-        slow = []
+def beside_slow_ones(program, what, kind, front):
+    """What is wrong with looks beside a thousand slow clients of this kind, which begin with this front of a request."""
+    many_open_files()
+    with Server(program, EACH, workers=WORKERS) as server, Looks(server, look(A, "removed", 0, None)) as looks:
+        yield from talk_over(server, registered(A, B))
+        yield from talk_over(server, Exchange(post("/events", batch(history(B, 0, EVENTS))), done(EVENTS)))
+        slow, end = kind(server, front), time.monotonic() + SECONDS
         try:
-            for kind in (slow_heads, slow_bodies, slow_readers):
-                slow += kind(server)
-                for complaint in looks(server, LOOKS // 3):
-                    yield f"beside {kind.__name__}: {complaint}"
+            while time.monotonic() < end:
+                slow.go_on()
+                yield from looks.once()
+                time.sleep(PAUSE)
+            yield from looks.judged(f"{SLOW} {what}")
         finally:
-            for connection in slow:
+            slow.close()
+        yield from server.drain()
+
+
+def slow_heads(program):
+    """Clients whose heads come slowly, and that come again where they were let go."""
+    return beside_slow_ones(program, "slow heads", Slow, SLOW_HEAD)
+
+
+def slow_bodies(program):
+    """Clients whose bodies come slowly."""
+    return beside_slow_ones(program, "slow bodies", Slow, SLOW_BODY)
+
+
+def slow_readers(program):
+    """Clients that are slow to read a list."""
+    return beside_slow_ones(program, "slow readers", Reading, get(f"/vehicles/{P}/{B}/events"))
+
+
+def long_answers(program):
+    """Clients that ask for a long answer, and read nothing of it."""
+    with Server(program, EACH, workers=WORKERS) as server, Looks(server, look(A, "removed", 0, None)) as looks:
+        yield from talk_over(server, registered(A))
+        yield from long_list(server, B)
+        reading = []
+        try:
+            for _ in range(LONG_ANSWERS):
+                server.count()
+                reading.append(connect(server.port, room=SMALL_ROOM))
+                reading[-1].sendall(get(f"/vehicles/{P}/{B}/events"))
+            yield from looks.times(3)
+            yield from looks.judged(f"{LONG_ANSWERS} clients that read nothing of a long answer")
+        finally:
+            for connection in reading:
                 connection.close()
         yield from server.drain()
 
 
-CROWDS = [idle_beside_working, slow_beside_working]
+CROWDS = [idle_beside_working, slow_heads, slow_bodies, slow_readers, long_answers]

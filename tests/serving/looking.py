@@ -1,0 +1,77 @@
+"""Looks at a vehicle beside other clients, and how long they wait for their answers.
+
+The client of bench/client.c makes them, a process of its own, so that what the tests do meanwhile makes no wait longer."""
+
+import struct
+import subprocess
+import tempfile
+import time
+
+from harness.building import loading_client
+from serving.talking import talk_over
+
+BURST = 100
+PAUSE = 1
+"""How many seconds there are between two bursts."""
+MOST_SECONDS = 1
+"""How long 99 of 100 looks may wait at most, on a machine that is busy with other tests."""
+TOO_LONG = 60
+"""The seconds after which a burst isn't waited for any more."""
+
+
+class Looks:
+    """Bursts of the same look, which is asked again as soon as it was answered. As a context it has the requests in a file."""
+
+    def __init__(self, server, exchange, burst=BURST):
+        self.server, self.exchange, self.burst = server, exchange, burst
+        self.within, self.longest = [], []
+        """Of each burst, within how many seconds 99 of 100 looks were answered, and all."""
+
+    def __enter__(self):
+        request = self.exchange.request
+        self.file = tempfile.NamedTemporaryFile()
+        self.file.write((struct.pack("<I", len(request)) + request) * self.burst)
+        self.file.flush()
+        return self
+
+    def __exit__(self, *_):
+        self.file.close()
+
+    def once(self):
+        """One burst: what is wrong with its answers, of which the first is compared byte for byte."""
+        yield from talk_over(self.server, self.exchange)
+        words = [loading_client(), str(self.server.port), self.file.name]
+        try:
+            ran = subprocess.run(words, capture_output=True, text=True, timeout=TOO_LONG)
+        except subprocess.TimeoutExpired:
+            yield f"{self.burst} looks weren't answered in {TOO_LONG} seconds"
+            return
+        self.server.count(self.burst)
+        told = ran.stdout.split()
+        if ran.returncode or told[:2] != [str(self.burst)] * 2:
+            yield f"status {ran.returncode}, {ran.stdout!r} {ran.stderr!r}, in place of {self.burst} answers"
+            return
+        self.within.append(float(told[5]) / 1e6)
+        self.longest.append(float(told[7]) / 1e6)
+
+    def times(self, count):
+        """So many bursts."""
+        for _ in range(count):
+            yield from self.once()
+
+    def until(self, is_over):
+        """Bursts, with pauses, until it is over."""
+        while not is_over():
+            yield from self.once()
+            time.sleep(PAUSE)
+
+    def judged(self, beside):
+        """Prints how long the looks waited, and says where that was too long."""
+        if not self.within:
+            yield f"no look was answered beside {beside}"
+            return
+        most, longest, count = max(self.within), max(self.longest), self.burst * len(self.within)
+        figures = f"99 of 100 within {most * 1e3:.1f} ms, the longest {longest * 1e3:.1f} ms"
+        print(f"{count} looks beside {beside}: {figures}", flush=True)
+        if most > MOST_SECONDS:
+            yield f"99 of 100 looks beside {beside} within {most:.1f} s, in place of {MOST_SECONDS}"
