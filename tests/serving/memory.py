@@ -1,0 +1,149 @@
+"""How much memory connections take that wait, and what a server does where there is none for them."""
+
+import contextlib
+import resource
+import select
+import time
+from pathlib import Path
+
+from cases.replays import A
+from harness.case import MAX_BYTES, padded
+from harness.counting import Unwell
+from harness.texts import differing
+from serving.crowds import many_open_files
+from serving.http import EMPTY, Exchange, look, registered
+from serving.looking import Looks
+from serving.server import Server
+from serving.talking import talk_over
+from serving.wire import connect, post, read_all
+
+WAITING = 4096
+FRONT = post("/events", padded("[]", 4000))[:1000]
+"""What each of them sends of its request."""
+MOST_BESIDE = 8 * 2**20
+"""How many bytes connections that wait may take beside what they sent."""
+MOST_HELD = 64 * 2**20
+"""How many bytes of requests that come the server holds at most, in all."""
+ENDLESS = 64
+"""Clients that each send all of the longest body but its last byte: four times as much as the server holds."""
+WORKERS, EACH = 4, 1000
+MOST_HELD_BESIDE = (WORKERS + 2) * 2**22
+"""What it may take beside that: one request that a worker looks at, for each, and something for the rest."""
+LITTLE = 8 * 2**20
+"""How much the address space of a server may grow by, in bytes."""
+CROWD, PART = 200, 200000
+"""Clients that each send so many bytes of a body: more than there is memory for, and fewer than the server would hold."""
+BUSY = 60
+"""How many seconds the server may take to take in what was sent."""
+OPEN_FILES = 16384
+
+
+def waits_at(port):
+    """How many bytes were sent to connections of this port that the server hasn't read, by the system's list."""
+    count = 0
+    for line in Path("/proc/net/tcp").read_text().splitlines()[1:]:
+        fields = line.split()
+        if int(fields[1].partition(":")[2], 16) == port:
+            count += int(fields[4].partition(":")[2], 16)
+    return count
+
+
+def taken_in(server, sockets=0):
+    """Waits until the server has so many sockets at least, and has read all that was sent."""
+    end = time.monotonic() + BUSY
+    while server.sockets() < sockets or waits_at(server.port):
+        if time.monotonic() > end:
+            raise Unwell(f"{waits_at(server.port)} bytes weren't read, at {server.sockets()} sockets")
+        time.sleep(0.1)
+
+
+@contextlib.contextmanager
+def connections(port, count, front):
+    """So many connections, each of which has sent this front of a request."""
+    opened = []
+    try:
+        for _ in range(count):
+            opened.append(connect(port))
+            with contextlib.suppress(ConnectionError):  # it may be let go at once
+                opened[-1].sendall(front)
+        yield opened
+    finally:
+        for connection in opened:
+            connection.close()
+
+
+def closed(opened):
+    """How many of these connections the server has closed, which sent nothing on them."""
+    poll = select.poll()
+    for connection in opened:
+        poll.register(connection, select.POLLIN)
+    return len(poll.poll(0))
+
+
+def memory_of_waiting(program):
+    """As many connections as may wait, each with some bytes of its request."""
+    many_open_files(OPEN_FILES)
+    with Server(program, EACH, workers=WORKERS) as server, Looks(server, look(A, "removed", 0, None)) as looks:
+        yield from talk_over(server, registered(A))
+        yield from looks.once()
+        before, sockets = server.memory(), server.sockets()
+        with connections(server.port, WAITING, FRONT) as opened:
+            taken_in(server, sockets + WAITING)
+            beside = server.memory() - before - WAITING * len(FRONT)
+            print(f"{WAITING} connections that wait: {beside / 2**20:.1f} MiB beside their bytes", flush=True)
+            if beside > MOST_BESIDE:
+                yield f"{beside} bytes beside those of {WAITING} connections, in place of {MOST_BESIDE}"
+            if closed(opened):
+                yield f"{closed(opened)} connections that wait were closed"
+            yield from looks.once()
+        yield from looks.judged(f"{WAITING} connections that wait")
+        yield from server.drain()
+
+
+def bodies_that_never_end(program):
+    """Bodies that lack a byte each, four times as many as the server holds: it lets go of those that came first, and answers
+    one that came last once its last byte is there."""
+    many_open_files(OPEN_FILES)
+    body = padded("[]", MAX_BYTES)
+    with Server(program, EACH, workers=WORKERS) as server, Looks(server, look(A, "removed", 0, None)) as looks:
+        yield from talk_over(server, registered(A))
+        yield from looks.once()
+        before = server.memory()
+        with connections(server.port, ENDLESS, post("/events", body)[:-1]) as opened:
+            taken_in(server)
+            most = server.most_memory() - before
+            print(f"{ENDLESS} bodies that don't end: {most / 2**20:.1f} MiB at most", flush=True)
+            if most > MOST_HELD + MOST_HELD_BESIDE:
+                yield f"{most} bytes at most, in place of {MOST_HELD + MOST_HELD_BESIDE}"
+            kept = MOST_HELD // len(body) - 1
+            if closed(opened[:-kept]) < ENDLESS - kept - 1 - WORKERS or closed(opened[-kept + WORKERS :]):
+                yield f"{closed(opened)} were closed, {closed(opened[-kept:])} of the last {kept}"
+            yield from looks.once()
+            opened[-1].sendall(b" ")
+            yield from differing(read_all(opened[-1]), EMPTY)
+        yield from looks.judged(f"{ENDLESS} bodies that don't end")
+        yield from server.drain()
+
+
+def without_address_space(program):
+    """A server whose address space ends while bodies come lets go of those for which there is no memory. Once they are gone it
+    answers each look, within the same limit."""
+    many_open_files(OPEN_FILES)
+    part = post("/events", padded("[]", MAX_BYTES))[:PART]
+    with Server(program, EACH, workers=WORKERS) as server, Looks(server, look(A, "removed", 0, None)) as looks:
+        yield from talk_over(server, registered(A))
+        yield from looks.once()
+        most = server.bytes_of("VmSize") + LITTLE
+        resource.prlimit(server.child.pid, resource.RLIMIT_AS, (most, resource.RLIM_INFINITY))
+        with connections(server.port, CROWD, part) as opened:
+            taken_in(server)
+            gone = closed(opened)
+            if not gone:
+                yield "memory was lacking for no connection"
+        yield from looks.times(5)
+        yield from looks.judged(f"an address space in which {gone} of {CROWD} bodies had no memory")
+        resource.prlimit(server.child.pid, resource.RLIMIT_AS, (resource.RLIM_INFINITY, resource.RLIM_INFINITY))
+        yield from server.drain()
+
+
+MEMORY = [memory_of_waiting, bodies_that_never_end, without_address_space]
