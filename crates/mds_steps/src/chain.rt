@@ -60,7 +60,6 @@ fn openings_of_ends(
     Ok(sets)
 }
 
-/// The first state of the set, by code, to which a row of this type leads from this state.
 fn least_next(table: &Table, from: State, kind: &TypeName, onward: &StateSet) -> Option<State>
     ensures { IsLeastNext table.now from kind.now onward.now result }
 {

@@ -18,11 +18,7 @@ pub fn forward(table: &Table, set: &StateSet, types: &[TypeName]) -> StateSet
     }
 }
 
-/// The same, type by type.
-///
-/// # Errors
-///
-/// [`NoChain`] with the place of the first type that no chain from a state of the set passes: then no state is reached.
+/// [`forward`], type by type, up to the first type that no chain passes.
 pub(crate) fn follow(table: &Table, set: &StateSet, types: &[TypeName]) -> Result<StateSet, NoChain>
     ensures reached { IfOk result (λ reached.
         AreReached table.now set.now types.now reached

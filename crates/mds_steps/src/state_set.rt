@@ -82,7 +82,6 @@ impl StateSet {
     /// The bits of every state.
     const ALL: Mask = Mask::MAX >> (Mask::BITS as usize - State::COUNT);
 
-    /// The set with no state.
     #[tactic(auto, unfolding(crate::specs::StateSet::states_in, mds_table::specs::Mask::has_bit))]
     pub fn empty() -> StateSet
         ensures { result ≡ [] }
@@ -90,7 +89,6 @@ impl StateSet {
         StateSet::of_mask(0)
     }
 
-    /// The set of every state.
     #[tactic(auto, unfolding(crate::specs::StateSet::states_in, mds_table::specs::Mask::has_bit))]
     pub fn all() -> StateSet
         ensures { result ≡ all_states }
@@ -98,7 +96,6 @@ impl StateSet {
         StateSet::of_mask(StateSet::ALL)
     }
 
-    /// The set of this state alone.
     #[tactic(auto, using(crate::proofs::Members::one_state))]
     pub fn of(state: State) -> StateSet
         ensures { result ≡ state ∷ [] }
@@ -106,7 +103,6 @@ impl StateSet {
         StateSet::of_mask(mask::bit_of(state))
     }
 
-    /// The set of the states whose bits the mask has.
     #[tactic(auto, using(crate::proofs::Members::known_states))]
     pub(crate) fn of_mask(mask: Mask) -> StateSet
         ensures { result ≡ states_in mask }
@@ -116,7 +112,6 @@ impl StateSet {
         }
     }
 
-    /// The bits of the set.
     #[tactic(auto, using(crate::specs::Masks::mask_given_back))]
     pub fn bits(&self) -> StateBits
         ensures { result.0 ≡ mask_of self.now }
@@ -124,7 +119,6 @@ impl StateSet {
         self.bits
     }
 
-    /// Whether the state is in the set.
     #[tactic(auto, using(crate::proofs::Members::members))]
     pub fn contains(&self, state: State) -> bool
         ensures { IsTrue result ↔ Contains self.now state }
@@ -132,21 +126,18 @@ impl StateSet {
         mask::has(self.bits.0, state)
     }
 
-    /// The states that are in one of the two sets, or in both.
     pub fn union(&self, other: &StateSet) -> StateSet
         ensures { IsUnion self.now other.now result }
     {
         StateSet::of_mask(self.bits.0 | other.bits.0)
     }
 
-    /// The states that are in both sets.
     pub(crate) fn intersection(&self, other: &StateSet) -> StateSet
         ensures { AreCommon self.now other.now result }
     {
         StateSet::of_mask(self.bits.0 & other.bits.0)
     }
 
-    /// Whether no state is in the set.
     #[tactic(auto, using(crate::proofs::Members::none_in_mask), unfolding(crate::specs::StateSet::states_in, mds_table::specs::Mask::has_bit))]
     pub fn is_empty(&self) -> bool
         ensures { IsTrue result ↔ (self.now ≡ []) }
@@ -169,7 +160,6 @@ impl StateSet {
         states
     }
 
-    /// The same set again.
     pub fn copy(&self) -> StateSet
         ensures { result ≡ self.now }
     {
@@ -180,7 +170,6 @@ impl StateSet {
 impl Default for StateSet {
     ghost is_default = { λ set. set ≡ [] };
 
-    /// The set with no state.
     fn default() -> StateSet {
         StateSet::empty()
     }

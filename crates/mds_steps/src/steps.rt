@@ -8,7 +8,6 @@ use crate::StateSet;
 use mds_table::mask::Mask;
 use mds_table::{State, Table, TypeName};
 
-/// The states to which rows of this type lead from a state of the set.
 pub fn next_states(table: &Table, set: &StateSet, kind: &TypeName) -> StateSet
     ensures { AreNext table.now set.now kind.now result }
 {
@@ -22,7 +21,6 @@ pub fn next_states(table: &Table, set: &StateSet, kind: &TypeName) -> StateSet
     next
 }
 
-/// The states from which rows of this type lead to a state of the set.
 pub fn previous_states(table: &Table, kind: &TypeName, set: &StateSet) -> StateSet
     ensures { ArePrevious table.now set.now kind.now result }
 {
@@ -36,7 +34,6 @@ pub fn previous_states(table: &Table, kind: &TypeName, set: &StateSet) -> StateS
     previous
 }
 
-/// The states to which a type leads from this state, by the masks of its rows.
 pub(crate) fn led_to(masks: &[Mask; State::COUNT], from: State) -> StateSet
     ensures { result ≡ states_in (mask_from masks.now from) }
 {
