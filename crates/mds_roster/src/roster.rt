@@ -23,7 +23,7 @@ pub struct Roster {
     names: IndexSet<EventName, RandomState>,
 }
 
-// By hand: a crate that drops a roster then cites this function, and proves no destructor of what it holds.
+// By hand: crates above cite it.
 impl Drop for Roster {
     fn drop(self) {
         let Roster {
@@ -71,7 +71,6 @@ impl Roster {
         }
     }
 
-    /// What is known of the vehicle of a request.
     fn known(&self, request: &Request) -> Known
         ensures { (tables : TableList) (history : List Requested) → IsRosterOf tables history self.now
             → AreKnown (requests_of history (key_of request.now)) request.now result }
@@ -88,8 +87,6 @@ impl Roster {
         }
     }
 
-    /// The vehicle that was registered at this place of their order, and where it stands, or `None` where so many weren't
-    /// registered. The first place is 0.
     pub fn vehicle(&self, place: usize) -> Option<(Key, Standing)>
         ensures { (tables : TableList) (history : List Requested) → IsRosterOf tables history self.now
             → result ≡ slice_get (standings_in history) place }
@@ -100,7 +97,6 @@ impl Roster {
         }
     }
 
-    /// How many vehicles are registered.
     pub fn registrations(&self) -> usize
         ensures count { (tables : TableList) (history : List Requested) → IsRosterOf tables history self.now
             → result ≡ length (registered_in history) }
@@ -109,7 +105,6 @@ impl Roster {
         self.vehicles.len()
     }
 
-    /// How many events were accepted.
     pub fn events(&self) -> usize
         ensures count { (tables : TableList) (history : List Requested) → IsRosterOf tables history self.now
             → result ≡ length (reports history) }
@@ -119,11 +114,6 @@ impl Roster {
     }
 }
 
-/// Keeps where a vehicle stands after a request, and the name of its event, if it reports one.
-///
-/// # Errors
-///
-/// `AllocError` where there is no memory for it; nothing has changed then.
 fn keep(
     vehicles: &mut IndexMap<Key, Standing, RandomState>,
     names: &mut IndexSet<EventName, RandomState>,
