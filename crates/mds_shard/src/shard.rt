@@ -32,7 +32,7 @@ pub struct Shard {
     names: IndexSet<EventName, RandomState>,
 }
 
-// By hand: a crate that drops a shard then cites this function, and proves no destructor of what it holds.
+// By hand: crates above cite it.
 impl Drop for Shard {
     fn drop(self) {
         let Shard {
@@ -97,7 +97,6 @@ impl Shard {
         Ok(reply)
     }
 
-    /// Whether the request reports an event with the identifier of one of its vehicle's events.
     fn has_event(&self, request: &Request) -> bool
         ensures { result
             ≡ is_repeated (requests_of self.now.history (key_of request.now)) request.now }
@@ -111,18 +110,12 @@ impl Shard {
         }
     }
 
-    /// What is kept of the vehicle.
     fn vehicle(&self, key: &Key) -> Option<Vehicle>
         ensures { IsVehicle self.now.history key.now result }
     {
         self.vehicles.get(key).copied()
     }
 
-    /// Keeps a request that is accepted, where its vehicle stands as told before it.
-    ///
-    /// # Errors
-    ///
-    /// `AllocError` where there is no memory to keep it; nothing has changed then.
     fn accept(&mut self, request: &Request, vehicle: Option<Vehicle>) -> Result<(), AllocError>
         requires accepted { MayBeDone self.old.tables self.old.history request.now }
         requires vehicle { IsVehicle self.old.history (key_of request.now) vehicle }
@@ -146,7 +139,6 @@ impl Shard {
         Ok(())
     }
 
-    /// The accepted requests, in the order in which they were accepted.
     pub fn history(&self) -> &[Request]
         ensures history { result.now ≡ self.now.history }
         ensures lawful { IsLawful self.now.tables self.now.history }
@@ -154,14 +146,15 @@ impl Shard {
         self.history.as_slice()
     }
 
-    /// Where the vehicle stands, or `None` where it isn't registered. It costs the same whatever the shard holds.
+    /// It costs the same whatever the shard holds.
     pub fn standing(&self, key: &Key) -> Option<Standing>
         ensures { result ≡ where_it_stands self.now.history key.now }
     {
         standing_in(self.vehicle(key))
     }
 
-    /// The place behind the last request about the vehicle, or 0 where there is none. It costs the same whatever the shard holds.
+    /// The place behind the last request about the vehicle, or 0 where there is none. It costs the same whatever the shard
+    /// holds.
     pub fn end_of(&self, key: &Key) -> usize
         ensures { IsEndOf self.now.history key.now result }
     {
@@ -194,14 +187,12 @@ impl Shard {
         Ok(Some(events))
     }
 
-    /// The tables that decide, each event by the one in force at its time.
     pub fn tables(&self) -> &Tables
         ensures { result.now ≡ self.now.tables }
     {
         &self.tables
     }
 
-    /// The number of accepted requests.
     pub fn len(&self) -> usize
         ensures len { result ≡ length self.now.history }
         ensures lawful { IsLawful self.now.tables self.now.history }

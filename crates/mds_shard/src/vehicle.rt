@@ -23,25 +23,18 @@ pub struct Vehicle {
     pub last: usize,
 }
 
-/// Where a vehicle stands, of what is kept of it.
 pub fn standing_in(vehicle: Option<Vehicle>) -> Option<Standing>
     ensures { result ≡ option_map (λ v. v.standing) vehicle }
 {
     vehicle.map(|vehicle| vehicle.standing)
 }
 
-/// The place in the history of a vehicle's last request, of what is kept of it.
 pub fn last_in(vehicle: Option<Vehicle>) -> Option<usize>
     ensures { result ≡ option_map (λ v. v.last) vehicle }
 {
     vehicle.map(|vehicle| vehicle.last)
 }
 
-/// Keeps the name of the event that a request reports, if it reports one.
-///
-/// # Errors
-///
-/// `AllocError` where there is no memory for it; nothing has changed then.
 fn keep_name(
     names: &mut IndexSet<EventName, RandomState>,
     request: &Request,
@@ -62,12 +55,7 @@ fn keep_name(
     Ok(())
 }
 
-/// Keeps what is to be kept after a request was accepted: the name of its event, and the vehicle. A report's vehicle is
-/// kept already, so the insertion of the name or of a new vehicle is the only growth.
-///
-/// # Errors
-///
-/// `AllocError` where there is no memory for it; nothing has changed then.
+/// A report's vehicle is kept already, so the insertion of the name or of a new vehicle is the only growth.
 pub fn keep(
     vehicles: &mut IndexMap<Key, Vehicle, RandomState>,
     names: &mut IndexSet<EventName, RandomState>,
