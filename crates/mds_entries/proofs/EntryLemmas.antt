@@ -1,5 +1,6 @@
 -- One request for each line.
-use Rattle.std.proofs.Common.{◌≡◌, ◌≢◌, ◌∙◌, ℕ, List, [], ◌∷◌, Some, inl, refl, sym, subst, arith}
+use Rattle.std.proofs.Common.{◌≡◌, ◌≢◌, ◌∙◌, ◌↔◌, ℕ, Bool, List, [], ◌∷◌, Some, inl, refl, sym, subst, arith}
+use Rattle.std.specs.Prelude.{IsTrue}
 use Rattle.mds_core.specs.declared.request.Request.{Request}
 use Rattle.mds_core.specs.declared.request.Request.TheVariants.{Register, Report, Look}
 use Rattle.mds_batch.specs.declared.batch.BatchFault.{BatchFault}
@@ -99,9 +100,16 @@ line_fault request text BadLine is wrong = λ other same tells.
     let one : other ≡ text = cc in
     wrong request (subst (λ (line : List ℕ). Tells line request) one tells)
 
--- a text that tells another request
-pub other_fault : (request read : Request) (text : List ℕ) → line_of request ≡ Some text → Tells text read → request ≢ read → IsFaultOfRequest request BadLine
-other_fault request read text is told other = λ line same tells.
+-- a line that tells a request tells another one where they are the same
+pub tells_same : (line : List ℕ) (request read : Request) (is : Bool) → Tells line read → (IsTrue is ↔ (request ≡ read)) → IsTrue is ↔ Tells line request
+tells_same line request read is told same = (
+  λ yes. subst (λ (one : Request). Tells line one) (sym (same.0 yes)) told,
+  λ tells. same.1 (lines_tell_one_request line request read tells told),
+)
+
+-- a text that doesn't tell the request it is laid out of
+pub other_fault : (request : Request) (text : List ℕ) → line_of request ≡ Some text → (Tells text request → ⊥) → IsFaultOfRequest request BadLine
+other_fault request text is other = λ line same tells.
     let texts : Some line ≡ Some text = sym same ∙ is in
     let one : line ≡ text = cc in
-    other (lines_tell_one_request text request read (subst (λ (l : List ℕ). Tells l request) one tells) told)
+    other (subst (λ (l : List ℕ). Tells l request) one tells)

@@ -1,6 +1,7 @@
 //! The lines of requests: laid out, and read.
-ghost use Rattle.std.specs.Prelude.{◌≡◌, ◌≢◌, ◌↔◌, [], ◌∷◌, Some, option_map, string_bytes, IsTrue, IfOk, IfErr, IfSome, IfNone};
+ghost use Rattle.std.specs.Prelude.{◌≡◌, ◌≢◌, ◌↔◌, [], ◌∷◌, Some, None, true, false, string_bytes, IsTrue, IfOk, IfErr, IfSome, IfNone, OnOk, OnErr};
 ghost use Rattle.mds_core.specs.declared.key.Key.{Key as Vehicle};
+ghost use Rattle.mds_core.specs.declared.request.Request.TheVariants.{Register, Report};
 ghost use Rattle.mds_batch.specs.Items.{IsEventItem};
 ghost use Rattle.mds_batch.specs.Batch.{IsItemText};
 ghost use Rattle.mds_batch.specs.declared.item.EventItem.TheVariants.{Fault as Wrong};
@@ -40,16 +41,21 @@ impl From<BatchFault> for EntryFault {
     }
 }
 
-/// A reader of lines. What it needs to read one it keeps for the next.
+/// A reader of lines. What it needs to read one, or to lay one out, it keeps for the next.
 pub struct EntryReader {
     alloc: Global,
     items: ItemReader,
+    text: String,
 }
 
 // By hand: a crate that drops a reader then cites this function, and proves no destructor of what it holds.
 impl Drop for EntryReader {
     fn drop(self) {
-        let EntryReader { alloc: _, items: _ } = self;
+        let EntryReader {
+            alloc: _,
+            items: _,
+            text: _,
+        } = self;
     }
 }
 
@@ -59,6 +65,7 @@ impl EntryReader {
         EntryReader {
             alloc,
             items: ItemReader::new(alloc),
+            text: String::new(alloc),
         }
     }
 
@@ -74,37 +81,88 @@ impl EntryReader {
         match self.items.read(line)? {
             EventItem::Event(event) => Ok(Request::Report(*event)),
             EventItem::Fault(fault) => {
-                if !has_no_id(*fault) {
-                    return Err(EntryFault::BadLine);
-                }
-                read_registration(self.alloc, line)
+                let key = read_registration(self.alloc, line, *fault)?;
+                Ok(Request::Register(key))
             }
         }
     }
 
-    /// The text of the line of a request. It is read back first, so that it tells this very request.
+    /// Puts the request that a line tells in the place of another one, as by [`EntryReader::read`]. Of an event only what it has of
+    /// its own is copied.
+    ///
+    /// # Errors
+    ///
+    /// As there. The request stays as it was.
+    pub fn read_into(&mut self, line: &[u8], request: &mut Request) -> Result<(), EntryFault>
+        ensures request { OnOk result (Tells line.now request.new) }
+        ensures fault { IfErr result (IsFaultOfLine line.now) }
+        ensures unchanged { OnErr result (request.new ≡ request.old) }
+    {
+        match self.items.read(line)? {
+            EventItem::Event(event) => put_report(request, event),
+            EventItem::Fault(fault) => {
+                let key = read_registration(self.alloc, line, *fault)?;
+                *request = Request::Register(key);
+            }
+        }
+        Ok(())
+    }
+
+    /// The text of the line of a request, which stays until the next one is laid out. It is read back first, so that it tells this
+    /// very request.
     ///
     /// # Errors
     ///
     /// `NoLine` for a look, `BadLine` where the text tells no request or another one, `Memory`.
-    pub fn text_of(&mut self, request: &Request) -> Result<String, EntryFault>
-        ensures text { IfOk result (λ text. line_of request.now ≡ Some (string_bytes text)) }
-        ensures tells { IfOk result (λ text. Tells (string_bytes text) request.now) }
+    pub fn text_of(&mut self, request: &Request) -> Result<&str, EntryFault>
+        ensures text { IfOk result (λ text. line_of request.now ≡ Some text.now) }
+        ensures tells { IfOk result (λ text. Tells text.now request.now) }
         ensures fault { IfErr result (IsFaultOfRequest request.now) }
     {
-        let text = match lay_out(self.alloc, request) {
-            Ok(Some(text)) => text,
-            Ok(None) => return Err(EntryFault::NoLine),
+        match lay_out(&mut self.text, request) {
+            Ok(true) => {}
+            Ok(false) => return Err(EntryFault::NoLine),
             Err(_) => return Err(EntryFault::Memory),
-        };
-        let other = match self.read(text.as_bytes()) {
-            Ok(other) => other,
-            Err(fault) => return Err(fault),
-        };
-        if !is_same(request, &other) {
-            return Err(EntryFault::BadLine);
         }
-        Ok(text)
+        match tells(self.alloc, &mut self.items, self.text.as_bytes(), request) {
+            Ok(true) => {}
+            Ok(false) => return Err(EntryFault::BadLine),
+            Err(fault) => return Err(fault),
+        }
+        Ok(self.text.as_str())
+    }
+}
+
+/// Leaves the report of an event.
+fn put_report(request: &mut Request, event: &Event)
+    ensures { request.new ≡ Report event.now }
+{
+    match request {
+        Request::Report(before) => before.assign_from(event),
+        _ => *request = Request::Report(*event),
+    }
+}
+
+/// Whether a line tells this very request. Nothing of it is copied.
+///
+/// # Errors
+///
+/// As [`EntryReader::read`].
+fn tells(
+    alloc: Global,
+    items: &mut ItemReader,
+    line: &[u8],
+    request: &Request,
+) -> Result<bool, EntryFault>
+    ensures told { IfOk result (λ told. IsTrue told ↔ Tells line.now request.now) }
+    ensures fault { IfErr result (IsFaultOfLine line.now) }
+{
+    match items.read(line)? {
+        EventItem::Event(event) => Ok(is_report(request, event)),
+        EventItem::Fault(fault) => {
+            let key = read_registration(alloc, line, *fault)?;
+            Ok(is_registration(request, key))
+        }
     }
 }
 
@@ -115,15 +173,22 @@ fn has_no_id(fault: ItemFault) -> bool
     matches!(fault, ItemFault::Missing(Member::EventId))
 }
 
-/// The registration that a line tells which has no identifier of an event.
-fn read_registration(alloc: Global, line: &[u8]) -> Result<Request, EntryFault>
-    requires { IsItemText IsEventItem line.now (Wrong (Missing EventId)) }
-    ensures request { IfOk result (Tells line.now) }
+/// The vehicle whose registration a line tells, which is no event for this fault.
+///
+/// # Errors
+///
+/// As [`EntryReader::read`].
+fn read_registration(alloc: Global, line: &[u8], fault: ItemFault) -> Result<Key, EntryFault>
+    requires { IsItemText IsEventItem line.now (Wrong fault) }
+    ensures key { IfOk result (λ key. Tells line.now (Register key)) }
     ensures fault { IfErr result (IsFaultOfLine line.now) }
 {
+    if !has_no_id(fault) {
+        return Err(EntryFault::BadLine);
+    }
     let items = read_vehicles(alloc, line)?;
     match only_vehicle(items.as_slice()) {
-        Some(key) => Ok(Request::Register(key)),
+        Some(key) => Ok(key),
         None => Err(EntryFault::BadLine),
     }
 }
@@ -142,32 +207,44 @@ fn only_vehicle(items: &[VehicleItem]) -> Option<Key>
     }
 }
 
-/// The text of a request, or `None` for a look.
-fn lay_out(alloc: Global, request: &Request) -> Result<Option<String>, AllocError>
-    ensures { IfOk result (λ text. option_map string_bytes text ≡ line_of request.now) }
+/// Lays the text of a request out, in the place of another one, and says whether it has one: a look has none.
+fn lay_out(text: &mut String, request: &Request) -> Result<bool, AllocError>
+    ensures some { IfOk result (λ has. has ≡ true → line_of request.now ≡ Some (string_bytes text.new)) }
+    ensures none { IfOk result (λ has. has ≡ false → line_of request.now ≡ None) }
 {
+    text.clear();
     match request {
         Request::Register(key) => {
-            let text = Text { value: key };
-            Ok(Some(format!(in alloc; "{text}")?))
+            let value = Text { value: key };
+            write!(text, "{value}")?;
+            Ok(true)
         }
         Request::Report(event) => {
-            let text = Text { value: event };
-            Ok(Some(format!(in alloc; "{text}")?))
+            let value = Text { value: event };
+            write!(text, "{value}")?;
+            Ok(true)
         }
-        Request::Look(_) => Ok(None),
+        Request::Look(_) => Ok(false),
     }
 }
 
-/// Whether two requests are the same one.
-fn is_same(request: &Request, other: &Request) -> bool
-    ensures { IsTrue result ↔ (request.now ≡ other.now) }
+/// Whether a request reports this event.
+fn is_report(request: &Request, event: &Event) -> bool
+    ensures { IsTrue result ↔ (request.now ≡ Report event.now) }
 {
-    match (request, other) {
-        (Request::Register(key), Request::Register(other)) => key == other,
-        (Request::Report(event), Request::Report(other)) => is_same_event(event, other),
-        (Request::Look(key), Request::Look(other)) => key == other,
-        _ => false,
+    match request {
+        Request::Report(other) => is_same_event(other, event),
+        Request::Register(_) | Request::Look(_) => false,
+    }
+}
+
+/// Whether a request registers this vehicle.
+fn is_registration(request: &Request, key: Key) -> bool
+    ensures { IsTrue result ↔ (request.now ≡ Register key) }
+{
+    match request {
+        Request::Register(other) => *other == key,
+        Request::Report(_) | Request::Look(_) => false,
     }
 }
 

@@ -44,8 +44,8 @@ fn is_told(alloc: Global, asked: &Ask, wanted: Option<&str>) -> Option<bool> {
         Err(EntryFault::BadLine) => return Some(false),
         Err(EntryFault::Memory) => return None,
     };
-    match reader.read(text.as_bytes()) {
-        Ok(read) => Some(read == request && wanted == Some(text.as_str())),
+    match EntryReader::new(alloc).read(text.as_bytes()) {
+        Ok(read) => Some(read == request && wanted == Some(text)),
         Err(EntryFault::Memory) => None,
         Err(_) => Some(false),
     }

@@ -2,6 +2,7 @@ use Rattle.std.proofs.Common.{rules}
 use Rattle.mds_entries.proofs.EntryLemmas.{other_fault}
 use Rattle.mds_entries.proofs.entry.EntryReader.text_of.Goals as goal
 
-pub returns-then-not-is_same-clause-fault : goal.returns-then-not-is_same-clause-fault
-returns-then-not-is_same-clause-fault c =
-    other_fault c.args.request.now c.in-Ok.other c.as_bytes.result.now (search rules) c.in-Ok.ensures.request (search rules)
+pub returns-in-Ok-false-tells : goal.returns-in-Ok-false-tells
+returns-in-Ok-false-tells c =
+    let wrong = other_fault c.args.request.now c.as_bytes.result.now (search rules) (search rules) in
+    search rules
