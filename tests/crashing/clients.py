@@ -40,11 +40,13 @@ def report(port, device, sizes, front=0):
 
 
 def report_again(port, device, sizes):
-    """Reports what another client reports too, each batch from two events before its own front on. Who is first is open."""
+    """Reports what another client reports too, each batch from two events before its own front on, and after it an event that
+    leaves one out. Who is first is open, and so whether no rows lead to that."""
     front = 0
     for size in sizes:
         ask(port, reporting(device, max(front - 2, 0), front + size))
         front += size
+        ask(port, reporting(device, front + 1, front + 2))
 
 
 def look_until(port, devices, ended):

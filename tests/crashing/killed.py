@@ -97,7 +97,7 @@ class Crew:
             self.answers.release(MOST_ANSWERS)
 
     def report(self, number, chance):
-        """Reports vehicles in turn, each from what the file had at the start on."""
+        """Reports vehicles in turn, each from what the file had at the start on, and after it an event that leaves one out."""
         fronts = {device: self.fronts[device] for device in (device_at(2 * number), device_at(2 * number + 1))}
         while True:
             device = chance.choice(list(fronts))
@@ -106,6 +106,8 @@ class Crew:
                 return
             fronts[device] = behind
             self.answers.release()
+            if asked(self.port, reporting(device, behind + 1, behind + 2), self.fleet) is None:
+                return
 
     def look(self, _, chance):
         """Looks at vehicles, and lists their events."""

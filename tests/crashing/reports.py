@@ -12,6 +12,8 @@ FIRST_TIME = 1000
 """That of the first event of a vehicle; each other one is a millisecond behind the one before."""
 GROUP = 7
 """The group of the identifiers."""
+FEWEST = {"removed": 0, "available": 1, "non_operational": 2}
+"""How many events a vehicle has at least that stands so."""
 NOT_KEPT = {"error": "not_kept"}
 
 
@@ -111,7 +113,9 @@ def said_of_items(items, body):
             found.append((device, number + 1))
         elif failure["error"] == "late":
             found.append((device, failure["last"] - FIRST_TIME + 1))
-        elif failure["error"] != "no_chain":
+        elif failure["error"] == "no_chain":
+            found.append((device, FEWEST[failure["held"]]))
+        else:
             raise Unwell(f"{failure} was answered to event {number} of {device}")
     return found
 
