@@ -86,7 +86,11 @@ TESTED = {
         "Device::cut",
     ],
     ("mds_file", "test_journal", "a_file_grows_after_a_refused_growth"): ["open_file"],
-    ("mds_entries", "test_journal", "lines_are_told_after_a_refused_growth"): ["EntryReader::read", "EntryReader::text_of"],
+    ("mds_entries", "test_journal", "lines_are_told_after_a_refused_growth"): [
+        "EntryReader::read",
+        "EntryReader::read_into",
+        "EntryReader::text_of",
+    ],
 }
 """A library, where its test stands (a crate, and a module of it where more than one has a test of this name), the test, and the
 calls of the library that it makes."""

@@ -1,4 +1,5 @@
 //! The lines of requests.
+use mds_core::Request;
 use mds_entries::{EntryFault, EntryReader, form_text, is_form};
 use mds_table::State;
 use std::alloc::Global;
@@ -44,10 +45,23 @@ fn is_told(alloc: Global, asked: &Ask, wanted: Option<&str>) -> Option<bool> {
         Err(EntryFault::BadLine) => return Some(false),
         Err(EntryFault::Memory) => return None,
     };
-    match EntryReader::new(alloc).read(text.as_bytes()) {
+    match read_back(alloc, text.as_bytes(), Request::Look(*request.key())) {
         Ok(read) => Some(read == request && wanted == Some(text)),
         Err(EntryFault::Memory) => None,
         Err(_) => Some(false),
+    }
+}
+
+/// The request that a line tells, to both readers: also to the one that puts it in the place of another.
+fn read_back(alloc: Global, line: &[u8], before: Request) -> Result<Request, EntryFault> {
+    let mut reader = EntryReader::new(alloc);
+    let read = reader.read(line)?;
+    let mut request = before;
+    reader.read_into(line, &mut request)?;
+    if request == read {
+        Ok(read)
+    } else {
+        Err(EntryFault::BadLine)
     }
 }
 
