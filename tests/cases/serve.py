@@ -5,6 +5,7 @@ import socket
 
 from cases.tables import FAULTS, ONE_ROW
 from cases.timed import FAULTS as TIMED_FAULTS
+from cases.vehicles import journal
 from harness.case import NO_STREAMS, OUTPUT, SOCKET, SOME, Case, cannot_read, not_a_table, told
 
 WRONG = [
@@ -82,5 +83,5 @@ def outputs_of_serve():
     """A first line that can't be written."""
     for words in (NO_CONNECTION, f"{NO_CONNECTION} --journal journal"):
         for stdout in NO_STREAMS:
-            yield told(words, OUTPUT, stdout=stdout)
-            yield told(words, "", stdout=stdout, stderr="/dev/full")
+            yield told(words, OUTPUT, files={"journal": journal()}, stdout=stdout)
+            yield told(words, "", files={"journal": journal()}, stdout=stdout, stderr="/dev/full")
