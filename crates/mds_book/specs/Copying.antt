@@ -37,3 +37,9 @@ pub record IsCopied (tables : Tables) (number : ℕ) (old : Progressed) (piece :
   pub next : IsPiece old.count new.seen piece
   pub count : new.count ≡ old.count + length piece
   pub copied : copied new ≡ copied old ++ piece
+
+-- a piece was copied behind what stood in a list
+pub record AddsPiece (tables : Tables) (number : ℕ) (old : Progressed) (before after : List Request) (new : Progressed) : Type 0 where
+  pub piece : List Request
+  pub behind : after ≡ before ++ piece
+  pub is_copied : IsCopied tables number old piece new

@@ -1,5 +1,5 @@
 //! The shards under their locks, and the calls that take them.
-ghost use Rattle.std.specs.Prelude.{◌≡◌, ◌↔◌, ◌<◌, ◌≤◌, ◌+◌, ◌++◌, ◌||◌, true, false, Err, Some, replicate, vec_len, vec_capacity, IsOk, IfOk, OnErr, option_map};
+ghost use Rattle.std.specs.Prelude.{◌≡◌, ◌↔◌, ◌<◌, ◌≤◌, ◌+◌, ◌++◌, ◌||◌, true, false, Err, Some, replicate, vec_len, vec_capacity, IsOk, IfOk, OnOk, OnErr, option_map};
 ghost use Rattle.std.specs.Fn.{FnOnceReturnsAt};
 ghost use mathlib.Core.List.{IsPrefix};
 ghost use Rattle.mds_core.specs.History.{key_of, requests_of};
@@ -10,14 +10,14 @@ ghost use Rattle.mds_book.specs.Sights.{IsSeenWhole, IsStepped, next_turn};
 ghost use Rattle.mds_book.specs.Books.{IsBadCount, GivesEvents, SeesShard, open_fault_text};
 ghost use Rattle.mds_book.specs.Gathering.{IsGathered};
 ghost use Rattle.mds_book.specs.Settling.{AreBeginnings, IsSettledBook};
-ghost use Rattle.mds_book.specs.Copying.{IsCopied, copied, copied_in};
+ghost use Rattle.mds_book.specs.Copying.{AddsPiece, copied, copied_in};
 ghost use Rattle.mds_log.specs.Log.{requests};
 
 use crate::gathered::Account;
 use crate::seat::Parts;
 use crate::settling::{Closing, count_all, retire_all};
 use crate::slot::shard_of;
-use crate::{Blank, Gathered, Keep, Part, Progress, Seat, ShardLedger, Slot};
+use crate::{Blank, Copies, Gathered, Keep, Part, Progress, Seat, ShardLedger, Slot};
 use mds_core::{Event, Key, Outcome, Reply, Request};
 use mds_log::{Front, Marks};
 use mds_settle::Note;
@@ -281,14 +281,15 @@ fn list_in<R: Wait, L: ShardLedger, const N: usize>(
 /// `AllocError` where there is no memory for them; the progress is as it was then.
 fn copy_in<R: Wait, L: ShardLedger, const N: usize>(
     rt: &R,
-    alloc: Global,
     slot: &Mutex<Slot<L, N>>,
     progress: &mut Progress<L>,
-) -> Result<Vec<Request>, AllocError>
-    ensures copied { IfOk result (λ piece. IsCopied L.tables N progress.old piece.items progress.new) }
+    copies: &mut Copies,
+) -> Result<(), AllocError>
+    ensures copied { OnOk result
+        (AddsPiece L.tables N progress.old copies.old copies.new progress.new) }
     ensures unchanged { OnErr result (progress.new ≡ progress.old) }
 {
-    slot.lock(rt).copy(alloc, progress)
+    slot.lock(rt).copy(progress, copies)
 }
 
 /// Whether all requests about a vehicle that a front has seen were copied of the shard behind this lock.
@@ -635,22 +636,22 @@ impl<L: ShardLedger, M: ShardLedger> Book<L, M> {
     }
 
     /// Copies the next requests of the first shard's history behind those that were copied, at most 256 of them; none where all
-    /// were. It waits for the shard's lock, and holds it for the copy alone.
+    /// were. They come behind what was copied before. It waits for the shard's lock, and holds it for the copy alone.
     ///
     /// # Errors
     ///
-    /// `AllocError` where there is no memory for them; the progress is as it was then.
+    /// `AllocError` where there is no memory for them; the progress is as it was then, and the copies may be any.
     pub fn copy_first<R: Wait>(
         &self,
         rt: &R,
-        alloc: Global,
         progress: &mut Progress<L>,
-    ) -> Result<Vec<Request>, AllocError>
-        ensures copied { IfOk result (λ piece.
-            IsCopied self.now.tables 0 progress.old piece.items progress.new) }
+        copies: &mut Copies,
+    ) -> Result<(), AllocError>
+        ensures copied { OnOk result
+            (AddsPiece self.now.tables 0 progress.old copies.old copies.new progress.new) }
         ensures unchanged { OnErr result (progress.new ≡ progress.old) }
     {
-        copy_in(rt, alloc, &self.first, progress)
+        copy_in(rt, &self.first, progress, copies)
     }
 
     /// Copies the next requests of the second shard's history, as [`Book::copy_first`] does of the first's.
@@ -661,14 +662,14 @@ impl<L: ShardLedger, M: ShardLedger> Book<L, M> {
     pub fn copy_second<R: Wait>(
         &self,
         rt: &R,
-        alloc: Global,
         progress: &mut Progress<M>,
-    ) -> Result<Vec<Request>, AllocError>
-        ensures copied { IfOk result (λ piece.
-            IsCopied self.now.tables 1 progress.old piece.items progress.new) }
+        copies: &mut Copies,
+    ) -> Result<(), AllocError>
+        ensures copied { OnOk result
+            (AddsPiece self.now.tables 1 progress.old copies.old copies.new progress.new) }
         ensures unchanged { OnErr result (progress.new ≡ progress.old) }
     {
-        copy_in(rt, alloc, &self.second, progress)
+        copy_in(rt, &self.second, progress, copies)
     }
 
     /// Whether all requests about a vehicle that a seat has seen were copied of its shard. It may say no where others about the

@@ -5,6 +5,7 @@
 
 mod blank;
 mod book;
+mod copies;
 mod gathered;
 pub mod laws;
 mod progress;
@@ -15,6 +16,7 @@ mod slot;
 
 pub use blank::Blank;
 pub use book::{Book, MAX_SEATS, OpenFault};
+pub use copies::Copies;
 pub use gathered::{Gathered, Settled};
 pub use mds_gate::{Gate, OpenGate};
 pub use mds_settle::{Note, NoteList, judge};

@@ -1,5 +1,5 @@
 //! What stands behind a lock: a shard, the ledger that counts what it accepted, and the keeper of its log.
-ghost use Rattle.std.specs.Prelude.{◌≡◌, [], length, true, ◌<◌, ◌≤◌, ◌+◌, ◌^◌, IfOk, IfSome, OnErr};
+ghost use Rattle.std.specs.Prelude.{◌≡◌, [], length, true, ◌<◌, ◌≤◌, ◌+◌, ◌^◌, IfOk, IfSome, OnOk, OnErr};
 ghost use Rattle.mds_core.specs.History.{key_of, requests_of};
 ghost use Rattle.mds_core.specs.Machine.{Steps, LacksMemory};
 ghost use Rattle.mds_core.specs.Lawful.{IsLawful};
@@ -7,10 +7,10 @@ ghost use mathlib.Core.List.{IsPrefix};
 ghost use Rattle.mds_log.specs.Log.{requests};
 ghost use Rattle.mds_book.specs.Shards.{shard_of as number_of, AreOfShard, count_of};
 ghost use Rattle.mds_book.specs.Sights.{IsShown, next_turn};
-ghost use Rattle.mds_book.specs.Copying.{IsCopied, IsPiece, copied};
+ghost use Rattle.mds_book.specs.Copying.{AddsPiece, IsPiece, copied};
 
 use crate::seat::Parts;
-use crate::{Blank, Part, Progress};
+use crate::{Blank, Copies, Part, Progress};
 use mds_core::{Key, Reply, Request};
 use mds_log::{Front, Keeper, Logged, Marked};
 use mds_shard::Shard;
@@ -48,17 +48,13 @@ pub(crate) fn shard_of(key: &Key) -> usize
 const MAX_PIECE: usize = 256;
 
 /// The next piece of a history, from this place on.
-///
-/// # Errors
-///
-/// `AllocError` where there is no memory for it.
-fn next_piece(alloc: Global, history: &[Request], from: usize) -> Result<Vec<Request>, AllocError>
+fn next_piece(history: &[Request], from: usize) -> &[Request]
     requires { from ≤ length history.now }
-    ensures { IfOk result (λ piece. IsPiece from history.now piece.items) }
+    ensures { IsPiece from history.now result.now }
 {
     let rest = &history[from..];
     let size = rest.len().min(MAX_PIECE);
-    Vec::from_slice(alloc, &rest[..size])
+    &rest[..size]
 }
 
 /// What stands behind a lock of a book: the shard of number `N`, whose vehicles all have this number, the ledger that
@@ -210,12 +206,13 @@ impl<L: ShardLedger, const N: usize> Slot<L, N> {
     /// `AllocError` where there is no memory for them; the progress is as it was then.
     pub(crate) fn copy(
         &mut self,
-        alloc: Global,
         progress: &mut Progress<L>,
-    ) -> Result<Vec<Request>, AllocError>
+        copies: &mut Copies,
+    ) -> Result<(), AllocError>
         ensures slot { self.new ≡ self.old }
-        ensures copied { IfOk result (λ piece. IsCopied L.tables N progress.old piece.items progress.new) }
-        ensures whole { IfOk result (λ piece. progress.new.seen ≡ self.old.history) }
+        ensures copied { OnOk result
+            (AddsPiece L.tables N progress.old copies.old copies.new progress.new) }
+        ensures whole { OnOk result (progress.new.seen ≡ self.old.history) }
         ensures unchanged { OnErr result (progress.new ≡ progress.old) }
     {
         // This call's contract says that the history is lawful, and no longer than a list can be.
@@ -223,9 +220,10 @@ impl<L: ShardLedger, const N: usize> Slot<L, N> {
         let mut seen = progress.front().again();
         self.keeper.show(&mut seen);
         let from = progress.count();
-        let piece = next_piece(alloc, self.shard.history(), from)?;
+        let piece = next_piece(self.shard.history(), from);
+        copies.extend(piece)?;
         *progress = Progress::of(seen, from + piece.len());
-        Ok(piece)
+        Ok(())
     }
 
     /// Tells that what was seen is a beginning of the history. It changes nothing.

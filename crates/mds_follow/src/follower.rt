@@ -1,5 +1,5 @@
 //! What follows the histories of a book, and records them.
-ghost use Rattle.std.specs.Prelude.{◌≡◌, ◌<◌, ◌≤◌, ◌^◌, [], length, IfOk, OnOk, OnErr};
+ghost use Rattle.std.specs.Prelude.{◌≡◌, ◌<◌, ◌≤◌, ◌^◌, [], length, OnOk, OnErr};
 ghost use Rattle.std.specs.List.{All};
 ghost use mathlib.Core.List.{IsPrefix};
 ghost use Rattle.mds_log.specs.Log.{requests};
@@ -10,8 +10,7 @@ ghost use Rattle.mds_follow.specs.Group.{IsGroup};
 
 use crate::desk::Desk;
 use crate::{Receipt, Record, RecordFault, RecordLog};
-use mds_book::{Book, Progress, Seat, Settled, ShardLedger};
-use mds_core::Request;
+use mds_book::{Book, Copies, Progress, Seat, Settled, ShardLedger};
 use mds_log::Keeper;
 use std::alloc::{AllocError, Global};
 use std::marker::Model;
@@ -23,6 +22,8 @@ pub struct Follower<F: Record, L: ShardLedger, M: ShardLedger, J: RecordLog> {
     desk: Desk<F, J>,
     first: Progress<L>,
     second: Progress<M>,
+    // What is copied to be recorded. It is kept for its room.
+    group: Copies,
 }
 
 // By hand: a crate that drops a follower then cites this function, and proves no destructor of what it holds.
@@ -32,6 +33,7 @@ impl<F: Record + Drop, L: ShardLedger, M: ShardLedger, J: RecordLog> Drop for Fo
             desk: _,
             first: _,
             second: _,
+            group: _,
         } = self;
     }
 }
@@ -57,31 +59,36 @@ impl<F: Record, L: ShardLedger, M: ShardLedger, J: RecordLog> Model for Follower
         → IsSound (F.left_since follower.desk.file) J.start 1 follower.second.seen) };
 }
 
-/// The next requests of both shards, those of the first before those of the second.
+/// Copies the next requests of both shards, those of the first before those of the second, in place of what was copied before.
 ///
 /// # Errors
 ///
 /// `AllocError` where there is no memory for them.
 fn next_group<L: ShardLedger, M: ShardLedger, R: Wait>(
     rt: &R,
-    alloc: Global,
     book: &Book<L, M>,
     first: &mut Progress<L>,
     second: &mut Progress<M>,
-) -> Result<Vec<Request>, AllocError>
-    ensures { IfOk result (λ group.
-        IsGroup book.now.tables first.old second.old group.items first.new second.new) }
+    group: &mut Copies,
+) -> Result<(), AllocError>
+    ensures { OnOk result
+        (IsGroup book.now.tables first.old second.old group.new first.new second.new) }
 {
-    let mut group = book.copy_first(rt, alloc, first)?;
-    let others = book.copy_second(rt, alloc, second)?;
-    group.extend_from_slice(&others)?;
-    Ok(group)
+    group.clear();
+    book.copy_first(rt, first, group)?;
+    book.copy_second(rt, second, group)?;
+    Ok(())
 }
 
 impl<F: Record, L: ShardLedger, M: ShardLedger, J: RecordLog> Follower<F, L, M, J> {
     /// A follower of a book that holds what stands in the file, and nothing else: one seat has asked it. The keeper has the
     /// requests, in the order of the file.
-    pub(crate) fn begin(file: F, keeper: Keeper<J>, seat: &Seat<L, M>) -> Follower<F, L, M, J>
+    pub(crate) fn begin(
+        alloc: Global,
+        file: F,
+        keeper: Keeper<J>,
+        seat: &Seat<L, M>,
+    ) -> Follower<F, L, M, J>
         requires sound { F.is_sound file }
         requires short { length keeper < 2 ^ 63 }
         requires begun { F.is_true file → J.start ≤ F.tag file }
@@ -96,6 +103,7 @@ impl<F: Record, L: ShardLedger, M: ShardLedger, J: RecordLog> Follower<F, L, M, 
             desk: Desk { file, keeper },
             first,
             second,
+            group: Copies::new(alloc),
         }
     }
 
@@ -127,6 +135,7 @@ impl<F: Record, L: ShardLedger, M: ShardLedger, J: RecordLog> Follower<F, L, M, 
             desk,
             first,
             second,
+            group: _group,
         } = self;
         settled.tell_begins(&first, &second);
         desk.file
@@ -137,18 +146,18 @@ impl<F: Record, L: ShardLedger, M: ShardLedger, J: RecordLog> Follower<F, L, M, 
     /// # Errors
     ///
     /// As [`Record::append`].
-    fn pull<R: Wait>(&mut self, rt: &R, alloc: Global, book: &Book<L, M>) -> Result<(), RecordFault>
+    fn pull<R: Wait>(&mut self, rt: &R, book: &Book<L, M>) -> Result<(), RecordFault>
         ensures begins { IsPrefix self.old self.new }
         ensures none { OnErr result (self.new ≡ self.old) }
     {
         let (mut first, mut second) = (self.first.again(), self.second.again());
-        let Ok(group) = next_group(rt, alloc, book, &mut first, &mut second) else {
+        let Ok(()) = next_group(rt, book, &mut first, &mut second, &mut self.group) else {
             return Err(RecordFault::Memory);
         };
         // Where it stays open whether the group is recorded, a crash may leave it: so the histories with it have been seen.
         self.first = first.with_count(self.first.count());
         self.second = second.with_count(self.second.count());
-        self.desk.put(&group)?;
+        self.desk.put(self.group.as_slice())?;
         self.first = first;
         self.second = second;
         Ok(())
@@ -162,7 +171,6 @@ impl<F: Record, L: ShardLedger, M: ShardLedger, J: RecordLog> Follower<F, L, M, 
     pub(crate) fn follow<R: Wait>(
         &mut self,
         rt: &R,
-        alloc: Global,
         book: &Book<L, M>,
         seat: &Seat<L, M>,
     ) -> Result<(), RecordFault>
@@ -173,7 +181,7 @@ impl<F: Record, L: ShardLedger, M: ShardLedger, J: RecordLog> Follower<F, L, M, 
             if seat.is_within(&self.first, &self.second) {
                 return Ok(());
             }
-            self.pull(rt, alloc, book)?;
+            self.pull(rt, book)?;
         }
         // It never comes here: each round records a request more, and no history is as long.
         Err(RecordFault::NotKept)
@@ -187,7 +195,6 @@ impl<F: Record, L: ShardLedger, M: ShardLedger, J: RecordLog> Follower<F, L, M, 
     pub fn follow_all<R: Wait>(
         &mut self,
         rt: &R,
-        alloc: Global,
         book: &Book<L, M>,
         seats: &[Seat<L, M>],
     ) -> Result<(), RecordFault>
@@ -195,7 +202,7 @@ impl<F: Record, L: ShardLedger, M: ShardLedger, J: RecordLog> Follower<F, L, M, 
         ensures covers { OnOk result (All (λ seat. Covers seat (requests self.new)) seats.now) }
     {
         for seat in seats {
-            self.follow(rt, alloc, book, seat)?;
+            self.follow(rt, book, seat)?;
         }
         Ok(())
     }

@@ -1,5 +1,5 @@
 //! A journal that is read at a start.
-ghost use Rattle.std.specs.Prelude.{◌≡◌, ◌⊎◌, ◌+◌, ◌<◌, ◌∷◌, [], IfOk, IfErr, IfSome, IfNone, OnOk, OnErr};
+ghost use Rattle.std.specs.Prelude.{◌≡◌, ◌⊎◌, ◌+◌, ◌<◌, ◌∷◌, [], true, false, IfOk, IfErr, OnOk, OnErr};
 ghost use Rattle.mds_table.specs.Json.{max_bytes};
 ghost use Rattle.mds_journal.specs.Device.{LeavesOnly, Untouched};
 ghost use Rattle.mds_journal.specs.Lines.{recovered};
@@ -11,12 +11,13 @@ ghost use Rattle.mds_follow.specs.Reading.{HasNoMore, IsAtFirstRequest, IsEndFau
 use crate::blank::with_form;
 use crate::start_fault::{call_fault, line_fault};
 use crate::{Disk, StartFault};
-use mds_core::Request;
+use mds_core::{Key, Request};
 use mds_entries::{EntryFault, EntryReader, is_form};
 use mds_journal::{Device, Group, JournalFault, OpenError, Opening};
 use mds_log::Tagged;
 use mds_table::MAX_BYTES;
 use std::alloc::{AllocError, Global};
+use uuid::Uuid;
 
 /// Takes the first line, which has to name the form.
 ///
@@ -54,6 +55,9 @@ fn take_form<D: Device>(opening: &mut Opening<D>, line: &mut Vec<u8>) -> Result<
 #[derive(Drop)]
 pub struct RequestReader<D: Device> {
     pub(crate) opening: Opening<D>,
+    pub(crate) alloc: Global,
+    /// The request that was read last.
+    pub(crate) request: Request,
     entries: EntryReader,
     group: Group,
     line: Vec<u8>,
@@ -108,6 +112,12 @@ impl<D: Device> RequestReader<D> {
         match take_form(&mut opening, &mut line) {
             Ok(()) => Ok(RequestReader {
                 opening,
+                alloc,
+                // It is none of a line, and is never handed on.
+                request: Request::Look(Key {
+                    provider: Uuid::nil(),
+                    device: Uuid::nil(),
+                }),
                 entries: EntryReader::new(alloc),
                 group,
                 line,
@@ -116,28 +126,28 @@ impl<D: Device> RequestReader<D> {
         }
     }
 
-    /// The request of the next line, or `None` where no more lines count.
+    /// Reads the request of the next line, in the place of the one before it, or says `false` where no more lines count.
     ///
     /// # Errors
     ///
     /// `BadLine` where the line tells no request, `TooLong` where it has too many bytes, `Device` and `Memory`.
-    pub(crate) fn next_request(&mut self) -> Result<Option<Request>, StartFault>
+    pub(crate) fn next_request(&mut self) -> Result<bool, StartFault>
         requires reading { IsReading D.seen D.may_leave D.may_be_used D.is_true self.old.opening }
         requires limit { limit_of self.old.opening ≡ max_bytes }
         ensures reading { IsReading D.seen D.may_leave D.may_be_used D.is_true self.new.opening }
         ensures limit { limit_of self.new.opening ≡ max_bytes }
-        ensures some { IfOk result (λ found. IfSome found (λ request.
-            D.is_true self.new.opening.device → TellsNext (unread D.seen self.old.opening) request
-            (unread D.seen self.new.opening))) }
-        ensures number { IfOk result (λ found. IfSome found (λ _.
-            number_of self.new.opening ≡ number_of self.old.opening + 1)) }
-        ensures further { IfOk result (λ found. IfSome found (λ _.
-            place_of self.old.opening < place_of self.new.opening)) }
-        ensures none { IfOk result (λ found. IfNone found (D.is_true self.new.opening.device
+        ensures some { IfOk result (λ more. more ≡ true → D.is_true self.new.opening.device
+            → TellsNext (unread D.seen self.old.opening) self.new.request
+            (unread D.seen self.new.opening)) }
+        ensures number { IfOk result (λ more. more ≡ true
+            → number_of self.new.opening ≡ number_of self.old.opening + 1) }
+        ensures further { IfOk result (λ more. more ≡ true
+            → place_of self.old.opening < place_of self.new.opening) }
+        ensures none { IfOk result (λ more. more ≡ false → D.is_true self.new.opening.device
             → HasNoMore (unread D.seen self.old.opening)
-            × (unread D.seen self.new.opening ≡ unread D.seen self.old.opening))) }
-        ensures same_number { IfOk result (λ found. IfNone found
-            (number_of self.new.opening ≡ number_of self.old.opening)) }
+            × (unread D.seen self.new.opening ≡ unread D.seen self.old.opening)) }
+        ensures same_number { IfOk result (λ more. more ≡ false
+            → number_of self.new.opening ≡ number_of self.old.opening) }
         ensures fault { IfErr result (λ fault. D.is_true self.new.opening.device → IsLineFault
             (number_of self.old.opening) (unread D.seen self.old.opening) fault) }
         ensures untouched { D.is_true self.new.opening.device → Untouched D.seen D.may_leave
@@ -148,11 +158,11 @@ impl<D: Device> RequestReader<D> {
         let number = self.opening.number();
         match self.opening.next_line(&mut self.line) {
             Ok(true) => {}
-            Ok(false) => return Ok(None),
+            Ok(false) => return Ok(false),
             Err(error) => return Err(line_fault(error, number)),
         }
-        match self.entries.read(&self.line) {
-            Ok(request) => Ok(Some(request)),
+        match self.entries.read_into(&self.line, &mut self.request) {
+            Ok(()) => Ok(true),
             Err(EntryFault::Memory) => Err(StartFault::Memory),
             Err(_) => Err(StartFault::Journal(JournalFault::BadLine(number))),
         }
@@ -190,6 +200,8 @@ impl<D: Device> RequestReader<D> {
     {
         let RequestReader {
             opening,
+            alloc: _alloc,
+            request: _request,
             entries,
             group,
             line: _line,
@@ -220,6 +232,8 @@ impl<D: Device> RequestReader<D> {
     {
         let RequestReader {
             opening,
+            alloc: _alloc,
+            request: _request,
             entries: _entries,
             group: _group,
             line: _line,

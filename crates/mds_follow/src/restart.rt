@@ -107,12 +107,12 @@ fn take_back<D: Device, L: ShardLedger, M: ShardLedger, J: RecordLog, R: Wait>(
         → D.is_true reader.old.opening.device }
 {
     let number = reader.number();
-    let request = match reader.next_request() {
-        Ok(Some(request)) => request,
-        Ok(None) => return Ok(false),
+    match reader.next_request() {
+        Ok(true) => {}
+        Ok(false) => return Ok(false),
         Err(fault) => return Err(fault),
-    };
-    match refill(rt, book, seat, &request) {
+    }
+    match refill(rt, book, seat, &reader.request) {
         Ok(()) => {}
         Err(RefillFault::Memory) => return Err(StartFault::Memory),
         Err(RefillFault::Refused) => {
@@ -120,7 +120,7 @@ fn take_back<D: Device, L: ShardLedger, M: ShardLedger, J: RecordLog, R: Wait>(
         }
         Err(RefillFault::Shared) => return Err(StartFault::Shared),
     }
-    keeper.add(reader, &request);
+    keeper.add(reader, &reader.request);
     Ok(true)
 }
 
@@ -210,8 +210,9 @@ pub fn resume<D: Device, L: ShardLedger, M: ShardLedger, J: RecordLog, R: Wait>(
         Ok(()) => {}
         Err(fault) => return Err((fault, reader.into_device())),
     }
+    let alloc = reader.alloc;
     match reader.into_disk() {
-        Ok(disk) => Ok(Follower::begin(disk, keeper, seat)),
+        Ok(disk) => Ok(Follower::begin(alloc, disk, keeper, seat)),
         Err(error) => Err(error),
     }
 }

@@ -7,7 +7,6 @@ ghost use Rattle.mds_follow.specs.Parts.{Covers, CoversAbout};
 use crate::{Follower, Receipt, Record, RecordFault, RecordLog};
 use mds_book::{Book, Seat, ShardLedger};
 use mds_core::Key;
-use std::alloc::Global;
 use std::sync::{Mutex, Wait};
 
 /// A follower that workers share, and the newest receipt. One worker at a time follows the book. The lock of the receipt is held
@@ -54,7 +53,6 @@ impl<F: Record, L: ShardLedger, M: ShardLedger, J: RecordLog> SharedFollower<F, 
     pub fn commit<R: Wait>(
         &self,
         rt: &R,
-        alloc: Global,
         book: &Book<L, M>,
         seat: &Seat<L, M>,
         about: Option<Key>,
@@ -70,7 +68,7 @@ impl<F: Record, L: ShardLedger, M: ShardLedger, J: RecordLog> SharedFollower<F, 
         if receipt.covers_about(rt, book, seat, about) {
             return Ok(());
         }
-        self.follow(rt, alloc, book, seat, receipt)?;
+        self.follow(rt, book, seat, receipt)?;
         self.put_up(rt, receipt);
         Ok(())
     }
@@ -79,7 +77,6 @@ impl<F: Record, L: ShardLedger, M: ShardLedger, J: RecordLog> SharedFollower<F, 
     fn follow<R: Wait>(
         &self,
         rt: &R,
-        alloc: Global,
         book: &Book<L, M>,
         seat: &Seat<L, M>,
         receipt: &mut Receipt<L, M, J>,
@@ -89,7 +86,7 @@ impl<F: Record, L: ShardLedger, M: ShardLedger, J: RecordLog> SharedFollower<F, 
         ensures unchanged { OnErr result (receipt.new ≡ receipt.old) }
     {
         let mut follower = self.follower.lock(rt);
-        follower.follow(rt, alloc, book, seat)?;
+        follower.follow(rt, book, seat)?;
         follower.show(receipt);
         Ok(())
     }

@@ -184,7 +184,7 @@ impl<F: Record + Drop, L: ShardLedger, M: ShardLedger, J: RecordLog> RecordedBoo
         }
         let Journal { follower, alarm: _ } = journal;
         let follower = follower.into_follower();
-        match settle_recorded(rt, alloc, book, round.seats, follower) {
+        match settle_recorded(rt, book, round.seats, follower) {
             Ok((settled, file)) => Ok(RecordedEnd {
                 book: FinalBook {
                     settled,
@@ -204,7 +204,6 @@ impl<F: Record + Drop, L: ShardLedger, M: ShardLedger, J: RecordLog> RecordedBoo
 /// [`RecordedStop::Journal`] where not all is recorded, `Serve` by [`Stop::Memory`] where there was no memory for that.
 fn settle_recorded<F: Record + Drop, L: ShardLedger, M: ShardLedger, J: RecordLog, R: Wait>(
     rt: &R,
-    alloc: Global,
     book: Book<L, M>,
     seats: Vec<Seat<L, M>>,
     mut follower: Follower<F, L, M, J>,
@@ -216,7 +215,7 @@ fn settle_recorded<F: Record + Drop, L: ShardLedger, M: ShardLedger, J: RecordLo
     ensures stopped { (tables : Timed) (workers each : ℕ)
         → IfErr result (IsRecordedStop tables workers each) }
 {
-    match follower.follow_all(rt, alloc, &book, seats.as_slice()) {
+    match follower.follow_all(rt, &book, seats.as_slice()) {
         Ok(()) => {}
         Err(RecordFault::Memory) => return Err(RecordedStop::Serve(Stop::Memory)),
         Err(RecordFault::NotKept | RecordFault::Lost) => return Err(RecordedStop::Journal),

@@ -6,7 +6,7 @@ use mds_book::{Book, Seat, ShardLedger};
 use mds_core::{Event, Key, Reply, Request};
 use mds_face::{Desk, KeepFault, KeptDesk, SeatDesk};
 use mds_table::Row;
-use std::alloc::{AllocError, Global};
+use std::alloc::AllocError;
 use std::sync::Wait;
 
 /// A caller's seat at a book, as a desk, and what records what the seat has seen.
@@ -64,7 +64,6 @@ impl<R: Wait, L: ShardLedger, M: ShardLedger, K: Recorder<L, M>> KeptDesk
         commit_seat(
             self.recorder,
             self.desk.rt,
-            self.desk.alloc,
             self.desk.book,
             self.desk.seat,
             about,
@@ -82,7 +81,6 @@ impl<R: Wait, L: ShardLedger, M: ShardLedger, K: Recorder<L, M>> KeptDesk
 fn commit_seat<R: Wait, L: ShardLedger, M: ShardLedger, K: Recorder<L, M>>(
     recorder: &K,
     rt: &R,
-    alloc: Global,
     book: &Book<L, M>,
     seat: &mut Seat<L, M>,
     about: Option<Key>,
@@ -91,5 +89,5 @@ fn commit_seat<R: Wait, L: ShardLedger, M: ShardLedger, K: Recorder<L, M>>(
     ensures covers { OnOk result (K.covers receipt.new about seat.new) }
     ensures same { seat.new ≡ seat.old }
 {
-    recorder.commit(rt, alloc, book, seat, about, receipt)
+    recorder.commit(rt, book, seat, about, receipt)
 }

@@ -6,7 +6,6 @@ use mds_book::{Book, Seat, ShardLedger};
 use mds_core::Key;
 use mds_face::KeepFault;
 use mds_follow::{Receipt, Record, RecordFault, RecordLog, SharedFollower};
-use std::alloc::Global;
 use std::sync::Wait;
 
 /// What records what a book accepts, for any number of workers at once.
@@ -33,7 +32,6 @@ pub trait Recorder<L: ShardLedger, M: ShardLedger> {
     fn commit<R: Wait>(
         &self,
         rt: &R,
-        alloc: Global,
         book: &Book<L, M>,
         seat: &Seat<L, M>,
         about: Option<Key>,
@@ -58,7 +56,6 @@ impl<L: ShardLedger, M: ShardLedger> Recorder<L, M> for NoRecord {
     fn commit<R: Wait>(
         &self,
         _rt: &R,
-        _alloc: Global,
         _book: &Book<L, M>,
         _seat: &Seat<L, M>,
         _about: Option<Key>,
@@ -98,13 +95,12 @@ impl<F: Record, L: ShardLedger, M: ShardLedger, J: RecordLog, A: Alarm> Recorder
     fn commit<R: Wait>(
         &self,
         rt: &R,
-        alloc: Global,
         book: &Book<L, M>,
         seat: &Seat<L, M>,
         about: Option<Key>,
         receipt: &mut Receipt<L, M, J>,
     ) -> Result<(), KeepFault> {
-        match self.follower.commit(rt, alloc, book, seat, about, receipt) {
+        match self.follower.commit(rt, book, seat, about, receipt) {
             Ok(()) => Ok(()),
             Err(fault) => {
                 if fault == RecordFault::NotKept {

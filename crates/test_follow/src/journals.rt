@@ -133,13 +133,13 @@ fn commit_again<F: Record, L: ShardLedger, M: ShardLedger, J: RecordLog, R: Wait
     seat: &Seat<L, M>,
     receipt: &mut Receipt<L, M, J>,
 ) -> Result<(), Lack> {
-    match journal.commit(rt, alloc, book, seat, None, receipt) {
+    match journal.commit(rt, book, seat, None, receipt) {
         Ok(()) => return Ok(()),
         // A sync found no memory.
         Err(RecordFault::Lost) => return Err(Lack::Memory),
         Err(_) => {}
     }
-    match journal.commit(rt, alloc, book, seat, None, receipt) {
+    match journal.commit(rt, book, seat, None, receipt) {
         Ok(()) => Ok(()),
         Err(_) => Err(Lack::Case),
     }
@@ -157,7 +157,7 @@ fn ask_each<F: Record, L: ShardLedger, M: ShardLedger, J: RecordLog, R: Wait>(
 ) -> Result<(), Lack> {
     for request in requests {
         book.call(rt, seat, request)?;
-        commit_again(rt, alloc, book, journal, seat, receipt)?;
+        commit_again(rt, book, journal, seat, receipt)?;
     }
     Ok(())
 }

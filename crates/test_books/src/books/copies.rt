@@ -1,6 +1,6 @@
 //! What is copied of a book's shards while it is in use.
 
-use mds_book::{Book, Progress, ShardLedger};
+use mds_book::{Book, Copies, Progress, ShardLedger};
 use std::alloc::Global;
 use std::sync::Wait;
 use test_fixtures::{Lack, again};
@@ -13,8 +13,9 @@ pub(super) fn copy_once<L: ShardLedger, M: ShardLedger, R: Wait>(
     first: &mut Progress<L>,
     second: &mut Progress<M>,
 ) -> Result<(), Lack> {
-    again!(book.copy_first(rt, alloc, first))?;
-    again!(book.copy_second(rt, alloc, second))?;
+    let mut copies = Copies::new(alloc);
+    again!(book.copy_first(rt, first, &mut copies))?;
+    again!(book.copy_second(rt, second, &mut copies))?;
     Ok(())
 }
 

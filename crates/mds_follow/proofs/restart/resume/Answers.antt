@@ -3,6 +3,7 @@ use Rattle.mds_journal.specs.Lines.{recovered}
 use Rattle.mds_log.specs.Log.{requests}
 use Rattle.mds_follow.specs.Disk.{IsTold}
 use Rattle.mds_follow.specs.Record.{recorded_at}
+use Rattle.mds_follow.proofs.Blanks.{keeps_all}
 use Rattle.mds_follow.proofs.ReadBack.{read_only}
 use Rattle.mds_follow.proofs.restart.resume.Goals as goal
 
@@ -17,3 +18,13 @@ begin-requires-clause-read g c truth =
     let At : ℕ → Type 0 = λ t. told ≡ recorded_at t (requests told) in
     read_only g.D.Device.seen g.D.Device.moment g.D.Device.left_since opened c.in-Ok-into_disk.disk.journal.device told g.J.RecordLog.start (c.requires.start ∙ sym none.time)
     (subst Told (sym none.file) (c.in-Ok.ensures.told then)) (subst At (sym none.time) (c.in-Ok.ensures.at_start then)) (c.in-Ok-into_disk.ensures.any_moment truth)
+
+-- the file was read, and nothing else was done to it
+pub returns-in-Err-clause-any_moment_err : goal.returns-in-Err-clause-any_moment_err
+returns-in-Err-clause-any_moment_err g c =
+    let opened = c.args.reader.opening.device in
+    let read = c.read_back.new.reader.opening.device in
+    rw c.into_device-in-Err.ensures (λ truth.
+    let then = c.read_back.ensures.was_true truth in
+    keeps_all g.D.Device.seen g.D.Device.may_leave g.D.Device.moment g.D.Device.left_since opened read (c.requires.at_first.reading.read then).durable (g.met.D.Device.only_now read)
+    (c.read_back.ensures.untouched truth))

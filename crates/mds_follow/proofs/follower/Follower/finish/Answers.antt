@@ -15,3 +15,12 @@ returns-clause-second g c =
     rw (← c.self.view_is)
     (prefix_trans (part 1 (requests c.self.inside.desk.keeper)) c.self.inside.second.seen c.args.settled.now.second
     (recorded_begins 1 (requests c.self.inside.desk.keeper) c.self.inside.second c.self.invariant.2) c.tell_begins.ensures.second)
+
+-- what a restart may read of a shard begins what was seen of it, and so its history
+pub returns-clause-first_sound : goal.returns-clause-first_sound
+returns-clause-first_sound g c truth read left =
+    prefix_trans (part 0 read) c.self.inside.first.seen c.args.settled.now.first (c.self.invariant.3 truth read left) c.tell_begins.ensures.first
+
+pub returns-clause-second_sound : goal.returns-clause-second_sound
+returns-clause-second_sound g c truth read left =
+    prefix_trans (part 1 read) c.self.inside.second.seen c.args.settled.now.second (c.self.invariant.4 truth read left) c.tell_begins.ensures.second

@@ -8,12 +8,12 @@ use Rattle.mds_follow.proofs.Pulls.{followed, followed_still, sound_first, sound
 use Rattle.mds_follow.proofs.follower.Follower.pull.Goals as goal
 
 -- it is open whether the group is recorded: no more counts as recorded, and the histories with it were seen
-pub invariant_of-self : goal.invariant_of-self
-invariant_of-self g c =
+pub invariant_of-self-in_err-put : goal.invariant_of-self-in_err-put
+invariant_of-self-in_err-put g c =
     let is = c.self.invariant in
     let put = c.in_err-put.ensures in
-    let group : IsGroup c.args.book.now.tables c.self.inside.first c.self.inside.second c.deref.result.now c.next_group.new.first c.next_group.new.second =
-    rw (← c.again-first.ensures, ← c.again-second.ensures, c.deref.ensures.value) c.in-Ok.ensures in
+    let group : IsGroup c.args.book.now.tables c.self.inside.first c.self.inside.second c.as_slice.result.now c.next_group.new.first c.next_group.new.second =
+    rw (← c.again-first.ensures, ← c.again-second.ensures, c.as_slice.ensures) c.in-Ok.ensures in
     let same = ap (λ (w : List Acceptance). requests w) put.none in
     let first_is = c.with_count.ensures ∙ ap (λ n. record { seen = c.next_group.new.first.seen; count = n }) c.count.ensures.count in
     let second_is = c.with_count-2.ensures ∙ ap (λ n. record { seen = c.next_group.new.second.seen; count = n }) c.count-2.ensures.count in
@@ -35,8 +35,8 @@ pub invariant_of-self-2 : goal.invariant_of-self-2
 invariant_of-self-2 g c =
     let is = c.self.invariant in
     let put = c.in_ok-put.ensures in
-    let group : IsGroup c.args.book.now.tables c.self.inside.first c.self.inside.second c.deref.result.now c.next_group.new.first c.next_group.new.second =
-    rw (← c.again-first.ensures, ← c.again-second.ensures, c.deref.ensures.value) c.in-Ok.ensures in
+    let group : IsGroup c.args.book.now.tables c.self.inside.first c.self.inside.second c.as_slice.result.now c.next_group.new.first c.next_group.new.second =
+    rw (← c.again-first.ensures, ← c.again-second.ensures, c.as_slice.ensures) c.in-Ok.ensures in
     let both = followed _ _ _ _ _ _ (requests c.self.inside.desk.keeper) (requests c.put.new.self.keeper) group is.1 is.2 put.recorded in (
       put.desk,
       both.0,
