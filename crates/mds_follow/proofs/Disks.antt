@@ -13,7 +13,8 @@ use Rattle.mds_journal.specs.declared.journal.AppendError.TheVariants.{NotWritte
 use Rattle.mds_entries.specs.Entry.{Tells}
 use Rattle.mds_follow.specs.declared.disk.Disk.{Disk}
 use Rattle.mds_follow.specs.Record.{IsBeforeOrAfter, Passes}
-use Rattle.mds_follow.specs.Disk.{IsTold, Stands, MayRead, texts_tell_one}
+use Rattle.mds_entries.proofs.EntryLemmas.{lines_tell_one_request}
+use Rattle.mds_follow.specs.Disk.{IsTold, Stands, MayRead, TextsTellOneList}
 
 -- two pairs of lists that fit
 zip_append : {X Y : Type 0} (R : X → Y → Type 0) (xs us : List X) (ys vs : List Y) → AllZip R xs ys → AllZip R us vs → AllZip R (xs ++ us) (ys ++ vs)
@@ -21,6 +22,24 @@ zip_append R [] us [] vs first second = second
 zip_append R [] us (y ∷ ys) vs first second = absurd first
 zip_append R (x ∷ xs) us [] vs first second = absurd first
 zip_append R (x ∷ xs) us (y ∷ ys) vs first second = (first.0, zip_append R xs us ys vs first.1 second)
+
+-- lines tell one list of requests
+entries_tell_one : (entries : List (List ℕ)) (told other : List Request) → AllZip Tells entries told → AllZip Tells entries other → told ≡ other
+entries_tell_one [] [] [] tells tells_other = refl
+entries_tell_one [] [] (request ∷ other) tells tells_other = absurd tells_other
+entries_tell_one [] (request ∷ told) other tells tells_other = absurd tells
+entries_tell_one (line ∷ entries) [] other tells tells_other = absurd tells
+entries_tell_one (line ∷ entries) (request ∷ told) [] tells tells_other = absurd tells_other
+entries_tell_one (line ∷ entries) (request ∷ told) (one ∷ other) tells tells_other =
+    let first : request ≡ one = lines_tell_one_request line request one tells.0 tells_other.0 in
+    let rest : told ≡ other = entries_tell_one entries told other tells.1 tells_other.1 in
+    cc (first, rest)
+
+-- and so do texts behind the form
+pub texts_tell_one_list : TextsTellOneList
+texts_tell_one_list texts told other is are =
+    let same : are.entries ≡ is.entries = cc (is.split, are.split) in
+    entries_tell_one is.entries told other is.tells (subst (λ (w : List (List ℕ)). AllZip Tells w other) same are.tells)
 
 -- lines behind others tell requests behind others
 pub told_more : (texts group : List (List ℕ)) (told requests : List Request) → IsTold texts told → AllZip Tells group requests → IsTold (texts ++ group) (told ++ requests)
@@ -75,13 +94,13 @@ disk_passes {D = D} seen may_leave moment left_since old new group told requests
   Told : List Request → List (List ℕ) → Type 0
   Told c w = IsTold w c
 
-  by_lines : (file : List ℕ) (c : List Request) → IsTold (recovered file) c
+  by_lines : (file : List ℕ) (c : List Request) → ((other : List Request) → IsTold (recovered file) other → other ≡ c)
       → (recovered file ≡ recovered (seen old.journal.device)) ⊎ (recovered file ≡ recovered (seen old.journal.device) ++ group) → IsBeforeOrAfter told requests c
   by_lines file c is (inl same) =
-      inl (texts_tell_one stands.texts c told (subst (Told c) (same ∙ stands.stands.now) is) stands.is_told)
+      inl (sym (is told (subst (Told told) (sym (same ∙ stands.stands.now)) stands.is_told)))
   by_lines file c is (inr same) =
-      inr (texts_tell_one (stands.texts ++ group) c (told ++ requests) (subst (Told c) (same ∙ ap (λ w. w ++ group) stands.stands.now) is)
-      (told_more stands.texts group told requests stands.is_told tells))
+      inr (sym (is (told ++ requests) (subst (Told (told ++ requests)) (sym (same ∙ ap (λ w. w ++ group) stands.stands.now))
+      (told_more stands.texts group told requests stands.is_told tells))))
 
   by_time : (t : ℕ) (c : List Request) → (read : MayRead (left_since new.journal.device) t c)
       → left_since old.journal.device t read.file ⊎ IsFileBeforeOrAfter (recovered (seen old.journal.device)) group read.file

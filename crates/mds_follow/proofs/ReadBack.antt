@@ -20,7 +20,7 @@ use Rattle.mds_book.specs.Shards.{shard_of}
 use Rattle.mds_book.specs.Seats.{Seated, seen_in}
 use Rattle.mds_follow.specs.Parts.{part}
 use Rattle.mds_follow.specs.Record.{recorded_at}
-use Rattle.mds_follow.specs.Disk.{IsTold, MayRead, texts_tell_one}
+use Rattle.mds_follow.specs.Disk.{IsTold, MayRead}
 use Rattle.mds_follow.specs.Reading.{HasNoMore, IsEndFault, IsEntryFault, IsReadTo, IsStartFault, TellsNext}
 use Rattle.mds_follow.specs.Restart.{HasAll, IsFilled, IsRead, IsRefilled}
 use Rattle.mds_follow.specs.declared.start_fault.StartFault.{StartFault}
@@ -144,6 +144,6 @@ read_only seen moment left_since opened device told start here is_told at leaves
   only = λ c read.
       let left = subst (λ (t : ℕ). left_since device t read.file) here read.left in
       let kept = leaves.each read.file left in
-      let Told : List (List ℕ) → Type 0 = λ w. IsTold w c in
-      texts_tell_one (recovered (seen opened)) c (requests told) (subst Told kept.lines read.is_told) is_told;
+      let Told : List (List ℕ) → Type 0 = λ w. IsTold w (requests told) in
+      sym (read.is_told (requests told) (subst Told (sym kept.lines) is_told));
 }

@@ -1,4 +1,5 @@
 //! What holds of the definitions alone. Each law is a function that does nothing; its contract is the law.
+ghost use Rattle.mds_follow.specs.Disk.{TextsTellOneList};
 ghost use Rattle.mds_follow.specs.Lives.{AnswersStandInTheNextLife, LooksStandInTheNextLife};
 
 use crate::Record;
@@ -14,4 +15,9 @@ pub fn answers_stand_in_the_next_life<F: Record>()
 /// receipt covered it for the vehicle: whatever crash came between, since it was recorded.
 pub fn looks_stand_in_the_next_life<F: Record>()
     ensures { LooksStandInTheNextLife F.left_since }
+{}
+
+/// The lines of a file tell no more than one list of requests: what a restart may read of a file that a crash left is that one.
+pub fn lines_tell_one_list()
+    ensures { TextsTellOneList }
 {}
