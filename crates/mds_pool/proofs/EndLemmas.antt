@@ -1,5 +1,5 @@
 -- What workers leave.
-use Rattle.std.proofs.Common.{◌≡◌, ◌∙◌, ◌<◌, ℕ, List, length, false, refl, ap, subst, slice_index_or, slice_set, sym}
+use Rattle.std.proofs.Common.{◌≡◌, ◌∙◌, ◌<◌, ℕ, zero, suc, List, length, false, refl, ap, subst, slice_index_or, slice_set, sym, arith}
 use Rattle.std.specs.Prelude.{Ok, replicate}
 use Rattle.std.specs.List.{AllZip}
 use Rattle.std.proofs.lemmas.List.{length-replicate, length-set, get_or-replicate}
@@ -9,6 +9,9 @@ use Rattle.mds_table.specs.Tables.{Tables}
 use Rattle.mds_book.specs.Seats.{Seated, fresh}
 use Rattle.mds_book.specs.Gathering.{Collected, IsGathered}
 use Rattle.mds_face.specs.Seats.{HasGrown}
+use Rattle.mds_log.specs.Log.{Acceptance}
+use Rattle.mds_follow.specs.Restart.{IsRefilled}
+use Rattle.mds_pool.specs.Recording.{AreResumed}
 use Rattle.mds_pool.specs.Serving.{AreWorkers, IsEnded, IsLeft, IsSettledEnd}
 
 -- workers whose seats have grown are as many, and note the same
@@ -33,6 +36,13 @@ first_resumed count seats old new some are is keep =
     let workers : AreWorkers count seats = subst (AreWorkers count) (sym are) (new_workers count) in
     let first : old ≡ fresh false = is ∙ (ap (λ (w : List Seated). slice_index_or w 0 old) are ∙ get_or-replicate count 0 (fresh false) old some) in
     (length-set seats 0 new ∙ workers.0, All-set (λ seat. seat.keeps_all ≡ false) seats 0 new (keep ∙ ap (λ (s : Seated). s.keeps_all) first) workers.1)
+
+-- and they are resumed where it has asked what is recorded
+pub resumed : (count : ℕ) (seats : List Seated) (new : Seated) (told : List Acceptance) → 0 < count → seats ≡ replicate count (fresh false) → IsRefilled new told
+    → AreResumed (slice_set seats 0 new) told
+resumed zero seats new told some are refilled = absurd (omega (arith, some))
+resumed (suc others) seats new told some are refilled =
+    record { first = new; others = others; split = ap (λ (w : List Seated). slice_set w 0 new) are; is_refilled = refilled }
 
 -- what was gathered of a book of the workers' seats is what was left of it
 left : (tables : Tables) (count : ℕ) (seats : List Seated) (all : Collected) → AreWorkers count seats

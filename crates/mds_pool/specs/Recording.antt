@@ -1,15 +1,17 @@
 -- What is recorded while a port is served.
-use Rattle.std.specs.Prelude.{ℕ, List, Err}
+use Rattle.std.specs.Prelude.{◌≡◌, ℕ, List, ◌∷◌, Err, false, replicate}
 use Rattle.std.specs.List.{All}
 use mathlib.Core.List.{IsPrefix}
 use Rattle.mds_table.specs.Tables.{Tables}
 use Rattle.mds_core.specs.declared.request.Request.{Request}
 use Rattle.mds_log.specs.Log.{Acceptance, requests}
 use Rattle.mds_book.specs.Gathering.{Collected}
+use Rattle.mds_book.specs.Seats.{Seated, fresh}
 use Rattle.mds_face.specs.declared.kept_desk.KeepFault.{KeepFault}
 use Rattle.mds_face.specs.declared.kept_desk.KeepFault.TheVariants as keep
 use Rattle.mds_follow.specs.Parts.{Covers, part}
 use Rattle.mds_follow.specs.Record.{IsDesk, IsSound}
+use Rattle.mds_follow.specs.Restart.{IsRefilled}
 use Rattle.mds_follow.specs.declared.record.RecordFault.{RecordFault}
 use Rattle.mds_follow.specs.declared.record.RecordFault.TheVariants.{Memory, NotKept, Lost}
 use Rattle.mds_pool.specs.declared.recorded_book.RecordedStop.{RecordedStop}
@@ -21,6 +23,13 @@ abbrev pub keep_fault : RecordFault → KeepFault
 keep_fault Memory = keep.Memory
 keep_fault NotKept = keep.NotKept
 keep_fault Lost = keep.Lost
+
+-- the first seat alone has asked what is recorded, and the others were told nothing
+pub record AreResumed (seats : List Seated) (told : List Acceptance) : Type 0 where
+  pub first : Seated
+  pub others : ℕ
+  pub split : seats ≡ first ∷ replicate others (fresh false)
+  pub is_refilled : IsRefilled first told
 
 -- what serving came to where what is accepted is recorded: as where it isn't, or not all is recorded
 abbrev pub IsRecordedStop : Tables → ℕ → ℕ → RecordedStop → Type 0

@@ -49,13 +49,15 @@ impl<F: Record + Drop, L: ShardLedger, M: ShardLedger, J: RecordLog> Drop
 
 impl<F: Record, L: ShardLedger, M: ShardLedger, J: RecordLog> Model for RecordedBook<F, L, M, J> {
     ghost use Rattle.mds_book.specs.Books.{Opened};
+    ghost use Rattle.mds_pool.specs.Recording.{AreResumed};
     ghost use Rattle.mds_pool.specs.Serving.{AreWorkers};
 
     ghost Value = { Opened };
 
     ghost view = { λ own. own.book };
 
-    ghost invariant = { λ own. AreWorkers own.book.seats own.seats.items };
+    ghost invariant = { λ own. AreWorkers own.book.seats own.seats.items
+        × AreResumed own.seats.items own.follower };
 }
 
 /// A settled book, and the file in which what it accepted is recorded.

@@ -2,16 +2,18 @@ use Rattle.std.proofs.Common.{◌≡◌, ℕ, ap, subst, sym, slice_set}
 use Rattle.mds_book.specs.Books.{Opened}
 use Rattle.mds_pool.specs.Serving.{AreWorkers}
 use Rattle.mds_follow.proofs.Blanks.{keeps_all, untouched_self}
-use Rattle.mds_pool.proofs.EndLemmas.{first_resumed}
+use Rattle.mds_pool.proofs.EndLemmas.{first_resumed, resumed}
 use Rattle.mds_pool.proofs.recorded_book.RecordedBook+Disk+D+L+M+J.open.Goals as goal
 
--- the first seat, which asked what the journal tells, notes what the others note
+-- the first seat, which asked what the journal tells, notes what the others note, and they were told nothing
 pub invariant_of-result : goal.invariant_of-result
 invariant_of-result g c =
-    let many : c.in-Ok.opened.0.seats ≡ c.args.opening.seats = ap (λ (b : Opened). b.seats) c.in-Ok.ensures.book in
-    subst (λ (n : ℕ). AreWorkers n (slice_set c.in-Ok.opened.1.items 0 c.resume.new.seat)) (sym many)
-    (first_resumed c.args.opening.seats c.in-Ok.opened.1.items c.index_mut.result.now c.resume.new.seat c.requires.seats.0 c.in-Ok.ensures.seats
-    c.index_mut.ensures.value c.resume.ensures.keep)
+    let many : c.in-Ok.opened.0.seats ≡ c.args.opening.seats = ap (λ (b : Opened). b.seats) c.in-Ok.ensures.book in (
+      subst (λ (n : ℕ). AreWorkers n (slice_set c.in-Ok.opened.1.items 0 c.resume.new.seat)) (sym many)
+          (first_resumed c.args.opening.seats c.in-Ok.opened.1.items c.index_mut.result.now c.resume.new.seat c.requires.seats.0 c.in-Ok.ensures.seats
+          c.index_mut.ensures.value c.resume.ensures.keep),
+      resumed c.args.opening.seats c.in-Ok.opened.1.items c.resume.new.seat _ c.requires.seats.0 c.in-Ok.ensures.seats c.in-Ok-resume.ensures.refilled,
+    )
 
 -- nothing was done to the file
 pub returns-in-Err-clause-any_moment_err : goal.returns-in-Err-clause-any_moment_err

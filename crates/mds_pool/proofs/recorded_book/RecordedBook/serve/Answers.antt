@@ -9,11 +9,11 @@ returns-in-Ok-settle_recorded-clause-ended g c =
     let book = c.self.inside.book in
     let seats = c.self.inside.seats in
     let back = c.in-Ok-serve_round.round.seats.items in
-    let many : vec_len seats ≡ book.seats = omega (arith, seats.ok.0, c.self.invariant.0) in
+    let many : vec_len seats ≡ book.seats = omega (arith, seats.ok.0, c.self.invariant.0.0) in
     let whole = c.in-Ok-serve_round.ensures.answered c.if-round-2.false ∙ ap (λ (n : ℕ). replicate n c.args.each) many in
     rw (← c.self.view_is)
     (ended book.tables book.seats c.args.each back c.in-Ok-settle_recorded.settled c.in-Ok-serve_round.round.answered.items
-    (workers_still book.seats seats.items back c.self.invariant c.in-Ok-serve_round.ensures.grown) c.in-Ok-settle_recorded.ensures.settled whole)
+    (workers_still book.seats seats.items back c.self.invariant.0 c.in-Ok-serve_round.ensures.grown) c.in-Ok-settle_recorded.ensures.settled whole)
 
 -- the book wasn't settled, for a reason for which any may not be
 pub returns-clause-stopped : goal.returns-clause-stopped
