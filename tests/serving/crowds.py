@@ -19,10 +19,12 @@ IDLE = 1000
 SLOW = 1000
 LONG_ANSWERS = 20
 """Clients that ask for a long answer, and read none of it: each holds some megabytes of the server."""
-EVENTS = 250
-"""Those of a list of some 60 kB: as many as there are slow clients are no more than the server holds."""
+LEAST = SLOW // 2
+"""How many slow clients the server has at once at least: of long answers it holds no more, and lets go of the eldest."""
+EVENTS = 500
+"""Those of a list of some 110 kB, of which the system takes in a part alone where few bytes come at once."""
 SEGMENT = 536
-"""How many bytes of an answer come at once at most, so that the system takes in few that aren't read."""
+"""How many bytes of such a list come at once at most."""
 SLOW_HEAD = b"GET / HTTP/1.1\r\nHost: "
 SLOW_BODY = post("/events", padded(batch([item()]), 4000))[:-1000]
 WORKERS = 4
@@ -131,15 +133,18 @@ def beside_slow_ones(program, what, kind, front):
     with Server(program, EACH, workers=WORKERS) as server, Looks(server, look(A, "removed", 0, None)) as looks:
         yield from talk_over(server, registered(A, B))
         yield from talk_over(server, Exchange(post("/events", batch(history(B, 0, EVENTS))), done(EVENTS)))
-        slow, end = kind(server, front), time.monotonic() + SECONDS
+        slow, end, most = kind(server, front), time.monotonic() + SECONDS, 0
         try:
             while time.monotonic() < end:
                 slow.go_on()
                 yield from looks.once()
+                most = max(most, server.sockets())
                 time.sleep(PAUSE)
             yield from looks.judged(f"{SLOW} {what}")
         finally:
             slow.close()
+        if most < LEAST:
+            yield f"the server had {most} connections at once, in place of {LEAST} at least"
         yield from server.drain()
 
 

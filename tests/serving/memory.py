@@ -22,13 +22,13 @@ FRONT = post("/events", padded("[]", 4000))[:1000]
 """What each of them sends of its request."""
 MOST_BESIDE = 8 * 2**20
 """How many bytes connections that wait may take beside what they sent."""
+WORKERS, EACH = 4, 1000
 MOST_HELD = 64 * 2**20
 """How many bytes of requests that come the server holds at most, in all."""
+MOST_OF_BODIES = 2 * (MOST_HELD + WORKERS * MAX_BYTES)
+"""How much memory they may take, with one that each worker looks at: a list of bytes that grows has up to twice the room."""
 ENDLESS = 64
 """Clients that each send all of the longest body but its last byte: four times as much as the server holds."""
-WORKERS, EACH = 4, 1000
-MOST_HELD_BESIDE = (WORKERS + 2) * 2**22
-"""What it may take beside that: one request that a worker looks at, for each, and something for the rest."""
 LITTLE = 8 * 2**20
 """How much the address space of a server may grow by, in bytes."""
 CROWD, PART = 200, 200000
@@ -113,8 +113,8 @@ def bodies_that_never_end(program):
             taken_in(server)
             most = server.most_memory() - before
             print(f"{ENDLESS} bodies that don't end: {most / 2**20:.1f} MiB at most", flush=True)
-            if most > MOST_HELD + MOST_HELD_BESIDE:
-                yield f"{most} bytes at most, in place of {MOST_HELD + MOST_HELD_BESIDE}"
+            if most > MOST_OF_BODIES:
+                yield f"{most} bytes at most, in place of {MOST_OF_BODIES}"
             kept = MOST_HELD // len(body) - 1
             if closed(opened[:-kept]) < ENDLESS - kept - 1 - WORKERS or closed(opened[-kept + WORKERS :]):
                 yield f"{closed(opened)} were closed, {closed(opened[-kept:])} of the last {kept}"
