@@ -9,7 +9,6 @@ use crate::{Note, NoteList};
 /// How many lists are walked side by side. The notes of further ones are counted place by place.
 const MAX_WALKED: usize = 64;
 
-/// The first place below the end that hasn't exactly one accepted note of the shard.
 pub(crate) fn first_miscounted<S: NoteList>(shard: usize, end: usize, lists: &[S]) -> Option<usize>
     ensures { MatchOption result
         (AreOnceBelow shard end S.seen lists.now)
@@ -76,7 +75,6 @@ fn next_accepted(shard: usize, place: usize, notes: &[Note], cursor: usize) -> u
     next
 }
 
-/// Whether the note at the cursor is an accepted one of the shard with this place.
 fn is_at_cursor(shard: usize, place: usize, notes: &[Note], cursor: usize) -> bool
     ensures { result ≡ true → Any (λ note. accepted_at shard place note ≡ true) notes.now }
 {
@@ -86,7 +84,6 @@ fn is_at_cursor(shard: usize, place: usize, notes: &[Note], cursor: usize) -> bo
     }
 }
 
-/// Whether no more accepted notes of the shard have a place below this one than there are such places.
 fn are_few<S: NoteList>(shard: usize, place: usize, lists: &[S]) -> bool
     ensures { IsTrue result ↔ (notes_below shard place S.seen lists.now ≤ place) }
 {
@@ -97,7 +94,6 @@ fn are_few<S: NoteList>(shard: usize, place: usize, lists: &[S]) -> bool
     left > 0
 }
 
-/// Whether exactly one accepted note of the shard has this place.
 fn is_once<S: NoteList>(shard: usize, place: usize, lists: &[S]) -> bool
     ensures { IsTrue result ↔ (notes_at shard place S.seen lists.now ≡ 1) }
 {
@@ -108,8 +104,7 @@ fn is_once<S: NoteList>(shard: usize, place: usize, lists: &[S]) -> bool
     left == 1
 }
 
-/// The first place with more than one accepted note of the shard, where each place below the end has one, and there are
-/// more of them than such places. The place is found by halves.
+/// It is found by halves.
 fn first_twice<S: NoteList>(shard: usize, end: usize, lists: &[S]) -> usize
     requires found { (place : ℕ) → place < end → 1 ≤ notes_at shard place S.seen lists.now }
     requires many { end < notes_below shard end S.seen lists.now }
@@ -128,7 +123,7 @@ fn first_twice<S: NoteList>(shard: usize, end: usize, lists: &[S]) -> usize
     few
 }
 
-/// The first place below the end that hasn't exactly one accepted note of the shard, looked for place by place.
+/// [`first_miscounted`] without a walk: place by place.
 fn first_miscounted_plain<S: NoteList>(shard: usize, end: usize, lists: &[S]) -> Option<usize>
     ensures { MatchOption result
         (AreOnceBelow shard end S.seen lists.now)
@@ -142,7 +137,6 @@ fn first_miscounted_plain<S: NoteList>(shard: usize, end: usize, lists: &[S]) ->
     None
 }
 
-/// How many accepted notes of the shard in the list have a place below this one.
 fn count_below(shard: usize, place: usize, notes: &[Note]) -> usize
     ensures { result ≡ count_by (accepted_below shard place) notes.now }
 {
@@ -154,7 +148,6 @@ fn count_below(shard: usize, place: usize, notes: &[Note]) -> usize
         .count()
 }
 
-/// How many accepted notes of the shard in the list have this place.
 fn count_at(shard: usize, place: usize, notes: &[Note]) -> usize
     ensures { result ≡ count_by (accepted_at shard place) notes.now }
 {
@@ -164,7 +157,6 @@ fn count_at(shard: usize, place: usize, notes: &[Note]) -> usize
         .count()
 }
 
-/// Whether the note is an accepted one of the shard with this place.
 fn is_accepted_at(shard: usize, place: usize, note: &Note) -> bool
     ensures { result ≡ accepted_at shard place note.now }
 {

@@ -8,7 +8,6 @@ ghost use Rattle.mds_settle.specs.Bounds.{IsLowered, IsPromptBelow, IsInOrderBel
 use crate::truth::{is_below, is_done};
 use crate::{Note, NoteList};
 
-/// The least place of a late note of the shard, of any list, or the bound where there is none below it.
 pub(crate) fn lowered_by_orders<S: NoteList>(
     shard: usize,
     lists: &[S],
@@ -26,7 +25,6 @@ pub(crate) fn lowered_by_orders<S: NoteList>(
     least
 }
 
-/// The same of one list.
 fn lowered_by_order(shard: usize, notes: &[Note], bound: Option<usize>) -> Option<usize>
     ensures { IsLowered
         (λ new. AllPairs (IsInOrderBelow shard new) notes.now)
@@ -42,8 +40,6 @@ fn lowered_by_order(shard: usize, notes: &[Note], bound: Option<usize>) -> Optio
     least
 }
 
-/// The place of the note where it is of the shard, below the bound and before the least place that it may have; else
-/// the bound.
 fn lowered_by_late(shard: usize, note: &Note, next: u128, bound: Option<usize>) -> Option<usize>
     ensures { IsLowered
         (λ new. IsPromptBelow shard next new note.now)
@@ -57,7 +53,6 @@ fn lowered_by_late(shard: usize, note: &Note, next: u128, bound: Option<usize>) 
     Some(place)
 }
 
-/// The least place that a note after this one may have, where `next` is the least by the notes before it.
 fn next_after(shard: usize, note: &Note, next: u128) -> u128
     ensures kept { next ≤ result }
     ensures asked { note.now.shard ≡ shard → least_after note.now ≤ result }
@@ -69,7 +64,7 @@ fn next_after(shard: usize, note: &Note, next: u128) -> u128
     next.max(least_after(note))
 }
 
-/// The least place that a later note of the same list may have. It may be one more than the greatest `usize`.
+/// It may be one more than the greatest `usize`.
 fn least_after(note: &Note) -> u128
     ensures { result ≡ least_after note.now }
 {

@@ -4,7 +4,6 @@ ghost use Rattle.std.specs.Prelude.{◌≡◌, ◌↔◌, IsTrue};
 use mds_core::{Event, Key, Outcome, Position, Reply, Request, Standing};
 use mds_table::TypeName;
 
-/// Whether two requests are the same.
 pub(crate) fn is_same_request(a: &Request, b: &Request) -> bool
     ensures { IsTrue result ↔ (a.now ≡ b.now) }
 {
@@ -16,7 +15,6 @@ pub(crate) fn is_same_request(a: &Request, b: &Request) -> bool
     }
 }
 
-/// Whether two events are the same.
 fn is_same_event(a: &Event, b: &Event) -> bool
     ensures { IsTrue result ↔ (a.now ≡ b.now) }
 {
@@ -30,35 +28,30 @@ fn is_same_event(a: &Event, b: &Event) -> bool
     a.state() == b.state() && a.time() == b.time()
 }
 
-/// Whether two keys are the same.
 fn is_same_key(a: &Key, b: &Key) -> bool
     ensures { IsTrue result ↔ (a.now ≡ b.now) }
 {
     a == b
 }
 
-/// Whether two lists of types are the same.
 fn is_same_types(a: &[TypeName], b: &[TypeName]) -> bool
     ensures { IsTrue result ↔ (a.now ≡ b.now) }
 {
     a == b
 }
 
-/// Whether two positions are the same, or there are none.
 fn is_same_position(a: Option<Position>, b: Option<Position>) -> bool
     ensures { IsTrue result ↔ (a ≡ b) }
 {
     a == b
 }
 
-/// Whether two replies are the same.
 pub(crate) fn is_same_reply(a: &Reply, b: &Reply) -> bool
     ensures { IsTrue result ↔ (a.now ≡ b.now) }
 {
     a.place == b.place && is_same_outcome(&a.outcome, &b.outcome)
 }
 
-/// Whether two outcomes are the same.
 fn is_same_outcome(a: &Outcome, b: &Outcome) -> bool
     ensures { IsTrue result ↔ (a.now ≡ b.now) }
 {
@@ -70,7 +63,6 @@ fn is_same_outcome(a: &Outcome, b: &Outcome) -> bool
     }
 }
 
-/// Whether two standings are the same.
 fn is_same_standing(a: &Standing, b: &Standing) -> bool
     ensures { IsTrue result ↔ (a.now ≡ b.now) }
 {

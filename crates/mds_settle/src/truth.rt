@@ -10,7 +10,6 @@ use crate::{Note, NoteList};
 use mds_core::{Outcome, Request, answer};
 use mds_table::Tables;
 
-/// The least place of a wrong note of the shard, of any list, or the bound where there is none below it.
 pub(crate) fn lowered_by_lists<S: NoteList>(
     lawful: bool,
     tables: &Tables,
@@ -34,7 +33,6 @@ pub(crate) fn lowered_by_lists<S: NoteList>(
     least
 }
 
-/// The same of one list.
 fn lowered_by_notes(
     lawful: bool,
     tables: &Tables,
@@ -56,7 +54,6 @@ fn lowered_by_notes(
     least
 }
 
-/// The same of one note.
 fn lowered_by_note(
     lawful: bool,
     tables: &Tables,
@@ -78,7 +75,6 @@ fn lowered_by_note(
     Some(place)
 }
 
-/// Whether the place is below the bound; where there is no bound, any place is.
 pub(crate) fn is_below(place: usize, bound: Option<usize>) -> bool
     ensures yes { result ≡ true → IsBelow place bound }
     ensures no { result ≡ false → IsBelow place bound → ⊥ }
@@ -106,14 +102,12 @@ fn is_true(lawful: bool, tables: &Tables, history: &[Request], note: &Note) -> b
     has_right_reply(tables, history, note)
 }
 
-/// Whether the request was accepted.
 pub(crate) fn is_done(outcome: &Outcome) -> bool
     ensures { result ≡ is_done outcome.now }
 {
     matches!(outcome, Outcome::Done)
 }
 
-/// Whether the note's request is the entry at its place.
 fn is_stored(history: &[Request], note: &Note) -> bool
     ensures { IsTrue result ↔ IsStored history.now note.now }
 {
@@ -123,7 +117,6 @@ fn is_stored(history: &[Request], note: &Note) -> bool
     }
 }
 
-/// Whether the history has as many entries as the note's place says, and the reply is the answer after so many.
 fn has_right_reply(tables: &Tables, history: &[Request], note: &Note) -> bool
     ensures { IsTrue result ↔ HasRightReply tables.now history.now note.now }
 {

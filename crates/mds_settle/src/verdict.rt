@@ -87,7 +87,6 @@ fn judge_with<S: NoteList>(
     }
 }
 
-/// The end of the places that are counted: the bound or the history's length, whichever is the lesser.
 fn end_of(bound: Option<usize>, count: usize) -> usize
     ensures { result ≡ end_by bound count }
 {
