@@ -1,187 +1,91 @@
 //! Readers and writers that give little, pause, stop and fail.
-ghost use Rattle.std.specs.Prelude.{◌≡◌, ◌≤◌, IfOk};
-
 use mds_io::WriteErrorKind::{Device, TooManyTurns};
 use mds_io::{
     MAX_CALLS, PrintError, ReadError, WriteError, WriteErrorKind, add_line, end_page, flush_page,
     read_front, read_more, read_up_to, write_all_of,
 };
 use std::alloc::{AllocError, Global};
-use std::io::{self, Error, ErrorKind, Read, Write};
-use test_fixtures::{again, fence, rows};
+use std::io::ErrorKind;
+use test_fixtures::{ENDS, FAILS, Last, PAUSES, Plan, Stream, again, fence, rows};
 
-/// How a stream ends behind the bytes that it gives or takes.
-#[derive(Clone, Copy)]
-enum Last {
-    /// It answers 0.
-    Zero,
-    /// It fails.
-    Failure,
-    /// It would block.
-    Block,
-    /// It has timed out.
-    Timeout,
-    /// It is interrupted, each time.
-    Pause,
-}
+const BLOCKS: Last = Some(ErrorKind::WouldBlock);
 
-/// How many bytes a stream gives or takes in all, and in a call; whether it pauses before each; and how it ends.
-type Plan = (usize, usize, bool, Last);
-
-/// A stream that gives and takes bytes, and counts the calls.
-#[derive(Drop)]
-struct Stream {
-    left: usize,
-    most: usize,
-    has_pauses: bool,
-    last: Last,
-    calls: u32,
-}
-
-impl Stream {
-    fn new(plan: Plan) -> Stream {
-        let (left, most, has_pauses, last) = plan;
-        Stream {
-            left,
-            most,
-            has_pauses,
-            last,
-            calls: 0,
-        }
-    }
-
-    /// How many of so many bytes go over.
-    fn turn(&mut self, asked: usize) -> io::Result<usize>
-        ensures { IfOk result (λ n. n ≤ asked) }
-    {
-        self.calls = self.calls.saturating_add(1);
-        if self.has_pauses && self.calls % 2 == 1 {
-            return Err(Error::from(ErrorKind::Interrupted));
-        }
-        if self.left == 0 {
-            return ending(self.last);
-        }
-        let count = asked.min(self.most).min(self.left);
-        self.left -= count;
-        Ok(count)
-    }
-}
-
-fn ending(last: Last) -> io::Result<usize>
-    ensures { IfOk result (λ n. n ≡ 0) }
-{
-    match last {
-        Last::Zero => Ok(0),
-        Last::Failure => Err(Error::from(ErrorKind::BrokenPipe)),
-        Last::Block => Err(Error::from(ErrorKind::WouldBlock)),
-        Last::Timeout => Err(Error::from(ErrorKind::TimedOut)),
-        Last::Pause => Err(Error::from(ErrorKind::Interrupted)),
-    }
-}
-
-impl Read for Stream {
-    fn read(&mut self, buf: &mut [u8]) -> io::Result<usize> {
-        self.turn(buf.len())
-    }
-}
-
-impl Write for Stream {
-    fn write(&mut self, buf: &[u8]) -> io::Result<usize> {
-        self.turn(buf.len())
-    }
-
-    fn flush(&mut self) -> io::Result<()> {
-        Ok(())
-    }
-}
+const TIMES_OUT: Last = Some(ErrorKind::TimedOut);
 
 /// A stream and the most bytes that are read of it; and how many are, or why none, and the number of calls.
 type Reading = ((Plan, usize), (Result<usize, ReadError>, u32));
 
 const READINGS: &[Reading] = rows! {
-    (((7, 1, true, Last::Zero), 9), (Ok(7), 16)),
-    (((0, 1, false, Last::Zero), 9), (Ok(0), 1)),
-    (((7, 9, false, Last::Zero), 6), (Ok(6), 1)),
-    (((3, 1, false, Last::Failure), 9), (DEVICE, 4)),
-    (((3, 1, false, Last::Block), 9), (DEVICE, 4)),
-    (((3, 1, false, Last::Timeout), 9), (DEVICE, 4)),
-    (((2, 1, false, Last::Pause), 9), (TURNS, 5_000_000)),
+    (((7, 1, true, ENDS), 9), (Ok(7), 16)),
+    (((0, 1, false, ENDS), 9), (Ok(0), 1)),
+    (((7, 9, false, ENDS), 6), (Ok(6), 1)),
+    (((3, 1, false, FAILS), 9), (DEVICE, 4)),
+    (((3, 1, false, BLOCKS), 9), (DEVICE, 4)),
+    (((3, 1, false, TIMES_OUT), 9), (DEVICE, 4)),
+    (((2, 1, false, PAUSES), 9), (TURNS, 5_000_000)),
     // the same far behind the beginning
-    (((250, 250, false, Last::Failure), 300), (DEVICE, 2)),
-    (((250, 250, false, Last::Pause), 300), (TURNS, 5_000_000)),
-    (((70_000, 1_000, true, Last::Failure), 80_000), (DEVICE, 142)),
+    (((250, 250, false, FAILS), 300), (DEVICE, 2)),
+    (((250, 250, false, PAUSES), 300), (TURNS, 5_000_000)),
+    (((70_000, 1_000, true, FAILS), 80_000), (DEVICE, 142)),
     // two chunks of 65,536 bytes, one byte, and the end
-    (((131_073, 200_000, false, Last::Zero), 200_000), (Ok(131_073), 4)),
+    (((131_073, 200_000, false, ENDS), 200_000), (Ok(131_073), 4)),
 };
 
 const DEVICE: Result<usize, ReadError> = Err(ReadError::Device);
 
 const TURNS: Result<usize, ReadError> = Err(ReadError::TooManyTurns);
 
-/// The first of these readings that ends otherwise, and how.
-fn first_other_reading(
-    alloc: Global,
-    readings: &[Reading],
-) -> Option<(usize, (Result<usize, ReadError>, u32))> {
-    for (place, ((plan, most), ended)) in readings.iter().enumerate() {
-        let mut stream = Stream::new(*plan);
-        let read = read_front(alloc, &mut stream, *most).map(|bytes| bytes.len());
-        let found = (read, stream.calls);
-        if found != *ended {
-            return Some((place, found));
-        }
-    }
-    None
+/// How many bytes are read, or why none, and the number of calls.
+fn read_of(alloc: Global, plan: Plan, most: usize) -> (Result<usize, ReadError>, u32) {
+    let mut stream = Stream::new(plan);
+    let read = read_front(alloc, &mut stream, most).map(|bytes| bytes.len());
+    (read, stream.calls)
 }
 
 #[test]
 fn reads_end_as_the_stream_does(rt: HostRuntime) {
-    assert_eq!(rt; first_other_reading(rt.alloc(), READINGS), None);
+    let other = READINGS.iter().position(|((plan, most), ended)| read_of(rt.alloc(), *plan, *most)
+        != *ended);
+    assert_eq!(rt; other, None);
 }
 
 /// How many bytes are written, and the stream; and where writing stops and why if not all go out, and the number of calls.
 type Writing = ((usize, Plan), (Option<(usize, WriteErrorKind)>, u32));
 
 const WRITINGS: &[Writing] = rows! {
-    ((0, (9, 1, true, Last::Zero)), (None, 0)),
-    ((3, (9, 1, true, Last::Zero)), (None, 6)),
-    ((3, (2, 1, false, Last::Zero)), (Some((2, Device)), 3)),
-    ((3, (1, 1, false, Last::Failure)), (Some((1, Device)), 2)),
-    ((3, (1, 1, false, Last::Block)), (Some((1, Device)), 2)),
-    ((3, (1, 1, false, Last::Timeout)), (Some((1, Device)), 2)),
-    ((3, (2, 1, false, Last::Pause)), (Some((2, TooManyTurns)), MAX_CALLS)),
+    ((0, (9, 1, true, ENDS)), (None, 0)),
+    ((3, (9, 1, true, ENDS)), (None, 6)),
+    ((3, (2, 1, false, ENDS)), (Some((2, Device)), 3)),
+    ((3, (1, 1, false, FAILS)), (Some((1, Device)), 2)),
+    ((3, (1, 1, false, BLOCKS)), (Some((1, Device)), 2)),
+    ((3, (1, 1, false, TIMES_OUT)), (Some((1, Device)), 2)),
+    ((3, (2, 1, false, PAUSES)), (Some((2, TooManyTurns)), MAX_CALLS)),
     // the same far behind the beginning
-    ((300, (250, 250, false, Last::Zero)), (Some((250, Device)), 2)),
-    ((300, (250, 250, false, Last::Failure)), (Some((250, Device)), 2)),
-    ((300, (250, 250, false, Last::Pause)), (Some((250, TooManyTurns)), MAX_CALLS)),
-    ((70_000, (65_536, 1_000, true, Last::Failure)), (Some((65_536, Device)), 134)),
+    ((300, (250, 250, false, ENDS)), (Some((250, Device)), 2)),
+    ((300, (250, 250, false, FAILS)), (Some((250, Device)), 2)),
+    ((300, (250, 250, false, PAUSES)), (Some((250, TooManyTurns)), MAX_CALLS)),
+    ((70_000, (65_536, 1_000, true, FAILS)), (Some((65_536, Device)), 134)),
     // a text is offered whole
-    ((131_073, (200_000, 200_000, false, Last::Zero)), (None, 1)),
+    ((131_073, (200_000, 200_000, false, ENDS)), (None, 1)),
     // the last call that is allowed may be the one that takes the last byte
-    ((2_500_000, (3_000_000, 1, true, Last::Zero)), (None, 5_000_000)),
-    ((2_500_001, (3_000_000, 1, true, Last::Zero)), (Some((2_500_000, TooManyTurns)), 5_000_000)),
+    ((2_500_000, (3_000_000, 1, true, ENDS)), (None, 5_000_000)),
+    ((2_500_001, (3_000_000, 1, true, ENDS)), (Some((2_500_000, TooManyTurns)), 5_000_000)),
 };
 
-/// The first of these writings that ends otherwise, and how.
-fn first_other_writing(
-    alloc: Global,
-    writings: &[Writing],
-) -> Result<Option<(usize, (Option<(usize, WriteErrorKind)>, u32))>, AllocError> {
-    for (place, ((length, plan), ended)) in writings.iter().enumerate() {
-        let bytes = vec![in alloc; 7u8; *length]?;
-        let mut stream = Stream::new(*plan);
-        let stop = write_all_of(&mut stream, &bytes).err();
-        let found = (stop.map(|stop| (stop.sent, stop.kind)), stream.calls);
-        if found != *ended {
-            return Ok(Some((place, found)));
-        }
-    }
-    Ok(None)
+/// Whether a writing ends so.
+fn is_so(alloc: Global, ((length, plan), ended): &Writing) -> Result<bool, AllocError> {
+    let bytes = vec![in alloc; 7u8; *length]?;
+    let mut stream = Stream::new(*plan);
+    let stop = write_all_of(&mut stream, &bytes).err();
+    Ok((stop.map(|stop| (stop.sent, stop.kind)), stream.calls) == *ended)
 }
 
 #[test]
 fn writes_end_as_the_stream_does(rt: HostRuntime) {
-    assert_eq!(rt; first_other_writing(rt.alloc(), WRITINGS), Ok(None));
+    let other = WRITINGS
+        .iter()
+        .position(|writing| is_so(rt.alloc(), writing) != Ok(true));
+    assert_eq!(rt; other, None);
 }
 
 /// What a read answers, how many bytes there are then, and how many calls are left.
@@ -205,8 +109,8 @@ fn read_in_turn(alloc: Global, plan: Plan, limit: usize, calls: u32) -> [Step; 3
 /// Reads of several kinds share the calls, and ask for no more than is wanted.
 #[test]
 fn reads_share_the_calls(rt: HostRuntime) {
-    let pausing = read_in_turn(rt.alloc(), (7, 1, true, Last::Pause), 3, 10);
-    let whole = read_in_turn(rt.alloc(), (7, 9, false, Last::Zero), 5, 9);
+    let pausing = read_in_turn(rt.alloc(), (7, 1, true, PAUSES), 3, 10);
+    let whole = read_in_turn(rt.alloc(), (7, 9, false, ENDS), 5, 9);
     let turns = (Err(ReadError::TooManyTurns), 5, 0);
     assert_eq!(rt;
         [pausing, whole],
@@ -291,8 +195,8 @@ fn writes_go_out_with_every_growth_refused(rt: HostRuntime) {
     let mut page = String::new(rt.alloc());
     let pushed = page.push_str("accepted 3\n");
     let _begun = fence(rt.alloc());
-    let front = sent(&mut page, (6, 1, false, Last::Zero));
-    let whole = sent(&mut page, (20, 20, false, Last::Zero));
+    let front = sent(&mut page, (6, 1, false, ENDS));
+    let whole = sent(&mut page, (20, 20, false, ENDS));
     let _ended = fence(rt.alloc());
     let expected = [
         (Ok(()), Err(PrintError::Device), 0, 11),

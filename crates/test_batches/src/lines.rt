@@ -63,12 +63,8 @@ fn fed(
 
 /// Whether the items have these faults.
 fn have(items: &[EventItem], faults: &[Option<ItemFault>]) -> bool {
-    for (item, fault) in items.iter().zip(faults.iter()) {
-        if item.fault() != *fault {
-            return false;
-        }
-    }
-    items.len() == faults.len()
+    let mut pairs = items.iter().zip(faults.iter());
+    items.len() == faults.len() && pairs.all(|(item, fault)| item.fault() == *fault)
 }
 
 /// Whether this was read.
@@ -93,19 +89,14 @@ fn first_front(alloc: Global, stream: &[u8], expected: Items<'_>) -> Option<usiz
     None
 }
 
-/// The first stream of which something else is read, and that length.
-fn first_other(alloc: Global, streams: &[(&[u8], Items<'_>)]) -> Option<(usize, usize)> {
-    for (place, (stream, expected)) in streams.iter().enumerate() {
-        if let Some(at) = first_front(alloc, stream, *expected) {
-            return Some((place, at));
-        }
-    }
-    None
-}
-
 #[test]
 fn streams_whole_and_cut_at_each_byte(rt: HostRuntime) {
-    assert_eq!(rt; first_other(rt.alloc(), STREAMS), None);
+    let other = STREAMS.iter().position(|(stream, expected)| first_front(
+        rt.alloc(),
+        stream,
+        *expected,
+    ).is_some());
+    assert_eq!(rt; other, None);
 }
 
 /// A stream of events among other lines, fed again from its beginning where a growth is refused (by
