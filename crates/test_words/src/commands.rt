@@ -6,10 +6,9 @@ use mds_commands::{
 };
 use mds_trace::Opening;
 use std::alloc::Global;
-use std::io;
-use std::io::{ErrorKind, Read, Write};
+use std::io::{Read, Write};
 use std::thread::Threads;
-use test_fixtures::{again, fence};
+use test_fixtures::{Expects, again, fence, rows};
 
 /// The five-event run, and the lines that it prints.
 const FIVE_EVENTS: &str = r#"[
@@ -112,28 +111,6 @@ pub fn file<'a>(path: &'a str, text: &'a str) -> Source<'a, &'a [u8]> {
     }
 }
 
-/// A writer that takes this text alone, and no memory.
-#[derive(Drop)]
-pub struct Expects<'a> {
-    pub rest: &'a [u8],
-}
-
-impl Write for Expects<'_> {
-    fn write(&mut self, buf: &[u8]) -> io::Result<usize> {
-        match self.rest.strip_prefix(buf) {
-            Some(rest) => {
-                self.rest = rest;
-                Ok(buf.len())
-            }
-            None => Err(io::Error::from(ErrorKind::Other)),
-        }
-    }
-
-    fn flush(&mut self) -> io::Result<()> {
-        Ok(())
-    }
-}
-
 /// A writer of which this text is expected.
 pub fn expecting(text: &str) -> Expects<'_> {
     Expects {
@@ -192,35 +169,21 @@ fn came_again<P: Threads + Sync>(rt: &P, alloc: Global, run: &Run) -> Came {
 }
 
 /// Each command, its status, and what it prints.
-const RUNS: &[(u8, Run)] = &[
+const RUNS: &[(u8, Run)] = rows! {
     (1, (Asked::Replay(Form::Batch), FIVE_EVENTS, FIVE_LINES)),
     (1, (Asked::ByFour, FIVE_EVENTS, FIVE_LINES)),
-    (
-        1,
-        (Asked::Replay(Form::Lines), FIVE_EVENT_LINES, FIVE_LINES),
-    ),
+    (1, (Asked::Replay(Form::Lines), FIVE_EVENT_LINES, FIVE_LINES)),
     (0, (Asked::Table, ONE_ROW, ONE_ROW_LINES)),
     (0, (Asked::Table, TWO_TABLES, TWO_TABLES_LINES)),
     (0, (Asked::Debug(DEVICE, SCRIPT), TWO_EVENTS, SCRIPT_LINES)),
-    (
-        1,
-        (Asked::Debug(DEVICE, "run on_trip"), FIVE_EVENTS, FIVE_SHOWN),
-    ),
-];
-
-/// The place of the first command that comes to something else.
-fn first_other<P: Threads + Sync>(rt: &P, alloc: Global, runs: &[(u8, Run)]) -> Option<usize> {
-    for (at, (status, run)) in runs.iter().enumerate() {
-        if came_again(rt, alloc, run) != (*status, true, false) {
-            return Some(at);
-        }
-    }
-    None
-}
+    (1, (Asked::Debug(DEVICE, "run on_trip"), FIVE_EVENTS, FIVE_SHOWN)),
+};
 
 #[test]
 fn commands_succeed_after_a_refused_growth(rt: HostRuntime) {
-    assert_eq!(rt; first_other(&rt, rt.alloc(), RUNS), None);
+    let other = RUNS.iter().position(|(status, run)| came_again(&rt, rt.alloc(), run)
+        != (*status, true, false));
+    assert_eq!(rt; other, None);
 }
 
 /// Bad words are told without memory, before the file is looked at.
@@ -258,15 +221,10 @@ fn tables_are_had_after_a_refused_growth(rt: HostRuntime) {
 fn told(alloc: Global) -> (u8, bool, Option<u8>) {
     let mut faults = expecting(NO_MEMORY);
     let status = tell(alloc, &mut faults, Problem::Memory);
-    let table: Source<'_, &[u8]> = Source {
-        path: "-",
-        reader: None,
-    };
-    let unopened = match tables_in(alloc, Some(table)) {
-        Ok(_) => None,
-        Err(problem) => Some(problem.status().code()),
-    };
-    (status.code(), faults.rest.is_empty(), unopened)
+    let (path, reader): (_, Option<&[u8]>) = ("-", None);
+    let unopened = tables_in(alloc, Some(Source { path, reader })).err();
+    let code = unopened.map(|problem| problem.status().code());
+    (status.code(), faults.rest.is_empty(), code)
 }
 
 #[test]

@@ -1,36 +1,32 @@
 //! What words ask for.
 use mds_args::{Command, WordsErrorKind, parse_words};
 use std::alloc::Global;
-use test_fixtures::fence;
+use test_fixtures::{fence, rows};
 
 /// Words, of which the first is the program's name, and the command that they ask for, or why they ask for none.
 type Case<'a> = (&'a [&'a str], Result<Command<'a>, WordsErrorKind>);
 
-const CASES: &[Case<'static>] = &[
-    (
-        &["mds_city", "replay", "--workers=64", "F", "--any"],
-        Ok(Command::Replay {
-            file: "F",
-            table: None,
-            any: true,
-            lines: false,
-            workers: 64,
-        }),
-    ),
+const CASES: &[Case<'static>] = rows! {
+    (&["mds_city", "replay", "--workers=64", "F", "--any"], Ok(REPLAY)),
     (&["mds_city", "table"], Ok(Command::Table { table: None })),
     (&["mds_city", "replay", "-", "--workers=65"], MISTAKE),
     (&[], MISTAKE),
     (&["mds_city", "--help"], Err(WordsErrorKind::Help)),
-];
+};
+
+const REPLAY: Command<'static> = Command::Replay {
+    file: "F",
+    table: None,
+    any: true,
+    lines: false,
+    workers: 64,
+};
 
 const MISTAKE: Result<Command<'static>, WordsErrorKind> = Err(WordsErrorKind::Mistake);
 
 /// The command that words ask for, or why they ask for none.
 fn command_of<'a>(alloc: Global, words: &'a [&'a str]) -> Result<Command<'a>, WordsErrorKind> {
-    match parse_words(alloc, words) {
-        Ok(command) => Ok(command),
-        Err(error) => Err(error.kind()),
-    }
+    parse_words(alloc, words).map_err(|error| error.kind())
 }
 
 /// The same, asked again where a growth is refused.
@@ -61,10 +57,7 @@ fn words_are_read_after_a_refused_growth(rt: HostRuntime) {
 fn kinds_are_told_with_every_growth_refused(rt: HostRuntime) {
     let came = parse_words(rt.alloc(), &["mds_city", "table", "X"]);
     let _begun = fence(rt.alloc());
-    let kind = match &came {
-        Ok(_) => None,
-        Err(error) => Some(error.kind()),
-    };
+    let kind = came.map_err(|error| error.kind()).err();
     let _ended = fence(rt.alloc());
     assert_eq!(rt; kind, Some(WordsErrorKind::Mistake));
 }
