@@ -1,34 +1,21 @@
 -- The walk from a vehicle's last place back to its first.
-use Rattle.std.proofs.Common.{◌≡◌, ℕ, zero, suc, ◌+◌, ◌<◌, ◌≤◌, take, List, [], ◌∷◌, ◌++◌, length, Option, Some, None, refl, sym, ◌∙◌, ap, subst, arith}
+use Rattle.std.proofs.Common.{◌≡◌, ℕ, zero, suc, ◌<◌, ◌≤◌, take, List, [], ◌∷◌, ◌++◌, length, Option, Some, None, refl, sym, ◌∙◌, ap, subst, arith}
 use Rattle.std.specs.Prelude.{slice_get, reverse}
 use Rattle.std.specs.List.{cons_option}
 use Rattle.std.specs.Option.{option_to_list}
-use Rattle.std.proofs.Common.{append_assoc}
-use Rattle.std.proofs.lemmas.List.{append-nil, take_all, length-take-le, reverse-append}
+use Rattle.std.proofs.Common.{append_assoc, length-append}
+use mathlib.Core.List.{IsPrefix}
+use Rattle.std.proofs.lemmas.List.{append-nil, take_all, length-take-le, length-reverse, reverse-append, take-append-le}
 use Rattle.std.proofs.lemmas.List.Elements.{filter_map-append}
 use Rattle.std.proofs.lemmas.Option.{slice_get_within}
 use Rattle.mds_core.specs.declared.key.Key.{Key}
 use Rattle.mds_core.specs.declared.request.Request.{Request}
 use Rattle.mds_core.specs.Reported.{Reported}
 use Rattle.mds_core.specs.History.{key_of, requests_of, report_of, reports}
-use Rattle.mds_shard.specs.Replay.{IsLastPlace, IsLastPlaceIf, AreBefore}
-
--- how many steps the walk has left, at most
-abbrev pub steps_left : Option ℕ → ℕ
-steps_left None = 0
-steps_left (Some place) = place + 1
-
--- of one vehicle, the events before the end, and then those found
-abbrev pub HasFound : List Request → Key → ℕ → Option ℕ → List Reported → Type 0
-HasFound history key end at found =
-    IsLastPlaceIf (take end history) key at × (reports (requests_of (take end history) key) ++ reverse found ≡ reports (requests_of history key))
-
--- where the walk stands: before an end, with what it has found behind it, whichever vehicle it goes along
-pub record IsWalk (history : List Request) (last : ℕ) (at : Option ℕ) (found : List Reported) : Type 0 where
-  pub end : ℕ
-  pub within : end ≤ length history
-  pub before_end : steps_left at ≤ end
-  pub finds : (key : Key) → IsLastPlace history key last → HasFound history key end at found
+use Rattle.mds_core.specs.Machine.{events_if, events_in}
+use Rattle.mds_shard.specs.declared.vehicle.Vehicle.{Vehicle}
+use Rattle.mds_shard.specs.Replay.{IsLastPlace, IsLastPlaceIf, IsVehicle, AreBefore}
+use Rattle.mds_shard.specs.Walk.{steps_left, HasFound, IsWalk, IsWalkOf, IsStart}
 
 slice_get-take : {X : Type 0} (xs : List X) (n i : ℕ) → i < n → slice_get (take n xs) i ≡ slice_get xs i
 slice_get-take [] zero i within = absurd (omega arith)
@@ -109,3 +96,82 @@ walk_nears history before place request earlier are at at_before =
     let fits : length (take place history) ≡ place = length-take-le place history (omega (arith, inside)) in
     let less = steps_before (take place history) (key_of request) earlier (are.each place request earlier at at_before) in
     omega (arith, fits, less)
+
+slice_get-append : {X : Type 0} (xs ys : List X) (i : ℕ) → i < length xs → slice_get (xs ++ ys) i ≡ slice_get xs i
+slice_get-append [] ys i within = absurd (omega arith)
+slice_get-append (x ∷ xs) ys zero within = refl
+slice_get-append (x ∷ xs) ys (suc i) within = slice_get-append xs ys i (omega arith)
+
+-- what stands in a beginning stands in the whole
+begun_at : (seen history : List Request) (place : ℕ) → IsPrefix seen history → place < length seen → slice_get history place ≡ slice_get seen place
+begun_at seen history place begins inside =
+    subst (λ (h : List Request). slice_get h place ≡ slice_get seen place) begins.1 (slice_get-append seen begins.0 place inside)
+
+-- and the front of one place is that of the other
+begun_front : (seen history : List Request) (place : ℕ) → IsPrefix seen history → place < length seen → take place history ≡ take place seen
+begun_front seen history place begins inside =
+    subst (λ (h : List Request). take place h ≡ take place seen) begins.1 (take-append-le place seen begins.0 (omega (arith, inside)))
+
+begun_length : (seen history : List Request) → IsPrefix seen history → length seen ≤ length history
+begun_length seen history begins = omega (arith, length-append seen begins.0, ap length begins.1)
+
+-- what is kept beside a history is kept beside a beginning of it
+before_begun : (seen history : List Request) (before : List (Option ℕ)) → IsPrefix seen history → AreBefore history before → AreBefore seen (take (length seen) before)
+before_begun seen history before begins are =
+    let longer = begun_length seen history begins in record {
+      count = length-take-le (length seen) before (omega (arith, longer, are.count));
+      each = λ place request earlier at at_before.
+          let inside : place < length seen = slice_get_within seen place request at in
+          let there : slice_get history place ≡ Some request = begun_at seen history place begins inside ∙ at in
+          let there_before : slice_get before place ≡ Some earlier = sym (slice_get-take before (length seen) place inside) ∙ at_before in
+          let P : List Request → Type 0 = λ h. IsLastPlaceIf h (key_of request) earlier in
+          subst P (begun_front seen history place begins inside) (are.each place request earlier there there_before);
+    }
+
+-- the place where a walk stands is one of its history
+pub walk_stands : (seen : List Request) (key : Key) (place : ℕ) (found : List Reported) → IsWalkOf seen key (Some place) found → place < length seen
+walk_stands seen key place found is = omega (arith, is.walk.within, is.walk.before_end)
+
+-- a step of a walk that began when the history was shorter
+pub walk_goes_back : (seen history : List Request) (before : List (Option ℕ)) (key : Key) (place : ℕ) (found more : List Reported) (request : Request) (earlier : Option ℕ)
+    → AreBefore history before → IsPrefix seen history → slice_get history place ≡ Some request → slice_get before place ≡ Some earlier
+    → IsWalkOf seen key (Some place) found → more ≡ found ++ option_to_list (report_of request) → IsWalkOf seen key earlier more
+walk_goes_back seen history before key place found more request earlier are begins at at_before is is_more =
+    let inside : place < length seen = walk_stands seen key place found is in
+    let here : slice_get seen place ≡ Some request = sym (begun_at seen history place begins inside) ∙ at in
+    let here_before : slice_get (take (length seen) before) place ≡ Some earlier = slice_get-take before (length seen) place inside ∙ at_before in record {
+      last = is.last;
+      from = is.from;
+      walk = walk_goes_on seen (take (length seen) before) is.last place found more request earlier (before_begun seen history before begins are) here here_before is.walk is_more;
+    }
+
+-- a walk finds no more events than the vehicle has
+pub walk_fits : (seen : List Request) (key : Key) (at : Option ℕ) (found : List Reported) → IsWalkOf seen key at found
+    → length found ≤ length (reports (requests_of seen key))
+walk_fits seen key at found is =
+    let finds = is.walk.finds key is.from in
+    let before = reports (requests_of (take is.walk.end seen) key) in
+    omega (arith, length-append before (reverse found), length-reverse found, ap length finds.1)
+
+-- a walk begins at what is kept of the vehicle
+pub walk_starts : (history : List Request) (key : Key) (vehicle : Vehicle) → IsVehicle history key (Some vehicle)
+    → IsStart history key (record { last = vehicle.last; events = vehicle.standing.events })
+walk_starts history key vehicle kept = record {
+  walk = record {
+    last = vehicle.last;
+    from = kept.1;
+    walk = walk_begins history vehicle.last [] (slice_get_within history vehicle.last kept.1.request kept.1.is) refl;
+  };
+  events = ap (λ standing. standing.events) kept.0;
+}
+
+-- a vehicle with a request is told of by its events
+told : (requests : List Request) (last : Request) → Some (reports (requests ++ last ∷ [])) ≡ events_if (requests ++ last ∷ [])
+told [] last = refl
+told (request ∷ rest) last = refl
+
+-- a walk that is over has found the vehicle's events, the last one first
+pub walk_over : (seen : List Request) (key : Key) (found : List Reported) → IsWalkOf seen key None found → Some (reverse found) ≡ events_in seen key
+walk_over seen key found is =
+    let ends = walk_ends seen is.last found key is.walk is.from in
+    ap Some ends ∙ ap (λ l. Some (reports l)) is.from.last ∙ told (requests_of (take is.last seen) key) is.from.request ∙ ap events_if (sym is.from.last)

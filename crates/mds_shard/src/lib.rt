@@ -7,5 +7,7 @@
 
 mod shard;
 mod vehicle;
+mod walk;
 
 pub use shard::Shard;
+pub use walk::{MAX_STEPS, WalkStart};

@@ -1,13 +1,19 @@
 //! A shard: the machine with its vehicles looked up in maps.
-ghost use Rattle.std.specs.Prelude.{◌≡◌, ◌<◌, ◌^◌, [], ◌∷◌, ◌++◌, length, IfOk, OnOk, OnErr, option_map};
+ghost use Rattle.std.specs.Prelude.{◌≡◌, ◌<◌, ◌≤◌, ◌^◌, [], ◌∷◌, ◌++◌, List, None, Some, length, vec_len, vec_capacity, IfOk, IfNone, IfSome, OnOk, OnErr, option_map};
 ghost use Rattle.mds_core.specs.History.{requests_of, key_of};
 ghost use Rattle.mds_core.specs.Answer.{MayBeDone};
 ghost use Rattle.mds_core.specs.Machine.{Steps, LacksMemory, standing_in as where_it_stands, events_in};
 ghost use Rattle.mds_core.specs.Lawful.{IsLawful};
 ghost use Rattle.mds_core.specs.Known.{is_repeated};
+ghost use Rattle.mds_core.specs.declared.key.Key.{Key as Told};
+ghost use Rattle.mds_core.specs.declared.request.Request.{Request as Requested};
+ghost use Rattle.mds_core.specs.Reported.{Reported};
+ghost use mathlib.Core.List.{IsPrefix};
 ghost use Rattle.mds_shard.specs.Replay.{IsEndOf, IsVehicle};
+ghost use Rattle.mds_shard.specs.Walk.{IsStart, IsWalkOf, steps_left};
 
 use crate::vehicle::{Vehicle, events_to, keep, last_in, standing_in};
+use crate::walk::{MAX_STEPS, WalkStart, walk_back};
 use indexmap::{IndexMap, IndexSet};
 use mds_core::{
     Event, EventName, Key, Known, Outcome, Reply, Request, Standing, decide, standing_after,
@@ -185,6 +191,34 @@ impl Shard {
             vehicle.standing.events,
         )?;
         Ok(Some(events))
+    }
+
+    /// Where a walk over the vehicle's requests begins, or `None` where it isn't registered. It costs the same whatever the shard
+    /// holds.
+    pub fn walk_start(&self, key: &Key) -> Option<WalkStart>
+        ensures start { IfSome result (IsStart self.now.history key.now) }
+        ensures none { IfNone result (events_in self.now.history key.now ≡ None) }
+    {
+        let vehicle = self.vehicle(key)?;
+        Some(WalkStart {
+            last: vehicle.last,
+            events: vehicle.standing.events,
+        })
+    }
+
+    /// Copies events of a vehicle, the last one first, from the place of one of its requests on, of at most [`MAX_STEPS`] requests:
+    /// the place where the walk goes on, if it does. A history only grows, so it may have grown since the walk began.
+    pub fn walk_back(&self, from: usize, piece: &mut Vec<Event>) -> Option<usize>
+        requires from { from < length self.now.history }
+        requires empty { vec_len piece.old ≡ 0 }
+        requires room { MAX_STEPS ≤ vec_capacity piece.old }
+        ensures walk { (seen : List Requested) (key : Told) (found : List Reported)
+            → IsPrefix seen self.now.history → IsWalkOf seen key (Some from) found
+            → IsWalkOf seen key result (found ++ piece.new.items) }
+        ensures nears { steps_left result ≤ from }
+        ensures capacity { vec_capacity piece.old ≤ vec_capacity piece.new }
+    {
+        walk_back(&self.history, &self.before, from, piece)
     }
 
     pub fn tables(&self) -> &Tables

@@ -6,7 +6,8 @@ use Rattle.std.proofs.lemmas.Option.{slice_get_read, slice_get-get_or}
 use Rattle.mds_core.specs.declared.request.Request.{Request}
 use Rattle.mds_core.specs.Reported.{Reported}
 use Rattle.mds_core.specs.History.{report_of}
-use Rattle.mds_shard.proofs.Walks.{IsWalk, steps_left, walk_begins, walk_goes_on, walk_nears}
+use Rattle.mds_shard.specs.Walk.{IsWalk, steps_left}
+use Rattle.mds_shard.proofs.Walks.{walk_begins, walk_goes_on, walk_nears}
 use Rattle.mds_shard.proofs.vehicle.events_to.Goals as goal
 use Rattle.mds_shard.proofs.vehicle.events_to.Goals.{in-Some-event+in_ok-push, in_default-event}
 

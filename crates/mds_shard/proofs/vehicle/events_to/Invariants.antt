@@ -1,4 +1,4 @@
-use Rattle.mds_shard.proofs.Walks.{IsWalk, steps_left}
+use Rattle.mds_shard.specs.Walk.{IsWalk, steps_left}
 use Rattle.mds_shard.proofs.vehicle.events_to.Given as goal
 
 -- what is found, with what is left to walk, is what the vehicle has
