@@ -40,7 +40,7 @@ pub rows_at_place : (entries : List Entry) (time n : ℕ) (e : Entry) → n < le
 rows_at_place entries time n e within below above =
     rw (last_started (has_started time) None entries n e within (λ k d low. below k d (omega arith) (omega arith)) (λ k d low high. above k d (omega arith) high)) refl
 
-below_of_less : (x y : ℕ) → nat_cmp x y ≡ Less → x < y
+pub below_of_less : (x y : ℕ) → nat_cmp x y ≡ Less → x < y
 below_of_less x y is = ranked x y Less (sym is)
 
 -- a table that starts first starts before every other

@@ -13,5 +13,6 @@ pub mod Bits
 pub mod Sought
 pub mod InTime
 pub mod InForce
+pub mod OneTimed
 pub mod TimedReading
 pub mod ItemsRead

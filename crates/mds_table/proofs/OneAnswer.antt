@@ -17,7 +17,7 @@ use Rattle.mds_table.specs.declared.table_file.TableFault.TheVariants.{Memory, T
 use Rattle.mds_table.specs.Row.{ascends}
 use Rattle.mds_table.specs.declared.json.TextFault.TheVariants as text
 use Rattle.mds_table.specs.Json.{IsShortTextOf, HasTextFault}
-use Rattle.mds_table.specs.TableFile.{IsRowEntry, AnyStandsFor, AreRowsOf, AreTypesOf, AreGood, AreGoodBefore, EntryFault, bad_form, many_rows, many_types, IsFaultAt, IsFirstFault, HasTable, HasFault, entries_in}
+use Rattle.mds_table.specs.TableFile.{IsRowEntry, AnyStandsFor, AreRowsOf, AreTypesOf, AreGood, AreGoodBefore, EntryFault, bad_form, many_rows, many_types, IsFaultAt, IsFirstFault, AreTableOf, HasRowsFault, HasTable, HasFault, entries_in}
 use Rattle.mds_table.specs.RowLaws.{row_cmp_total}
 use Rattle.mds_table.proofs.Ascending.{Contains-tail, head_or_tail}
 use Rattle.mds_table.proofs.OneTable.{before_all, not_itself, rest_ascends, both_hold, same_rows, same_value}
@@ -231,17 +231,39 @@ good_nowhere entries rows kinds at fault good is =
     not_before entries (length entries) at fault is (fault_within entries at fault is)
     (rows, kinds, subst (λ front. AreGood front rows kinds) (sym (take_all (length entries) entries (omega arith))) good)
 
+-- the entries of a table have no place with a fault
+none_at : (entries : List Data) (rows : List Row) (place : Place) → AreTableOf entries rows → IsAt (Some entries) place → ⊥
+none_at entries rows no_list good nothing = cc
+none_at entries rows no_entry good empty = omega (arith, good.0, ap length empty)
+none_at entries rows (at_entry n f) good first = good_nowhere entries rows good.1 n f good.2 first.here
+
+-- where entries have their first fault
+rows_located : (entries : List Data) (fault : TableFault) → HasRowsFault entries fault → (place : Place) × (fault ≡ fault_at place) × IsAt (Some entries) place
+rows_located entries Empty is = (no_entry, refl, is)
+rows_located entries (BadRow at) is = (at_entry at bad_form, refl, is)
+rows_located entries TooManyRows is = (at_entry is.0 many_rows, refl, is.1)
+rows_located entries TooManyTypes is = (at_entry is.0 many_types, refl, is.1)
+rows_located entries Memory is = absurd is
+rows_located entries TooLong is = absurd is
+rows_located entries NotJson is = absurd is
+rows_located entries NotRows is = absurd is
+
+-- entries have one first fault, and those of a table none
+pub one_rows_fault : (entries : List Data) (fault other : TableFault) → HasRowsFault entries fault → HasRowsFault entries other → fault ≡ other
+one_rows_fault entries fault other is are =
+    let one = rows_located entries fault is in
+    let too = rows_located entries other are in
+    one.1 ∙ ap fault_at (one_at (Some entries) one.0 too.0 one.2 too.2) ∙ sym too.1
+
+pub no_rows_fault : (entries : List Data) (rows : List Row) (fault : TableFault) → AreTableOf entries rows → HasRowsFault entries fault → ⊥
+no_rows_fault entries rows fault good is = let one = rows_located entries fault is in none_at entries rows one.0 good one.2
+
 -- a table file has no fault
 pub no_fault : (bytes : List ℕ) (rows : List Row) (fault : TableFault) → HasTable bytes rows → HasFault bytes fault → fault ≡ Memory
 no_fault bytes rows fault is are = ⊎_elim (λ memory. memory) (λ said. absurd (none said)) (located bytes fault are) where
-  at : (entries : List Data) (place : Place) → (1 ≤ length entries) × (kinds : List (List ℕ)) × AreGood entries rows kinds → IsAt (Some entries) place → ⊥
-  at entries no_list good nothing = cc
-  at entries no_entry good empty = omega (arith, good.0, ap length empty)
-  at entries (at_entry n f) good first = good_nowhere entries rows good.1 n f good.2 first.here
-
-  whole : (o : Option (List Data)) (place : Place) → IsSomeAnd o (λ entries. (1 ≤ length entries) × (kinds : List (List ℕ)) × AreGood entries rows kinds) → IsAt o place → ⊥
+  whole : (o : Option (List Data)) (place : Place) → IsSomeAnd o (λ entries. AreTableOf entries rows) → IsAt o place → ⊥
   whole None place good said = absurd good
-  whole (Some entries) place good said = at entries place good said
+  whole (Some entries) place good said = none_at entries rows place good said
 
   none : InText bytes fault ⊎ InValue bytes fault → ⊥
   none (inl said) = no_text bytes fault is.0 said is.1

@@ -104,6 +104,19 @@ HasTablesFault bytes NotRows = (value : Data) × IsShortTextOf value bytes × (e
 HasTablesFault bytes (InTable None fault) = HasEntries bytes (λ entries. HasRowsFault entries fault)
 HasTablesFault bytes fault = HasItems bytes (λ items. HasItemsFault items fault)
 
+-- the tables of a file are determined by its bytes
+abbrev pub FilesHaveOneListOfTables : Type 0
+FilesHaveOneListOfTables = (bytes : List ℕ) (entries others : List Entry) → HasTables bytes entries → HasTables bytes others → entries ≡ others
+
+-- and a file of tables has no fault, want of memory aside
+abbrev pub FilesOfTablesHaveNoFault : Type 0
+FilesOfTablesHaveNoFault = (bytes : List ℕ) (entries : List Entry) (fault : TablesFault) → HasTables bytes entries → HasTablesFault bytes fault → fault ≡ Memory
+
+-- and a file has one first fault, want of memory aside
+abbrev pub FilesHaveOneTablesFault : Type 0
+FilesHaveOneTablesFault = (bytes : List ℕ) (fault other : TablesFault) → HasTablesFault bytes fault → HasTablesFault bytes other
+    → (fault ≡ Memory) ⊎ ((other ≡ Memory) ⊎ (fault ≡ other))
+
 -- the fault of a file whose text has this one
 abbrev pub of_text : TextFault → TablesFault
 of_text text.Memory = Memory
