@@ -2,7 +2,7 @@
 use Rattle.std.specs.Prelude.{◌≡◌, ◌⊎◌, ℕ, ◌+◌, List, length, codes, Option, Ok}
 use Rattle.std.specs.Io.KnownBytes.{Appends, Keeps}
 use Rattle.mds_table.specs.Tables.{Tables}
-use Rattle.mds_io.specs.Page.{AppendsFront, with_newline}
+use Rattle.mds_io.specs.Page.{AppendsFront, AppendsUpTo, with_newline}
 use Rattle.mds_pool.specs.Serving.{AtEnd, IsEnded}
 use Rattle.mds_pool.specs.declared.serving.Stop.TheVariants as stop
 use Rattle.mds_pool.specs.declared.recorded_book.RecordedStop.{RecordedStop}
@@ -34,8 +34,8 @@ serve_status_of (Journal problem) = journal_status_of problem
 
 -- what is said of the problem went out, or a front of it
 abbrev pub TellsServe : Option (List ℕ) → Option (List ℕ) → ServeProblem → Type 0
-TellsServe old new InUse = AppendsFront old new (with_newline (codes "mds_city: journal in use"))
-TellsServe old new NotRecorded = AppendsFront old new (with_newline (codes "mds_city: journal"))
+TellsServe old new InUse = AppendsUpTo old new (with_newline (codes "mds_city: journal in use"))
+TellsServe old new NotRecorded = AppendsUpTo old new (with_newline (codes "mds_city: journal"))
 TellsServe old new (Journal problem) = TellsJournal old new problem
 
 -- a problem has this status, and was told

@@ -15,7 +15,7 @@ use mds_book::ShardLedger;
 use mds_commands::{Problem, Source, Status, tables_in};
 use mds_file::FileFault;
 use mds_follow::{Disk, RecordLog, RequestReader, StartFault};
-use mds_io::{PrintError, write_all_of};
+use mds_io::{MAX_CALLS, PrintError, write_all_of};
 use mds_journal::Device;
 use mds_listing::{JournalProblem, tell_journal_problem};
 use mds_log::BlankLog;
@@ -312,13 +312,14 @@ fn tell_serve_problem<E: Write>(alloc: Global, faults: &mut E, problem: ServePro
         ⊎ IsServeTold (ServeProblem.Journal (JournalProblem.Other Problem.Memory)) result
         (E.contents faults.old) (E.contents faults.new) }
 {
+    let mut calls = MAX_CALLS;
     match problem {
         ServeProblem::InUse => {
-            let _ = write_all_of(faults, b"mds_city: journal in use\n");
+            let _ = write_all_of(faults, b"mds_city: journal in use\n", &mut calls);
             Status::Fault
         }
         ServeProblem::NotRecorded => {
-            let _ = write_all_of(faults, b"mds_city: journal\n");
+            let _ = write_all_of(faults, b"mds_city: journal\n", &mut calls);
             Status::Fault
         }
         ServeProblem::Journal(problem) => tell_journal_problem(alloc, faults, problem),

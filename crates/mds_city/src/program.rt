@@ -13,7 +13,7 @@ use mds_args::{Command, WordsError, WordsErrorKind, parse_words};
 use mds_commands::{
     Form, Named, Problem, ReplayOptions, Source, Status, debug_to, replay_to, table_to, tell,
 };
-use mds_io::write_all_of;
+use mds_io::{MAX_CALLS, write_all_of};
 use mds_listing::vehicles_to;
 use mds_trace::Opening;
 use std::alloc::Global;
@@ -72,9 +72,11 @@ pub fn tell_words<E: Write>(alloc: Global, faults: &mut E, fault: WordsFault) ->
     match fault {
         WordsFault::Memory => tell(alloc, faults, Problem::Memory),
         WordsFault::NotText => {
+            let mut calls = MAX_CALLS;
             let _ = write_all_of(
                 faults,
                 b"error: the words of the command line aren't text\n",
+                &mut calls,
             );
             Status::BadWords
         }

@@ -51,7 +51,7 @@ module _ {T R : Type 0} (options : ReplayOptions) (table_bytes : T → Option (L
   ExplainsReplay Output = Unit {0}
   ExplainsReplay Memory = Unit {0}
 
-  -- a front of the report's text went out
+  -- a front of the report's text went out, and not all of it
   abbrev pub PrintsFront : Option (List ℕ) → Option (List ℕ) → Type 0
   PrintsFront old new = (report : Report) × HasReport report × AppendsFront old new (report_text options.opening report)
 

@@ -17,7 +17,9 @@ use Rattle.mds_debugger.specs.Input.{IsRead}
 use Rattle.mds_debugger.specs.Printed.{PrintsStart, PrintsScript, PrintsFront}
 use Rattle.mds_debugger.specs.Script.{IsScript}
 use Rattle.mds_debugger.specs.Vehicle.{told_of}
-use Rattle.mds_io.specs.Page.{AppendsFront, with_newline}
+use Rattle.mds_io.specs.Page.{AppendsFront, AppendsUpTo, with_newline}
+use Rattle.mds_io.specs.declared.page.PrintError.{PrintError}
+use Rattle.mds_io.specs.declared.page.PrintError.TheVariants as write
 use Rattle.mds_commands.specs.declared.commands.ReplayOptions.{ReplayOptions}
 use Rattle.mds_commands.specs.declared.debug.Named.{Named}
 use Rattle.mds_commands.specs.declared.debug.DebugProblem.{DebugProblem}
@@ -28,7 +30,7 @@ use Rattle.mds_commands.specs.declared.source.Source.{Source}
 use Rattle.mds_commands.specs.declared.status.Status.{Status}
 use Rattle.mds_commands.specs.declared.status.Status.TheVariants as status
 use Rattle.mds_commands.specs.Command.{ExplainsReplay, status_on}
-use Rattle.mds_commands.specs.Problem.{Tells, status_of}
+use Rattle.mds_commands.specs.Problem.{Tells, status_of, written_problem}
 use Rattle.mds_commands.specs.Source.{HasTablesIn, HasItemsIn}
 
 -- two words are the identifiers of a vehicle
@@ -47,14 +49,10 @@ IsOther BadIdentifier = ⊥
 IsOther NotInFile = ⊥
 IsOther (Other problem) = Unit {0}
 
--- the problem is one that may come while a session is shown
-abbrev pub IsOfShowing : DebugProblem → Type 0
-IsOfShowing told = (told ≡ Other problem.Output) ⊎ (told ≡ Other problem.Memory)
-
 -- what is said of the problem went out, or a front of it
 abbrev pub TellsDebug : Option (List ℕ) → Option (List ℕ) → DebugProblem → Type 0
-TellsDebug old new BadIdentifier = AppendsFront old new (with_newline (codes "mds_city: bad identifier"))
-TellsDebug old new NotInFile = AppendsFront old new (with_newline (codes "mds_city: vehicle not in file"))
+TellsDebug old new BadIdentifier = AppendsUpTo old new (with_newline (codes "mds_city: bad identifier"))
+TellsDebug old new NotInFile = AppendsUpTo old new (with_newline (codes "mds_city: vehicle not in file"))
 TellsDebug old new (Other problem) = Tells old new problem
 
 -- the session over the events of a vehicle that a replay of these items accepts, before the first of them, and how many of the
@@ -77,18 +75,30 @@ Debugged walk counts bytes old new =
 abbrev pub Shown : Walk → CountsLine → Option (List ℕ) → Option (List ℕ) → Option (List ℕ) → Option (List ℕ) → Type 0
 Shown walk counts input input_new old new = (bytes : List ℕ) × IsRead input input_new bytes × Debugged walk counts bytes old new
 
--- the start of a session went out, and then a front of what the script that was read prints
-abbrev pub DebugsPart : Walk → CountsLine → Option (List ℕ) → Option (List ℕ) → Option (List ℕ) → Option (List ℕ) → Type 0
-DebugsPart walk counts input input_new old new =
-    (start : List ℕ) × PrintsStart walk counts start × (middle : Option (List ℕ)) × Appends old middle start
-    × (Keeps middle new
-    ⊎ ((bytes : List ℕ) × IsRead input input_new bytes × (script : List (Option ScriptCommand)) × IsScript bytes script
-    × PrintsFront walk script middle new))
+-- a script was read, and where printing what it prints stopped so, a front of that went out
+abbrev pub WalksFront : PrintError → Walk → Option (List ℕ) → Option (List ℕ) → Option (List ℕ) → Option (List ℕ) → Type 0
+WalksFront fault walk input input_new old new =
+    (bytes : List ℕ) × IsRead input input_new bytes × (script : List (Option ScriptCommand)) × IsScript bytes script × PrintsFront fault walk script old new
 
--- a front of what a session's start and a script print went out
-abbrev pub DebugsFront : Walk → CountsLine → Option (List ℕ) → Option (List ℕ) → Option (List ℕ) → Option (List ℕ) → Type 0
-DebugsFront walk counts input input_new old new =
-    ((start : List ℕ) × PrintsStart walk counts start × AppendsFront old new start) ⊎ DebugsPart walk counts input input_new old new
+-- the same behind a session's start; for want of memory maybe before a script was read
+abbrev pub FollowsFront : PrintError → Walk → Option (List ℕ) → Option (List ℕ) → Option (List ℕ) → Option (List ℕ) → Type 0
+FollowsFront write.Device walk input input_new old new = WalksFront write.Device walk input input_new old new
+FollowsFront write.Memory walk input input_new old new = Keeps old new ⊎ WalksFront write.Memory walk input input_new old new
+
+-- the start of a session went out, and then a front of what the script that was read prints
+abbrev pub DebugsPart : PrintError → Walk → CountsLine → Option (List ℕ) → Option (List ℕ) → Option (List ℕ) → Option (List ℕ) → Type 0
+DebugsPart fault walk counts input input_new old new =
+    (start : List ℕ) × PrintsStart walk counts start × (middle : Option (List ℕ)) × Appends old middle start × FollowsFront fault walk input input_new middle new
+
+-- a front of what a session's start and a script print went out, where showing it stopped so
+abbrev pub DebugsFront : PrintError → Walk → CountsLine → Option (List ℕ) → Option (List ℕ) → Option (List ℕ) → Option (List ℕ) → Type 0
+DebugsFront fault walk counts input input_new old new =
+    ((start : List ℕ) × PrintsStart walk counts start × AppendsFront old new start) ⊎ DebugsPart fault walk counts input input_new old new
+
+-- the problem is a fault of showing a session, of which a front went out
+abbrev pub StopsShowing : DebugProblem → Walk → CountsLine → Option (List ℕ) → Option (List ℕ) → Option (List ℕ) → Option (List ℕ) → Type 0
+StopsShowing problem walk counts input input_new old new =
+    (fault : PrintError) × (problem ≡ Other (written_problem fault)) × DebugsFront fault walk counts input input_new old new
 
 -- the replay that the debugger makes, by a single worker
 abbrev pub debug_options : ReplayOptions
@@ -112,15 +122,15 @@ module _ {T R : Type 0} (table_bytes : T → Option (List ℕ)) (table : Option 
   ExplainsDebug (Other problem) = ((key : Key) × IsNamed named key) × ExplainsReplay debug_options table_bytes table file_bytes file problem
 
   -- a front of what the debugger prints went out
-  abbrev pub DebugPrintsFront : Option (List ℕ) → Option (List ℕ) → Option (List ℕ) → Option (List ℕ) → Type 0
-  DebugPrintsFront input input_new old new =
-      (walk : Walk) × (counts : CountsLine) × HasSession walk counts × DebugsFront walk counts input input_new old new
+  abbrev pub DebugPrintsFront : PrintError → Option (List ℕ) → Option (List ℕ) → Option (List ℕ) → Option (List ℕ) → Type 0
+  DebugPrintsFront fault input input_new old new =
+      (walk : Walk) × (counts : CountsLine) × HasSession walk counts × DebugsFront fault walk counts input input_new old new
 
   -- what went out before a problem: a front where the output failed or memory was wanting; else nothing, and nothing of the
   -- script was read
   abbrev pub DebugWentOut : DebugProblem → Option (List ℕ) → Option (List ℕ) → Option (List ℕ) → Option (List ℕ) → Type 0
-  DebugWentOut (Other problem.Output) input input_new old new = DebugPrintsFront input input_new old new
-  DebugWentOut (Other problem.Memory) input input_new old new = Keeps old new ⊎ DebugPrintsFront input input_new old new
+  DebugWentOut (Other problem.Output) input input_new old new = DebugPrintsFront write.Device input input_new old new
+  DebugWentOut (Other problem.Memory) input input_new old new = Keeps old new ⊎ DebugPrintsFront write.Memory input input_new old new
   DebugWentOut problem input input_new old new = Consumes input input_new [] × Keeps old new
 
   -- the session was shown, as the script that was read says, and the status tells whether an event of the vehicle was refused

@@ -17,7 +17,7 @@ use Rattle.mds_commands.specs.declared.problem.Problem.{Problem}
 use Rattle.mds_commands.specs.declared.problem.Problem.TheVariants.{CannotRead, NotATable, NotABatch, NotLines, Socket, Random, Output, Memory}
 use Rattle.mds_commands.specs.declared.status.Status.{Status}
 use Rattle.mds_commands.specs.declared.status.Status.TheVariants.{Fault, NoMemory}
-use Rattle.mds_io.specs.Page.{AppendsFront, with_newline}
+use Rattle.mds_io.specs.Page.{AppendsUpTo, with_newline}
 
 -- what is said of a problem
 abbrev pub problem_text : Problem → List ℕ
@@ -61,9 +61,9 @@ status_of Random = Fault
 status_of Output = Fault
 status_of Memory = NoMemory
 
--- the line of a problem went to the writer, or a front of it
+-- the line of a problem went to the writer, or a front of it, since a writer of faults may fail
 abbrev pub Tells : Option (List ℕ) → Option (List ℕ) → Problem → Type 0
-Tells old new problem = AppendsFront old new (with_newline (problem_text problem))
+Tells old new problem = AppendsUpTo old new (with_newline (problem_text problem))
 
 -- the problem has this status, and its line went out whole, or as many of its bytes as are told, fewer than all
 abbrev pub IsTelling : Option (List ℕ) → Option (List ℕ) → Problem → Telling → Type 0

@@ -6,7 +6,7 @@ ghost use Rattle.mds_trace.specs.Walk.{Walk};
 ghost use Rattle.mds_debugger.specs.declared.line.CountsLine.{CountsLine as Counts};
 ghost use Rattle.mds_trace.specs.Session.{AreOpenFrom};
 ghost use Rattle.mds_debugger.specs.Vehicle.{told_of};
-ghost use Rattle.mds_commands.specs.Debug.{Debugs, DebugsFront, DebugWentOut, ExplainsDebug, HasSession, IsNamed, IsOfShowing, IsOpened, IsOther, Shown, TellsDebug, debug_status_of};
+ghost use Rattle.mds_commands.specs.Debug.{Debugs, DebugWentOut, ExplainsDebug, HasSession, IsNamed, IsOpened, IsOther, Shown, StopsShowing, TellsDebug, debug_status_of};
 
 use crate::commands::status_on;
 use crate::problem::{Problem, tell};
@@ -15,7 +15,7 @@ use crate::status::Status;
 use mds_batch::EventItem;
 use mds_core::{Event, Key};
 use mds_debugger::{CountsLine, print_start, print_walk, read_script, script_of, vehicle_events};
-use mds_io::{PrintError, write_all_of};
+use mds_io::{MAX_CALLS, PrintError, write_all_of};
 use mds_table::{State, Tables};
 use mds_trace::{Opening, Session, SessionFault, replay};
 use std::alloc::{AllocError, Global};
@@ -127,13 +127,14 @@ fn tell_debug<E: Write>(alloc: Global, faults: &mut E, problem: DebugProblem<'_>
         × TellsDebug (E.contents faults.old) (E.contents faults.new)
         (DebugProblem.Other Problem.Memory)) }
 {
+    let mut calls = MAX_CALLS;
     match problem {
         DebugProblem::BadIdentifier => {
-            let _ = write_all_of(faults, b"mds_city: bad identifier\n");
+            let _ = write_all_of(faults, b"mds_city: bad identifier\n", &mut calls);
             Status::BadWords
         }
         DebugProblem::NotInFile => {
-            let _ = write_all_of(faults, b"mds_city: vehicle not in file\n");
+            let _ = write_all_of(faults, b"mds_city: vehicle not in file\n", &mut calls);
             Status::Refused
         }
         DebugProblem::Other(problem) => tell(alloc, faults, problem),
@@ -245,8 +246,7 @@ fn show<'a, I: Read, W: Write>(
 ) -> Result<(), DebugProblem<'a>>
     ensures ok { OnOk result (Shown opened.session opened.counts (I.remaining script.old)
         (I.remaining script.new) (W.contents out.old) (W.contents out.new)) }
-    ensures err { IfErr result (λ problem. IsOfShowing problem
-        × DebugsFront opened.session opened.counts
+    ensures err { IfErr result (λ problem. StopsShowing problem opened.session opened.counts
         (I.remaining script.old) (I.remaining script.new) (W.contents out.old)
         (W.contents out.new)) }
 {

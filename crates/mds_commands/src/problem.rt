@@ -1,10 +1,10 @@
 //! Why a command could not be carried out.
-ghost use Rattle.std.specs.Prelude.{◌≡◌, ◌⊎◌, Some};
+ghost use Rattle.std.specs.Prelude.{◌≡◌, ◌≢◌, ◌⊎◌, Some};
 ghost use Rattle.mds_commands.specs.Problem.{IsTelling, problem_text, status_of, Tells};
 
 use crate::status::Status;
 use mds_batch::BatchFault;
-use mds_io::{PrintError, WriteError, write_all_of};
+use mds_io::{MAX_CALLS, PrintError, ReadError, WriteError, write_all_of};
 use mds_table::TablesFault;
 use mds_trace::LineFault;
 use std::alloc::{AllocError, Global};
@@ -133,6 +133,17 @@ impl fmt::Display for Problem<'_> {
     }
 }
 
+/// Why the file of this path could not be read.
+pub(crate) fn read_problem(path: &str, error: ReadError) -> Problem<'_>
+    ensures memory { error ≡ ReadError.Memory → result ≡ Problem.Memory }
+    ensures read { error ≢ ReadError.Memory → result ≡ Problem.CannotRead path.entry }
+{
+    match error {
+        ReadError::Memory => Problem::Memory,
+        ReadError::Device | ReadError::TooManyTurns => Problem::CannotRead(path),
+    }
+}
+
 /// Tells the problem in one line, and answers its status. Where there is no memory to lay the line out, the problem that
 /// is told is that. Where the writer fails the status stays.
 pub fn tell<E: Write>(alloc: Global, faults: &mut E, problem: Problem<'_>) -> Status
@@ -159,15 +170,16 @@ fn tell_whole<E: Write>(alloc: Global, faults: &mut E, problem: Problem<'_>) -> 
         ⊎ IsTelling (E.contents faults.old) (E.contents faults.new) Problem.Memory result }
 {
     let mut text = String::new(alloc);
+    let mut calls = MAX_CALLS;
     match writeln!(text, "{problem}") {
         Ok(()) => Telling {
             status: problem.status(),
-            line: write_all_of(faults, text.as_bytes()),
+            line: write_all_of(faults, text.as_bytes(), &mut calls),
         },
         // The text of `Problem::Memory`, which there is no memory to lay out.
         Err(_) => Telling {
             status: Problem::Memory.status(),
-            line: write_all_of(faults, b"mds_city: out of memory\n"),
+            line: write_all_of(faults, b"mds_city: out of memory\n", &mut calls),
         },
     }
 }

@@ -1,14 +1,15 @@
 //! Files that a command reads.
-ghost use Rattle.std.specs.Prelude.{[], List, IfOk, IfErr, OnOk};
+ghost use Rattle.std.specs.Prelude.{◌≡◌, ◌⊎◌, [], List, IfOk, IfErr, IsErrOf, OnOk};
 ghost use Rattle.mds_table.specs.TimedFile.{HasTables};
 ghost use Rattle.mds_batch.specs.declared.item.EventItem.{EventItem as Item};
 ghost use Rattle.mds_batch.specs.Items.{IsEventItem};
 ghost use Rattle.mds_batch.specs.Batch.{HasItems};
-ghost use Rattle.mds_commands.specs.Source.{HasBytes, IsReadProblem, IsTableProblem, HasTablesOf, HasTablesIn, ExplainsTableFile, ExplainsTable, IsBatchProblem, HasItemsIn, ExplainsFile};
+ghost use Rattle.mds_io.specs.Read.{ConsumesUpTo, HasFront, LosesAt};
+ghost use Rattle.mds_commands.specs.Source.{HasBytes, IsReadProblem, IsTableProblem, HasTablesOf, HasTablesIn, ExplainsTableFile, ExplainsTable, IsBatchProblem, HasItemsIn, ExplainsFile, max_read};
 
-use crate::problem::Problem;
+use crate::problem::{Problem, read_problem};
 use mds_batch::{EventItem, TakesItems, each_event};
-use mds_io::{ReadError, read_front};
+use mds_io::{MAX_CALLS, ReadError, read_front};
 use mds_table::{MAX_BYTES, Table, Tables};
 use std::alloc::Global;
 use std::io::Read;
@@ -46,10 +47,26 @@ fn bytes_in<'a, R: Read + Drop>(
     let Some(mut reader) = source.reader else {
         return Err(Problem::CannotRead(path));
     };
-    match read_front(alloc, &mut reader, MAX_READ) {
+    front_of(alloc, path, &mut reader)
+}
+
+/// The bytes that the reader of a file of this path gives, to its end or the first `MAX_READ`. It reads no further.
+fn front_of<'a, R: Read>(
+    alloc: Global,
+    path: &'a str,
+    reader: &mut R,
+) -> Result<Vec<u8>, Problem<'a>>
+    ensures ok { IfOk result (λ bytes. HasFront max_read (R.remaining reader.old) bytes.items) }
+    ensures err { IfErr result (λ problem. (problem ≡ Problem.Memory)
+        ⊎ (problem ≡ Problem.CannotRead path.entry)) }
+    ensures memory { IsErrOf result Problem.Memory → LosesAt ReadError.Memory max_read
+        (R.remaining reader.old) (R.remaining reader.new) }
+    ensures no_further { ConsumesUpTo max_read (R.remaining reader.old) (R.remaining reader.new) }
+{
+    let mut calls = MAX_CALLS;
+    match read_front(alloc, reader, MAX_READ, &mut calls) {
         Ok(bytes) => Ok(bytes),
-        Err(ReadError::Memory) => Err(Problem::Memory),
-        Err(ReadError::Device | ReadError::TooManyTurns) => Err(Problem::CannotRead(path)),
+        Err(error) => Err(read_problem(path, error)),
     }
 }
 

@@ -1,10 +1,11 @@
 //! Files whose lines are replayed: they are read in pieces, and each piece is fed as it comes.
-ghost use Rattle.std.specs.Prelude.{◌≡◌, ℕ, List, [], None, IfOk, IfErr, OnOk};
+ghost use Rattle.std.specs.Prelude.{◌≡◌, ◌≢◌, ◌<◌, ◌≤◌, ℕ, List, [], None, IfOk, IfErr, OnOk, IsErrOf};
+ghost use Rattle.mds_io.specs.Read.{ConsumesUpTo};
 ghost use Rattle.mds_trace.specs.LineReport.{IsLineReport};
-ghost use Rattle.mds_commands.specs.Source.{ExplainsFile, IsLineProblem};
+ghost use Rattle.mds_commands.specs.Source.{ExplainsFile, IsLineProblem, max_read};
 ghost use Rattle.mds_commands.specs.Stream.{HasLineReport, IsFed, IsFedFile};
 
-use crate::problem::Problem;
+use crate::problem::{Problem, read_problem};
 use crate::source::{Form, MAX_READ, Source};
 use mds_io::{MAX_CALLS, ReadError, read_more};
 use mds_table::Tables;
@@ -31,10 +32,10 @@ pub fn report_of_lines<'a, R: Read + Drop>(
         return Err(Problem::CannotRead(path));
     };
     let mut replay = LineReplay::open(alloc, tables, opening);
-    match feed_all(alloc, &mut reader, &mut replay) {
+    let mut calls = MAX_CALLS;
+    match feed_all(alloc, &mut reader, &mut replay, &mut calls) {
         Ok(()) => report_of(replay),
-        Err(ReadError::Memory) => Err(Problem::Memory),
-        Err(ReadError::Device | ReadError::TooManyTurns) => Err(Problem::CannotRead(path)),
+        Err(error) => Err(read_problem(path, error)),
     }
 }
 
@@ -48,24 +49,29 @@ fn report_of<'a>(replay: LineReplay) -> Result<Report, Problem<'a>>
     Ok(replay.finish()?)
 }
 
-/// Feeds what the reader has, to its end or up to `MAX_READ` bytes. A fault of the lines is kept, and told at the end.
+/// Feeds what the reader has, to its end or up to `MAX_READ` bytes, and reads no further. A fault of the lines is kept, and
+/// told at the end. `calls` is how many calls of `read` may be made for all of it.
 fn feed_all<R: Read>(
     alloc: Global,
     reader: &mut R,
     replay: &mut LineReplay,
+    calls: &mut u32,
 ) -> Result<(), ReadError>
     requires { IsFed [] replay.old.stream }
     ensures fed { OnOk result (IsFedFile (R.remaining reader.old) replay.new.stream) }
     ensures tables { replay.new.tables ≡ replay.old.tables }
     ensures opening { replay.new.opening ≡ replay.old.opening }
+    ensures no_further { ConsumesUpTo max_read (R.remaining reader.old) (R.remaining reader.new) }
+    ensures counted { calls.new ≤ calls.old }
+    ensures made { IfErr result (λ fault. fault ≢ ReadError.TooManyTurns → calls.new < calls.old) }
+    ensures turns { IsErrOf result ReadError.TooManyTurns → calls.new ≡ 0 }
 {
     let mut piece = Vec::new(alloc);
     let mut room = [0u8; PIECE_BYTES];
-    let mut calls = MAX_CALLS;
     let mut left = MAX_READ;
     while left > 0 {
         piece.clear();
-        if read_more(reader, &mut piece, &mut room, left, &mut calls)? {
+        if read_more(reader, &mut piece, &mut room, left, calls)? {
             return Ok(());
         }
         left -= piece.len();

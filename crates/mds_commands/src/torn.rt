@@ -6,7 +6,7 @@ ghost use Rattle.mds_commands.specs.Torn.{TellsTorn, torn_text};
 use crate::Status;
 use arrayvec::ArrayString;
 use itoa::Buffer;
-use mds_io::write_all_of;
+use mds_io::{MAX_CALLS, write_all_of};
 use std::io::Write;
 
 /// The most bytes of the line: its words, two numbers of at most 20 digits, the space between them and the line feed.
@@ -18,7 +18,8 @@ pub fn torn_to<E: Write>(faults: &mut E, shard: usize, place: usize) -> Status
     ensures { TellsTorn shard place result (E.contents faults.old) (E.contents faults.new) }
 {
     let line = torn_line(shard, place);
-    match write_all_of(faults, line.as_bytes()) {
+    let mut calls = MAX_CALLS;
+    match write_all_of(faults, line.as_bytes(), &mut calls) {
         Ok(()) => Status::Torn,
         Err(_) => Status::Fault,
     }

@@ -1,16 +1,19 @@
 -- Scripts that are carried out command by command.
-use Rattle.std.proofs.Common.{◌≡◌, ◌≢◌, ◌+◌, ◌<◌, ◌≤◌, ℕ, List, [], ◌∷◌, ◌++◌, length, get_or, drop, true, false, Option, Some, None, refl, sym, ap, subst, ◌∙◌, append_assoc, append-nil, cond}
+use Rattle.std.proofs.Common.{◌≡◌, ◌≢◌, ◌+◌, ◌<◌, ◌≤◌, ℕ, List, [], ◌∷◌, ◌++◌, length, get_or, drop, true, false, Option, Some, None, Result, Ok, Err, OnErr, IfErr, ◌⊎◌, inl, inr, refl, sym, ap, subst, ◌∙◌, arith, append_assoc, append-nil, cond}
 use Rattle.std.specs.Io.KnownBytes.{Appends, Keeps}
+use Rattle.std.proofs.KnownBytes.{Appends-trans}
 use Rattle.std.proofs.lemmas.Bool.{true≢false}
 use Rattle.std.proofs.lemmas.List.{drop_all}
 use Rattle.std.proofs.lemmas.List.Sums.{take_while-cons}
 use Rattle.mds_trace.specs.declared.session.Place.{Place}
 use Rattle.mds_trace.specs.Walk.{Walk}
-use Rattle.mds_io.specs.Page.{AppendsFront, Passes, with_newline}
+use Rattle.mds_io.specs.Page.{AppendsFront, AppendsUpTo, Passes, with_newline}
+use Rattle.mds_io.specs.declared.page.PrintError.{PrintError}
+use Rattle.mds_io.specs.declared.page.PrintError.TheVariants as write
 use Rattle.mds_io.proofs.PageLemmas.{next_item_or, passes_all, passes_front, passes_out, passes_then}
 use Rattle.mds_debugger.specs.declared.script.ScriptCommand.{ScriptCommand}
 use Rattle.mds_debugger.specs.declared.script.ScriptCommand.TheVariants.{Quit}
-use Rattle.mds_debugger.specs.Printed.{before_quit, goes_on, moved_to, Prints, PrintsAll, PrintsFront, PrintsScript}
+use Rattle.mds_debugger.specs.Printed.{before_quit, goes_on, moved_to, Prints, PrintsAll, PrintsFront, PrintsScript, PrintsSome}
 
 -- a command that goes on isn't quit
 pub not_quit : (command : Option ScriptCommand) → goes_on command ≡ true → command ≢ Some Quit
@@ -46,6 +49,45 @@ prints_push walk (first ∷ done) command at to text line all one = (
   prints_push (moved_to walk all.0) done command at to all.2 line all.4 one,
   ap (λ t. t ++ with_newline line) all.5 ∙ append_assoc (with_newline all.1) all.2 (with_newline line),
 )
+
+-- a writer that took nothing
+took_none : (a b : Option (List ℕ)) → Keeps a b → Appends a b []
+took_none None b kept = tt
+took_none (Some xs) None kept = kept
+took_none (Some xs) (Some ys) kept = kept ∙ sym (append-nil xs)
+
+-- a text went out but for a page, and nothing more
+front_of_kept : (a b c : Option (List ℕ)) (text page : List ℕ) → Passes a b text page → Keeps b c → AppendsUpTo a c text
+front_of_kept a b c text page passes kept = by_page page passes.1 where
+  took : Appends a c passes.0
+  took = subst (Appends a c) (append-nil passes.0) (Appends-trans a b c passes.0 [] passes.2 (took_none b c kept))
+
+  by_page : (left : List ℕ) → text ≡ passes.0 ++ left → AppendsUpTo a c text
+  by_page [] all = inl (subst (Appends a c) (sym (all ∙ append-nil passes.0)) took)
+  by_page (byte ∷ left) split = inr (passes.0, byte ∷ left, omega arith, split, took)
+
+-- a front went out, which it may also where memory is wanting
+pub front_at_least : (fault : PrintError) (walk : Walk) (script : List (Option ScriptCommand)) (old new : Option (List ℕ))
+    → PrintsSome walk script (AppendsFront old new) → PrintsFront fault walk script old new
+front_at_least write.Device walk script old new some = some
+front_at_least write.Memory walk script old new some = (some.0, some.1, some.2, (some.3.0, some.3.1, some.3.2, inr some.3.3))
+
+-- a command stopped: nothing of its line went out, or a front of what waited and of that
+pub front_at : {K X : Type 0} (fault : PrintError) (walk : Walk) (script : List (Option ScriptCommand)) (old new : Option (List ℕ)) → K ⊎ X
+    → (fault ≡ write.Device → X) → (K → PrintsSome walk script (AppendsUpTo old new)) → (X → PrintsSome walk script (AppendsFront old new))
+    → PrintsFront fault walk script old new
+front_at write.Device walk script old new either device waiting stopped = stopped (device refl)
+front_at write.Memory walk script old new either device waiting stopped =
+    elim either [
+      | inl kept ↦ waiting kept
+      | inr out ↦ front_at_least write.Memory walk script old new (stopped out)
+    ]
+
+-- the last page could not be put out
+pub ends_on : (result : Result (Unit {0}) PrintError) (walk : Walk) (script : List (Option ScriptCommand)) (old new : Option (List ℕ))
+    → OnErr result (PrintsSome walk script (AppendsFront old new)) → IfErr result (λ fault. PrintsFront fault walk script old new)
+ends_on (Ok done) walk script old new some = tt
+ends_on (Err fault) walk script old new some = front_at_least fault walk script old new some
 
 -- of a script's commands some were carried out: what they printed went out but for a page, and the rest is left
 pub record IsUnderway (walk : Walk) (script rest : List (Option ScriptCommand)) (place : Place) (old now : Option (List ℕ)) (page : List ℕ) : Type 0 where
@@ -84,7 +126,7 @@ module _ (walk : Walk) (script : List (Option ScriptCommand)) (old : Option (Lis
 
       -- a front of the line and of what waits before it
       pub stops_at : (new : Option (List ℕ)) → IsUnderway walk script (command ∷ rest) place old now page → goes_on command ≡ true
-          → Prints (moved_to walk place) command to line → AppendsFront now new (page ++ with_newline line) → PrintsFront walk script old new
+          → Prints (moved_to walk place) command to line → AppendsFront now new (page ++ with_newline line) → PrintsSome walk script (AppendsFront old new)
       stops_at new under on prints front = (
         under.done ++ command ∷ [],
         before_quit rest,
@@ -98,8 +140,13 @@ module _ (walk : Walk) (script : List (Option ScriptCommand)) (old : Option (Lis
       )
 
     -- a front of what waits
-    pub stops : (new : Option (List ℕ)) → IsUnderway walk script rest place old now page → AppendsFront now new page → PrintsFront walk script old new
+    pub stops : (new : Option (List ℕ)) → IsUnderway walk script rest place old now page → AppendsFront now new page → PrintsSome walk script (AppendsFront old new)
     stops new under front = (under.done, before_quit rest, under.split, (place, under.text, under.prints, passes_out old now new under.text page under.passes front))
+
+    -- nothing more, so what waits on the page did not go out, if anything does
+    pub waits : (new : Option (List ℕ)) → IsUnderway walk script rest place old now page → Keeps now new → PrintsSome walk script (AppendsUpTo old new)
+    waits new under kept =
+        (under.done, before_quit rest, under.split, (place, under.text, under.prints, front_of_kept old now new under.text page under.passes kept))
 
     -- all that waits, where no command is left
     pub ends : (new : Option (List ℕ)) → IsUnderway walk script rest place old now page → before_quit rest ≡ [] → Appends now new page
@@ -110,12 +157,3 @@ module _ (walk : Walk) (script : List (Option ScriptCommand)) (old : Option (Lis
           subst (λ commands. PrintsAll walk commands place under.text) all under.prints,
           passes_all old now new under.text page under.passes out,
         )
-
--- a writer that took nothing took a front of anything
-took_none : (a b : Option (List ℕ)) → Keeps a b → Appends a b []
-took_none None b kept = tt
-took_none (Some xs) None kept = kept
-took_none (Some xs) (Some ys) kept = kept ∙ sym (append-nil xs)
-
-pub front_of_kept : (a b : Option (List ℕ)) (text : List ℕ) → Keeps a b → AppendsFront a b text
-front_of_kept a b text kept = ([], text, refl, took_none a b kept)

@@ -10,7 +10,9 @@ use Rattle.mds_trace.specs.declared.session.Halt.TheVariants.{AtEnd, AtStart}
 use Rattle.mds_trace.specs.SessionFault.{halt_text}
 use Rattle.mds_trace.specs.Walk.{Walk}
 use Rattle.mds_trace.specs.Session.{state_at, ArePossible, IsStep, IsFirstLater, IsPresentChain}
-use Rattle.mds_io.specs.Page.{AppendsFront, with_newline}
+use Rattle.mds_io.specs.Page.{AppendsFront, AppendsUpTo, with_newline}
+use Rattle.mds_io.specs.declared.page.PrintError.{PrintError}
+use Rattle.mds_io.specs.declared.page.PrintError.TheVariants as write
 use Rattle.mds_debugger.specs.declared.script.Move.{Move}
 use Rattle.mds_debugger.specs.declared.script.Move.TheVariants.{Step, Back, Next, Run}
 use Rattle.mds_debugger.specs.declared.script.ScriptCommand.{ScriptCommand}
@@ -105,11 +107,16 @@ before_quit script = take_while goes_on script
 abbrev pub PrintsScript : Walk → List (Option ScriptCommand) → Place → List ℕ → Type 0
 PrintsScript walk script to text = PrintsAll walk (before_quit script) to text
 
--- a front went out of what the first of a script's commands print
-abbrev pub PrintsFront : Walk → List (Option ScriptCommand) → Option (List ℕ) → Option (List ℕ) → Type 0
-PrintsFront walk script old new =
+-- the first of a script's commands print a text of which this is so
+abbrev pub PrintsSome : Walk → List (Option ScriptCommand) → (List ℕ → Type 0) → Type 0
+PrintsSome walk script OfText =
     (done : List (Option ScriptCommand)) × (rest : List (Option ScriptCommand)) × (before_quit script ≡ done ++ rest)
-    × ((to : Place) × (text : List ℕ) × PrintsAll walk done to text × AppendsFront old new text)
+    × ((to : Place) × (text : List ℕ) × PrintsAll walk done to text × OfText text)
+
+-- a front went out of what the first of a script's commands print; for want of memory maybe all of it
+abbrev pub PrintsFront : PrintError → Walk → List (Option ScriptCommand) → Option (List ℕ) → Option (List ℕ) → Type 0
+PrintsFront write.Device walk script old new = PrintsSome walk script (AppendsFront old new)
+PrintsFront write.Memory walk script old new = PrintsSome walk script (AppendsUpTo old new)
 
 -- what is printed before a script is read: how many events were accepted and how many refused, and the first place
 abbrev pub PrintsStart : Walk → CountsLine → List ℕ → Type 0

@@ -1,8 +1,8 @@
 //! Reading a script.
-ghost use Rattle.std.specs.Prelude.{◌≡◌, ◌≤◌, vec_len, IfOk, OnErr};
+ghost use Rattle.std.specs.Prelude.{◌≡◌, ◌<◌, ◌≤◌, vec_len, IfOk, OnErr};
 ghost use Rattle.std.specs.Io.KnownBytes.{Consumes};
 ghost use Rattle.mds_io.specs.Read.{ConsumesUpTo};
-ghost use Rattle.mds_debugger.specs.Input.{max_script, HasScript};
+ghost use Rattle.mds_debugger.specs.Input.{max_script, EndsAs, HasScript};
 
 use mds_io::{MAX_CALLS, ReadError, read_up_to};
 use std::alloc::{AllocError, Global};
@@ -45,16 +45,30 @@ pub fn read_script<R: Read>(alloc: Global, reader: &mut R) -> Result<ScriptBytes
     ensures short { IfOk result (λ script. vec_len script.bytes ≤ max_script) }
     ensures whole { IfOk result (λ script. script.end ≡ ScriptEnd.Whole
         → HasScript (R.remaining reader.old) script.bytes.items) }
+    ensures broken { IfOk result (λ script. script.end ≡ ScriptEnd.Broken
+        → vec_len script.bytes < max_script) }
     ensures lost { OnErr result
         (ConsumesUpTo max_script (R.remaining reader.old) (R.remaining reader.new)) }
 {
     let mut bytes = Vec::new(alloc);
     let mut room = [0u8; CHUNK_BYTES];
     let mut calls = MAX_CALLS;
-    let end = match read_up_to(reader, &mut bytes, &mut room, MAX_SCRIPT, &mut calls) {
-        Ok(()) => ScriptEnd::Whole,
-        Err(ReadError::Device | ReadError::TooManyTurns) => ScriptEnd::Broken,
-        Err(ReadError::Memory) => return Err(AllocError),
-    };
+    let read = read_up_to(reader, &mut bytes, &mut room, MAX_SCRIPT, &mut calls);
+    let end = end_of(read)?;
     Ok(ScriptBytes { bytes, end })
+}
+
+/// How the reading of a script ended, by what it came to: broken off only where a read failed, or the calls had run out.
+///
+/// # Errors
+///
+/// `AllocError` where there was no memory for the bytes.
+fn end_of(read: Result<(), ReadError>) -> Result<ScriptEnd, AllocError>
+    ensures { EndsAs read result }
+{
+    match read {
+        Ok(()) => Ok(ScriptEnd::Whole),
+        Err(ReadError::Device | ReadError::TooManyTurns) => Ok(ScriptEnd::Broken),
+        Err(ReadError::Memory) => Err(AllocError),
+    }
 }

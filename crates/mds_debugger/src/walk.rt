@@ -44,8 +44,8 @@ pub fn print_start<W: Write>(
 ///
 /// # Errors
 ///
-/// `Memory` where there was none for a line, `Device` where the writer failed. A front went out of what the first of the
-/// commands print, and the session may stand at any place.
+/// `Memory` where there was none for a line, `Device` where the writer failed, and then not all went out that the commands
+/// print. A front went out of what the first of them print, and the session may stand at any place.
 pub fn print_walk<W: Write>(
     alloc: Global,
     writer: &mut W,
@@ -56,8 +56,8 @@ pub fn print_walk<W: Write>(
         session.new.place text
         × Appends (W.contents writer.old) (W.contents writer.new) text) }
     ensures kept { OnOk result (KeepsEvents session.old session.new) }
-    ensures err { OnErr result (PrintsFront session.old script.now (W.contents writer.old)
-        (W.contents writer.new)) }
+    ensures err { IfErr result (λ fault. PrintsFront fault session.old script.now
+        (W.contents writer.old) (W.contents writer.new)) }
 {
     let mut page = String::new(alloc);
     for command in script {
@@ -94,6 +94,10 @@ fn add_answer<W: Write>(
         ⊎ ((to : At) × (text : List ℕ) × Prints session.old command to text
         × AppendsFront (W.contents writer.old) (W.contents writer.new)
         (string_bytes page.old ++ with_newline text))) }
+    ensures device { command ≢ Some Quit → IfErr result (λ fault. fault ≡ PrintError.Device
+        → (to : At) × (text : List ℕ) × Prints session.old command to text
+        × AppendsFront (W.contents writer.old) (W.contents writer.new)
+        (string_bytes page.old ++ with_newline text)) }
 {
     match carry_out(alloc, session, command) {
         Ok(line) => add_line(writer, page, &line),

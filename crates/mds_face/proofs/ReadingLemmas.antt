@@ -3,9 +3,7 @@ use Rattle.std.proofs.Common.{◌≡◌, ℕ, ◌+◌, ◌-◌, ◌<◌, ◌≤�
 use Rattle.std.proofs.lemmas.Bool.{cases_lt}
 use Rattle.std.specs.Io.KnownBytes.{Consumes, IsAtEnd}
 use Rattle.std.proofs.KnownBytes.{Consumes-nil, Consumes-trans}
-use Rattle.mds_io.specs.declared.read.ReadError.{ReadError}
-use Rattle.mds_io.specs.declared.read.ReadError.TheVariants.{Memory, Device, TooManyTurns}
-use Rattle.mds_io.specs.Read.{ConsumesUpTo, Gains, StopsAt}
+use Rattle.mds_io.specs.Read.{ConsumesUpTo, Gains}
 use Rattle.mds_core.specs.declared.key.Key.{Key}
 use Rattle.mds_request.specs.declared.aim.Aim.{Aim}
 use Rattle.mds_request.specs.declared.head_status.HeadStatus.{HeadStatus}
@@ -72,16 +70,6 @@ head_enough Partial left bytes is end bodiless = partial_enough left bytes is (e
 head_enough Invalid left bytes is end bodiless = inr (invalid_determines bytes is)
 head_enough (Rejected fault) left bytes is end bodiless = inr (rejected_determines bytes fault is)
 head_enough (Complete aim start len) left bytes is end bodiless = absurd (bodiless aim start len refl)
-
--- what was read when reading stopped
-pub stop_loses : (fault : ReadError) (most : ℕ) (a b : Option (List ℕ)) (held grown : List ℕ) → StopsAt fault most a b held grown → ConsumesUpTo most a b
-stop_loses Device most a b held grown stop = (stop.0, stop.1, stop.3)
-stop_loses TooManyTurns most a b held grown stop = (stop.0, stop.1, stop.3)
-stop_loses Memory most a b held grown stop = (stop.0 ++ stop.1, rw length-append stop.3, stop.5)
-
--- what was read when it didn't
-pub gains_lose : (most : ℕ) (a b : Option (List ℕ)) (held grown : List ℕ) → Gains most a b held grown → ConsumesUpTo most a b
-gains_lose most a b held grown gains = (gains.0, gains.1, gains.3)
 
 -- within a limit the bytes stay within it
 pub gains_few : (limit : ℕ) (a b : Option (List ℕ)) (held grown : List ℕ) → length held ≤ limit → Gains (limit - length held) a b held grown → length grown ≤ limit

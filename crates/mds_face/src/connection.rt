@@ -1,5 +1,5 @@
 //! Serving one connection.
-ghost use Rattle.std.specs.Prelude.{◌≡◌, ℕ, Some, IfOk, IfErr, OnOk, OnErr};
+ghost use Rattle.std.specs.Prelude.{◌≡◌, ◌<◌, ◌≤◌, ℕ, Some, IfOk, IfErr, OnOk, OnErr};
 ghost use Rattle.std.specs.Io.KnownBytes.{Appends};
 ghost use Rattle.mds_request.specs.Asked.{asked_in};
 ghost use Rattle.mds_response.specs.Found.{finding_in, replies_in, accepted_in};
@@ -11,7 +11,7 @@ ghost use Rattle.mds_face.specs.Serving.{Finds, FindsNoMemory, IsAnsweredWhole, 
 use crate::asking::ask_all;
 use crate::{Desk, read_plan};
 use mds_core::Request;
-use mds_io::{ReadError, WriteErrorKind, write_all_of};
+use mds_io::{MAX_CALLS, ReadError, WriteErrorKind, write_all_of};
 use mds_request::{Face, Plan};
 use mds_response::{Found, bytes_of, memory_bytes, status_of};
 use std::alloc::{AllocError, Global};
@@ -127,7 +127,8 @@ fn answer<W: Write, D: Desk>(
     let served = served_of(&plan, &found);
     drop(found);
     drop(plan);
-    match write_answer(writer, &bytes) {
+    let mut calls = MAX_CALLS;
+    match write_answer(writer, &bytes, &mut calls) {
         Ok(()) => Ok(served),
         Err(fault) => Err(fault),
     }
@@ -165,18 +166,27 @@ pub(crate) fn served_of(plan: &Plan, found: &Found) -> Served
     }
 }
 
-/// Writes an answer.
+/// Writes an answer, by as many calls of `write` as `calls` says; those that were made are taken off it.
 ///
 /// # Errors
 ///
 /// [`ServeFault::Write`] where a write failed or took no byte, [`ServeFault::TooManyTurns`] where the calls of `write` ran
 /// out, with the number of bytes that were written.
-pub(crate) fn write_answer<W: Write>(writer: &mut W, bytes: &[u8]) -> Result<(), ServeFault>
+pub(crate) fn write_answer<W: Write>(
+    writer: &mut W,
+    bytes: &[u8],
+    calls: &mut u32,
+) -> Result<(), ServeFault>
     ensures ok { OnOk result (Appends (W.contents writer.old) (W.contents writer.new) bytes.now) }
     ensures err { IfErr result
         (IsUnwritten bytes.now (W.contents writer.old) (W.contents writer.new)) }
+    ensures counted { calls.new ≤ calls.old }
+    ensures made { IfErr result (λ fault. (sent : ℕ) → fault ≡ ServeFault.Write sent
+        → calls.new < calls.old) }
+    ensures turns { IfErr result (λ fault. (sent : ℕ) → fault ≡ ServeFault.TooManyTurns sent
+        → calls.new ≡ 0) }
 {
-    match write_all_of(writer, bytes) {
+    match write_all_of(writer, bytes, calls) {
         Ok(()) => Ok(()),
         Err(stop) => Err(match stop.kind {
             WriteErrorKind::Device => ServeFault::Write { sent: stop.sent },
@@ -190,7 +200,8 @@ pub(crate) fn out_of_memory<W: Write>(writer: &mut W) -> ServeFault
     ensures { (sent : ℕ) × (result ≡ ServeFault.Memory sent)
         × IsFixedAnswer (W.contents writer.old) (W.contents writer.new) sent }
 {
-    let sent = match write_all_of(writer, memory_bytes()) {
+    let mut calls = MAX_CALLS;
+    let sent = match write_all_of(writer, memory_bytes(), &mut calls) {
         Ok(()) => memory_bytes().len(),
         Err(stop) => stop.sent,
     };

@@ -9,7 +9,7 @@ ghost use Rattle.mds_face.specs.Serving.{IsUnwritten};
 use crate::connection::{find, out_of_memory, served_of, write_answer};
 use crate::{Desk, ServeFault, Served, read_plan};
 use mds_core::Key;
-use mds_io::{ReadError, write_all_of};
+use mds_io::{MAX_CALLS, ReadError, write_all_of};
 use mds_request::{Face, Plan};
 use mds_response::{bytes_of, not_kept_bytes};
 use std::alloc::Global;
@@ -187,7 +187,8 @@ fn write_kept<W: Write, D: KeptDesk>(
     ensures err { IfErr result
         (IsUnwritten bytes.now (W.contents writer.old) (W.contents writer.new)) }
 {
-    write_answer(writer, bytes)
+    let mut calls = MAX_CALLS;
+    write_answer(writer, bytes, &mut calls)
 }
 
 /// Writes what goes out in place of an answer that rests on what isn't recorded, as far as the writer takes it: the fault that
@@ -198,7 +199,8 @@ fn not_kept<W: Write>(writer: &mut W, fault: KeepFault) -> KeptFault
     match fault {
         KeepFault::Memory => KeptFault::Serve(out_of_memory(writer)),
         KeepFault::NotKept => {
-            let sent = match write_all_of(writer, not_kept_bytes()) {
+            let mut calls = MAX_CALLS;
+            let sent = match write_all_of(writer, not_kept_bytes(), &mut calls) {
                 Ok(()) => not_kept_bytes().len(),
                 Err(stop) => stop.sent,
             };

@@ -1,5 +1,5 @@
 -- How texts go out page by page.
-use Rattle.std.proofs.Common.{◌≡◌, ℕ, ◌+◌, ◌<◌, List, ◌∷◌, ◌++◌, length, get_or, drop, Option, subst, sym, ap, ◌∙◌, append_assoc, add-one}
+use Rattle.std.proofs.Common.{◌≡◌, ℕ, ◌+◌, ◌<◌, List, ◌∷◌, ◌++◌, length, get_or, drop, Option, subst, sym, ap, ◌∙◌, arith, append_assoc, length-append, add-one}
 use Rattle.std.proofs.Math.Seq.{drop-cons}
 use Rattle.std.specs.Io.KnownBytes.{Appends}
 use Rattle.std.proofs.KnownBytes.{Appends-trans}
@@ -15,8 +15,8 @@ passes_then a b c text left more rest first second =
 -- a text went out but for what was left, and of that and more a front
 pub passes_front : (a b c : Option (List ℕ)) (text left more : List ℕ) → Passes a b text left → AppendsFront b c (left ++ more) → AppendsFront a c (text ++ more)
 passes_front a b c text left more first second =
-    let whole = passes_then a b c text left more second.1 first (second.0, second.2, second.3) in
-    (whole.0, second.1, whole.1, whole.2)
+    let whole = passes_then a b c text left more second.1 first (second.0, second.3, second.4) in
+    (whole.0, second.1, second.2, whole.1, whole.2)
 
 -- a text went out but for what was left, and then that and more
 pub passes_to_end : (a b c : Option (List ℕ)) (text left more : List ℕ) → Passes a b text left → Appends b c (left ++ more) → Appends a c (text ++ more)
@@ -26,8 +26,13 @@ passes_to_end a b c text left more first second =
 
 -- a front of a text is a front of a longer one
 pub front_of_more : (a b : Option (List ℕ)) (text more : List ℕ) → AppendsFront a b text → AppendsFront a b (text ++ more)
-front_of_more a b text more front =
-    (front.0, front.1 ++ more, ap (λ t. t ++ more) front.2 ∙ append_assoc front.0 front.1 more, front.3)
+front_of_more a b text more front = (
+  front.0,
+  front.1 ++ more,
+  rw length-append (omega (arith, front.2)),
+  ap (λ t. t ++ more) front.3 ∙ append_assoc front.0 front.1 more,
+  front.4,
+)
 
 -- a text went out but for the page and a line before others; then so did the page and the line, but for the new page
 pub passes_line : (a b c : Option (List ℕ)) (text page line rest next : List ℕ) → Passes a b text (page ++ (line ++ rest)) → Passes b c (page ++ line) next → Passes a c text (next ++ rest)
@@ -40,8 +45,8 @@ passes_line a b c text page line rest next first second =
 -- a text went out but for the page and a line before others; then a front of the page and the line did
 pub front_of_line : (a b c : Option (List ℕ)) (text page line rest : List ℕ) → Passes a b text (page ++ (line ++ rest)) → AppendsFront b c (page ++ line) → AppendsFront a c text
 front_of_line a b c text page line rest first second =
-    let whole = passes_line a b c text page line rest second.1 first (second.0, second.2, second.3) in
-    (whole.0, second.1 ++ rest, whole.1, whole.2)
+    let whole = passes_line a b c text page line rest second.1 first (second.0, second.3, second.4) in
+    (whole.0, second.1 ++ rest, rw length-append (omega (arith, second.2)), whole.1, whole.2)
 
 -- what is left of a list begins with the item at the place reached
 pub next_item_or : {X : Type 0} (xs : List X) (i : ℕ) (d : X) → i < length xs → drop i xs ≡ get_or xs i d ∷ drop (i + 1) xs
@@ -54,8 +59,8 @@ next_item xs i x within is = next_item_or xs i x within ∙ ap (λ y. y ∷ drop
 pub passes_out : (a b c : Option (List ℕ)) (text left : List ℕ) → Passes a b text left → AppendsFront b c left → AppendsFront a c text
 passes_out a b c text left first second =
     let joined : text ≡ (first.0 ++ second.0) ++ second.1 =
-    first.1 ∙ ap (λ t. first.0 ++ t) second.2 ∙ sym (append_assoc first.0 second.0 second.1) in
-    (first.0 ++ second.0, second.1, joined, Appends-trans a b c first.0 second.0 first.2 second.3)
+    first.1 ∙ ap (λ t. first.0 ++ t) second.3 ∙ sym (append_assoc first.0 second.0 second.1) in
+    (first.0 ++ second.0, second.1, second.2, joined, Appends-trans a b c first.0 second.0 first.2 second.4)
 
 -- a text went out but for what was left, and then that too
 pub passes_all : (a b c : Option (List ℕ)) (text left : List ℕ) → Passes a b text left → Appends b c left → Appends a c text

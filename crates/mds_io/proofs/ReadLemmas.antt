@@ -8,7 +8,7 @@ use Rattle.std.proofs.KnownBytes.{Consumes-trans}
 use Rattle.std.specs.Prelude.{Option}
 use Rattle.mds_io.specs.declared.read.ReadError.{ReadError}
 use Rattle.mds_io.specs.declared.read.ReadError.TheVariants.{Memory, Device, TooManyTurns}
-use Rattle.mds_io.specs.Read.{Gains, HasFront, StopsAt}
+use Rattle.mds_io.specs.Read.{ConsumesUpTo, Gains, HasFront, StopsAt}
 
 -- a call that gave nothing
 pub gains_nothing : (most : ℕ) (a b : Option (List ℕ)) (held : List ℕ) → Consumes a b [] → Gains most a b held held
@@ -18,6 +18,16 @@ gains_nothing most a b held lost = ([], omega arith, sym (append-nil held), lost
 pub loses_given : (most : ℕ) (a b : Option (List ℕ)) (held grown given : List ℕ) → 0 < length given → length given ≤ most → grown ≡ held → Consumes a b given
     → StopsAt Memory most a b held grown
 loses_given most a b held grown given some fits same lost = ([], given, some, omega (arith, fits), same ∙ sym (append-nil held), lost)
+
+-- what was read when reading stopped
+pub stop_loses : (fault : ReadError) (most : ℕ) (a b : Option (List ℕ)) (held grown : List ℕ) → StopsAt fault most a b held grown → ConsumesUpTo most a b
+stop_loses Device most a b held grown stop = (stop.0, stop.1, stop.3)
+stop_loses TooManyTurns most a b held grown stop = (stop.0, stop.1, stop.3)
+stop_loses Memory most a b held grown stop = (stop.0 ++ stop.1, rw length-append stop.3, stop.5)
+
+-- what was read when it didn't
+pub gains_lose : (most : ℕ) (a b : Option (List ℕ)) (held grown : List ℕ) → Gains most a b held grown → ConsumesUpTo most a b
+gains_lose most a b held grown gains = (gains.0, gains.1, gains.3)
 
 -- one read after others
 pub gains_then : (limit : ℕ) (a b c : Option (List ℕ)) (held grown all : List ℕ) → Gains (limit - length held) a b held grown

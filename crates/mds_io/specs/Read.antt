@@ -26,6 +26,10 @@ StopsAt Memory most old new held grown = (more : List ℕ) × (lost : List ℕ) 
 StopsAt Device most old new held grown = Gains most old new held grown
 StopsAt TooManyTurns most old new held grown = Gains most old new held grown
 
+-- what reading from no bytes that stopped so lost
+abbrev pub LosesAt : ReadError → ℕ → Option (List ℕ) → Option (List ℕ) → Type 0
+LosesAt fault limit old new = (held : List ℕ) × StopsAt fault limit old new [] held
+
 -- what a call of `read` did to the known bytes: it gave a front of the room, met the end, or gave nothing
 abbrev pub Reads : Call → Option (List ℕ) → Option (List ℕ) → List ℕ → Type 0
 Reads (Moved count) old new room = (0 < count) × (count ≤ length room) × Consumes old new (take count room)

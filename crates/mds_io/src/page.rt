@@ -4,6 +4,7 @@ ghost use Rattle.std.specs.Prelude.{IsErrOf, OnOk, OnErr, IfErr, IfSome};
 ghost use Rattle.std.specs.Io.KnownBytes.{Appends, Keeps};
 ghost use Rattle.mds_io.specs.Page.{AppendsFront, Passes, with_newline};
 
+use crate::call::MAX_CALLS;
 use crate::write::write_all_of;
 use std::fmt::{Display, Write as _};
 use std::io::Write;
@@ -28,7 +29,7 @@ pub enum PrintError {
 /// # Errors
 ///
 /// `Memory` where the page could not grow, and then nothing was written; `Device` where a page of
-/// `PAGE_BYTES` bytes or more could not be written whole, and then a front of it went out. The page
+/// `PAGE_BYTES` bytes or more could not be written whole, and then a front of it went out, not all. The page
 /// may then hold any part of the text: nothing more should be written by it.
 pub fn add_line<W: Write, D: Display>(
     writer: &mut W,
@@ -84,8 +85,8 @@ pub fn end_page<W: Write, D: Display>(
 ///
 /// # Errors
 ///
-/// `Device`, the only fault, where it could not be written whole: a front of it went out, and the
-/// page is as it was.
+/// `Device`, the only fault, where it could not be written whole: a front of it went out, not all,
+/// and the page is as it was.
 #[tactic(auto, using(crate::proofs::WriteLemmas::front_of_sent))]
 pub fn flush_page<W: Write>(writer: &mut W, page: &mut String) -> Result<(), PrintError>
     ensures ok { OnOk result
@@ -96,7 +97,8 @@ pub fn flush_page<W: Write>(writer: &mut W, page: &mut String) -> Result<(), Pri
     ensures kept { OnErr result (string_bytes page.new ≡ string_bytes page.old) }
     ensures fault { IfErr result (λ fault. fault ≡ PrintError.Device) }
 {
-    match write_all_of(writer, page.as_bytes()) {
+    let mut calls = MAX_CALLS;
+    match write_all_of(writer, page.as_bytes(), &mut calls) {
         Ok(()) => {
             page.clear();
             Ok(())

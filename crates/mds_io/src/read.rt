@@ -2,9 +2,9 @@
 ghost use Rattle.std.specs.Prelude.{◌≡◌, ◌≢◌, ◌-◌, ◌<◌, ◌≤◌, length, vec_len};
 ghost use Rattle.std.specs.Prelude.{IsErrOf, OnOk, OnErr, IfOk, IfErr, MatchBool, MatchResult};
 ghost use Rattle.std.specs.Io.KnownBytes.{Consumes, IsAtEnd};
-ghost use Rattle.mds_io.specs.Read.{ConsumesUpTo, Gains, HasFront, Reads, StopsAt};
+ghost use Rattle.mds_io.specs.Read.{Gains, HasFront, LosesAt, Reads, StopsAt};
 
-use crate::call::{Call, MAX_CALLS, call_of};
+use crate::call::{Call, call_of};
 use std::alloc::Global;
 use std::io::Read;
 
@@ -24,30 +24,31 @@ pub enum ReadError {
 
 /// The bytes that `reader` gives, to its end, or the first `limit` of them.
 ///
-/// It calls `read` at most `MAX_CALLS` times; an interrupted call is made again.
+/// `calls` is as for `read_up_to`.
 ///
 /// # Errors
 ///
-/// `Memory` where there is no memory for the bytes, `Device` where a call fails otherwise,
-/// `TooManyTurns` where the calls run out. The reader has then lost a front of its bytes, at most
-/// `limit` of them.
+/// Those of `read_up_to`. The reader has then lost a front of its bytes, at most `limit` of them.
 #[tactic(auto, using(crate::proofs::ReadLemmas::read_from_none))]
 pub fn read_front<R: Read>(
     alloc: Global,
     reader: &mut R,
     limit: usize,
+    calls: &mut u32,
 ) -> Result<Vec<u8>, ReadError>
     ensures front { IfOk result (λ bytes. HasFront limit (R.remaining reader.old) bytes.items) }
     ensures short { IfOk result (λ bytes. vec_len bytes ≤ limit) }
     ensures taken { IfOk result (λ bytes.
         Consumes (R.remaining reader.old) (R.remaining reader.new) bytes.items) }
-    ensures lost { OnErr result
-        (ConsumesUpTo limit (R.remaining reader.old) (R.remaining reader.new)) }
+    ensures err { IfErr result (λ fault.
+        LosesAt fault limit (R.remaining reader.old) (R.remaining reader.new)) }
+    ensures counted { calls.new ≤ calls.old }
+    ensures made { IfErr result (λ fault. fault ≢ ReadError.TooManyTurns → calls.new < calls.old) }
+    ensures turns { IsErrOf result ReadError.TooManyTurns → calls.new ≡ 0 }
 {
     let mut bytes = Vec::new(alloc);
     let mut room = [0u8; CHUNK_BYTES];
-    let mut calls = MAX_CALLS;
-    read_up_to(reader, &mut bytes, &mut room, limit, &mut calls)?;
+    read_up_to(reader, &mut bytes, &mut room, limit, calls)?;
     Ok(bytes)
 }
 
@@ -76,6 +77,7 @@ pub fn read_up_to<R: Read>(
         → IsAtEnd (R.remaining reader.new)) }
     ensures err { IfErr result (λ fault. StopsAt fault (limit - length bytes.old.items)
         (R.remaining reader.old) (R.remaining reader.new) bytes.old.items bytes.new.items) }
+    ensures short { OnErr result (length bytes.new.items < limit) }
     ensures counted { calls.new ≤ calls.old }
     ensures made { IfErr result (λ fault. fault ≢ ReadError.TooManyTurns → calls.new < calls.old) }
     ensures turns { IsErrOf result ReadError.TooManyTurns → calls.new ≡ 0 }
@@ -113,6 +115,7 @@ pub fn read_more<R: Read>(
         (length bytes.old.items < length bytes.new.items)) }
     ensures err { IfErr result (λ fault. StopsAt fault (limit - length bytes.old.items)
         (R.remaining reader.old) (R.remaining reader.new) bytes.old.items bytes.new.items) }
+    ensures kept { OnErr result (bytes.new.items ≡ bytes.old.items) }
     ensures counted { calls.new ≤ calls.old }
     ensures made { MatchResult result (λ _. calls.new < calls.old)
         (λ fault. fault ≢ ReadError.TooManyTurns → calls.new < calls.old) }

@@ -44,7 +44,7 @@ module _ {T R : Type 0} (table_bytes : T → Option (List ℕ)) (table : Option 
   abbrev pub Listed : Option (List ℕ) → Option (List ℕ) → Type 0
   Listed old new = (history : List Request) × HasHistory history × Appends old new (listing_text history)
 
-  -- a front of it went out
+  -- a front of it went out, and not all of it
   abbrev pub ListedFront : Option (List ℕ) → Option (List ℕ) → Type 0
   ListedFront old new = (history : List Request) × HasHistory history × AppendsFront old new (listing_text history)
 

@@ -1,6 +1,6 @@
 -- Why a command over a journal could not be carried out, and what is said of it.
 use Rattle.std.specs.Prelude.{ℕ, List, ◌++◌, codes, Option}
-use Rattle.mds_io.specs.Page.{AppendsFront, with_newline}
+use Rattle.mds_io.specs.Page.{AppendsUpTo, with_newline}
 use Rattle.mds_journal.specs.Fault.{journal_fault_text}
 use Rattle.mds_commands.specs.declared.status.Status.{Status}
 use Rattle.mds_commands.specs.declared.status.Status.TheVariants as status
@@ -15,5 +15,5 @@ journal_status_of (Other problem) = status_of problem
 
 -- what is said of the problem went out, or a front of it
 abbrev pub TellsJournal : Option (List ℕ) → Option (List ℕ) → JournalProblem → Type 0
-TellsJournal old new (NotAJournal fault) = AppendsFront old new (with_newline (codes "mds_city: not a journal: " ++ journal_fault_text fault))
+TellsJournal old new (NotAJournal fault) = AppendsUpTo old new (with_newline (codes "mds_city: not a journal: " ++ journal_fault_text fault))
 TellsJournal old new (Other problem) = Tells old new problem

@@ -3,7 +3,7 @@ ghost use Rattle.std.specs.Prelude.{◌≡◌, ◌⊎◌};
 ghost use Rattle.mds_listing.specs.Problem.{journal_status_of, TellsJournal};
 
 use mds_commands::{Problem, Status, tell};
-use mds_io::{PrintError, write_all_of};
+use mds_io::{MAX_CALLS, PrintError, write_all_of};
 use mds_journal::JournalFault;
 use std::alloc::Global;
 use std::fmt::Write as _;
@@ -65,14 +65,15 @@ fn tell_fault<E: Write>(alloc: Global, faults: &mut E, fault: JournalFault) -> S
         (E.contents faults.new) (JournalProblem.Other Problem.Memory)) }
 {
     let mut text = String::new(alloc);
+    let mut calls = MAX_CALLS;
     match writeln!(text, "mds_city: not a journal: {fault}") {
         Ok(()) => {
-            let _ = write_all_of(faults, text.as_bytes());
+            let _ = write_all_of(faults, text.as_bytes(), &mut calls);
             Status::Fault
         }
         // There is no memory to lay the line out.
         Err(_) => {
-            let _ = write_all_of(faults, b"mds_city: out of memory\n");
+            let _ = write_all_of(faults, b"mds_city: out of memory\n", &mut calls);
             Status::NoMemory
         }
     }

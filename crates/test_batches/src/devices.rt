@@ -35,17 +35,19 @@ const DEVICE: Result<usize, ReadError> = Err(ReadError::Device);
 
 const TURNS: Result<usize, ReadError> = Err(ReadError::TooManyTurns);
 
-/// How many bytes are read, or why none, and the number of calls.
-fn read_of(alloc: Global, plan: Plan, most: usize) -> (Result<usize, ReadError>, u32) {
-    let mut stream = Stream::new(plan);
-    let read = read_front(alloc, &mut stream, most).map(|bytes| bytes.len());
-    (read, stream.calls)
+/// Whether a reading ends so, and counts its calls as the stream does.
+fn reads_so(alloc: Global, ((plan, most), ended): &Reading) -> bool {
+    let mut stream = Stream::new(*plan);
+    let mut calls = MAX_CALLS;
+    let read = read_front(alloc, &mut stream, *most, &mut calls).map(|bytes| bytes.len());
+    (read, stream.calls) == *ended && calls.checked_add(stream.calls) == Some(MAX_CALLS)
 }
 
 #[test]
 fn reads_end_as_the_stream_does(rt: HostRuntime) {
-    let other = READINGS.iter().position(|((plan, most), ended)| read_of(rt.alloc(), *plan, *most)
-        != *ended);
+    let other = READINGS
+        .iter()
+        .position(|reading| !reads_so(rt.alloc(), reading));
     assert_eq!(rt; other, None);
 }
 
@@ -72,19 +74,21 @@ const WRITINGS: &[Writing] = rows! {
     ((2_500_001, (3_000_000, 1, true, ENDS)), (Some((2_500_000, TooManyTurns)), 5_000_000)),
 };
 
-/// Whether a writing ends so.
-fn is_so(alloc: Global, ((length, plan), ended): &Writing) -> Result<bool, AllocError> {
+/// Whether a writing ends so, and counts its calls as the stream does.
+fn writes_so(alloc: Global, ((length, plan), ended): &Writing) -> Result<bool, AllocError> {
     let bytes = vec![in alloc; 7u8; *length]?;
     let mut stream = Stream::new(*plan);
-    let stop = write_all_of(&mut stream, &bytes).err();
-    Ok((stop.map(|stop| (stop.sent, stop.kind)), stream.calls) == *ended)
+    let mut calls = MAX_CALLS;
+    let stop = write_all_of(&mut stream, &bytes, &mut calls).err();
+    let found = (stop.map(|stop| (stop.sent, stop.kind)), stream.calls);
+    Ok(found == *ended && calls.checked_add(stream.calls) == Some(MAX_CALLS))
 }
 
 #[test]
 fn writes_end_as_the_stream_does(rt: HostRuntime) {
     let other = WRITINGS
         .iter()
-        .position(|writing| is_so(rt.alloc(), writing) != Ok(true));
+        .position(|writing| writes_so(rt.alloc(), writing) != Ok(true));
     assert_eq!(rt; other, None);
 }
 
@@ -169,7 +173,10 @@ fn two_lines(alloc: Global) -> Result<(Vec<u8>, usize), PrintError> {
 /// Each call that takes memory, made again where its growth is refused (by `tests/refused-growths`).
 #[test]
 fn calls_succeed_after_a_refused_growth(rt: HostRuntime) {
-    let front = again!(read_front(rt.alloc(), &mut b"abc".as_slice(), 9)).map(|bytes| bytes.len());
+    let mut calls = MAX_CALLS;
+    let front = again!(read_front(rt.alloc(), &mut b"abc".as_slice(), 9, &mut calls)).map(
+        |bytes| bytes.len(),
+    );
     let bytes = read_again(rt.alloc()).map(|bytes| bytes.as_slice()
         == b"abcdefghijklmnop".as_slice());
     let lines = again!(two_lines(rt.alloc())).map(|told| (
@@ -185,7 +192,8 @@ type Sent = (Result<(), WriteError>, Result<(), PrintError>, usize, usize);
 
 fn sent(page: &mut String, plan: Plan) -> Sent {
     let mut out = Stream::new(plan);
-    let wrote = write_all_of(&mut out, b"abc");
+    let mut calls = MAX_CALLS;
+    let wrote = write_all_of(&mut out, b"abc", &mut calls);
     (wrote, flush_page(&mut out, page), out.left, page.len())
 }
 

@@ -1,7 +1,7 @@
 //! Three connections over loopback, of a server and its client in one process.
 use super::{A, Came, once, served};
 use mds_book::OpenGate;
-use mds_io::{read_front, write_all_of};
+use mds_io::{MAX_CALLS, read_front, write_all_of};
 use mds_socket::SocketPort;
 use std::alloc::Global;
 use std::net::{Ipv4Addr, Net, TcpListener, TcpStream};
@@ -34,10 +34,11 @@ fn is_answered<R: Net>(rt: &R, alloc: Global, number: u16, request: &[u8], answe
     let Ok(mut stream) = TcpStream::connect(rt, (Ipv4Addr::LOCALHOST, number)) else {
         return false;
     };
-    if write_all_of(&mut stream, request).is_err() {
+    let mut calls = MAX_CALLS;
+    if write_all_of(&mut stream, request, &mut calls).is_err() {
         return false;
     }
-    match read_front(alloc, &mut stream, 1000) {
+    match read_front(alloc, &mut stream, 1000, &mut calls) {
         Ok(bytes) => bytes.as_slice() == answer,
         Err(_) => false,
     }

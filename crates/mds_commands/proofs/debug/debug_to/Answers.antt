@@ -6,8 +6,19 @@ use Rattle.mds_commands.specs.declared.debug.DebugProblem.TheVariants.{BadIdenti
 use Rattle.mds_commands.specs.declared.problem.Problem.TheVariants.{CannotRead, NotATable, NotABatch, NotLines, Socket, Random, Output, Memory}
 use Rattle.mds_commands.specs.declared.source.Source.{Source}
 use Rattle.mds_commands.specs.Command.{status_on}
-use Rattle.mds_commands.specs.Debug.{DebugWentOut, ExplainsDebug, IsOther}
+use Rattle.mds_io.specs.declared.page.PrintError.TheVariants as write
+use Rattle.mds_trace.specs.Walk.{Walk}
+use Rattle.mds_debugger.specs.declared.line.CountsLine.{CountsLine}
+use Rattle.mds_debugger.proofs.WalkLemmas.{front_at_least}
+use Rattle.mds_commands.specs.Debug.{DebugsFront, DebugWentOut, ExplainsDebug, IsOther}
 use Rattle.mds_commands.proofs.debug.debug_to.Goals as goal
+
+-- what went out where the output failed may also have gone out where memory is wanting
+weaker : (walk : Walk) (counts : CountsLine) (input input_new old new : Option (List ℕ)) → DebugsFront write.Device walk counts input input_new old new
+    → DebugsFront write.Memory walk counts input input_new old new
+weaker walk counts input input_new old new (inl start) = inl start
+weaker walk counts input input_new old new (inr (start, prints, middle, began, (bytes, read, script, is, front))) =
+    inr (start, prints, middle, began, inr (bytes, read, script, is, front_at_least write.Memory walk script middle new front))
 
 module _ {T R : Type 0} (table_bytes : T → Option (List ℕ)) (table : Option (Source T)) (file_bytes : R → Option (List ℕ)) (file : Source R) (named : Named) where
   -- whatever the problem, nothing went out before it, or a front of what is printed
@@ -22,7 +33,7 @@ module _ {T R : Type 0} (table_bytes : T → Option (List ℕ)) (table : Option 
   out_before (Other (NotLines fault)) input input_new old new other out = inl out.1
   out_before (Other Socket) input input_new old new other out = inl out.1
   out_before (Other Random) input input_new old new other out = inl out.1
-  out_before (Other Output) input input_new old new other out = inr out
+  out_before (Other Output) input input_new old new other out = inr (out.0, out.1, out.2, weaker out.0 out.1 input input_new old new out.3)
   out_before (Other Memory) input input_new old new other out = out
 
   -- where memory is wanting to tell a problem, that explains the want of memory as well

@@ -1,8 +1,8 @@
-use Rattle.std.proofs.Common.{rules, ◌++◌, string_bytes}
+use Rattle.std.proofs.Common.{rules, ◌++◌, length, string_bytes}
 use Rattle.std.proofs.lemmas.Result.{on_err_weaker, on_ok_weaker}
 use Rattle.mds_io.specs.Page.{AppendsFront}
-use Rattle.mds_commands.specs.Text.{heading, rows_text}
-use Rattle.mds_commands.proofs.PrintLemmas.{front_of_both, both_pass, second_stops}
+use Rattle.mds_commands.specs.Text.{count_line, heading, row_lines, rows_text}
+use Rattle.mds_commands.proofs.PrintLemmas.{front_of_both, first_passed, both_pass, line_last, second_stops}
 use Rattle.mds_commands.proofs.print.add_table.Goals as goal
 
 pub returns-in_err-add_heading-clause-err : goal.returns-in_err-add_heading-clause-err
@@ -19,7 +19,7 @@ pub returns-in_default-clause-err : goal.returns-in_default-clause-err
 returns-in_default-clause-err g c =
     let first = heading c.args.count c.args.start in
     let passed = c.in_ok-add_heading.ensures.ok in
-    front_of_both (string_bytes c.args.page.now) first (rows_text c.args.table.now) _ _ (passed.0, string_bytes c.add_heading.new.page, passed.1, passed.2)
+    first_passed (string_bytes c.args.page.now) first (rows_text c.args.table.now) (string_bytes c.add_heading.new.page) _ _ (line_last (row_lines c.args.table.now) (count_line (length c.args.table.now))) passed
 
 pub returns-clause-ok : goal.returns-clause-ok
 returns-clause-ok g c =

@@ -1,4 +1,5 @@
-use Rattle.mds_face.proofs.ReadingLemmas.{gains_lose, grows_none, head_enough, loses_none, complete_enough, complete_stays, stop_loses}
+use Rattle.mds_io.proofs.ReadLemmas.{gains_lose, stop_loses}
+use Rattle.mds_face.proofs.ReadingLemmas.{grows_none, head_enough, loses_none, complete_enough, complete_stays}
 use Rattle.mds_face.proofs.reading.read_body.Goals as goal
 
 pub returns-in_default : goal.returns-in_default

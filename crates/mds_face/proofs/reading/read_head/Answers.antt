@@ -1,6 +1,7 @@
 use Rattle.std.proofs.Common.{rules}
 use Rattle.mds_io.specs.Read.{ConsumesUpTo}
-use Rattle.mds_face.proofs.ReadingLemmas.{gains_few, loses_next, read_next, status_of_same, stop_loses}
+use Rattle.mds_io.proofs.ReadLemmas.{stop_loses}
+use Rattle.mds_face.proofs.ReadingLemmas.{gains_few, loses_next, read_next, status_of_same}
 use Rattle.mds_face.proofs.reading.read_head.Goals as goal
 
 pub loop-reader-preserved : goal.loop-reader-preserved

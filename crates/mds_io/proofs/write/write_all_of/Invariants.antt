@@ -6,7 +6,8 @@ abbrev pub invariant-loop-sent : goal.invariant-loop-sent
 invariant-loop-sent g l = record {
   within : l.sent ≤ length l.bytes;
   went : Appends (g.W.Write.contents l.initial.writer) (g.W.Write.contents l.writer) (take l.sent l.bytes);
+  counted : l.calls ≤ l.initial.calls;
 }
 
 abbrev pub decreases-loop-sent : goal.decreases-loop-sent
-decreases-loop-sent g l = l.left
+decreases-loop-sent g l = l.calls
