@@ -1,6 +1,4 @@
 //! The debugger's readers and writers that fail, and its calls where memory is wanting.
-ghost use Rattle.std.specs.Prelude.{◌≡◌, IfOk};
-
 use crate::told::{Told, items_of};
 use mds_core::Refusal;
 use mds_debugger::{
@@ -11,88 +9,39 @@ use mds_io::PrintError;
 use mds_table::State::{Available, OnTrip, Removed};
 use mds_trace::{Session, SessionFault, Verdict};
 use std::alloc::{AllocError, Global};
-use std::io::{self, Error, ErrorKind, Read, Write};
-use test_fixtures::{A, B, E1, E2, Lack, again, fence, key, profile};
-
-/// A reader that gives so many line feeds, with an interruption before each call, and then fails so or is at its end.
-#[derive(Drop)]
-struct Feeds {
-    left: usize,
-    calls: u32,
-    last: Option<ErrorKind>,
-}
-
-impl Read for Feeds {
-    fn read(&mut self, buf: &mut [u8]) -> io::Result<usize> {
-        self.calls = self.calls.saturating_add(1);
-        if self.calls % 2 == 1 {
-            return Err(Error::from(ErrorKind::Interrupted));
-        }
-        let count = buf.len().min(self.left);
-        if count == 0 {
-            return ending(self.last);
-        }
-        buf[..count].fill(b'\n');
-        self.left -= count;
-        Ok(count)
-    }
-}
-
-/// How a stream goes on behind its bytes.
-fn ending(last: Option<ErrorKind>) -> io::Result<usize>
-    ensures { IfOk result (λ n. n ≡ 0) }
-{
-    match last {
-        Some(kind) => Err(Error::from(kind)),
-        None => Ok(0),
-    }
-}
+use test_fixtures::{
+    A, B, E1, E2, ENDS, Expects, FAILS, Lack, Last, PAUSES, Stream, again, fence, key, profile,
+    rows,
+};
 
 /// What is read of a stream: how many bytes, how many are left, the number of calls, and how reading ends.
 type Taken = (usize, usize, u32, ScriptEnd);
 
 /// The length of a stream, how it goes on, and what is read of it.
-type Stream = (usize, Option<ErrorKind>, Taken);
+type Case = (usize, Last, Taken);
 
-const BROKEN: Option<ErrorKind> = Some(ErrorKind::BrokenPipe);
-
-const PAUSED: Option<ErrorKind> = Some(ErrorKind::Interrupted);
-
-const STREAMS: &[Stream] = &[
-    (70_000, None, (70_000, 0, 6, ScriptEnd::Whole)),
-    (70_000, BROKEN, (70_000, 0, 6, ScriptEnd::Broken)),
-    (0, BROKEN, (0, 0, 2, ScriptEnd::Broken)),
-    (5, PAUSED, (5, 0, 5_000_000, ScriptEnd::Broken)),
-    (1_048_576, BROKEN, (1_048_576, 0, 32, ScriptEnd::Whole)),
-    (1_048_577, None, (1_048_576, 1, 32, ScriptEnd::Whole)),
-    (1_048_575, None, (1_048_575, 0, 34, ScriptEnd::Whole)),
+const CASES: &[Case] = &[
+    (70_000, ENDS, (70_000, 0, 6, ScriptEnd::Whole)),
+    (70_000, FAILS, (70_000, 0, 6, ScriptEnd::Broken)),
+    (0, FAILS, (0, 0, 2, ScriptEnd::Broken)),
+    (5, PAUSES, (5, 0, 5_000_000, ScriptEnd::Broken)),
+    (1_048_576, FAILS, (1_048_576, 0, 32, ScriptEnd::Whole)),
+    (1_048_577, ENDS, (1_048_576, 1, 32, ScriptEnd::Whole)),
+    (1_048_575, ENDS, (1_048_575, 0, 34, ScriptEnd::Whole)),
 ];
 
-/// What is read of a stream of this length that goes on so.
-fn taken(alloc: Global, left: usize, last: Option<ErrorKind>) -> Result<Taken, AllocError> {
-    let mut reader = Feeds {
-        left,
-        calls: 0,
-        last,
-    };
+/// What is read of a stream of this length that goes on so, and is interrupted before each call.
+fn taken(alloc: Global, left: usize, last: Last) -> Result<Taken, AllocError> {
+    let mut reader = Stream::new((left, usize::MAX, true, last));
     let script = read_script(alloc, &mut reader)?;
     Ok((script.bytes.len(), reader.left, reader.calls, script.end))
 }
 
-/// The place of the first of these streams of which something else is read, and what.
-fn first_other(alloc: Global, streams: &[Stream]) -> Result<Option<(usize, Taken)>, AllocError> {
-    for (at, (len, last, expected)) in streams.iter().enumerate() {
-        let taken = taken(alloc, *len, *last)?;
-        if taken != *expected {
-            return Ok(Some((at, taken)));
-        }
-    }
-    Ok(None)
-}
-
 #[test]
 fn reading_ends_at_the_end_the_limit_or_a_fault(rt: HostRuntime) {
-    assert_eq!(rt; first_other(rt.alloc(), STREAMS), Ok(None));
+    let other = CASES.iter().position(|(len, last, expected)| taken(rt.alloc(), *len, *last)
+        != Ok(*expected));
+    assert_eq!(rt; other, None);
 }
 
 /// What the line of a script says.
@@ -156,35 +105,11 @@ fn opened(alloc: Global) -> Result<(Session, CountsLine), Lack> {
     }
 }
 
-/// A writer that takes this text alone, and no memory; behind it, it fails.
-#[derive(Drop)]
-struct Expects {
-    rest: &'static [u8],
-}
-
-impl Write for Expects {
-    fn write(&mut self, buf: &[u8]) -> io::Result<usize> {
-        let count = buf.len().min(self.rest.len());
-        let (Some(wanted), Some(rest)) = (self.rest.get(..count), self.rest.get(count..)) else {
-            return Err(Error::from(ErrorKind::Other));
-        };
-        if count == 0 || buf.get(..count) != Some(wanted) {
-            return Err(Error::from(ErrorKind::BrokenPipe));
-        }
-        self.rest = rest;
-        Ok(count)
-    }
-
-    fn flush(&mut self) -> io::Result<()> {
-        Ok(())
-    }
-}
-
 /// How a printing ended, and whether all that was expected went out.
 type Printed = (Result<(), PrintError>, bool);
 
 /// How a printing to this writer ended, unless memory was wanting.
-fn printed(end: Result<(), PrintError>, writer: &Expects) -> Result<Printed, Lack> {
+fn printed(end: Result<(), PrintError>, writer: &Expects<'_>) -> Result<Printed, Lack> {
     match end {
         Err(PrintError::Memory) => Err(Lack::Memory),
         end => Ok((end, writer.rest.is_empty())),
@@ -225,7 +150,7 @@ fn a_walk_is_printed_after_a_refused_growth(rt: HostRuntime) {
     assert_eq!(rt; printed, Ok((Ok(()), true)));
 }
 
-/// A writer that fails within the second line.
+/// The writer fails within the second line.
 #[test]
 fn a_writer_that_fails_ends_the_script(rt: HostRuntime) {
     let printed = walked(rt.alloc(), &[BACK, BACK], b"at start\nat star");
@@ -233,27 +158,15 @@ fn a_writer_that_fails_ends_the_script(rt: HostRuntime) {
 }
 
 /// Lines, and what they say.
-const LINES: &[(&[u8], Said)] = &[
+const LINES: &[(&[u8], Said)] = rows! {
     (b"chain", CHAIN),
-    (
-        b"run removed",
-        Some(ScriptCommand::Move(Move::Run(Removed))),
-    ),
+    (b"run removed", Some(ScriptCommand::Move(Move::Run(Removed)))),
     (b"run flying", None),
     (b"\xff", None),
-];
+};
 
-/// The place of the first of these lines that says something else.
-fn first_misread(lines: &[(&[u8], Said)]) -> Option<usize> {
-    for (at, (line, said)) in lines.iter().enumerate() {
-        if ScriptCommand::of_line(line) != *said {
-            return Some(at);
-        }
-    }
-    None
-}
-
-/// The same between two fences, and how a script that quits ends, which prints nothing.
+/// The place of the first of these lines that says something else, and how a script that quits ends, which prints nothing;
+/// between two fences.
 fn misread_and_quit(
     alloc: Global,
     lines: &[(&[u8], Said)],
@@ -261,7 +174,8 @@ fn misread_and_quit(
     let (mut session, _) = opened(alloc)?;
     let mut writer = Expects { rest: b"" };
     let _begun = fence(alloc);
-    let misread = first_misread(lines);
+    let mut said = lines.iter();
+    let misread = said.position(|(line, said)| ScriptCommand::of_line(line) != *said);
     let end = print_walk(alloc, &mut writer, &mut session, &[QUIT, None]);
     let _ended = fence(alloc);
     Ok((misread, end))

@@ -71,19 +71,12 @@ fn comes_out(alloc: Global, stream: &Stream) -> Result<bool, Lack> {
     }
 }
 
-/// The place of the first stream that comes to something else.
-fn first_other(alloc: Global, streams: &[Stream]) -> Result<Option<usize>, Lack> {
-    for (at, stream) in streams.iter().enumerate() {
-        if !comes_out(alloc, stream)? {
-            return Ok(Some(at));
-        }
-    }
-    Ok(None)
-}
-
 #[test]
 fn worked_streams(rt: HostRuntime) {
-    assert_eq!(rt; first_other(rt.alloc(), STREAMS), Ok(None));
+    let other = STREAMS
+        .iter()
+        .position(|stream| comes_out(rt.alloc(), stream) != Ok(true));
+    assert_eq!(rt; other, None);
 }
 
 /// Pieces that are fed, and how each of these calls ends.

@@ -8,7 +8,7 @@ use mds_table::State::{Available, Elsewhere, OnTrip, Removed, Reserved};
 use mds_table::{State, Tables};
 use std::alloc::{AllocError, Global};
 use std::thread::Threads;
-use test_fixtures::{A, B, E1, E2, E3, Lack, again, fence, profile, profile_again};
+use test_fixtures::{A, B, E1, E2, E3, Lack, again, fence, profile, profile_again, rows};
 
 /// Events, what vehicles are taken to hold first, and what the replay by the profile comes to.
 type Case = (&'static [Told], Opening, &'static Expected);
@@ -28,25 +28,15 @@ const UNREGISTERED: &[Told] = &[
 
 /// What they come to from any state.
 const FROM_ANY: Expected = Expected(
-    &[
-        Verdict::Accepted(Available),
-        Verdict::Accepted(Elsewhere),
-        Verdict::NoOpening { at: 1 },
-    ],
-    &[
-        End(A, &[OnTrip], Some((Elsewhere, 2))),
-        End(B, &State::ALL, None),
-    ],
+    rows! { Verdict::Accepted(Available), Verdict::Accepted(Elsewhere), Verdict::NoOpening { at: 1 } },
+    rows! { End(A, &[OnTrip], Some((Elsewhere, 2))), End(B, &State::ALL, None) },
     (2, 1),
 );
 
 /// What they come to from removed.
 const FROM_REMOVED: Expected = Expected(
-    &[NOT_REMOVED, NOT_REMOVED, NOT_REMOVED],
-    &[
-        End(A, &[Removed], Some((Removed, 0))),
-        End(B, &[Removed], Some((Removed, 0))),
-    ],
+    &[NOT_REMOVED; 3],
+    rows! { End(A, &[Removed], Some((Removed, 0))), End(B, &[Removed], Some((Removed, 0))) },
     (0, 3),
 );
 
@@ -102,23 +92,12 @@ fn comes_out<R: Threads + Sync>(rt: &R, alloc: Global, case: &Case) -> Result<bo
     Ok(is_report(&whole, expected) && is_report(&one_by_one, expected) && by_workers)
 }
 
-/// The place of the first case that comes to something else.
-fn first_other<R: Threads + Sync>(
-    rt: &R,
-    alloc: Global,
-    cases: &[Case],
-) -> Result<Option<usize>, Lack> {
-    for (at, case) in cases.iter().enumerate() {
-        if !comes_out(rt, alloc, case)? {
-            return Ok(Some(at));
-        }
-    }
-    Ok(None)
-}
-
 #[test]
 fn worked_replays(rt: HostRuntime) {
-    assert_eq!(rt; first_other(&rt, rt.alloc(), CASES), Ok(None));
+    let other = CASES
+        .iter()
+        .position(|case| comes_out(&rt, rt.alloc(), case) != Ok(true));
+    assert_eq!(rt; other, None);
 }
 
 /// The items of the five events, made again where a growth is refused.

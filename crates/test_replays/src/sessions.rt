@@ -7,7 +7,7 @@ use mds_table::State::{
 };
 use mds_trace::{Halt, Place, Session, SessionFault};
 use std::alloc::{AllocError, Global};
-use test_fixtures::{A, E1, E2, Lack, again, fence, profile};
+use test_fixtures::{A, E1, E2, Lack, again, fence, profile, rows};
 
 /// A call of a session.
 #[derive(Clone, Copy)]
@@ -44,22 +44,9 @@ const LOST_AND_BACK: Start = Start(
 );
 
 /// What the debugger's script shows of them.
-const LOST_AND_BACK_WALK: &[Moved] = &[
+const LOST_AND_BACK_WALK: &[Moved] = rows! {
     Moved(Next, None, (1, 0), NonContactable, &[NonContactable]),
-    Moved(
-        Step,
-        None,
-        (1, 1),
-        NonContactable,
-        &[
-            Removed,
-            Available,
-            NonOperational,
-            Reserved,
-            OnTrip,
-            Elsewhere,
-        ],
-    ),
+    Moved(Step, None, (1, 1), NonContactable, &[Removed, Available, NonOperational, Reserved, OnTrip, Elsewhere]),
     Moved(Step, None, (1, 2), NonContactable, &[Available]),
     Moved(Step, None, (2, 0), Available, &[Available]),
     Moved(Step, END, (2, 0), Available, &[Available]),
@@ -67,7 +54,7 @@ const LOST_AND_BACK_WALK: &[Moved] = &[
     Moved(RunTo(Removed), END, (1, 2), NonContactable, &[Available]),
     Moved(RunTo(Available), None, (2, 0), Available, &[Available]),
     Moved(Next, END, (2, 0), Available, &[Available]),
-];
+};
 
 /// The end of a trip.
 const TRIP_END: Told = Told(A, E1, &["trip_end"], Available, 1000);
@@ -76,34 +63,19 @@ const TRIP_END: Told = Told(A, E1, &["trip_end"], Available, 1000);
 const ONE_TRIP: Start = Start(OnTrip, &[TRIP_END]);
 
 /// The debugger's script; back to the opening state; no events.
-const WALKS: &[Walk] = &[
-    (
-        LOST_AND_BACK,
-        LOST_AND_BACK_WALK,
-        &[
-            Some(&[Removed, NonContactable]),
-            Some(&[NonContactable, OnTrip, Available]),
-            None,
-        ],
-    ),
-    (
-        ONE_TRIP,
-        &[
-            Moved(Step, None, (0, 1), OnTrip, &[Available]),
-            Moved(Back, None, (0, 0), OnTrip, &[OnTrip]),
-            Moved(Back, START, (0, 0), OnTrip, &[OnTrip]),
-        ],
-        &[Some(&[OnTrip, Available])],
-    ),
-    (
-        Start(Removed, &[]),
-        &[
-            Moved(Step, END, (0, 0), Removed, &[Removed]),
-            Moved(Back, START, (0, 0), Removed, &[Removed]),
-        ],
-        &[None],
-    ),
-];
+const WALKS: &[Walk] = rows! {
+    (LOST_AND_BACK, LOST_AND_BACK_WALK, &[
+        Some(&[Removed, NonContactable]), Some(&[NonContactable, OnTrip, Available]), None,
+    ]),
+    (ONE_TRIP, &[
+        Moved(Step, None, (0, 1), OnTrip, &[Available]),
+        Moved(Back, None, (0, 0), OnTrip, &[OnTrip]),
+        Moved(Back, START, (0, 0), OnTrip, &[OnTrip]),
+    ], &[Some(&[OnTrip, Available])]),
+    (Start(Removed, &[]), &[
+        Moved(Step, END, (0, 0), Removed, &[Removed]), Moved(Back, START, (0, 0), Removed, &[Removed]),
+    ], &[None]),
+};
 
 /// What comes of opening a session; of want of memory there is nothing to compare.
 fn opened(alloc: Global, start: &Start) -> Result<Result<Session, SessionFault>, Lack> {
@@ -206,31 +178,22 @@ fn sessions_move_with_every_growth_refused(rt: HostRuntime) {
 #[derive(Clone, Copy)]
 struct Opening(Start, Option<SessionFault>);
 
-const OPENINGS: &[Opening] = &[
+const OPENINGS: &[Opening] = rows! {
     Opening(ONE_TRIP, None),
-    Opening(
-        Start(Reserved, &[TRIP_END]),
-        Some(SessionFault::Unlawful { event: 0, at: 0 }),
-    ),
-    Opening(
-        Start(OnTrip, &[TRIP_END; 2]),
-        Some(SessionFault::BadOrder { event: 1 }),
-    ),
-];
+    Opening(Start(Reserved, &[TRIP_END]), Some(SessionFault::Unlawful { event: 0, at: 0 })),
+    Opening(Start(OnTrip, &[TRIP_END; 2]), Some(SessionFault::BadOrder { event: 1 })),
+};
 
-/// The place of the first session that is opened otherwise.
-fn first_opened_otherwise(alloc: Global, cases: &[Opening]) -> Result<Option<usize>, Lack> {
-    for (at, Opening(start, fault)) in cases.iter().enumerate() {
-        if opened(alloc, start)?.err() != *fault {
-            return Ok(Some(at));
-        }
-    }
-    Ok(None)
+/// Why a session isn't opened, if it isn't.
+fn fault_of(alloc: Global, start: &Start) -> Result<Option<SessionFault>, Lack> {
+    Ok(opened(alloc, start)?.err())
 }
 
 #[test]
 fn sessions_that_open_or_not(rt: HostRuntime) {
-    assert_eq!(rt; first_opened_otherwise(rt.alloc(), OPENINGS), Ok(None));
+    let other = OPENINGS.iter().position(|Opening(start, fault)| fault_of(rt.alloc(), start)
+        != Ok(*fault));
+    assert_eq!(rt; other, None);
 }
 
 /// Whether a session over the end of a trip shows its chain, where each is asked for again if a growth is refused.
