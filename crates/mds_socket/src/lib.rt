@@ -1,12 +1,15 @@
 //! Connections over TCP, at an address of this machine.
 #![tactic(auto)]
 
-mod lack;
 pub mod laws;
+mod port;
 mod retry;
 mod socket;
+mod system;
 mod tables;
 mod watch;
 
 pub use mds_waiting::Given as SocketIn;
-pub use socket::{SocketOut, SocketPort};
+pub use port::WaitingPort;
+pub use socket::{SocketOut, SocketPort, Sockets};
+pub use system::{Ready, System};

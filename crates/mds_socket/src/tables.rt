@@ -1,19 +1,18 @@
 //! The connections that wait: those whose requests come, and those whose answers leave.
-use crate::watch::{Ready, Socket, Watch};
-use mds_waiting::{Coming, Leaving, Part, Waiter, Waiting};
+use crate::system::{Ready, System};
+use mds_waiting::{Coming, Leaving, Part, Peer, Waiter, Waiting};
 use std::alloc::Global;
-use std::time::Clock;
 
 /// The connections that wait.
 #[derive(Drop)]
-pub(crate) struct Tables {
-    pub(crate) coming: Waiting<Coming<Socket>>,
-    pub(crate) leaving: Waiting<Leaving<Socket>>,
+pub(crate) struct Tables<P> {
+    pub(crate) coming: Waiting<Coming<P>>,
+    pub(crate) leaving: Waiting<Leaving<P>>,
 }
 
-impl Tables {
+impl<P: Peer> Tables<P> {
     /// None.
-    pub(crate) fn new(alloc: Global) -> Tables {
+    pub(crate) fn new(alloc: Global) -> Tables<P> {
         Tables {
             coming: Waiting::new(alloc),
             leaving: Waiting::new(alloc),
@@ -35,29 +34,31 @@ impl Tables {
     }
 
     /// Lets a connection wait until more of its request comes. Where the system can't be asked when, it is let go.
-    pub(crate) fn let_come(&mut self, watch: &Watch, mut waiter: Waiter<Coming<Socket>>) {
+    pub(crate) fn let_come<S: System<Peer = P>>(
+        &mut self,
+        system: &S,
+        mut waiter: Waiter<Coming<P>>,
+    ) {
         let Some(key) = self.coming.key_for(waiter.bytes.len()) else {
             return;
         };
-        if watch.ask(&mut waiter.state.peer, Ready::Coming(key), false) {
+        if system.ask(&mut waiter.state.peer, Ready::Coming(key), false) {
             self.coming.put(key, waiter);
         }
     }
 
     /// Lets a connection wait until its client takes more of the answer, or ends behind it.
-    pub(crate) fn let_leave(&mut self, watch: &Watch, mut waiter: Waiter<Leaving<Socket>>) {
+    pub(crate) fn let_leave<S: System<Peer = P>>(
+        &mut self,
+        system: &S,
+        mut waiter: Waiter<Leaving<P>>,
+    ) {
         let for_sending = waiter.state.part == Part::Answer;
         let Some(key) = self.leaving.key_for(waiter.bytes.len()) else {
             return;
         };
-        if watch.ask(&mut waiter.state.peer, Ready::Leaving(key), for_sending) {
+        if system.ask(&mut waiter.state.peer, Ready::Leaving(key), for_sending) {
             self.leaving.put(key, waiter);
         }
     }
-}
-
-/// The time by a clock, in milliseconds, if it tells one.
-pub(crate) fn now_of<C: Clock>(clock: &C) -> Option<u64> {
-    let now = clock.monotonic().ok()?;
-    u64::try_from(now.as_millis()).ok()
 }

@@ -1,4 +1,5 @@
 //! Which sockets are ready, as the system tells it (epoll(7)).
+use crate::system::Ready;
 use libc::net::{EPOLL_CTL_ADD, EPOLL_CTL_DEL, EPOLL_CTL_MOD, EPOLLIN, EPOLLONESHOT, EPOLLOUT};
 use mds_waiting::{MAX_WAITING, Peer};
 use mio::Poll;
@@ -6,9 +7,6 @@ use os::{EpollEvent, epoll_ctl, epoll_wait};
 use std::io::{self, ErrorKind, Read, Write};
 use std::net::{Net, Shutdown, TcpListener, TcpStream};
 use std::os::fd::{AsRawFd, RawFd};
-
-/// The longest wait, in milliseconds.
-const MAX_WAIT: u64 = 1_000;
 
 /// The socket of a connection. No call at it waits.
 #[derive(Drop)]
@@ -23,13 +21,15 @@ impl Socket {
     ///
     /// # Errors
     ///
-    /// What the system answers where its calls can't be made not to wait.
+    /// `ConnectionAborted` where its calls can't be made not to wait: the connection is lost, and others can be taken.
     pub(crate) fn new(stream: TcpStream) -> io::Result<Socket> {
-        stream.set_nonblocking(true)?;
-        Ok(Socket {
-            stream,
-            is_watched: false,
-        })
+        match stream.set_nonblocking(true) {
+            Ok(()) => Ok(Socket {
+                stream,
+                is_watched: false,
+            }),
+            Err(_) => Err(io::Error::from(ErrorKind::ConnectionAborted)),
+        }
     }
 }
 
@@ -45,17 +45,6 @@ impl Peer for Socket {
     fn end_sending(&mut self) -> io::Result<()> {
         self.stream.shutdown(Shutdown::Write)
     }
-}
-
-/// What is ready.
-#[derive(Clone, Copy, Debug, PartialEq, Eq)]
-pub(crate) enum Ready {
-    /// The socket that listens.
-    Listener,
-    /// The connection of this key, which sends a request.
-    Coming(usize),
-    /// The connection of this key, which takes an answer, or ends behind it.
-    Leaving(usize),
 }
 
 /// What the system is asked about.
@@ -114,7 +103,7 @@ impl Watch {
     /// Waits until something is ready, for so many milliseconds at most: one thing that is, if any.
     pub(crate) fn wait(&self, millis: u64) -> Option<Ready> {
         let mut events = [EpollEvent { events: 0, data: 0 }; 1];
-        let longest = millis.min(MAX_WAIT) as i32;
+        let longest = i32::try_from(millis).unwrap_or(i32::MAX);
         if epoll_wait(self.poll.as_raw_fd(), &mut events, longest) == 0 {
             return None;
         }

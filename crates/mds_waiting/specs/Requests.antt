@@ -1,5 +1,5 @@
 -- When a request is whole, by what the reader of requests says of its head.
-use Rattle.std.specs.Prelude.{◌≡◌, ℕ, ◌+◌, ◌≤◌, nat_le, List, length, Option, Some, None, if◌then◌else◌}
+use Rattle.std.specs.Prelude.{◌≡◌, ◌≢◌, ℕ, ◌+◌, ◌≤◌, nat_le, List, All, length, Option, Some, None, if◌then◌else◌}
 use Rattle.mds_table.specs.Json.{max_bytes}
 use Rattle.mds_request.specs.Head.{max_head}
 use Rattle.mds_request.specs.HeadStatus.{IsHeadStatus}
@@ -26,3 +26,7 @@ IsTotal bytes total = (status : HeadStatus) × IsHeadStatus bytes status × (tot
 -- a request is whole of which these bytes are there
 abbrev pub IsWhole : List ℕ → Type 0
 IsWhole bytes = (total : ℕ) × IsTotal bytes (Some total) × (total ≤ length bytes)
+
+-- no line ends in these bytes
+abbrev pub NoLineEnds : List ℕ → Type 0
+NoLineEnds bytes = All (λ byte. byte ≢ 10) bytes

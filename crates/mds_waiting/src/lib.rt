@@ -18,7 +18,7 @@ mod peer;
 mod waiter;
 mod waiting;
 
-pub use coming::Coming;
+pub use coming::{Coming, ROOM_BYTES};
 pub use given::Given;
 pub use leaving::Leaving;
 pub use look::Look;
@@ -26,4 +26,4 @@ pub use outgoing::Outgoing;
 pub use part::Part;
 pub use peer::Peer;
 pub use waiter::{MAX_HELD, Waiter};
-pub use waiting::{MAX_WAITING, Waiting};
+pub use waiting::{MAX_WAIT, MAX_WAITING, Waiting};

@@ -12,7 +12,7 @@ use std::mem;
 pub const MAX_WAITING: usize = 4_096;
 
 /// The longest that is waited at a stretch, in milliseconds.
-const MAX_WAIT: u64 = 1_000;
+pub const MAX_WAIT: u64 = 1_000;
 
 /// Connections that wait, each in a slot. A clause sees the slots; the number of a slot is the key of its connection.
 #[derive(Drop)]

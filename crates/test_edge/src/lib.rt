@@ -4,6 +4,8 @@
 #[cfg(test)]
 mod peers;
 #[cfg(test)]
+mod ports;
+#[cfg(test)]
 mod waiting;
 #[cfg(test)]
 mod workers;

@@ -6,7 +6,7 @@ use std::io::{self, ErrorKind, Write};
 
 /// What a client does at one call.
 #[derive(Clone, Copy, Debug, PartialEq, Eq)]
-enum Act {
+pub(crate) enum Act {
     /// It gives these bytes, or ends where there are none.
     Gives(&'static [u8]),
     /// It takes so many bytes at most.
@@ -17,7 +17,7 @@ enum Act {
 
 /// A client that does these things, one at each call, and then nothing. It holds what it was sent.
 #[derive(Drop)]
-struct Played {
+pub(crate) struct Played {
     acts: &'static [Act],
     at: usize,
     sent: [u8; 8],
@@ -25,7 +25,7 @@ struct Played {
 }
 
 impl Played {
-    fn new(acts: &'static [Act]) -> Played {
+    pub(crate) fn new(acts: &'static [Act]) -> Played {
         Played {
             acts,
             at: 0,
@@ -115,7 +115,7 @@ fn other_request(alloc: Global) -> Result<Option<Request>, AllocError> {
     let face = Face::open(alloc)?;
     for (acts, look, part, count) in REQUESTS.iter().copied() {
         let (mut coming, mut bytes) = (Coming::new(Played::new(acts)), Vec::new(alloc));
-        let looked = coming.look(&face, &mut bytes);
+        let looked = coming.look(&face, &mut bytes, &mut [0u8; 64]);
         if looked != look || coming.part != part || bytes.len() != count {
             return Ok(Some((acts, looked, coming.part, bytes.len())));
         }
@@ -138,12 +138,36 @@ const PIECES: &[Act] = &[
 
 const CUT: &[Act] = &[Act::Gives(HEAD), Act::Gives(b"12"), LOST, LOST];
 
+/// Heads that come in pieces: one whose last byte comes alone, one with a line that is no field, and one that is none, which is
+/// found out at twice its bytes.
+const ENDS: &[Act] = &[
+    Act::Gives(b"GET / HTTP/1.1\r\n"),
+    Act::Gives(b"a:b\r\n"),
+    Act::Gives(b"\r"),
+    Act::Gives(b"\n"),
+];
+
+const NO_FIELD: &[Act] = &[
+    Act::Gives(b"GET / HTTP/1.1\r\n"),
+    Act::Gives(b"a "),
+    Act::Gives(b"b"),
+    Act::Gives(b"\r\n"),
+];
+
+const NO_HEAD: &[Act] = &[
+    Act::Gives(b"GET /"),
+    Act::Gives(b" y"),
+    LATER,
+    Act::Gives(b"yyy"),
+];
+
+/// What each of four looks at a request comes to, and how many bytes are there then.
 fn looks(alloc: Global, acts: &'static [Act]) -> Result<([Look; 4], usize), AllocError> {
     let face = Face::open(alloc)?;
     let (mut coming, mut bytes) = (Coming::new(Played::new(acts)), Vec::new(alloc));
     let mut looks = [Look::Waits; 4];
     for at in 0..4 {
-        looks[at] = coming.look(&face, &mut bytes);
+        looks[at] = coming.look(&face, &mut bytes, &mut [0u8; 64]);
     }
     Ok((looks, bytes.len()))
 }
@@ -154,6 +178,14 @@ fn a_body_comes_in_pieces(rt: HostRuntime) {
     let cut = [Look::Waits, Look::Waits, Look::Gone, Look::Gone];
     assert_eq!(rt; looks(rt.alloc(), PIECES), Ok((whole, 48)));
     assert_eq!(rt; looks(rt.alloc(), CUT), Ok((cut, 46)));
+}
+
+#[test]
+fn a_head_comes_in_pieces(rt: HostRuntime) {
+    let found = [Look::Waits, Look::Waits, Look::Waits, Look::Done];
+    assert_eq!(rt; looks(rt.alloc(), ENDS), Ok((found, 23)));
+    assert_eq!(rt; looks(rt.alloc(), NO_FIELD), Ok((found, 21)));
+    assert_eq!(rt; looks(rt.alloc(), NO_HEAD), Ok((found, 10)));
 }
 
 /// What a client does at an answer of five bytes, whether its request was read to its end, what each of two looks comes to, and how

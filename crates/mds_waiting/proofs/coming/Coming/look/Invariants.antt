@@ -7,5 +7,5 @@ abbrev pub invariant-loop : goal.invariant-loop
 invariant-loop g l = record {
   grows : Grows (g.S.Peer.coming l.initial.self.peer) (g.S.Peer.coming l.self.peer) l.initial.bytes.items l.bytes.items;
   bound : length l.bytes.items ≤ max (length l.initial.bytes.items) max_request;
-  room : length l.room ≡ 16_384;
+  room : length l.room ≡ length l.initial.room;
 }

@@ -14,4 +14,4 @@ returns-then-asked-eq0-clause-grows g c = λ other. rw c.judge.ensures.peer (gro
 pub returns-then-is_whole-clause-whole : goal.returns-then-is_whole-clause-whole
 returns-then-is_whole-clause-whole g c = λ is.
     let whole = c.is_whole.ensures.whole c.if-is_whole.true in
-    inl (rw c.deref-in-Bytes.ensures.value at whole)
+    inl (rw c.deref-then-may_be_whole.ensures.value at whole)

@@ -1,0 +1,355 @@
+//! A port over a system that is played: who comes to it, what it is told of, and its clock.
+use crate::peers::{Act, Played};
+use mds_pool::{Ending, Port};
+use mds_request::Face;
+use mds_socket::{Ready, System, WaitingPort};
+use std::alloc::{AllocError, Global};
+use std::io::{self, ErrorKind, Read, Write};
+use std::sync::Wait;
+use std::sync::atomic::{AtomicU64, AtomicUsize, Ordering};
+
+/// What the system does at the next call that takes a connection or waits, and that it is an answer to.
+#[derive(Clone, Copy, Debug, PartialEq, Eq)]
+enum Turn {
+    /// A connection comes, whose client does these things.
+    Comes(&'static [Act]),
+    /// No connection can be taken, for the error of this number.
+    Fails(i32),
+    /// It tells this.
+    Tells(Ready),
+    /// It tells nothing.
+    Silent,
+    /// A connection comes, and from now on no file is left for one.
+    Lacks,
+}
+
+/// A system that does these things, one after the other. Then no connection can be taken any more.
+#[derive(Drop)]
+struct PlayedSystem {
+    turns: &'static [Turn],
+    at: AtomicUsize,
+    /// How many milliseconds go by from one reading of the clock to the next, if it tells any.
+    pace: Option<u64>,
+    readings: AtomicU64,
+    /// How often it can be asked, and was.
+    most: usize,
+    asked: AtomicUsize,
+    pauses: AtomicUsize,
+}
+
+impl PlayedSystem {
+    fn new(turns: &'static [Turn], pace: Option<u64>, most: usize) -> PlayedSystem {
+        PlayedSystem {
+            turns,
+            at: AtomicUsize::new(0),
+            pace,
+            readings: AtomicU64::new(0),
+            most,
+            asked: AtomicUsize::new(0),
+            pauses: AtomicUsize::new(0),
+        }
+    }
+
+    /// What it does next.
+    fn turn(&self) -> Option<Turn> {
+        self.turns.get(self.at.load(Ordering::SeqCst)).copied()
+    }
+
+    /// That was done.
+    fn go_on(&self) {
+        self.at.fetch_add(1, Ordering::SeqCst);
+    }
+}
+
+/// EAGAIN, EMFILE, ENOMEM, ENOBUFS, ECONNABORTED and EBADF, by Linux's numbers.
+const NONE_THERE: i32 = 11;
+
+const NO_FILE: i32 = 24;
+
+const NO_MEMORY: i32 = 12;
+
+const NO_BUFFERS: i32 = 105;
+
+const ABORTED: i32 = 103;
+
+const OVER: i32 = 9;
+
+impl System for PlayedSystem {
+    type Peer = Played;
+
+    fn take(&self) -> io::Result<Played> {
+        match self.turn() {
+            Some(Turn::Comes(acts)) => {
+                self.go_on();
+                Ok(Played::new(acts))
+            }
+            Some(Turn::Fails(number)) => {
+                self.go_on();
+                Err(io::Error::from_raw_os_error(number))
+            }
+            Some(Turn::Tells(_) | Turn::Silent) => Err(io::Error::from_raw_os_error(NONE_THERE)),
+            Some(Turn::Lacks) => Err(io::Error::from_raw_os_error(NO_FILE)),
+            None => Err(io::Error::from_raw_os_error(OVER)),
+        }
+    }
+
+    fn ask(&self, _peer: &mut Played, _ready: Ready, _for_sending: bool) -> bool {
+        self.asked.fetch_add(1, Ordering::SeqCst) < self.most
+    }
+
+    fn wait(&self, _millis: u64) -> Option<Ready> {
+        match self.turn() {
+            Some(Turn::Tells(ready)) => {
+                self.go_on();
+                Some(ready)
+            }
+            Some(Turn::Silent) => {
+                self.go_on();
+                None
+            }
+            Some(Turn::Lacks) => Some(Ready::Listener),
+            Some(Turn::Comes(_) | Turn::Fails(_)) | None => None,
+        }
+    }
+
+    fn now(&self) -> Option<u64> {
+        let readings = self.readings.fetch_add(1, Ordering::SeqCst);
+        self.pace.map(|pace| pace.saturating_mul(readings))
+    }
+
+    fn pause(&self) {
+        self.pauses.fetch_add(1, Ordering::SeqCst);
+    }
+
+    fn stop(&self) {}
+
+    fn end(&self) {}
+}
+
+/// A client whose request is there, and who takes its answer; one of whose request the first bytes are there; and that one where
+/// the others never come, if it is let go.
+const WHOLE: &[Act] = &[Act::Gives(b"GET / HTTP/1.1\r\n\r\n"), Act::Takes(8)];
+
+const PART: &[Act] = &[
+    Act::Gives(b"GET /"),
+    Act::Gives(b"table HTTP/1.1\r\n\r\n"),
+    Act::Takes(8),
+];
+
+const LATER: Act = Act::Fails(ErrorKind::WouldBlock);
+
+const LOST: Act = Act::Fails(ErrorKind::ConnectionReset);
+
+/// What a system does, its clock, and how often it can be asked; how many bytes the requests have that are handed out, and how often it
+/// was asked and a pause was made.
+type Case = (&'static [Turn], Option<u64>, usize, [usize; 2], [usize; 2]);
+
+const CASES: &[Case] = &[
+    // A request is there when its connection is taken; of another one the rest comes later.
+    (
+        &[
+            Turn::Comes(WHOLE),
+            Turn::Comes(PART),
+            Turn::Tells(Ready::Coming(0)),
+        ],
+        Some(1),
+        9,
+        [18, 23],
+        [1, 0],
+    ),
+    // No file is left for one more connection: the eldest is let go whose request isn't whole.
+    (
+        &[
+            Turn::Comes(PART),
+            Turn::Comes(PART),
+            Turn::Fails(NO_FILE),
+            Turn::Tells(Ready::Listener),
+            Turn::Tells(Ready::Coming(0)),
+            Turn::Comes(WHOLE),
+            Turn::Tells(Ready::Coming(1)),
+        ],
+        Some(1),
+        9,
+        [18, 23],
+        [2, 0],
+    ),
+    // None waits that could be let go: 30 seconds of pauses are made. No connection is there: none is.
+    (&[Turn::Lacks], Some(1), 9, [0, 0], [0, 300]),
+    (
+        &[Turn::Fails(NO_FILE), Turn::Silent, Turn::Comes(WHOLE)],
+        Some(1),
+        9,
+        [18, 0],
+        [0, 0],
+    ),
+    // No memory is left for one more connection; or it was lost before it was taken.
+    (
+        &[
+            Turn::Fails(NO_MEMORY),
+            Turn::Fails(NO_BUFFERS),
+            Turn::Fails(ABORTED),
+            Turn::Comes(WHOLE),
+        ],
+        Some(1),
+        9,
+        [18, 0],
+        [0, 2],
+    ),
+    // A connection is reset in the head, and another one in the body.
+    (
+        &[
+            Turn::Comes(&[Act::Gives(b"GET /"), LOST]),
+            Turn::Tells(Ready::Coming(0)),
+            Turn::Comes(&[
+                Act::Gives(b"POST /events HTTP/1.1\r\ncontent-length: 4\r\n\r\n"),
+                Act::Gives(b"12"),
+                LOST,
+            ]),
+            Turn::Tells(Ready::Coming(0)),
+            Turn::Tells(Ready::Coming(0)),
+            Turn::Comes(WHOLE),
+        ],
+        Some(1),
+        9,
+        [18, 0],
+        [3, 0],
+    ),
+    // One is reset in the answer, of which it took two bytes.
+    (
+        &[
+            Turn::Comes(&[
+                Act::Gives(b"GET / HTTP/1.1\r\n\r\n"),
+                Act::Takes(2),
+                LATER,
+                LOST,
+            ]),
+            Turn::Tells(Ready::Leaving(0)),
+            Turn::Comes(WHOLE),
+        ],
+        Some(1),
+        9,
+        [18, 18],
+        [1, 0],
+    ),
+    // The clock fails: who waits is let go, and a request that is there is handed out.
+    (
+        &[
+            Turn::Comes(PART),
+            Turn::Tells(Ready::Coming(0)),
+            Turn::Comes(WHOLE),
+        ],
+        None,
+        9,
+        [18, 0],
+        [1, 0],
+    ),
+    // A head isn't there after 10 seconds: its connection is let go.
+    (
+        &[
+            Turn::Comes(PART),
+            Turn::Silent,
+            Turn::Silent,
+            Turn::Tells(Ready::Coming(0)),
+            Turn::Comes(WHOLE),
+        ],
+        Some(4_000),
+        9,
+        [18, 0],
+        [1, 0],
+    ),
+    // What is told is over: nobody waits there, nothing came, and no connection can be taken.
+    (
+        &[
+            Turn::Tells(Ready::Coming(7)),
+            Turn::Tells(Ready::Leaving(3)),
+            Turn::Tells(Ready::Listener),
+            Turn::Comes(&[
+                Act::Gives(b"GET /"),
+                LATER,
+                Act::Gives(b"table HTTP/1.1\r\n\r\n"),
+                Act::Takes(8),
+            ]),
+            Turn::Tells(Ready::Coming(0)),
+            Turn::Tells(Ready::Coming(0)),
+        ],
+        Some(1),
+        9,
+        [23, 0],
+        [2, 0],
+    ),
+    // The system can't be asked when more comes: the connection is let go.
+    (
+        &[
+            Turn::Comes(PART),
+            Turn::Tells(Ready::Coming(0)),
+            Turn::Comes(WHOLE),
+        ],
+        Some(1),
+        0,
+        [18, 0],
+        [1, 0],
+    ),
+    // Nobody takes the rest of an answer: it is let go in the end, and so is its connection without a clock.
+    (
+        &[Turn::Comes(&[Act::Gives(b"GET / HTTP/1.1\r\n\r\n"), Act::Takes(2)])],
+        Some(1_000),
+        9,
+        [18, 0],
+        [1, 0],
+    ),
+    (
+        &[Turn::Comes(&[Act::Gives(b"GET / HTTP/1.1\r\n\r\n"), Act::Takes(2)])],
+        None,
+        9,
+        [18, 0],
+        [1, 0],
+    ),
+];
+
+/// Takes a connection, answers it and ends it: how many bytes its request has. `None` where none was taken.
+fn taken<R: Wait + Copy>(port: &WaitingPort<PlayedSystem, R>) -> Option<usize> {
+    let (mut input, mut output) = port.accept().ok()?;
+    let count = input.read(&mut [0u8; 64]).ok()?;
+    output.write_all(b"12345").ok()?;
+    port.end(input, output, Ending::AtOnce);
+    Some(count)
+}
+
+/// What a case comes to.
+fn come_to<R: Wait + Copy>(
+    rt: R,
+    alloc: Global,
+    case: Case,
+) -> Result<([usize; 2], [usize; 2]), AllocError> {
+    let (turns, pace, most, _, _) = case;
+    let face = Face::open(alloc)?;
+    let port = WaitingPort::new(alloc, rt, PlayedSystem::new(turns, pace, most), face);
+    let first = taken(&port);
+    let second = first.and_then(|_| taken(&port));
+    let system = port.system();
+    let counts = [
+        system.asked.load(Ordering::SeqCst),
+        system.pauses.load(Ordering::SeqCst),
+    ];
+    Ok(([first.unwrap_or(0), second.unwrap_or(0)], counts))
+}
+
+/// The first case that comes to something else, by its number, and what it comes to.
+fn other_case<R: Wait + Copy>(
+    rt: R,
+    alloc: Global,
+) -> Result<Option<(usize, [usize; 2], [usize; 2])>, AllocError> {
+    for (at, case) in CASES.iter().copied().enumerate() {
+        let (_, _, _, counts, calls) = case;
+        let (found, made) = come_to(rt, alloc, case)?;
+        if found != counts || made != calls {
+            return Ok(Some((at, found, made)));
+        }
+    }
+    Ok(None)
+}
+
+#[test]
+fn a_port_goes_on_whatever_its_system_does(rt: HostRuntime) {
+    assert_eq!(rt; other_case(rt, rt.alloc()), Ok(None));
+}
