@@ -337,7 +337,7 @@ def begun_without(program, path, number):
 
 def starts_over_without(program, content):
     """What is wrong with starts over a file with this content, of which one growth of memory is refused, each of them in turn: it is
-    told, of the port as that it can't be had, and the lines are the same."""
+    told, and the lines are the same."""
     told = Lines().told(counted(content))
     with tempfile.TemporaryDirectory() as folder:
         path = Path(folder, "journal")
@@ -346,7 +346,7 @@ def starts_over_without(program, content):
             found, came = begun_without(program, path, number)
             if not came:
                 break
-            if found not in (None, (4, "", NO_MEMORY), (3, "", SOCKET)):
+            if found not in (None, (4, "", NO_MEMORY)):
                 yield f"growth {number} refused: it ended with {found}"
             yield from (f"growth {number} refused: {it}" for it in kept_amiss(path, told))
     if came or number < FEWEST_GROWTHS:

@@ -233,7 +233,7 @@ def one_lack(program, workers, clients, requests, seed):
                     yield from judged(said, fronts)
                 yield from settled(server, said, fronts)
         except NotListening as fault:
-            if fault.ended not in [(4, "", NO_MEMORY), (3, "", SOCKET)]:
+            if fault.ended != (4, "", NO_MEMORY):
                 yield str(fault)
 
 

@@ -9,7 +9,7 @@ from dataclasses import dataclass
 
 from cases.replays import A, B, P, batch, item
 from harness.building import Refusal
-from harness.case import NO_MEMORY, SOCKET
+from harness.case import NO_MEMORY
 from model.http import answer, error
 from model.tables import Table
 from serving.http import E1, LOOK, Exchange, done, look, registered, vehicle
@@ -129,8 +129,7 @@ def refused(program, number):
                 answers = served(server)
                 wrong = [*other_answers(answers), *ended_otherwise(server, len(answers) == len(TURNS), refusal)]
         except NotListening as fault:
-            allowed = [(4, "", NO_MEMORY), (3, "", SOCKET)]
-            wrong = [] if refusal.came() and fault.ended in allowed else [str(fault)]
+            wrong = [] if refusal.came() and fault.ended == (4, "", NO_MEMORY) else [str(fault)]
         if not refusal.came() and max(map(len, answers), default=1) > 1:
             wrong.append("an answer of status 503, where no growth was refused")
         return [f"growth {number}: {text}" for text in wrong], answers, refusal.came()

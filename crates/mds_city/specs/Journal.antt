@@ -23,6 +23,8 @@ use Rattle.mds_city.specs.declared.journal.ServeProblem.{ServeProblem}
 use Rattle.mds_city.specs.declared.journal.ServeProblem.TheVariants.{InUse, NotRecorded, Journal}
 use Rattle.mds_city.specs.declared.journal.BookStop.{BookStop}
 use Rattle.mds_city.specs.declared.journal.BookStop.TheVariants.{Start, Listen, Print, Serve}
+use Rattle.mds_city.specs.declared.serve.ListenFault.{ListenFault}
+use Rattle.mds_city.specs.declared.serve.ListenFault.TheVariants as listen
 use Rattle.mds_commands.specs.Problem.{written_problem}
 use Rattle.mds_city.specs.Serve.{SaysAccepted, listening_line}
 
@@ -72,10 +74,15 @@ abbrev pub IsUntorn : BookStop → Type 0
 IsUntorn (Serve (recorded.Serve (stop.Torn shard place))) = ⊥
 IsUntorn stop = Unit {0}
 
+-- the problem that nothing listens at a port
+abbrev pub IsListenProblem : ListenFault → ServeProblem → Type 0
+IsListenProblem listen.Refused problem = problem ≡ Journal (Other Socket)
+IsListenProblem listen.Memory problem = problem ≡ Journal (Other Memory)
+
 -- the problem by which a book over the journal of this path wasn't served to its end
 abbrev pub IsStopProblem : List ℕ → BookStop → ServeProblem → Type 0
 IsStopProblem path (Start fault) problem = IsStartProblem path fault problem
-IsStopProblem path Listen problem = problem ≡ Journal (Other Socket)
+IsStopProblem path (Listen fault) problem = IsListenProblem fault problem
 IsStopProblem path (Print fault) problem = problem ≡ Journal (Other (written_problem fault))
 IsStopProblem path (Serve stop) problem = IsServingProblem stop problem
 
@@ -105,7 +112,7 @@ module _ {H L : Type 0} (listens : H → ℕ → L → ℕ → Type 0) (host : H
   -- what went out where no book was served to its end
   abbrev pub StopsBook : Option (List ℕ) → Option (List ℕ) → BookStop → Type 0
   StopsBook out out_new (Start fault) = Keeps out out_new
-  StopsBook out out_new Listen = Keeps out out_new
+  StopsBook out out_new (Listen fault) = Keeps out out_new
   StopsBook out out_new (Print fault) = SaidFront out out_new
   StopsBook out out_new (Serve stop) = IsUntorn (Serve stop) × SaidListening out out_new
 

@@ -6,11 +6,11 @@ ghost use Rattle.mds_file.specs.declared.fault.FileFault.{FileFault as Unopened}
 ghost use Rattle.mds_book.specs.Books.{IsSeatCount};
 ghost use Rattle.mds_follow.specs.Disk.{IsTold};
 ghost use Rattle.mds_follow.specs.Reading.{IsAtFirstRequest};
-ghost use Rattle.mds_city.specs.Journal.{CameToServeOver, IsFileProblem, IsJournalStop, IsServeTold, IsServingProblem, IsStartProblem, IsStopProblem, IsUntorn};
+ghost use Rattle.mds_city.specs.Journal.{CameToServeOver, IsFileProblem, IsJournalStop, IsListenProblem, IsServeTold, IsServingProblem, IsStartProblem, IsStopProblem, IsUntorn};
 ghost use Rattle.mds_city.specs.Journal.{ServedBook, ServedOver, StopsBook, StopsOver};
 
 use crate::page::{ListeningLine, print_line};
-use crate::serve::{Listens, ServeOptions, say_accepted};
+use crate::serve::{ListenFault, Listens, ServeOptions, say_accepted};
 use mds_book::ShardLedger;
 use mds_commands::{Problem, Source, Status, tables_in};
 use mds_file::FileFault;
@@ -93,8 +93,8 @@ impl<'a> From<Problem<'a>> for ServeProblem<'a> {
 pub(crate) enum BookStop {
     /// It wasn't opened.
     Start(StartFault),
-    /// The port can't be had.
-    Listen,
+    /// Nothing listens at the port.
+    Listen(ListenFault),
     /// The line that says where it listens could not be printed.
     Print(PrintError),
     /// It was served, and stopped.
@@ -236,8 +236,9 @@ fn serve_reader<
         Ok(book) => book,
         Err((fault, _file)) => return Err(BookStop::Start(fault)),
     };
-    let Some((listening, port)) = host.listen(alloc, asked.port) else {
-        return Err(BookStop::Listen);
+    let (listening, port) = match host.listen(alloc, asked.port) {
+        Ok(had) => had,
+        Err(fault) => return Err(BookStop::Listen(fault)),
     };
     match print_line(alloc, out, &ListeningLine { port }) {
         Ok(()) => {}
@@ -282,9 +283,19 @@ fn problem_of_stop<'a>(path: &'a str, stop: BookStop) -> ServeProblem<'a>
 {
     match stop {
         BookStop::Start(fault) => problem_of_start(path, fault),
-        BookStop::Listen => ServeProblem::from(Problem::Socket),
+        BookStop::Listen(fault) => problem_of_listening(fault),
         BookStop::Print(fault) => ServeProblem::from(Problem::from(fault)),
         BookStop::Serve(stop) => problem_of_serving(stop),
+    }
+}
+
+/// The problem that nothing listens at a port.
+fn problem_of_listening<'a>(fault: ListenFault) -> ServeProblem<'a>
+    ensures { IsListenProblem fault result }
+{
+    match fault {
+        ListenFault::Refused => ServeProblem::from(Problem::Socket),
+        ListenFault::Memory => ServeProblem::from(Problem::Memory),
     }
 }
 

@@ -9,11 +9,11 @@ mod serve;
 
 use crate::journal::OpensJournals;
 use crate::program::{Opens, run, tell_words, words_of};
-use crate::serve::Listens;
+use crate::serve::{ListenFault, Listens};
 use mds_file::{DiskFile, FileFault, open_file};
 use mds_socket::{SocketIn, SocketOut, SocketPort};
 use std::alloc::Global;
-use std::io::Write;
+use std::io::{self, ErrorKind, Write};
 use std::marker::Brand;
 use std::net::Net;
 use std::process::ExitCode;
@@ -43,10 +43,19 @@ impl<R: Net + Wait + Clock + Copy + Send + Sync> Listens for Host<R> {
 
     type Listening = SocketPort<R>;
 
-    fn listen(&self, alloc: Global, number: u16) -> Option<(SocketPort<R>, u16)> {
-        let port = SocketPort::bind(&self.rt, alloc, self.rt, number).ok()?;
-        let number = port.number().ok()?;
-        Some((port, number))
+    fn listen(&self, alloc: Global, number: u16) -> Result<(SocketPort<R>, u16), ListenFault> {
+        let port = SocketPort::bind(&self.rt, alloc, self.rt, number)?;
+        let number = port.number()?;
+        Ok((port, number))
+    }
+}
+
+impl From<io::Error> for ListenFault {
+    fn from(error: io::Error) -> ListenFault {
+        match error.kind() {
+            ErrorKind::OutOfMemory => ListenFault::Memory,
+            _ => ListenFault::Refused,
+        }
     }
 }
 

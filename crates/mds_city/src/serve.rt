@@ -1,5 +1,5 @@
 //! The command that serves vehicles at a port.
-ghost use Rattle.std.specs.Prelude.{◌≡◌, ℕ, ⊤, IfOk, IfErr, IfSome};
+ghost use Rattle.std.specs.Prelude.{◌≡◌, ℕ, ⊤, IfOk, IfErr};
 ghost use Rattle.mds_book.specs.Books.{IsSeatCount};
 ghost use Rattle.mds_city.specs.Serve.{CameToServe, IsSaid, Listened, SaysAccepted, Serves, StopsBefore};
 
@@ -30,10 +30,22 @@ pub trait Listens {
     // what may come of listening at the port of this number: what listens, and the number of its port
     ghost listens: { Self → ℕ → Self.Listening → ℕ → Type 0 } = { λ _ _ _ _. ⊤ };
 
-    /// Listens at 127.0.0.1 and the port of this number, at a free one for 0: what listens, and the number of its port; or
-    /// `None` where that can't be had.
-    fn listen(&self, alloc: Global, number: u16) -> Option<(Self::Listening, u16)>
-        ensures { IfSome result (λ had. listens self.now number had.0 had.1) };
+    /// Listens at 127.0.0.1 and the port of this number, at a free one for 0: what listens, and the number of its port.
+    ///
+    /// # Errors
+    ///
+    /// [`ListenFault`] says when each comes.
+    fn listen(&self, alloc: Global, number: u16) -> Result<(Self::Listening, u16), ListenFault>
+        ensures { IfOk result (λ had. listens self.now number had.0 had.1) };
+}
+
+/// Why nothing listens at a port.
+#[derive(Clone, Copy, Debug, PartialEq, Eq)]
+pub enum ListenFault {
+    /// The port can't be had.
+    Refused,
+    /// There was no memory for it.
+    Memory,
 }
 
 /// What serving is asked for: at which port, by how many workers, and how many connections each of them answers.
@@ -106,8 +118,10 @@ fn begin<'a, R: RandomSource, H: Listens, T: Read + Drop, W: Write>(
     let (Ok(first), Ok(second)) = (RandomState::new(rt), RandomState::new(rt)) else {
         return Err(Problem::Random);
     };
-    let Some((listening, port)) = host.listen(alloc, number) else {
-        return Err(Problem::Socket);
+    let (listening, port) = match host.listen(alloc, number) {
+        Ok(begun) => begun,
+        Err(ListenFault::Refused) => return Err(Problem::Socket),
+        Err(ListenFault::Memory) => return Err(Problem::Memory),
     };
     print_line(alloc, out, &ListeningLine { port })?;
     Ok((tables, [first, second], listening))
