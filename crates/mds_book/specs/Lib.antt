@@ -3,6 +3,7 @@ pub mod Shards
 pub mod Seats
 pub mod Books
 pub mod Copying
+pub mod Listing
 pub mod Gathering
 pub mod Settling
 pub mod Reconciled

@@ -14,6 +14,7 @@ ghost use Rattle.mds_book.specs.Copying.{AddsPiece, copied, copied_in};
 ghost use Rattle.mds_log.specs.Log.{requests};
 
 use crate::gathered::Account;
+use crate::listing::{events_in, list_in};
 use crate::seat::Parts;
 use crate::settling::{Closing, count_all, retire_all};
 use crate::slot::shard_of;
@@ -227,51 +228,6 @@ fn note_call(notes: &mut Vec<Note>, keeps_all: bool, shard: usize, request: &Req
     let Ok(()) = notes.extend_from_slice(from_ref(&note)) else {
         unreachable!();
     };
-}
-
-/// The events of a vehicle in the shard behind this lock.
-///
-/// # Errors
-///
-/// `AllocError` where there is no memory for the list.
-fn events_in<R: Wait, L: ShardLedger, const N: usize>(
-    rt: &R,
-    alloc: Global,
-    slot: &Mutex<Slot<L, N>>,
-    key: &Key,
-) -> Result<Option<Vec<Event>>, AllocError>
-    requires { number_of key.now ≡ N }
-    ensures { IfOk result (λ found.
-        GivesEvents L.tables key.now (option_map (λ events. events.items) found)) }
-{
-    slot.lock(rt).shard().events(alloc, key)
-}
-
-/// The events of a vehicle in the shard behind this lock, for a seat with this part of it, which has then seen all that the
-/// shard had accepted.
-///
-/// # Errors
-///
-/// `AllocError` where there is no memory for the list; the part is as it was then.
-fn list_in<R: Wait, L: ShardLedger, const N: usize>(
-    rt: &R,
-    alloc: Global,
-    slot: &Mutex<Slot<L, N>>,
-    part: &mut Part<L>,
-    key: &Key,
-) -> Result<Option<Vec<Event>>, AllocError>
-    requires { number_of key.now ≡ N }
-    ensures listed { IfOk result (λ found. IsSeenWhole L.tables N part.old.sight.seen key.now
-        (option_map (λ events. events.items) found) part.new.sight.seen) }
-    ensures turn { IfOk result (λ found. part.new.sight.turns ≡ next_turn part.old.sight.turns) }
-    ensures count { part.new.count ≡ part.old.count }
-    ensures mark { part.new.mark ≡ part.old.mark }
-    ensures unchanged { OnErr result (part.new.sight ≡ part.old.sight) }
-{
-    let mut slot = slot.lock(rt);
-    let found = slot.shard().events(alloc, key)?;
-    slot.see(part);
-    Ok(found)
 }
 
 /// Copies the next requests of the shard behind this lock.

@@ -8,6 +8,7 @@ mod book;
 mod copies;
 mod gathered;
 pub mod laws;
+mod listing;
 mod progress;
 mod seat;
 mod settling;

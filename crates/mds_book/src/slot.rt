@@ -1,19 +1,23 @@
 //! What stands behind a lock: a shard, the ledger that counts what it accepted, and the keeper of its log.
-ghost use Rattle.std.specs.Prelude.{◌≡◌, [], length, true, ◌<◌, ◌≤◌, ◌+◌, ◌^◌, IfOk, IfSome, OnOk, OnErr};
+ghost use Rattle.std.specs.Prelude.{◌≡◌, [], List, Some, length, true, ◌<◌, ◌≤◌, ◌+◌, ◌++◌, ◌^◌, IfOk, IfSome, OnOk, OnErr};
+ghost use Rattle.std.specs.Prelude.{vec_len, vec_capacity};
+ghost use Rattle.mds_core.specs.declared.key.Key.{Key as Told};
 ghost use Rattle.mds_core.specs.History.{key_of, requests_of};
+ghost use Rattle.mds_core.specs.Reported.{Reported};
 ghost use Rattle.mds_core.specs.Machine.{Steps, LacksMemory};
 ghost use Rattle.mds_core.specs.Lawful.{IsLawful};
 ghost use mathlib.Core.List.{IsPrefix};
 ghost use Rattle.mds_log.specs.Log.{requests};
+ghost use Rattle.mds_shard.specs.Walk.{IsWalkOf, steps_left};
 ghost use Rattle.mds_book.specs.Shards.{shard_of as number_of, AreOfShard, count_of};
 ghost use Rattle.mds_book.specs.Sights.{IsShown, next_turn};
 ghost use Rattle.mds_book.specs.Copying.{AddsPiece, IsPiece, copied};
 
 use crate::seat::Parts;
 use crate::{Blank, Copies, Part, Progress};
-use mds_core::{Key, Reply, Request};
+use mds_core::{Event, Key, Reply, Request};
 use mds_log::{Front, Keeper, Logged, Marked};
-use mds_shard::Shard;
+use mds_shard::{MAX_STEPS, Shard};
 use mds_table::Tables;
 use std::alloc::{AllocError, Global};
 use std::hash::RandomState;
@@ -224,6 +228,32 @@ impl<L: ShardLedger, const N: usize> Slot<L, N> {
         copies.extend(piece)?;
         *progress = Progress::of(seen, from + piece.len());
         Ok(())
+    }
+
+    /// Copies events of a vehicle, the last one first, from the place of one of its requests on, as [`Shard::walk_back`] does, of a
+    /// list that began when the front had seen all of the log. It changes nothing else.
+    pub(crate) fn walk_back(
+        &mut self,
+        seen: &Front<L>,
+        from: usize,
+        piece: &mut Vec<Event>,
+    ) -> Option<usize>
+        requires from { (key : Told) × (found : List Reported)
+            × IsWalkOf (requests seen.now) key (Some from) found }
+        requires empty { vec_len piece.old ≡ 0 }
+        requires room { MAX_STEPS ≤ vec_capacity piece.old }
+        ensures slot { self.new ≡ self.old }
+        ensures walk { (key : Told) (found : List Reported)
+            → IsWalkOf (requests seen.now) key (Some from) found
+            → IsWalkOf (requests seen.now) key result (found ++ piece.new.items) }
+        ensures nears { steps_left result ≤ from }
+        ensures capacity { vec_capacity piece.old ≤ vec_capacity piece.new }
+    {
+        // This call's contract says that the history is no longer than a list can be.
+        let _ = self.shard.len();
+        let mut shown = seen.again();
+        self.keeper.show(&mut shown);
+        self.shard.walk_back(from, piece)
     }
 
     /// Tells that what was seen is a beginning of the history. It changes nothing.

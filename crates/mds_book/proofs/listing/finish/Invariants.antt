@@ -1,0 +1,19 @@
+use Rattle.std.proofs.Common.{◌≤◌}
+use Rattle.std.specs.Vec.{vec_capacity}
+use Rattle.mds_core.specs.declared.key.Key.{Key}
+use Rattle.mds_log.specs.Log.{requests}
+use Rattle.mds_shard.specs.declared.walk.TheConstants.{MAX_STEPS}
+use Rattle.mds_shard.specs.Walk.{IsWalkOf, steps_left}
+use Rattle.mds_book.specs.Listing.{IsBegun}
+use Rattle.mds_book.proofs.listing.finish.Given as goal
+
+-- the walk goes on, and there is room for what it finds
+abbrev pub invariant-loop-at : goal.invariant-loop-at
+invariant-loop-at g l = record {
+  walk : (key : Key) → IsBegun (requests l.seen) key l.fn.listing → IsWalkOf (requests l.seen) key l.at l.events.items;
+  room : vec_capacity l.fn.listing.events ≤ vec_capacity l.events;
+  piece : MAX_STEPS ≤ vec_capacity l.piece;
+}
+
+abbrev pub decreases-loop-at : goal.decreases-loop-at
+decreases-loop-at g l = steps_left l.at

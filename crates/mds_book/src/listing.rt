@@ -1,0 +1,206 @@
+//! A list of a vehicle's events. It is copied in pieces, between which the shard's lock is free: a long one keeps no other caller
+//! waiting. A history only grows, so what is copied later is what was there when the list began.
+ghost use Rattle.std.specs.Prelude.{◌≡◌, ◌≤◌, ◌++◌, List, None, Some, IfOk, IfNone, IfSome, OnErr, option_map, vec_capacity};
+ghost use mathlib.Core.List.{IsPrefix};
+ghost use Rattle.mds_core.specs.declared.key.Key.{Key as Told};
+ghost use Rattle.mds_core.specs.Lawful.{IsLawful};
+ghost use Rattle.mds_core.specs.Machine.{events_in as events_told};
+ghost use Rattle.mds_core.specs.Reported.{Reported};
+ghost use Rattle.mds_log.specs.Log.{requests};
+ghost use Rattle.mds_shard.specs.Walk.{IsWalkOf, steps_left};
+ghost use Rattle.mds_book.specs.Shards.{shard_of as number_of, AreOfShard};
+ghost use Rattle.mds_book.specs.Sights.{IsSeenWhole, next_turn};
+ghost use Rattle.mds_book.specs.Books.{GivesEvents};
+ghost use Rattle.mds_book.specs.Listing.{IsBegun};
+
+use crate::{Part, ShardLedger, Slot};
+use mds_core::{Event, Key};
+use mds_log::Front;
+use mds_shard::{MAX_STEPS, Shard};
+use std::alloc::{AllocError, Global};
+use std::sync::{Mutex, Wait};
+
+/// A list that begins.
+#[derive(Drop)]
+struct Listing {
+    /// The place of the vehicle's last request.
+    last: usize,
+    /// Room for all its events.
+    events: Vec<Event>,
+    /// Room for a piece of them.
+    piece: Vec<Event>,
+}
+
+/// A list of the vehicle's events, which begins with none of them, or `None` where it isn't registered.
+///
+/// # Errors
+///
+/// `AllocError` where there is no memory for the list.
+fn begin(alloc: Global, shard: &Shard, key: &Key) -> Result<Option<Listing>, AllocError>
+    ensures some { IfOk result (λ listing. IfSome listing (IsBegun shard.now.history key.now)) }
+    ensures none { IfOk result (λ listing.
+        IfNone listing (events_told shard.now.history key.now ≡ None)) }
+{
+    let Some(start) = shard.walk_start(key) else {
+        return Ok(None);
+    };
+    let events = Vec::with_capacity(alloc, start.events)?;
+    let piece = Vec::with_capacity(alloc, MAX_STEPS)?;
+    Ok(Some(Listing {
+        last: start.last,
+        events,
+        piece,
+    }))
+}
+
+/// A list of the vehicle's events in the shard behind this lock, for a seat with this part of it, which has then seen all that the
+/// shard had accepted.
+///
+/// # Errors
+///
+/// `AllocError` where there is no memory for the list; the part is as it was then.
+fn begin_seen<R: Wait, L: ShardLedger, const N: usize>(
+    rt: &R,
+    alloc: Global,
+    slot: &Mutex<Slot<L, N>>,
+    part: &mut Part<L>,
+    key: &Key,
+) -> Result<Option<Listing>, AllocError>
+    ensures seen { IfOk result (λ listing. IsPrefix part.old.sight.seen part.new.sight.seen) }
+    ensures lawful { IfOk result (λ listing. IsLawful L.tables (requests part.new.sight.seen)) }
+    ensures of_shard { IfOk result (λ listing. AreOfShard N (requests part.new.sight.seen)) }
+    ensures some { IfOk result (λ listing.
+        IfSome listing (IsBegun (requests part.new.sight.seen) key.now)) }
+    ensures none { IfOk result (λ listing.
+        IfNone listing (events_told (requests part.new.sight.seen) key.now ≡ None)) }
+    ensures turn { IfOk result (λ listing.
+        part.new.sight.turns ≡ next_turn part.old.sight.turns) }
+    ensures count { part.new.count ≡ part.old.count }
+    ensures mark { part.new.mark ≡ part.old.mark }
+    ensures unchanged { OnErr result (part.new.sight ≡ part.old.sight) }
+{
+    let mut slot = slot.lock(rt);
+    let listing = begin(alloc, slot.shard(), key)?;
+    slot.see(part);
+    Ok(listing)
+}
+
+/// The same for no seat, with what the shard had accepted.
+///
+/// # Errors
+///
+/// `AllocError` where there is no memory for the list.
+fn begin_unseated<R: Wait, L: ShardLedger, const N: usize>(
+    rt: &R,
+    alloc: Global,
+    slot: &Mutex<Slot<L, N>>,
+    key: &Key,
+) -> Result<(Front<L>, Option<Listing>), AllocError>
+    ensures lawful { IfOk result (λ begun. IsLawful L.tables (requests begun.0)) }
+    ensures of_shard { IfOk result (λ begun. AreOfShard N (requests begun.0)) }
+    ensures some { IfOk result (λ begun. IfSome begun.1 (IsBegun (requests begun.0) key.now)) }
+    ensures none { IfOk result (λ begun.
+        IfNone begun.1 (events_told (requests begun.0) key.now ≡ None)) }
+{
+    let slot = slot.lock(rt);
+    let listing = begin(alloc, slot.shard(), key)?;
+    Ok((slot.log(), listing))
+}
+
+/// Copies the next piece of a list that began when the shard behind this lock had accepted so much, from this place on: the place
+/// where it goes on, if it does.
+fn copy_piece<R: Wait, L: ShardLedger, const N: usize>(
+    rt: &R,
+    slot: &Mutex<Slot<L, N>>,
+    seen: &Front<L>,
+    from: usize,
+    piece: &mut Vec<Event>,
+) -> Option<usize>
+    requires from { (key : Told) × (found : List Reported)
+        × IsWalkOf (requests seen.now) key (Some from) found }
+    requires room { MAX_STEPS ≤ vec_capacity piece.old }
+    ensures walk { (key : Told) (found : List Reported)
+        → IsWalkOf (requests seen.now) key (Some from) found
+        → IsWalkOf (requests seen.now) key result (found ++ piece.new.items) }
+    ensures nears { steps_left result ≤ from }
+    ensures capacity { vec_capacity piece.old ≤ vec_capacity piece.new }
+{
+    piece.clear();
+    slot.lock(rt).walk_back(seen, from, piece)
+}
+
+/// The events of a list that began when the shard behind this lock had accepted so much.
+fn finish<R: Wait, L: ShardLedger, const N: usize>(
+    rt: &R,
+    slot: &Mutex<Slot<L, N>>,
+    seen: &Front<L>,
+    listing: Listing,
+) -> Vec<Event>
+    requires { (key : Told) × IsBegun (requests seen.now) key listing }
+    ensures { (key : Told) → IsBegun (requests seen.now) key listing
+        → Some result.items ≡ events_told (requests seen.now) key }
+{
+    let Listing {
+        last,
+        mut events,
+        mut piece,
+    } = listing;
+    let mut at = Some(last);
+    while let Some(place) = at {
+        at = copy_piece(rt, slot, seen, place, &mut piece);
+        let Ok(()) = events.extend_from_slice(&piece) else {
+            unreachable!();
+        };
+    }
+    events.reverse();
+    events
+}
+
+/// The events of a vehicle in the shard behind this lock.
+///
+/// # Errors
+///
+/// `AllocError` where there is no memory for the list.
+pub(crate) fn events_in<R: Wait, L: ShardLedger, const N: usize>(
+    rt: &R,
+    alloc: Global,
+    slot: &Mutex<Slot<L, N>>,
+    key: &Key,
+) -> Result<Option<Vec<Event>>, AllocError>
+    requires { number_of key.now ≡ N }
+    ensures { IfOk result (λ found.
+        GivesEvents L.tables key.now (option_map (λ events. events.items) found)) }
+{
+    let (seen, listing) = begin_unseated(rt, alloc, slot, key)?;
+    match listing {
+        Some(listing) => Ok(Some(finish(rt, slot, &seen, listing))),
+        None => Ok(None),
+    }
+}
+
+/// The events of a vehicle in the shard behind this lock, for a seat with this part of it, which has then seen all that the
+/// shard had accepted when the list began.
+///
+/// # Errors
+///
+/// `AllocError` where there is no memory for the list; the part is as it was then.
+pub(crate) fn list_in<R: Wait, L: ShardLedger, const N: usize>(
+    rt: &R,
+    alloc: Global,
+    slot: &Mutex<Slot<L, N>>,
+    part: &mut Part<L>,
+    key: &Key,
+) -> Result<Option<Vec<Event>>, AllocError>
+    requires { number_of key.now ≡ N }
+    ensures listed { IfOk result (λ found. IsSeenWhole L.tables N part.old.sight.seen key.now
+        (option_map (λ events. events.items) found) part.new.sight.seen) }
+    ensures turn { IfOk result (λ found. part.new.sight.turns ≡ next_turn part.old.sight.turns) }
+    ensures count { part.new.count ≡ part.old.count }
+    ensures mark { part.new.mark ≡ part.old.mark }
+    ensures unchanged { OnErr result (part.new.sight ≡ part.old.sight) }
+{
+    match begin_seen(rt, alloc, slot, part, key)? {
+        Some(listing) => Ok(Some(finish(rt, slot, part.sight.front(), listing))),
+        None => Ok(None),
+    }
+}
