@@ -25,6 +25,12 @@ WORKERS = 4
 SECONDS = 10
 HALVES = [(A, identifier(2, 1)), (B, identifier(2, 2))]
 """A vehicle of each half, and one of the other half."""
+NEIGHBOUR = identifier(2, 2)
+"""A vehicle of A's half."""
+LONG, LISTS, LOOKS, LEAST_LOOKS = 10000, 10, 40, 10
+"""A long list, how often it is asked for, how many looks there are meanwhile at most, and of how many the times count."""
+MOST_SECONDS = 0.005
+"""How long the longest of them takes, in the best case: a busy machine lengthens others."""
 
 
 class Hold:
@@ -100,4 +106,36 @@ def two_halves(program):
         yield from server.end()
 
 
-LOCKS = [two_halves]
+def looks_beside(server, whole, same):
+    """How long looks took that were made until a list came, and what is wrong with the answers."""
+    times, found = [], []
+    with connect(server.port) as listing:
+        listing.sendall(whole.request)
+        while len(times) < LOOKS and silent(listing, 0):
+            start = time.monotonic()
+            found += talk_over(server, same)
+            times.append(time.monotonic() - start)
+        found += differing(read_all(listing), whole.answer)
+    server.count()
+    return times, found
+
+
+def beside_long_list(program):
+    """A long list of a vehicle keeps no look at another one of its half waiting for the whole of it."""
+    texts = [listed(number, [turn(number)[1]], turn(number)[0], 1000 + number, A) for number in range(LONG)]
+    whole, same = list_of(A, texts), look(NEIGHBOUR, "removed", 0, None)
+    with Server(program, 120, workers=WORKERS) as server:
+        yield from talk_over(server, registered(A, NEIGHBOUR))
+        yield from talk_over(server, Exchange(post("/events", batch(history(A, 0, LONG))), done(LONG)))
+        longest = []
+        for _ in range(LISTS):
+            times, found = looks_beside(server, whole, same)
+            yield from found
+            if len(times) >= LEAST_LOOKS:
+                longest.append(max(times))
+        if min(longest, default=MOST_SECONDS) >= MOST_SECONDS:
+            yield f"beside a list of {LONG} events a look took this many seconds: {longest}"
+        yield from server.end()
+
+
+LOCKS = [two_halves, beside_long_list]
