@@ -71,7 +71,7 @@ KINDS = {
 }
 """Of each kind its requests, how many items of each are accepted, and how many microseconds of the server's processor one is
 meant to take."""
-SIDES = ((1, 1), (1, 4), (4, 4), (4, 16))
+SIDES = ((1, 1), (1, 4), (4, 4), (4, 16), (4, 64))
 """Numbers of workers and of clients at which two servers are compared."""
 
 
