@@ -126,13 +126,14 @@ pub fn serve_over<
         asked.workers asked.each result
         (W.contents out.old) (W.contents out.new) (E.contents faults.old) (E.contents faults.new) }
 {
-    match serve_to_end(rt, alloc, host, table, path, asked, out) {
-        Ok(accepted) => say_accepted(alloc, accepted, out, faults),
-        Err(problem) => tell_serve_problem(alloc, faults, problem),
-    }
+    let (accepted, _listening) = match serve_to_end(rt, alloc, host, table, path, asked, out) {
+        Ok(served) => served,
+        Err(problem) => return tell_serve_problem(alloc, faults, problem),
+    };
+    say_accepted(alloc, accepted, out, faults)
 }
 
-/// Serves as [`serve_over`], up to its end: how many requests the book holds then.
+/// Serves as [`serve_over`], up to its end: how many requests the book holds then, and what listened, by which answers leave still.
 fn serve_to_end<
     'a,
     R: Threads + Wait + RandomSource + Sync,
@@ -147,10 +148,10 @@ fn serve_to_end<
     path: &'a str,
     asked: ServeOptions,
     out: &mut W,
-) -> Result<u128, ServeProblem<'a>>
+) -> Result<(u128, H::Listening), ServeProblem<'a>>
     requires { IsSeatCount asked.workers }
-    ensures ok { IfOk result (ServedOver H.listens host.now asked.port T.remaining table.entry
-        asked.workers asked.each (W.contents out.old) (W.contents out.new)) }
+    ensures ok { IfOk result (λ served. ServedOver H.listens host.now asked.port T.remaining table.entry
+        asked.workers asked.each (W.contents out.old) (W.contents out.new) served.0) }
     ensures err { IfErr result (StopsOver H.listens host.now asked.port T.remaining table.entry
         path.now (W.contents out.old) (W.contents out.new)) }
 {
@@ -167,7 +168,7 @@ fn serve_to_end<
     match serve_reader::<R, H, Brand, Brand, Brand, W>(
         rt, alloc, host, opening, reader, log, asked, out,
     ) {
-        Ok(accepted) => Ok(accepted),
+        Ok(served) => Ok(served),
         Err(stop) => Err(problem_of_stop(path, stop)),
     }
 }
@@ -193,7 +194,8 @@ fn open_reader<'a, H: OpensJournals>(
     }
 }
 
-/// Opens a book over the journal, prints where it listens, and serves: how many requests the book holds at the end.
+/// Opens a book over the journal, prints where it listens, and serves: how many requests the book holds at the end, and what
+/// listened.
 fn serve_reader<
     R: Threads + Wait + Sync,
     H: Listens + OpensJournals + Sync,
@@ -210,7 +212,7 @@ fn serve_reader<
     log: BlankLog,
     asked: ServeOptions,
     out: &mut W,
-) -> Result<u128, BookStop>
+) -> Result<(u128, H::Listening), BookStop>
     requires first { (opening.first.name ≡ L.name) × (opening.first.parts ≡ L.parts) }
     requires second { (opening.second.name ≡ M.name) × (opening.second.parts ≡ M.parts) }
     requires first_log { (opening.first.log ≡ L.log) × (opening.first.marks ≡ L.marks) }
@@ -225,8 +227,8 @@ fn serve_reader<
     requires start { J.start ≡ H.Journal.moment reader.opening.device }
     requires held { (told : List Requested)
         → IsTold (recovered (H.Journal.seen reader.opening.device)) told → J.held told }
-    ensures ok { IfOk result (λ accepted. ServedBook H.listens host.now asked.port opening.tables
-        opening.seats asked.each (W.contents out.old) (W.contents out.new) accepted) }
+    ensures ok { IfOk result (λ served. ServedBook H.listens host.now asked.port opening.tables
+        opening.seats asked.each (W.contents out.old) (W.contents out.new) served.0) }
     ensures err { IfErr result (StopsBook H.listens host.now asked.port
         (W.contents out.old) (W.contents out.new)) }
 {
@@ -249,7 +251,7 @@ fn serve_reader<
         is_told: AtomicBool::new(false),
     };
     match book.serve(rt, alloc, &listening, asked.each, &alarm) {
-        Ok(end) => Ok(end.book.settled.accepted()),
+        Ok(end) => Ok((end.book.settled.accepted(), listening)),
         Err(stop) => Err(BookStop::Serve(stop)),
     }
 }
