@@ -19,10 +19,8 @@ IDLE = 1000
 SLOW = 1000
 LONG_ANSWERS = 20
 """Clients that ask for a long answer, and read none of it: each holds some megabytes of the server."""
-LEAST = SLOW // 2
-"""How many slow clients the server has at once at least: of long answers it holds no more, and lets go of the eldest."""
-EVENTS = 500
-"""Those of a list of some 110 kB, of which the system takes in a part alone where few bytes come at once."""
+EVENTS = 600
+"""Those of a list of some 150 kB. Where few bytes come at once the system takes in 100 of them at most."""
 SEGMENT = 536
 """How many bytes of such a list come at once at most."""
 SLOW_HEAD = b"GET / HTTP/1.1\r\nHost: "
@@ -88,14 +86,22 @@ def let_go(idle, start):
 class Slow:
     """Clients that each send the front of a request, and then a byte now and then. One that is let go comes again."""
 
+    AT_ONCE, LEAST = SLOW, SLOW * 9 // 10
+    """How many of them come at once, and how many the server has at once at least."""
+
     def __init__(self, server, front):
         self.server, self.front = server, front
-        self.connections = [self.begun() for _ in range(SLOW)]
+        self.connections = []
 
     def begun(self):
         connection = connect(self.server.port)
         connection.sendall(self.front)
         return connection
+
+    def come(self):
+        """More of them come, until all have."""
+        more = min(self.AT_ONCE, SLOW - len(self.connections))
+        self.connections += [self.begun() for _ in range(more)]
 
     def go_on(self):
         for at, connection in enumerate(self.connections):
@@ -110,6 +116,10 @@ class Slow:
 
 class Reading(Slow):
     """Clients that each ask for a list, and read a byte of it now and then."""
+
+    AT_ONCE, LEAST = SLOW // 10, SLOW // 4
+    """All at once would keep the workers busy for some seconds. Of the bytes of the lists the server holds no more, and lets go of
+    the eldest."""
 
     def begun(self):
         connection = socket.socket()
@@ -135,16 +145,17 @@ def beside_slow_ones(program, what, kind, front):
         yield from talk_over(server, Exchange(post("/events", batch(history(B, 0, EVENTS))), done(EVENTS)))
         slow, end, most = kind(server, front), time.monotonic() + SECONDS, 0
         try:
-            while time.monotonic() < end:
-                slow.go_on()
+            while time.monotonic() < end or len(slow.connections) < SLOW:
+                slow.come()
                 yield from looks.once()
+                slow.go_on()
                 most = max(most, server.sockets())
                 time.sleep(PAUSE)
             yield from looks.judged(f"{SLOW} {what}")
         finally:
             slow.close()
-        if most < LEAST:
-            yield f"the server had {most} connections at once, in place of {LEAST} at least"
+        if most < kind.LEAST:
+            yield f"the server had {most} connections at once, in place of {kind.LEAST} at least"
         yield from server.drain()
 
 
@@ -164,7 +175,7 @@ def slow_readers(program):
 
 
 def long_answers(program):
-    """Clients that ask for a long answer, and read nothing of it."""
+    """Clients that ask for a long answer, and read nothing of it once it has begun."""
     with Server(program, EACH, workers=WORKERS) as server, Looks(server, look(A, "removed", 0, None)) as looks:
         yield from talk_over(server, registered(A))
         yield from long_list(server, B)
@@ -174,6 +185,7 @@ def long_answers(program):
                 server.count()
                 reading.append(connect(server.port, room=SMALL_ROOM))
                 reading[-1].sendall(get(f"/vehicles/{P}/{B}/events"))
+                reading[-1].recv(1)
             yield from looks.times(3)
             yield from looks.judged(f"{LONG_ANSWERS} clients that read nothing of a long answer")
         finally:

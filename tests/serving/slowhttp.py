@@ -5,7 +5,7 @@ import subprocess
 import time
 
 from cases.replays import A, B, P, batch, history
-from serving.crowds import EACH, LEAST, SECONDS, SLOW, WORKERS, many_open_files
+from serving.crowds import EACH, SECONDS, SLOW, WORKERS, many_open_files
 from serving.http import Exchange, done, look, registered
 from serving.looking import Looks
 from serving.server import Server
@@ -15,6 +15,8 @@ from serving.wire import post
 
 EVENTS = 400
 """Those of a list of some 90 kB, which is laid out at once. The system takes it in; the slow readers of crowds.py the server has."""
+LEAST = SLOW // 2
+"""How many connections it reports as open at once at least."""
 COLOUR = re.compile(r"\x1b\[[0-9;]*[A-Za-z]")
 CONNECTED = re.compile(r"^connected: +([0-9]+)$", re.M)
 AVAILABLE = re.compile(r"^service available: +(\w+)$", re.M)
