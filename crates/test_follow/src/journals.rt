@@ -127,7 +127,6 @@ fn text_of(alloc: Global, parts: &[&str]) -> Result<Vec<u8>, Lack> {
 /// Sees to it that all is recorded that the seat has seen, and does it again where there was no memory.
 fn commit_again<F: Record, L: ShardLedger, M: ShardLedger, J: RecordLog, R: Wait>(
     rt: &R,
-    alloc: Global,
     book: &Book<L, M>,
     journal: &SharedFollower<F, L, M, J>,
     seat: &Seat<L, M>,
@@ -148,7 +147,6 @@ fn commit_again<F: Record, L: ShardLedger, M: ShardLedger, J: RecordLog, R: Wait
 /// Asks the requests of the book by a seat, and has each recorded before the next.
 fn ask_each<F: Record, L: ShardLedger, M: ShardLedger, J: RecordLog, R: Wait>(
     rt: &R,
-    alloc: Global,
     book: &Book<L, M>,
     journal: &SharedFollower<F, L, M, J>,
     seat: &mut Seat<L, M>,
@@ -175,7 +173,7 @@ fn ended_by<D: Device + Drop, L: ShardLedger, M: ShardLedger, J: RecordLog, R: W
     let journal = SharedFollower::of(follower);
     let mut receipt = journal.receipt(rt);
     let seat = seats.last_mut().ok_or(Lack::Case)?;
-    ask_each(rt, alloc, &book, &journal, seat, &mut receipt, &requests)?;
+    ask_each(rt, &book, &journal, seat, &mut receipt, &requests)?;
     let Ok(mut settled) = reconcile(book, seats) else {
         return Err(Lack::Case);
     };
