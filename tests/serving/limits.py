@@ -306,8 +306,8 @@ def silent_behind_its_answer(program):
 
 
 def trickling_behind_its_answer(program):
-    """A client that sends a byte each second behind its answer."""
-    return let_go_behind_its_answer(program, *LAST_READS, piece=b"x", pause=1)
+    """A client that goes on sending bytes behind its answer, one each time."""
+    return let_go_behind_its_answer(program, *LAST_READS, piece=b"x", pause=0.3)
 
 
 def flooding_behind_its_answer(program):
