@@ -1,9 +1,9 @@
 /* A listening socket to which no client comes for long, from which calls fail, and for which open files are lacking then, on a
-   clock that is moved on, or that fails. Loaded before the C library by tests/clients and tests/crash; no part of the program.
+   clock that is moved on. Loaded before the C library by tests/clients and tests/crash; no part of the program.
 
    IDLE: how many calls that take a connection wait in vain, WAIT seconds each. ERRORS: the numbers, a blank between them, of
-   the errors of the next calls, TIMES of each. LACK: for how many seconds behind them there is no open file. NO_CLOCK: whether the
-   clock fails. Nothing is really waited for. */
+   the errors of the next calls, TIMES of each. LACK: for how many seconds behind them there is no open file. Nothing is really
+   waited for. */
 #define _GNU_SOURCE
 #include <dlfcn.h>
 #include <errno.h>
@@ -14,7 +14,7 @@
 #include <time.h>
 
 static const int64_t SECOND = 1000000000;
-static int64_t idle, wait_seconds, lack, moved, ends, times, no_clock, failed;
+static int64_t idle, wait_seconds, lack, moved, ends, times, failed;
 static const char *errors;
 
 static int64_t told(const char *name)
@@ -29,7 +29,6 @@ __attribute__((constructor)) static void ask(void)
     wait_seconds = told("WAIT");
     lack = told("LACK");
     times = told("TIMES");
-    no_clock = told("NO_CLOCK");
     errors = getenv("ERRORS");
 }
 
@@ -85,10 +84,6 @@ int clock_gettime(clockid_t clock, struct timespec *moment)
     static int (*next)(clockid_t, struct timespec *);
     if (!next)
         next = (int (*)(clockid_t, struct timespec *))dlsym(RTLD_NEXT, "clock_gettime");
-    if (no_clock && clock == CLOCK_MONOTONIC) {
-        errno = EINVAL;
-        return -1;
-    }
     int came = next(clock, moment);
     if (came == 0 && clock == CLOCK_MONOTONIC) {
         int64_t later = moment->tv_nsec + __atomic_load_n(&moved, __ATOMIC_SEQ_CST);

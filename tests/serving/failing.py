@@ -8,9 +8,9 @@ from pathlib import Path
 
 from cases.replays import A, B, P
 from model.http import error
-from serving.connections import EVENT, SMALL_ROOM, long_list, silent
+from serving.connections import SMALL_ROOM, long_list
 from serving.http import Exchange, look, registered
-from serving.limits import is_over, moved_on
+from serving.limits import moved_on
 from serving.server import Server
 from serving.talking import talk_over
 from serving.wire import connect, get
@@ -35,8 +35,6 @@ PAUSES = 400
 """More pauses than a lack of open files is waited for."""
 STOPPED = 1.5
 """For how many seconds a server is stopped: longer than one wait."""
-LET_GO = 10
-"""Within how many seconds a client is let go where no time can be told, on a machine that is busy with other tests."""
 MOST_BESIDE = 30
 """Within how many seconds the last line comes, while an answer leaves that nobody reads."""
 
@@ -63,20 +61,6 @@ def connections_that_are_hindered(program):
     """Nor does one that the system can't give at this moment, however often it is tried again."""
     for number in HINDERED:
         yield from answers_two(program, failing([number], PAUSES))
-
-
-def without_a_clock(program):
-    """Where the clock fails a whole request is answered, and a client is let go whose request doesn't come whole."""
-    with Server(program, 2, env={**moved_on(), "NO_CLOCK": "1"}) as server:
-        yield from talk_over(server, registered(A))
-        with connect(server.port) as slow:
-            slow.sendall(EVENT[:-1])
-            if silent(slow, LET_GO):
-                yield f"a client wasn't let go after {LET_GO} s"
-            elif not is_over(slow):
-                yield "something was answered to a request that wasn't whole"
-        yield from talk_over(server, look(A, "removed", 0, None))
-        yield from server.end()
 
 
 def stopped_for_a_while(program):
@@ -127,7 +111,6 @@ def most_workers_over_a_journal(program):
 FAILING = [
     connections_that_are_lost,
     connections_that_are_hindered,
-    without_a_clock,
     stopped_for_a_while,
     last_line_before_the_last_answer,
     most_workers_over_a_journal,

@@ -325,6 +325,8 @@ impl<S: System, R: Wait + Copy> Port for WaitingPort<S, R> {
     }
 
     fn end(&self, input: Given, output: Outgoing<S::Peer>, ending: Ending) {
+        // A client that sent more than its request goes on sending, maybe: let go at once, it would lose its answer.
+        let is_over = ending == Ending::AtOnce && input.is_over();
         drop(input);
         let Outgoing {
             peer,
@@ -335,7 +337,7 @@ impl<S: System, R: Wait + Copy> Port for WaitingPort<S, R> {
             return;
         }
         self.look_at_leaving(Waiter {
-            state: Leaving::new(peer, ending == Ending::AtOnce),
+            state: Leaving::new(peer, is_over),
             bytes: rest,
             begun: self.system.now().unwrap_or(0),
             until: 0,
