@@ -22,6 +22,8 @@ EVENTS = 1000
 LEAST = 1000 * EVENTS
 """A list of so many events takes more bytes than these, and no other growth of these tests does."""
 WORKERS = 4
+EACH = 20
+"""Connections of a worker: enough that none has had its own while others wait, whoever takes them."""
 SECONDS = 10
 HALVES = [(A, identifier(2, 1)), (B, identifier(2, 2))]
 """A vehicle of each half, and one of the other half."""
@@ -96,7 +98,7 @@ def beside(server, hold, device, other):
 
 def two_halves(program):
     """While the list of a vehicle is made, vehicles of the other half are looked at, reported and listed, both ways."""
-    with Hold() as hold, Server(program, 5, workers=WORKERS, env=hold.env) as server:
+    with Hold() as hold, Server(program, EACH, workers=WORKERS, env=hold.env) as server:
         yield from talk_over(server, registered(*[device for half in HALVES for device in half]))
         for device, _ in HALVES:
             events = batch(history(device, 0, EVENTS))

@@ -1,7 +1,6 @@
-"""How much memory connections take that wait, and what a server does where there is none for them."""
+"""How much memory connections take that wait, and bodies that never end."""
 
 import contextlib
-import resource
 import select
 import time
 from pathlib import Path
@@ -29,10 +28,6 @@ MOST_OF_BODIES = 2 * (MOST_HELD + WORKERS * MAX_BYTES)
 """How much memory they may take, with one that each worker looks at: a list of bytes that grows has up to twice the room."""
 ENDLESS = 64
 """Clients that each send all of the longest body but its last byte: four times as much as the server holds."""
-LITTLE = 8 * 2**20
-"""How much the address space of a server may grow by, in bytes."""
-CROWD, PART = 200, 200000
-"""Clients that each send so many bytes of a body: more than there is memory for, and fewer than the server would hold."""
 BUSY = 60
 """How many seconds the server may take to take in what was sent."""
 OPEN_FILES = 16384
@@ -125,25 +120,4 @@ def bodies_that_never_end(program):
         yield from server.drain()
 
 
-def without_address_space(program):
-    """A server whose address space ends while bodies come lets go of those for which there is no memory. Once they are gone it
-    answers each look, within the same limit."""
-    many_open_files(OPEN_FILES)
-    part = post("/events", padded("[]", MAX_BYTES))[:PART]
-    with Server(program, EACH, workers=WORKERS) as server, Looks(server, look(A, "removed", 0, None)) as looks:
-        yield from talk_over(server, registered(A))
-        yield from looks.once()
-        most = server.bytes_of("VmSize") + LITTLE
-        resource.prlimit(server.child.pid, resource.RLIMIT_AS, (most, resource.RLIM_INFINITY))
-        with connections(server.port, CROWD, part) as opened:
-            taken_in(server)
-            gone = closed(opened)
-            if not gone:
-                yield "memory was lacking for no connection"
-        yield from looks.times(5)
-        yield from looks.judged(f"an address space in which {gone} of {CROWD} bodies had no memory")
-        resource.prlimit(server.child.pid, resource.RLIMIT_AS, (resource.RLIM_INFINITY, resource.RLIM_INFINITY))
-        yield from server.drain()
-
-
-MEMORY = [memory_of_waiting, bodies_that_never_end, without_address_space]
+MEMORY = [memory_of_waiting, bodies_that_never_end]
