@@ -61,7 +61,8 @@ def batches():
         for name, text in GOOD:
             files = {"events.json": text}
             yield replayed(text, ["ok available"], [(A, "available", 1)], words=words, files=files, name=name)
-    yield replayed("[]", [], [], name="no item")
+    for text in ("[]", " [ ] \n", "\t\r\n [\t\r\n ]\t\r\n "):
+        yield replayed(text, [], [], name=f"no item: {text!r}")
     yield replayed(lists(127), ["fault not_object"], [], name="the deepest list")
     most = batch(["0"] * MAX_ITEMS)
     yield replayed(most, ["fault not_object"] * MAX_ITEMS, [], name="most items")
@@ -147,6 +148,9 @@ FAULTY = [
     *[({"location_e7": f'{{"{it}": 0, "lng": 0}}'}, "bad_param location_e7") for it in ("la", "lats", "Lat", "lng")],
     *[({"location_e7": f'{{"lat": {text}, "lng": 0}}'}, "bad_param location_e7") for text in NO_DEGREES],
     ({"location_e7": '{"lat": 0, "lng": null}'}, "bad_param location_e7"),
+    ({"location_e7": '{"lat\\u0000": 0, "lng": 0}'}, "bad_param location_e7"),
+    ({"location_e7": '{"lat": 0, "lat": null, "lng": 0}'}, "bad_param location_e7"),
+    ({"location_e7": '{"lat": 0, "lng": 0}, "location_e7": {}'}, "bad_param location_e7"),
     ({"location_e7": '{"lat": 900000001, "lng": 0}'}, "bad_param location_e7"),
     ({"location_e7": '{"lat": -900000001, "lng": 0}'}, "bad_param location_e7"),
     ({"location_e7": '{"lat": 0, "lng": 1800000001}'}, "bad_param location_e7"),
@@ -170,6 +174,8 @@ ACCEPTED = [
     {"event_types": json.dumps(["provider_drop_off"] + 8 * ["battery_low", "battery_charged"])},
     # members written twice, of which the last counts
     {"timestamp": '-1, "timestamp": 3000'},
+    *[{"event_types": f'{it}, "event_types": ["provider_drop_off"]'} for it in ('["a", 7, "b"]', '["a", "b", "c", "d"]')],
+    {"location_e7": '{"lat": null}, "location_e7": {"lat": 1, "lng": 2}'},
     *[{name: f'7, "{name}": {MEMBERS[name]}'} for name in NAMES],
     # identifiers in the other forms
     {"device_id": f'"{A.upper()}"', "provider_id": MEMBERS["provider_id"].replace("-", "")},

@@ -23,7 +23,7 @@ EVERY = MOST_CALLS // 5
 INPUT, OUT, FAULTS, FILE = range(4)
 """The descriptors of the standard streams, and of the first file that is opened."""
 MOVED = MOST_CALLS // EVERY
-FILES = {"events.json": EVENTS, "table.json": ONE_ROW, "journal": journal(registered(A))}
+FILES = {"events.json": EVENTS, "table.json": ONE_ROW, "journal": journal(registered(A)), "faulty": "7\n{\n7\n7\n"}
 DEBUG = f"debug events.json {P} {A}"
 STARTED = f"events 2 refused 0\n{START}"
 
@@ -35,6 +35,8 @@ READS = [
     ("replay --lines events.json", FILE, (3, "", cannot_read("events.json"))),
     ("table --table table.json", FILE, (3, "", cannot_read("table.json"))),
     (DEBUG, FILE, (3, "", cannot_read("events.json"))),
+    # a fault of the lines before isn't told
+    ("replay --lines faulty", FILE, (3, "", cannot_read("faulty"))),
     # a script ends where reading fails: with `next`, which has as many bytes as came
     (DEBUG, INPUT, (0, STARTED + SECOND, "")),
 ]

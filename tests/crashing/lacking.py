@@ -4,11 +4,13 @@ import contextlib
 import os
 import resource
 import signal
+import socket
 import subprocess
 import tempfile
 import time
 from pathlib import Path
 
+from cases.replays import A
 from cases.vehicles import journal, registered
 from crashing.clients import unanswered
 from crashing.files import Lines, counted, listed_amiss
@@ -20,6 +22,7 @@ from harness.counting import Skipped
 from harness.texts import differing
 from model.http import answer, error
 from model.tables import Table
+from serving.connections import SMALL_ROOM, long_list
 from serving.http import done
 from serving.limits import TOO_LONG, moved_on
 from serving.server import NotListening, Server
@@ -33,6 +36,8 @@ FIRST, MORE = 10, 400
 """Events of the vehicle that are kept before the disk is full, and that are reported then."""
 AT_ONCE = 8
 """Seconds in which a server ends whose workers wait for connections: they don't wait until one comes, or ten seconds are over."""
+TOLD_WITHIN = 5
+"""Seconds in which a fault is told, while an answer leaves that nobody reads, which may take ten times as long."""
 DEVICE, OTHER = device_at(1), device_at(2)
 TOLD_NOT_KEPT = "mds_city: journal not kept\n"
 LOST = "mds_city: journal\n"
@@ -227,6 +232,41 @@ def calls_that_fail(program):
                 yield f"call {after + 1} of kind {kind}: {complaint}"
 
 
+def seconds_until_told(server, text):
+    """How long it takes until a server has told just this on standard error; as long as may be, where it hasn't by then."""
+    begun = time.monotonic()
+    while faults_of(server) != text and time.monotonic() < begun + TOLD_WITHIN:
+        time.sleep(0.01)
+    return time.monotonic() - begun
+
+
+def told_beside(server, recording):
+    """What is wrong with when a server tells that a sync failed, while a client reads nothing of its answer."""
+    with connect(server.port, room=SMALL_ROOM) as slow:
+        slow.sendall(listing(A))
+        slow.recv(1, socket.MSG_PEEK)
+        recording.fail(SYNC)
+        yield from differing(unanswered(server.port, registering(DEVICE)), b"", "a registration that isn't known to be kept")
+        seconds = seconds_until_told(server, LOST)
+        if seconds >= TOLD_WITHIN:
+            yield f"{seconds:.1f} seconds behind that it had told {faults_of(server)!r}"
+        if server.child.poll() is not None:
+            yield "it ended before the answer had left"
+
+
+def told_beside_an_answer(program):
+    """A sync that fails while a long answer leaves that nobody reads: the fault is told at once, and the server ends once its client
+    has gone."""
+    with tempfile.TemporaryDirectory() as folder:
+        path = Path(folder, "journal")
+        with Recording(path) as recording, Server(program, EACH, WORKERS, journal=path, env=recording.env) as server:
+            yield from long_list(server, A)
+            yield from told_beside(server, recording)
+            found, wanted = server.ended(), (3, "", LOST)
+            if found != wanted:
+                yield f"it ended with {found}, in place of {wanted}"
+
+
 def ended_by_its_port(server):
     """What is wrong with the end of a server that lacks open files for the next client for too long: what was accepted is recorded,
     so that it tells of the port."""
@@ -366,6 +406,7 @@ LACKING = [
     the_signal_of_a_limit,
     full_at_its_end,
     calls_that_fail,
+    told_beside_an_answer,
     a_port_that_fails,
     a_write_that_fails_once,
     starts_that_fail,

@@ -13,7 +13,9 @@ from harness.counting import ROOT
 
 TOLD = re.compile(r"^fn (\S+): (.*)$")
 OPEN = re.compile(r"^note: \S+: it is not proved that")
-WRONG_ANSWER = re.compile(r"^\./proofs/(\S+)/\w+\.antt:\S+ error:", re.M)
+WRONG_ANSWER = re.compile(r"^\./proofs/(\S+)/\w+\.antt:\S+ error: (.*)$", re.M)
+GONE = re.compile(r"has no field|is not in scope|has no `|was not admitted")
+"""What is said of an answer that names what an edit took away. That an answer doesn't fit the new text says nothing of the contract."""
 NO_SOURCE = ("out", "must-fail")
 
 
@@ -72,16 +74,18 @@ def linked(one, other):
     return shutil.copy2(one, other)
 
 
-def lay(crates, uses, given, folder):
-    """Lays out a repository of these crates alone: their sources, and what checks of `given` left of them."""
+def lay(crates, uses, given, folder, libraries=frozenset()):
+    """Lays out a repository of these crates alone: their sources, and what checks of `given` left of them. Of those that only serve as
+    libraries, what was built is enough."""
     lines = [f"{name}: {' '.join(uses[name])}\n" for name in uses if name in crates]
     (folder / "crates.txt").write_text("".join(lines))
     shutil.copy(ROOT / "HANDLES", folder)
     for name in crates:
         to = folder / "crates" / name
         shutil.copytree(ROOT / "crates" / name, to, ignore=shutil.ignore_patterns(*NO_SOURCE))
-        if (given / "crates" / name / "out").exists():
-            shutil.copytree(given / "crates" / name / "out", to / "out", symlinks=True, copy_function=linked)
+        left = "out/rlib" if name in libraries else "out"
+        if (given / "crates" / name / left).exists():
+            shutil.copytree(given / "crates" / name / left, to / left, symlinks=True, copy_function=linked)
 
 
 def is_own(verdict, is_open):
@@ -93,17 +97,23 @@ def is_own(verdict, is_open):
     return verdict.startswith("not proved") and (is_open or reasons == [""])
 
 
+def wrong_answers(said, named_gone):
+    """The functions with an answer in their folder of `proofs/` that is none any more: those where it names what is gone, or the
+    others."""
+    return {path.replace("/", "::") for path, why in WRONG_ANSWER.findall(said) if bool(GONE.search(why)) == named_gone}
+
+
 def unproved(said):
     """The functions of a crate that a check tells of as not proved for themselves, and not because they call another one: by their
-    goals, or by an answer in their folder of `proofs/` that is none any more."""
-    found, is_open = {path.replace("/", "::") for path in WRONG_ANSWER.findall(said)}, False
+    goals, or by an answer that is none any more. An answer that only names what is gone tells nothing: a goal has to be open too."""
+    found, gone, is_open = wrong_answers(said, False), wrong_answers(said, True), False
     for line in said.splitlines():
         told = TOLD.match(line)
         is_open = is_open or bool(OPEN.match(line))
         if told:
-            name, verdict = told.groups()
-            if is_own(verdict, is_open):
-                found.add(name.partition("::")[2])
+            name, verdict = told.group(1).partition("::")[2], told.group(2)
+            if is_own(verdict, is_open) and (is_open or name not in gone):
+                found.add(name)
             is_open = False
     return found
 
@@ -119,7 +129,8 @@ def is_function(told, function):
 def checked(crate, texts, uses, given):
     """What a check says of a crate with these texts, over what checks of `given` left."""
     with tempfile.TemporaryDirectory(prefix="edits-") as room:
-        lay({crate, *below(crate, uses)}, uses, given, Path(room))
+        libraries = below(crate, uses)
+        lay({crate, *libraries}, uses, given, Path(room), libraries)
         folder = Path(room) / "crates" / crate
         for path, text in texts.items():
             (folder / path).write_text(text)
@@ -135,21 +146,29 @@ def complaints(edit, said):
         yield f"it wasn't checked: {next((line for line in said.splitlines() if 'error' in line), said[-300:])}"
     elif not any(is_function(it, function) for it in own for function in edit.functions):
         names = ", ".join("::".join(filter(None, it)) for it in sorted(edit.functions))
-        yield f"not refused: {names} is proved with it, or not proved only because of what it calls"
+        yield f"not refused: {names} is proved with it, or not proved only because of what it calls or of names that it took away"
+
+
+def left_of(it, edits):
+    """The rounds in which those of a round's edits are tried again that weren't refused in it. They are made together where others
+    were refused, and else one by one."""
+    shares = [edits] if len(edits) < len(it.edits) else [[edit] for edit in edits]
+    for share in shares:
+        yield from rounds_of(it.crate, share)
 
 
 def outcomes(it, uses, given, told=None):
-    """Each edit of a round, and what is wrong with it. One that isn't refused so is tried alone: goals that wait for a callee's
-    proof aren't looked at where the callee is edited too. What a check says is kept in a folder `told`, if there is one."""
+    """Each edit of a round, and what is wrong with it. One that isn't refused is tried again without those that were: goals that wait
+    for a callee's proof aren't looked at where the callee is edited too. What a check says is kept in a folder `told`, if there is
+    one."""
     said = checked(it.crate, it.texts, uses, given)
     if told:
         told.mkdir(parents=True, exist_ok=True)
-        (told / f"{it.crate}-{it.edits[0].file.stem}.txt").write_text(said)
-    for edit in it.edits:
-        wrong = list(complaints(edit, said))
-        if wrong and len(it.edits) > 1:
-            alone = Round(it.crate)
-            alone.takes(edit, ROOT / "crates" / it.crate)
-            yield from outcomes(alone, uses, given, told)
-        else:
-            yield edit, wrong
+        (told / f"{it.crate}-{len(it.edits)}-{it.edits[0].file.stem}.txt").write_text(said)
+    found = [(edit, list(complaints(edit, said))) for edit in it.edits]
+    if len(found) == 1:
+        yield from found
+        return
+    yield from ((edit, wrong) for edit, wrong in found if not wrong)
+    for again in left_of(it, [edit for edit, wrong in found if wrong]):
+        yield from outcomes(again, uses, given, told)

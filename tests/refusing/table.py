@@ -39,7 +39,7 @@ TESTED = {
         "add_line",
         "end_page",
     ],
-    ("mds_batch", "test_batches", "call_succeeds_after_a_refused_growth"): ["read_vehicles", "read_events"],
+    ("mds_batch", "test_batches", "call_succeeds_after_a_refused_growth"): ["read_vehicles", "read_events", "read_event_items"],
     ("mds_batch", "test_batches", "events_are_handed_on_after_a_refused_growth"): ["each_event"],
     ("mds_batch", "test_batches", "an_item_is_taken_after_a_refused_growth"): ["TakesItems::take"],
     ("mds_batch", "test_batches", "an_item_is_read_after_a_refused_growth"): ["read_item", "ItemReader::read"],
@@ -52,7 +52,7 @@ TESTED = {
     ("mds_debugger", "test_replays", "a_script_is_read_after_a_refused_growth"): ["read_script", "script_of"],
     ("mds_debugger", "test_replays", "a_start_is_printed_after_a_refused_growth"): ["vehicle_events", "print_start"],
     ("mds_debugger", "test_replays", "a_walk_is_printed_after_a_refused_growth"): ["print_walk"],
-    ("mds_commands", "test_words", "tables_are_had_after_a_refused_growth"): ["tables_in"],
+    ("mds_commands", "test_replays", "tables_are_had_after_a_refused_growth"): ["tables_in"],
     ("mds_request", "test_faces", "call_succeeds_after_a_refused_growth"): ["Face::open", "plan_of", "HeadStatus::plan"],
     ("mds_response", "test_faces", "answer_is_whole_after_a_refused_growth"): ["bytes_of"],
     ("mds_face", "test_faces", "calls_stand_after_a_refused_growth"): ["serve_one"],
@@ -66,7 +66,7 @@ TESTED = {
         "RecordedBook::serve",
     ],
     ("mds_waiting", "test_edge", "a_key_is_found_after_a_refused_growth"): ["Waiting::vacancy"],
-    ("mds_args", "test_words", "words_are_read_after_a_refused_growth"): ["parse_words"],
+    ("mds_args", "test_replays", "words_are_read_after_a_refused_growth"): ["parse_words"],
     ("mds_journal", "test_journal", "lines_are_added_after_a_refused_growth"): [
         "Group::new",
         "Group::push",
@@ -219,13 +219,16 @@ QUIET = {
     ("mds_batch", "test_batches", "items_are_read_again_with_every_growth_refused"): [
         "Member::name",
         "ItemFault::word",
-        "BatchItem::ask",
+        "BatchItems::ask",
+        "BatchItems::count",
         "BatchItem::fault",
+        "EventItems::kept",
         "ItemReader::new",
         "ItemReader::read",
         "TakesItems::take",
         "read_vehicles",
         "read_events",
+        "read_event_items",
         "each_event",
         "read_item",
     ],
@@ -252,13 +255,13 @@ QUIET = {
     ],
     ("mds_trace", "test_replays", "a_stream_begins_with_every_growth_refused"): ["LineReplay::open", "LineReplay::feed"],
     ("mds_debugger", "test_replays", "lines_are_read_with_every_growth_refused"): ["ScriptCommand::of_line", "print_walk"],
-    ("mds_commands", "test_words", "problems_are_told_with_every_growth_refused"): [
+    ("mds_commands", "test_replays", "problems_are_told_with_every_growth_refused"): [
         "Problem::status",
         "Status::code",
         "tables_in",
         "tell",
     ],
-    ("mds_commands", "test_words", "bad_words_are_told_with_every_growth_refused"): ["debug_to"],
+    ("mds_commands", "test_replays", "bad_words_are_told_with_every_growth_refused"): ["debug_to"],
     ("mds_request", "test_faces", "looks_are_planned_with_every_growth_refused"): [
         "Face::head_status",
         "HeadStatus::plan",
@@ -278,9 +281,9 @@ QUIET = {
         "read_plan",
     ],
     ("mds_pool", "test_edge", "seats_come_back_with_every_growth_refused"): ["serve"],
-    ("mds_socket", "mds_socket", "a_port_is_bound_with_every_growth_refused"): ["SocketPort::bind", "SocketPort::number"],
-    ("mds_args", "test_words", "kinds_are_told_with_every_growth_refused"): ["WordsError::kind"],
-    ("mds_commands", "test_words", "torn_is_told_with_every_growth_refused"): ["torn_to"],
+    ("mds_socket", "test_edge", "a_port_is_bound_with_every_growth_refused"): ["SocketPort::bind", "SocketPort::number"],
+    ("mds_args", "test_replays", "kinds_are_told_with_every_growth_refused"): ["WordsError::kind"],
+    ("mds_commands", "test_replays", "torn_is_told_with_every_growth_refused"): ["torn_to"],
 }
 """The same for calls that it makes without memory: all of a library's, or those that are refused, look at something, or say
 that there is no memory."""

@@ -1,5 +1,6 @@
 """Calls of the system that fail under a server, and a server that is stopped for a while."""
 
+import contextlib
 import errno
 import signal
 import tempfile
@@ -7,6 +8,7 @@ import time
 from pathlib import Path
 
 from cases.replays import A, B, P
+from harness.case import SOCKET
 from model.http import error
 from serving.connections import SMALL_ROOM, long_list
 from serving.http import Exchange, look, registered
@@ -31,6 +33,10 @@ LOST = [
 """What a call that takes a connection says of that one connection (accept(2))."""
 HINDERED = [errno.ENOBUFS, errno.ENOMEM, errno.EPERM, errno.EACCES, errno.EOPNOTSUPP]
 """What it says where the system can't give it at this moment."""
+FILES = [errno.EMFILE, errno.ENFILE]
+"""What it says where open files are lacking, of the process or of the system."""
+AT_FAULT = [errno.EBADF, errno.EINVAL, errno.ENOTSOCK, errno.ENOTTY]
+"""What it says of a listening socket that is none any more."""
 PAUSES = 400
 """More pauses than a lack of open files is waited for."""
 STOPPED = 1.5
@@ -61,6 +67,33 @@ def connections_that_are_hindered(program):
     """Nor does one that the system can't give at this moment, however often it is tried again."""
     for number in HINDERED:
         yield from answers_two(program, failing([number], PAUSES))
+
+
+def connections_without_a_file(program):
+    """Nor does one for which no file can be opened for a moment."""
+    return answers_two(program, failing(FILES, 3))
+
+
+def files_that_are_lacking_for_good(program):
+    """Where no file can be opened for long, the only worker ends, and so the server."""
+    for number in FILES:
+        yield from ends_at_once(program, failing([number], PAUSES))
+
+
+def sockets_at_fault(program):
+    """So it does where the listening socket is at fault, and it isn't tried again."""
+    for number in AT_FAULT:
+        yield from ends_at_once(program, failing([number]))
+
+
+def ends_at_once(program, env):
+    """What is wrong with how a server of one worker ends for which no connection can be taken."""
+    with Server(program, 2, env=env) as server, contextlib.ExitStack() as client:
+        with contextlib.suppress(ConnectionError):  # where it has ended
+            client.enter_context(connect(server.port))
+        ended, wanted = server.ended(), (3, "", SOCKET)
+        if ended != wanted:
+            yield f"ended with {ended}, in place of {wanted}"
 
 
 def stopped_for_a_while(program):
@@ -111,6 +144,9 @@ def most_workers_over_a_journal(program):
 FAILING = [
     connections_that_are_lost,
     connections_that_are_hindered,
+    connections_without_a_file,
+    files_that_are_lacking_for_good,
+    sockets_at_fault,
     stopped_for_a_while,
     last_line_before_the_last_answer,
     most_workers_over_a_journal,

@@ -470,6 +470,31 @@ def items():
         yield Talk([registered(A), count, again])
 
 
+# Times and positions that are written twice, or in another order: what is looked at then.
+WRITTEN = [
+    ({"timestamp": '-1, "timestamp": 2000'}, {"last": 2000}),
+    ({"timestamp": "9007199254740991"}, {"last": 9007199254740991}),
+    *[
+        ({"location_e7": it}, {"location_e7": {"lat": 1, "lng": 2}})
+        for it in (
+            '{"lng": 2, "lat": 1}',
+            '{"lat": 7, "lng": 8}, "location_e7": {"lat": 1, "lng": 2}',
+            '{"lat": null}, "location_e7": {"lat": 1, "lng": 2}',
+            '{"lng": {"lat": 7}, "\\u006Cat": 1, "lng": 2}',
+            '{"lat": 1, "lng": 2}, "location": {"lat": 1.5, "lng": 2}, "publication_time": 1700000000500, "trip_ids": []',
+        )
+    ],
+]
+
+
+def written():
+    """The last event's time and position, where what an item writes of them is more than that."""
+    for changed, told in WRITTEN:
+        standing = {"events": 1, "last": 1000, "location_e7": None, "vehicle_state": "available", **told}
+        posted = Exchange(post("/events", item(**changed)), done(1), name=str(changed))
+        yield Talk([registered(A), posted, Exchange(get(f"/vehicles/{P}/{A}"), answer(200, {**vehicle(), **standing}))])
+
+
 def positions():
     """The position of the last event that had one, and what events are listed with."""
     where, bare = {"lat": 525200000, "lng": 134050000}, {"lat": -900000000, "lng": -1800000000}
@@ -574,4 +599,4 @@ def depots():
     yield Talk([registered(A), *[judged([it]) for it in STORED], end], table=DEPOT)
 
 
-TALKS = [worked, heads, targets, methods, lengths, order, bodies, items, positions, runs, changes, depots]
+TALKS = [worked, heads, targets, methods, lengths, order, bodies, items, written, positions, runs, changes, depots]

@@ -1,13 +1,15 @@
 """How much memory connections take that wait, and bodies that never end."""
 
 import contextlib
+import os
+import re
 import select
 import time
 from pathlib import Path
 
 from cases.replays import A
 from harness.case import MAX_BYTES, padded
-from harness.counting import Unwell
+from harness.counting import ROOT, Unwell
 from harness.texts import differing
 from serving.crowds import many_open_files
 from serving.http import EMPTY, Exchange, look, registered
@@ -24,8 +26,11 @@ MOST_BESIDE = 8 * 2**20
 WORKERS, EACH = 4, 1000
 MOST_HELD = 64 * 2**20
 """How many bytes of requests that come the server holds at most, in all."""
-MOST_OF_BODIES = 2 * (MOST_HELD + WORKERS * MAX_BYTES)
-"""How much memory they may take, with one that each worker looks at: a list of bytes that grows has up to twice the room."""
+MOST_OF_BODIES = 2.0
+"""How many times as much memory they may take, with one that each worker looks at: a list of bytes that grows has up to twice
+the room, and the C library keeps pages that others had."""
+MOST_BY_UNIT = 1.25
+"""The same with what the unit tells the C library: it gives pages of long lists back."""
 ENDLESS = 64
 """Clients that each send all of the longest body but its last byte: four times as much as the server holds."""
 BUSY = 60
@@ -95,21 +100,38 @@ def memory_of_waiting(program):
         yield from server.drain()
 
 
+def settings_of_unit():
+    """What the unit sets for the C library."""
+    line = re.search(r"^Environment=(.*)$", (ROOT / "deploy/mds_city@.service").read_text(), re.MULTILINE)
+    return dict(word.split("=") for word in line.group(1).split())
+
+
 def bodies_that_never_end(program):
     """Bodies that lack a byte each, four times as many as the server holds: it lets go of those that came first, and answers
     one that came last once its last byte is there."""
+    yield from endless_bodies(program, None, MOST_OF_BODIES)
+    yield from endless_bodies(program, {**os.environ, **settings_of_unit()}, MOST_BY_UNIT)
+
+
+def endless_bodies(program, env, times):
+    """The same in this environment, where they may take so many times as much memory as they have bytes."""
     many_open_files(OPEN_FILES)
     body = padded("[]", MAX_BYTES)
-    with Server(program, EACH, workers=WORKERS) as server, Looks(server, look(A, "removed", 0, None)) as looks:
+    allowed = times * (MOST_HELD + WORKERS * MAX_BYTES)
+    with (
+        Server(program, EACH, workers=WORKERS, env=env) as server,
+        Looks(server, look(A, "removed", 0, None)) as looks,
+    ):
         yield from talk_over(server, registered(A))
         yield from looks.once()
         before = server.memory()
         with connections(server.port, ENDLESS, post("/events", body)[:-1]) as opened:
             taken_in(server)
             most = server.most_memory() - before
-            print(f"{ENDLESS} bodies that don't end: {most / 2**20:.1f} MiB at most", flush=True)
-            if most > MOST_OF_BODIES:
-                yield f"{most} bytes at most, in place of {MOST_OF_BODIES}"
+            how = "as the unit has it" if env else "with the C library's own settings"
+            print(f"{ENDLESS} bodies that don't end, {how}: {most / 2**20:.1f} MiB at most", flush=True)
+            if most > allowed:
+                yield f"{most} bytes at most, in place of {allowed:.0f}"
             kept = MOST_HELD // len(body) - 1
             if closed(opened[:-kept]) < ENDLESS - kept - 1 - WORKERS or closed(opened[-kept + WORKERS :]):
                 yield f"{closed(opened)} were closed, {closed(opened[-kept:])} of the last {kept}"

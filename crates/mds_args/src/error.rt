@@ -25,7 +25,6 @@ pub struct WordsError {
 }
 
 impl WordsError {
-    /// The error of this cause.
     pub(crate) fn new(cause: Error) -> WordsError
         ensures { result.cause ≡ cause }
     {
@@ -40,7 +39,6 @@ impl WordsError {
     }
 }
 
-/// The kind of an error of which `clap` tells this.
 fn kind_in(kind: ErrorKind) -> WordsErrorKind
     ensures { result ≡ kind_in kind }
 {

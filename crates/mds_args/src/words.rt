@@ -94,7 +94,6 @@ pub fn parse_words<'a, S: AsStr>(alloc: Global, words: &'a [S]) -> Result<Comman
     }
 }
 
-/// The command that `words` ask for, or why `clap` or this crate finds none in them.
 fn command_in<'a, S: AsStr>(alloc: Global, words: &'a [S]) -> Result<Command<'a>, Error>
     ensures ok { IfOk result (Asks (subcommand_of program_app (map S.text words.entry.now))) }
     // Words in which `clap` finds a fault give no command, and the error is of a kind that it finds.
@@ -111,7 +110,7 @@ fn command_in<'a, S: AsStr>(alloc: Global, words: &'a [S]) -> Result<Command<'a>
     }
 }
 
-/// The command that `words` ask for, or why `form`, which is the program's, or this crate finds none in them.
+/// `form` is the program's.
 fn command_by<'a, S: AsStr>(
     form: &mut clap::Command<'a>,
     words: &'a [S],
@@ -128,7 +127,6 @@ fn command_by<'a, S: AsStr>(
     command_or_error(form, &matches)
 }
 
-/// The command of a parse by `form`, or the error that there is none.
 fn command_or_error<'a>(
     form: &mut clap::Command<'a>,
     matches: &ArgMatches<'a>,
@@ -142,7 +140,6 @@ fn command_or_error<'a>(
     }
 }
 
-/// The command of a parse, or `None` where there is none of its name or it lacks a value.
 fn command_of<'a>(matches: &ArgMatches<'a>) -> Option<Command<'a>>
     ensures { MatchOption result (AsksNothing (subcommand_rows_of matches.now))
         (Asks (subcommand_rows_of matches.now)) }
@@ -151,7 +148,6 @@ fn command_of<'a>(matches: &ArgMatches<'a>) -> Option<Command<'a>>
     command_named(name, values)
 }
 
-/// The command of this name with these values, or `None` where there is none of that name or it lacks a value.
 fn command_named<'a>(name: &str, values: &ArgMatches<'a>) -> Option<Command<'a>>
     ensures { MatchOption result (AsksNothing (Some (name.now, rows_of (found_of values.now))))
         (Asks (Some (name.now, rows_of (found_of values.now)))) }
@@ -185,7 +181,6 @@ const MAX_EACH: u64 = 1_000_000;
 /// replay has at most `mds_replay::MAX_WORKERS`. It may not be greater than these: the program's proof then fails.
 const MAX_WORKERS: u64 = 64;
 
-/// The command `serve` with these values, or `None` where one of its numbers is missing or out of its range.
 fn serve_of<'a>(values: &ArgMatches<'a>) -> Option<Command<'a>>
     ensures { MatchOption result (LacksNumber (rows_of (found_of values.now)))
         (λ command. (name_of command ≡ codes "serve")
@@ -203,7 +198,6 @@ fn serve_of<'a>(values: &ArgMatches<'a>) -> Option<Command<'a>>
     })
 }
 
-/// The number of workers, or `None` where it is missing or out of its range.
 fn workers_of(values: &ArgMatches<'_>) -> Option<usize>
     ensures { MatchOption result
         (HasNoNumber 1 max_workers (first_of (codes "workers") (rows_of (found_of values.now))))
@@ -212,7 +206,6 @@ fn workers_of(values: &ArgMatches<'_>) -> Option<usize>
     Some(number_of(values, "workers", 1, MAX_WORKERS)? as usize)
 }
 
-/// The number that the value of this name is, or `None` where there is no value or it is no number of this range.
 fn number_of(values: &ArgMatches<'_>, name: &str, least: u64, most: u64) -> Option<u64>
     ensures { MatchOption result
         (HasNoNumber least most (first_of name.now (rows_of (found_of values.now))))
@@ -221,7 +214,6 @@ fn number_of(values: &ArgMatches<'_>, name: &str, least: u64, most: u64) -> Opti
     number_in(values.get_str(name)?, least, most)
 }
 
-/// The number that this text is, or `None` where it is no number of this range.
 fn number_in(text: &str, least: u64, most: u64) -> Option<u64>
     ensures { MatchOption result (HasNoNumber least most (Some text.now))
         (IsNumber least most (Some text.now)) }
@@ -234,7 +226,6 @@ fn number_in(text: &str, least: u64, most: u64) -> Option<u64>
     }
 }
 
-/// The command `replay` with these values, or `None` where the file or the number of workers is missing.
 fn replay_of<'a>(values: &ArgMatches<'a>) -> Option<Command<'a>>
     ensures { MatchOption result (LacksFileOrWorkers (rows_of (found_of values.now)))
         (λ command. (name_of command ≡ codes "replay")
@@ -251,7 +242,6 @@ fn replay_of<'a>(values: &ArgMatches<'a>) -> Option<Command<'a>>
     })
 }
 
-/// Whether the flag of this name is set.
 fn is_set(values: &ArgMatches<'_>, name: &str) -> bool
     ensures { IsTrue result ↔ (first_of name.now (rows_of (found_of values.now)) ≡ Some
         (codes "true")) }
@@ -262,14 +252,12 @@ fn is_set(values: &ArgMatches<'_>, name: &str) -> bool
     }
 }
 
-/// Whether a flag's value says that it is set.
 fn is_true(value: &str) -> bool
     ensures { IsTrue result ↔ (value.now ≡ codes "true") }
 {
     value == "true"
 }
 
-/// The command `debug` with these values, or `None` where the file, the provider or the device is missing.
 fn debug_of<'a>(values: &ArgMatches<'a>) -> Option<Command<'a>>
     ensures { MatchOption result
         (LacksOneOf (codes "FILE" ∷ codes "PROVIDER" ∷ codes "DEVICE" ∷ [])
@@ -288,7 +276,6 @@ fn debug_of<'a>(values: &ArgMatches<'a>) -> Option<Command<'a>>
     })
 }
 
-/// The command `table` with these values.
 fn table_of<'a>(values: &ArgMatches<'a>) -> Command<'a>
     ensures { (name_of result ≡ codes "table") × HasValues (rows_of (found_of values.now)) result }
 {
@@ -297,7 +284,6 @@ fn table_of<'a>(values: &ArgMatches<'a>) -> Command<'a>
     }
 }
 
-/// The command `vehicles` with these values, or `None` where the file is missing.
 fn vehicles_of<'a>(values: &ArgMatches<'a>) -> Option<Command<'a>>
     ensures { MatchOption result
         (LacksOneOf (codes "FILE" ∷ []) (rows_of (found_of values.now)))
@@ -314,7 +300,6 @@ fn vehicles_of<'a>(values: &ArgMatches<'a>) -> Option<Command<'a>>
 /// What `clap` is told of a command, where there is memory for it.
 type Form<'a> = Result<clap::Command<'a>, AllocError>;
 
-/// What `clap` is told of the program.
 fn program_form<'a>(alloc: Global) -> Form<'a>
     ensures { IsTold program_app result }
 {
@@ -328,7 +313,6 @@ fn program_form<'a>(alloc: Global) -> Form<'a>
     with_command(with_table_command, vehicles_form(alloc))
 }
 
-/// Tells `form` of a command.
 fn with_command<'a>(form: Form<'a>, command: Form<'a>) -> Form<'a>
     ensures { (app sub : App) → IsTold app form.entry → IsTold sub command.entry
         → sub.top.is_plain ≡ true → IsTold (with_subcommand app sub.top) result }
@@ -339,7 +323,6 @@ fn with_command<'a>(form: Form<'a>, command: Form<'a>) -> Form<'a>
     }
 }
 
-/// Tells `form` of a command, where there is one.
 fn add_command<'a>(form: clap::Command<'a>, command: Form<'a>) -> Form<'a>
     ensures { (sub : App) → IsTold sub command.entry → sub.top.is_plain ≡ true
         → IsTold (with_subcommand (app_of form.entry) sub.top) result }
@@ -350,7 +333,6 @@ fn add_command<'a>(form: clap::Command<'a>, command: Form<'a>) -> Form<'a>
     }
 }
 
-/// What `clap` is told of the command `serve`.
 fn serve_form<'a>(alloc: Global) -> Form<'a>
     ensures { IsTold serve_app result }
 {
@@ -373,7 +355,6 @@ fn serve_form<'a>(alloc: Global) -> Form<'a>
     with_journal(alloc, with_tables)
 }
 
-/// What `clap` is told of the command `replay`.
 fn replay_form<'a>(alloc: Global) -> Form<'a>
     ensures { IsTold replay_app result }
 {
@@ -399,7 +380,6 @@ fn replay_form<'a>(alloc: Global) -> Form<'a>
     with_workers(alloc, with_lines, "1")
 }
 
-/// What `clap` is told of the command `debug`.
 fn debug_form<'a>(alloc: Global) -> Form<'a>
     ensures { IsTold debug_app result }
 {
@@ -414,7 +394,6 @@ fn debug_form<'a>(alloc: Global) -> Form<'a>
     with_table(alloc, with_device)
 }
 
-/// What `clap` is told of the command `table`.
 fn table_form<'a>(alloc: Global) -> Form<'a>
     ensures { IsTold table_app result }
 {
@@ -426,7 +405,6 @@ fn table_form<'a>(alloc: Global) -> Form<'a>
     with_table(alloc, bare)
 }
 
-/// What `clap` is told of the command `vehicles`.
 fn vehicles_form<'a>(alloc: Global) -> Form<'a>
     ensures { IsTold vehicles_app result }
 {
@@ -435,14 +413,12 @@ fn vehicles_form<'a>(alloc: Global) -> Form<'a>
     with_table(alloc, with_file)
 }
 
-/// What `clap` is told of a command with no arguments yet.
 fn bare_form<'a>(alloc: Global, name: &'a str, about: &'a str) -> Form<'a>
     ensures { IsTold (new_app name.entry.now) result }
 {
     Ok(clap::Command::new(alloc, name).about(about))
 }
 
-/// Tells `form` of a word that must be given.
 fn with_word<'a>(alloc: Global, form: Form<'a>, name: &'a str, help: &'a str) -> Form<'a>
     ensures { (app : App) → IsTold app form.entry
         → IsTold (with_rule app (word_rule name.entry.now)) result }
@@ -450,7 +426,7 @@ fn with_word<'a>(alloc: Global, form: Form<'a>, name: &'a str, help: &'a str) ->
     with_arg(form, argument(alloc, name, help).required(true))
 }
 
-/// Tells `form` of a flag, which takes no value.
+/// A flag takes no value.
 fn with_flag<'a>(alloc: Global, form: Form<'a>, name: &'a str, help: &'a str) -> Form<'a>
     ensures { (app : App) → IsTold app form.entry
         → IsTold (with_rule app (flag_rule name.entry.now)) result }
@@ -461,7 +437,6 @@ fn with_flag<'a>(alloc: Global, form: Form<'a>, name: &'a str, help: &'a str) ->
     )
 }
 
-/// Tells `form` of an option that must be given, and takes a number up to this one.
 fn with_number<'a>(
     alloc: Global,
     form: Form<'a>,
@@ -478,7 +453,6 @@ fn with_number<'a>(
     )
 }
 
-/// Tells `form` of the option `--workers`, which is this number where it isn't given.
 fn with_workers<'a>(alloc: Global, form: Form<'a>, default: &'a str) -> Form<'a>
     ensures { (app : App) → IsTold app form.entry
         → IsTold (with_rule app (workers_rule default.entry.now)) result }
@@ -488,7 +462,6 @@ fn with_workers<'a>(alloc: Global, form: Form<'a>, default: &'a str) -> Form<'a>
     with_arg(form, workers.default_value(default))
 }
 
-/// Tells `form` of the option `--table`, which takes the path of a file.
 fn with_table<'a>(alloc: Global, form: Form<'a>) -> Form<'a>
     ensures { (app : App) → IsTold app form.entry → IsTold (with_rule app table_rule) result }
 {
@@ -496,7 +469,6 @@ fn with_table<'a>(alloc: Global, form: Form<'a>) -> Form<'a>
     with_arg(form, option(alloc, "table", "FILE", help))
 }
 
-/// Tells `form` of the option `--journal`, which takes the path of a file.
 fn with_journal<'a>(alloc: Global, form: Form<'a>) -> Form<'a>
     ensures { (app : App) → IsTold app form.entry → IsTold (with_rule app journal_rule) result }
 {
@@ -504,7 +476,6 @@ fn with_journal<'a>(alloc: Global, form: Form<'a>) -> Form<'a>
     with_arg(form, option(alloc, "journal", "FILE", help))
 }
 
-/// Tells `form` of an argument.
 fn with_arg<'a>(form: Form<'a>, arg: Arg<'a>) -> Form<'a>
     requires { arg.global ≡ false }
     ensures { (app : App) → IsTold app form.entry
@@ -516,7 +487,6 @@ fn with_arg<'a>(form: Form<'a>, arg: Arg<'a>) -> Form<'a>
     }
 }
 
-/// An option that takes a number of this range.
 fn number_option<'a>(alloc: Global, name: &'a str, least: u64, most: u64, help: &'a str) -> Arg<'a>
     ensures rule { rule_of result ≡ number_rule name.entry.now least most }
     ensures local { result.global ≡ false }
@@ -524,7 +494,7 @@ fn number_option<'a>(alloc: Global, name: &'a str, least: u64, most: u64, help: 
     option(alloc, name, "N", help).value_parser(ValueParser::unsigned(least, most))
 }
 
-/// An option that takes a value, which help calls so.
+/// In help the option's value is called `value`.
 fn option<'a>(alloc: Global, name: &'a str, value: &'a str, help: &'a str) -> Arg<'a>
     ensures rule { rule_of result ≡ option_rule name.entry.now }
     ensures local { result.global ≡ false }
@@ -532,7 +502,6 @@ fn option<'a>(alloc: Global, name: &'a str, value: &'a str, help: &'a str) -> Ar
     long_argument(alloc, name, help).value_name(value)
 }
 
-/// An argument that goes by its name behind two hyphens.
 fn long_argument<'a>(alloc: Global, name: &'a str, help: &'a str) -> Arg<'a>
     ensures rule { rule_of result ≡ long_rule name.entry.now }
     ensures local { result.global ≡ false }
@@ -540,7 +509,6 @@ fn long_argument<'a>(alloc: Global, name: &'a str, help: &'a str) -> Arg<'a>
     argument(alloc, name, help).long(name)
 }
 
-/// An argument of this name.
 fn argument<'a>(alloc: Global, name: &'a str, help: &'a str) -> Arg<'a>
     ensures rule { rule_of result ≡ new_rule name.entry.now }
     ensures local { result.global ≡ false }

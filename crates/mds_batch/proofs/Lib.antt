@@ -8,3 +8,4 @@ pub mod MemberLemmas
 pub mod PutLemmas
 pub mod ItemLaws
 pub mod BatchLaws
+pub mod KeptLemmas

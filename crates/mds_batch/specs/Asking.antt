@@ -7,6 +7,8 @@ use Rattle.mds_batch.specs.declared.item.VehicleItem.{VehicleItem}
 use Rattle.mds_batch.specs.declared.item.VehicleItem.TheVariants as vehicle
 use Rattle.mds_batch.specs.declared.item.EventItem.{EventItem}
 use Rattle.mds_batch.specs.declared.item.EventItem.TheVariants as event
+use Rattle.mds_batch.specs.declared.kept.KeptItem.{KeptItem}
+use Rattle.mds_batch.specs.declared.kept.KeptItem.TheVariants as kept
 
 -- a vehicle asks for its registration, a fault for nothing
 abbrev pub registration_of : VehicleItem → Option Request
@@ -27,3 +29,8 @@ vehicle_fault (vehicle.Fault fault) = Some fault
 abbrev pub event_fault : EventItem → Option ItemFault
 event_fault (event.Event reported) = None
 event_fault (event.Fault fault) = Some fault
+
+-- what is wrong with an item of which this is kept, if anything is
+abbrev pub kept_fault : KeptItem → Option ItemFault
+kept_fault (kept.Event event) = None
+kept_fault (kept.Fault fault) = Some fault

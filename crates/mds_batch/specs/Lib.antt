@@ -9,5 +9,6 @@ pub mod Reading
 pub mod Slot
 pub mod Filled
 pub mod Told
+pub mod Kept
 pub mod Listed
 pub mod Laws

@@ -11,7 +11,7 @@ use crate::list::{ItemFields, ItemList};
 use crate::taker::TakesItems;
 use crate::tokens::{ReadFault, read_text};
 use crate::vehicle::VehicleFields;
-use crate::{EventItem, VehicleItem};
+use crate::{EventItem, EventItems, VehicleItem};
 use mds_table::MAX_BYTES;
 use simdutf8::compat::from_utf8;
 use std::alloc::Global;
@@ -92,6 +92,20 @@ pub fn read_events(alloc: Global, bytes: &[u8]) -> Result<Vec<EventItem>, BatchF
     read_batch::<EventFields>(alloc, bytes)
 }
 
+/// The events that a text of JSON lists, as [`read_events`] has them, close together.
+///
+/// # Errors
+///
+/// As those of [`read_vehicles`].
+pub fn read_event_items(alloc: Global, bytes: &[u8]) -> Result<EventItems, BatchFault>
+    ensures items { IfOk result (λ items. HasItems IsEventItem bytes.now items) }
+    ensures fault { IfErr result (HasFault bytes.now) }
+{
+    let mut items = EventItems::new(alloc);
+    each_event(alloc, bytes, &mut items)?;
+    Ok(items)
+}
+
 /// Hands the events that a text of JSON lists to a taker, item by item, in their order, as [`read_events`] has them.
 ///
 /// # Errors
@@ -111,7 +125,6 @@ pub fn each_event<T: TakesItems<Item = EventItem>>(
     each_item::<EventFields, T>(alloc, bytes, taker)
 }
 
-/// The items that a text of JSON lists, each read by these fields.
 fn read_batch<F: ItemFields + Drop>(alloc: Global, bytes: &[u8]) -> Result<Vec<F::Item>, BatchFault>
     ensures items { IfOk result (λ items. HasItems F.is_item bytes.now items.items) }
     ensures fault { IfErr result (HasFault bytes.now) }
@@ -121,7 +134,6 @@ fn read_batch<F: ItemFields + Drop>(alloc: Global, bytes: &[u8]) -> Result<Vec<F
     Ok(items)
 }
 
-/// Hands the items that a text of JSON lists to a taker, each read by these fields.
 fn each_item<F: ItemFields + Drop, T: TakesItems<Item = F::Item>>(
     alloc: Global,
     bytes: &[u8],
@@ -143,7 +155,6 @@ fn each_item<F: ItemFields + Drop, T: TakesItems<Item = F::Item>>(
     Ok(())
 }
 
-/// The text that bytes are, if they are few enough.
 pub(crate) fn text_of(bytes: &[u8]) -> Result<&str, BatchFault>
     ensures text { IfOk result (λ text. text.now ≡ bytes.now) }
     ensures utf8 { IfOk result (λ _. IsUtf8 bytes.now) }

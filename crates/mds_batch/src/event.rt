@@ -1,5 +1,6 @@
 //! Events, read from an object's members.
-ghost use Rattle.std.specs.Prelude.{◌≡◌, Some, None, IfOk, IfErr};
+ghost use Rattle.std.specs.Prelude.{◌≡◌, ◌≤◌, Some, None, IfOk, IfErr};
+ghost use Rattle.mds_table.specs.Json.{max_time};
 ghost use Rattle.serde_json.specs.Data.{Members, object};
 ghost use Rattle.mds_batch.specs.Items.{position_in, fault_at, fault_of, event_members, IsEventOf};
 ghost use Rattle.mds_core.specs.Reported.{MayBeReported};
@@ -32,7 +33,8 @@ pub(crate) struct EventFields {
 }
 
 /// What an event says beside its types.
-struct Told {
+#[derive(Clone, Copy, Debug)]
+pub(crate) struct Told {
     key: Key,
     id: Uuid,
     state: State,
@@ -40,27 +42,64 @@ struct Told {
     position: Option<Position>,
 }
 
+impl Told {
+    /// What an event says beside its types.
+    pub(crate) fn of(event: &Event) -> Told
+        ensures event { reported_by result event.now.types ≡ event.now }
+        ensures in_range { result.time ≤ max_time }
+    {
+        Told {
+            key: *event.key(),
+            id: event.id(),
+            state: event.state(),
+            time: event.time(),
+            position: event.position(),
+        }
+    }
+
+    /// The event of what is told and of these types.
+    pub(crate) fn event(self, types: &[TypeName]) -> Event
+        requires { MayBeReported types.now self.time }
+        ensures { result ≡ reported_by self types.now }
+    {
+        let Told {
+            key,
+            id,
+            state,
+            time,
+            position,
+        } = self;
+        Event::new(key, id, state, types, time, position).unwrap()
+    }
+
+    /// Makes the event of what is told and of these types, in the place of another one.
+    pub(crate) fn put(self, event: &mut Event, types: &[TypeName])
+        requires { MayBeReported types.now self.time }
+        ensures { event.new ≡ reported_by self types.now }
+    {
+        let Told {
+            key,
+            id,
+            state,
+            time,
+            position,
+        } = self;
+        event.assign(key, id, state, types, time, position).unwrap();
+    }
+}
+
 /// Makes the event of what is told and of these types, in the place of an item.
 fn put_event(item: &mut EventItem, told: Told, types: &[TypeName])
     requires { MayBeReported types.now told.time }
     ensures { item.new ≡ Reports (reported_by told types.now) }
 {
-    let Told {
-        key,
-        id,
-        state,
-        time,
-        position,
-    } = told;
-    if let EventItem::Event(event) = item {
-        event.assign(key, id, state, types, time, position).unwrap();
-        return;
+    match item {
+        EventItem::Event(event) => told.put(event, types),
+        EventItem::Fault(_) => *item = EventItem::Event(told.event(types)),
     }
-    *item = EventItem::Event(Event::new(key, id, state, types, time, position).unwrap());
 }
 
 impl EventFields {
-    /// What the members say of the event that they report, beside its types.
     fn told(&self) -> Result<Told, ItemFault>
         ensures event { (found : Members) → HoldsEvent found self.now
             → IfOk result (λ told.
@@ -83,7 +122,6 @@ impl EventFields {
         })
     }
 
-    /// The position of the event: none where the member isn't there or is null.
     fn position(&self) -> Result<Option<Position>, ItemFault>
         ensures position { (found : Members) → HoldsEvent found self.now
             → IfOk result (λ position. position_in (object found) ≡ Some position) }

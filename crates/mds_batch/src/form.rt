@@ -10,7 +10,7 @@ use crate::tokens::{Head, ReadFault, Tokens, pass};
 use mds_table::{MAX_TIME, State, TypeName};
 use uuid::Uuid;
 
-/// The identifier that the next value is: a text in one of the forms of a UUID.
+/// A UUID in one of its text forms (RFC 9562).
 pub(crate) fn read_uuid(tokens: &mut Tokens<'_>, depth: usize) -> Result<Option<Uuid>, ReadFault>
     ensures read { IfOk result (Reads uuid_in depth tokens.old tokens.new) }
     ensures fault { IfErr result (λ fault. (fault ≡ not_json) × (value_at depth tokens.old ≡ None)) }
@@ -21,7 +21,6 @@ pub(crate) fn read_uuid(tokens: &mut Tokens<'_>, depth: usize) -> Result<Option<
     })
 }
 
-/// The state that the next value names.
 pub(crate) fn read_state(tokens: &mut Tokens<'_>, depth: usize) -> Result<Option<State>, ReadFault>
     ensures read { IfOk result (Reads state_in depth tokens.old tokens.new) }
     ensures fault { IfErr result (λ fault. (fault ≡ not_json) × (value_at depth tokens.old ≡ None)) }
@@ -32,7 +31,6 @@ pub(crate) fn read_state(tokens: &mut Tokens<'_>, depth: usize) -> Result<Option
     })
 }
 
-/// The type name that the next value is.
 pub(crate) fn read_type_name(
     tokens: &mut Tokens<'_>,
     depth: usize,
@@ -46,7 +44,7 @@ pub(crate) fn read_type_name(
     })
 }
 
-/// The time that the next value is: a whole number of milliseconds, at most [`MAX_TIME`].
+/// In milliseconds since the Unix epoch.
 pub(crate) fn read_time(tokens: &mut Tokens<'_>, depth: usize) -> Result<Option<u64>, ReadFault>
     ensures read { IfOk result (Reads time_in depth tokens.old tokens.new) }
     ensures fault { IfErr result (λ fault. (fault ≡ not_json) × (value_at depth tokens.old ≡ None)) }
@@ -57,7 +55,6 @@ pub(crate) fn read_time(tokens: &mut Tokens<'_>, depth: usize) -> Result<Option<
     })
 }
 
-/// The whole number that the next value is.
 pub(crate) fn read_whole(tokens: &mut Tokens<'_>, depth: usize) -> Result<Option<i64>, ReadFault>
     ensures read { IfOk result (Reads (λ value. option_and_then as_i64 (as_number value)) depth
         tokens.old tokens.new) }

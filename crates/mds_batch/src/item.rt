@@ -3,7 +3,7 @@ ghost use Rattle.std.specs.Prelude.{◌≡◌, Some};
 ghost use Rattle.mds_batch.specs.Items.{item_fault_text, item_fault_word};
 
 use crate::Member;
-use mds_core::{Event, Key, Request};
+use mds_core::{Event, Key};
 use std::error::Error;
 use std::fmt;
 
@@ -64,22 +64,13 @@ pub enum EventItem {
     Fault(ItemFault),
 }
 
-/// An item of a batch: it asks for a request, or something is wrong with it.
+/// An item of a batch: something may be wrong with it.
 pub trait BatchItem {
-    ghost use Rattle.std.specs.Prelude.{◌≡◌, Option, Some, None, cond};
-    ghost use Rattle.mds_core.specs.declared.request.Request.{Request as Asked};
+    ghost use Rattle.std.specs.Prelude.{◌≡◌, Option};
     ghost use Rattle.mds_batch.specs.declared.item.ItemFault.{ItemFault as Wrong};
-
-    /// The request that an item asks for; none where something is wrong with it.
-    ghost asked: { Self → Option Asked };
 
     /// What is wrong with an item, if anything is.
     ghost wrong: { Self → Option Wrong };
-
-    /// Makes the request that the item asks for, in the place of another one, and answers whether it asks for one: it
-    /// doesn't where something is wrong with it. Of an event only what it has of its own is copied.
-    fn ask(&self, request: &mut Request) -> bool
-        ensures { asked self.now ≡ cond result (Some request.new) None };
 
     /// What is wrong with the item, or `None` where it asks for a request.
     fn fault(&self) -> Option<ItemFault>
@@ -87,21 +78,9 @@ pub trait BatchItem {
 }
 
 impl BatchItem for VehicleItem {
-    ghost use Rattle.mds_batch.specs.Asking.{registration_of, vehicle_fault};
-
-    ghost asked = { registration_of };
+    ghost use Rattle.mds_batch.specs.Asking.{vehicle_fault};
 
     ghost wrong = { vehicle_fault };
-
-    fn ask(&self, request: &mut Request) -> bool {
-        match self {
-            VehicleItem::Vehicle(key) => {
-                *request = Request::Register(*key);
-                true
-            }
-            VehicleItem::Fault(_) => false,
-        }
-    }
 
     fn fault(&self) -> Option<ItemFault> {
         match self {
@@ -112,22 +91,9 @@ impl BatchItem for VehicleItem {
 }
 
 impl BatchItem for EventItem {
-    ghost use Rattle.mds_batch.specs.Asking.{event_fault, report_in};
-
-    ghost asked = { report_in };
+    ghost use Rattle.mds_batch.specs.Asking.{event_fault};
 
     ghost wrong = { event_fault };
-
-    fn ask(&self, request: &mut Request) -> bool {
-        let EventItem::Event(event) = self else {
-            return false;
-        };
-        match request {
-            Request::Report(before) => before.assign_from(event),
-            _ => *request = Request::Report(*event),
-        }
-        true
-    }
 
     fn fault(&self) -> Option<ItemFault> {
         match self {

@@ -6,10 +6,13 @@
 //! a position in ten-millionths of a degree. Every other member is ignored.
 #![tactic(auto)]
 
+mod asking;
 mod batch;
 mod event;
 mod form;
 mod item;
+mod items;
+mod kept;
 pub mod laws;
 mod list;
 mod location;
@@ -22,8 +25,11 @@ mod tokens;
 mod types;
 mod vehicle;
 
-pub use batch::{BatchFault, MAX_ITEMS, each_event, read_events, read_vehicles};
+pub use asking::BatchItems;
+pub use batch::{BatchFault, MAX_ITEMS, each_event, read_event_items, read_events, read_vehicles};
 pub use item::{BatchItem, EventItem, ItemFault, VehicleItem};
+pub use items::EventItems;
+pub use kept::{KeptEvent, KeptItem};
 pub use member::Member;
 pub use reader::{ItemReader, read_item};
 pub use taker::TakesItems;

@@ -43,7 +43,6 @@ pub(crate) trait ItemFields: Fields {
         ensures { (value : Data) → as_object value ≡ None → is_item value result };
 }
 
-/// Reads the item that the next value is, into the place of another one.
 pub(crate) fn read_item<F: ItemFields>(
     fields: &mut F,
     item: &mut F::Item,
@@ -79,7 +78,6 @@ pub(crate) struct ItemList<F: ItemFields + Drop> {
 }
 
 impl<F: ItemFields + Drop> ItemList<F> {
-    /// No items so far.
     pub(crate) fn new() -> ItemList<F>
         ensures none { result.count ≡ 0 }
         ensures short { result.is_too_long ≡ false }
@@ -125,7 +123,6 @@ impl<F: ItemFields + Drop> ItemList<F> {
         }
     }
 
-    /// Hands the item that was made last to the taker.
     fn hand_on<T: TakesItems<Item = F::Item>>(&mut self, taker: &mut T) -> Result<(), AllocError>
         requires { self.old.count < max_items }
         ensures { OnOk result ((before : T) (values : List Data) (value : Data)
@@ -140,7 +137,6 @@ impl<F: ItemFields + Drop> ItemList<F> {
         Ok(())
     }
 
-    /// Whether there were more than [`MAX_ITEMS`].
     pub(crate) fn is_too_long(&self) -> bool
         ensures { result ≡ self.now.is_too_long }
     {

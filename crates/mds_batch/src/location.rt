@@ -20,7 +20,6 @@ struct LocationFields {
 }
 
 impl LocationFields {
-    /// No member so far.
     fn new() -> LocationFields
         ensures { HoldsLocation no_members result }
     {
@@ -30,7 +29,6 @@ impl LocationFields {
         }
     }
 
-    /// The position that the members give.
     fn position(&self) -> Option<Position>
         ensures { (found : Members) → HoldsLocation found self.now → result ≡ position_of (object found) }
     {
@@ -58,7 +56,7 @@ impl Fields for LocationFields {
     }
 }
 
-/// The position that the next value gives: none where it is null.
+/// The inner `None` is that of null.
 pub(crate) fn read_position(
     tokens: &mut Tokens<'_>,
     depth: usize,

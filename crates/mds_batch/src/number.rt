@@ -20,7 +20,6 @@ pub(crate) fn number_of(text: &str) -> Option<Number>
     }
 }
 
-/// Whether the text of a number begins with a minus sign.
 fn has_minus(bytes: &[u8]) -> bool
     ensures value { result ≡ (slice_index bytes.now 0 == 45) }
     ensures some { IsTrue result → 0 < length bytes.now }
@@ -28,7 +27,6 @@ fn has_minus(bytes: &[u8]) -> bool
     !bytes.is_empty() && bytes[0] == b'-'
 }
 
-/// The number of a numeral that has no sign.
 #[inline(always)]
 fn unsigned(numeral: &Numeral<'_>) -> Option<Number>
     ensures { option_map number_view result ≡ number_from false numeral.now }
@@ -39,7 +37,7 @@ fn unsigned(numeral: &Numeral<'_>) -> Option<Number>
     }
 }
 
-/// The number of a numeral behind a minus sign. `-0` is a double, as `serde_json` has it.
+/// `-0` is a double, as `serde_json` has it.
 #[inline(always)]
 fn negative(numeral: &Numeral<'_>) -> Option<Number>
     ensures { option_map number_view result ≡ number_from true numeral.now }
@@ -52,7 +50,6 @@ fn negative(numeral: &Numeral<'_>) -> Option<Number>
     nearest(true, numeral)
 }
 
-/// The nearest double, if it is finite.
 #[inline(always)]
 fn nearest(is_negative: bool, numeral: &Numeral<'_>) -> Option<Number>
     ensures { option_map number_view result ≡ float_of is_negative numeral.now }

@@ -18,7 +18,7 @@ pub struct ItemReader {
     item: EventItem,
 }
 
-// By hand: a crate that drops a reader then cites this function, and proves no destructor of what it holds.
+// By hand: crates above cite it.
 impl Drop for ItemReader {
     fn drop(self) {
         let ItemReader {
@@ -56,11 +56,7 @@ impl ItemReader {
     }
 }
 
-/// The item that a whole text of JSON is: the event that it reports, or what is wrong with it. A list is no object.
-///
-/// # Errors
-///
-/// As those of [`ItemReader::read`].
+/// As [`ItemReader::read`], by a reader of its own.
 pub fn read_item(alloc: Global, bytes: &[u8]) -> Result<EventItem, BatchFault>
     ensures item { IfOk result (IsItemText IsEventItem bytes.now) }
     ensures fault { IfErr result (HasItemFault bytes.now) }

@@ -17,7 +17,6 @@ pub(crate) enum Slot<T> {
 }
 
 impl<T: Copy> Slot<T> {
-    /// The value of a member that is there, in the form that is asked for if it has it.
     pub(crate) fn of(value: Option<T>) -> Slot<T>
         ensures { found_in result ≡ Some value }
     {
@@ -27,7 +26,6 @@ impl<T: Copy> Slot<T> {
         }
     }
 
-    /// The value of the member, which has to be there and have its form.
     pub(crate) fn required(self, member: Member) -> Result<T, ItemFault>
         ensures value { IfOk result (λ value. found_in self ≡ Some (Some value)) }
         ensures fault { IfErr result (λ fault. ((found_in self ≡ None) × (fault ≡ Missing member))

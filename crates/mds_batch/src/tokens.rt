@@ -85,7 +85,6 @@ pub(crate) fn begin<'a>(tokens: &mut Tokens<'a>, depth: usize) -> Result<Head<'a
     }
 }
 
-/// Passes a value, and answers its head.
 #[cycle(pass)]
 #[inline(always)]
 pub(crate) fn pass<'a>(tokens: &mut Tokens<'a>, depth: usize) -> Result<Head<'a>, ReadFault>
@@ -102,7 +101,6 @@ pub(crate) fn pass<'a>(tokens: &mut Tokens<'a>, depth: usize) -> Result<Head<'a>
     Ok(head)
 }
 
-/// Passes the items of a list, and the bracket that closes it.
 #[cycle(pass)]
 #[inline(never)]
 pub(crate) fn pass_items(tokens: &mut Tokens<'_>, depth: usize) -> Result<(), ReadFault>
@@ -116,7 +114,6 @@ pub(crate) fn pass_items(tokens: &mut Tokens<'_>, depth: usize) -> Result<(), Re
     Ok(())
 }
 
-/// Passes the members of an object, and the brace that closes it.
 #[cycle(pass)]
 #[inline(never)]
 pub(crate) fn pass_members(tokens: &mut Tokens<'_>, depth: usize) -> Result<(), ReadFault>
@@ -148,7 +145,6 @@ pub(crate) trait Fields {
         ensures fault { result ≡ Err not_json → value_at depth tokens.old ≡ None };
 }
 
-/// Reads the members of an object, and the brace that closes it.
 pub(crate) fn read_members<F: Fields>(
     fields: &mut F,
     tokens: &mut Tokens<'_>,
@@ -189,7 +185,6 @@ pub(crate) trait Sequence<T> {
         ensures fault { result ≡ Err not_json → value_at depth tokens.old ≡ None };
 }
 
-/// Reads the items of a list, and the bracket that closes it.
 pub(crate) fn read_items<T, S: Sequence<T>>(
     sequence: &mut S,
     taker: &mut T,
@@ -233,7 +228,6 @@ pub(crate) fn read_text<F: ItemFields + Drop, T: TakesItems<Item = F::Item>>(
     Ok(is_list)
 }
 
-/// Reads the item that a whole text is, into the place of another one.
 pub(crate) fn read_whole<F: ItemFields>(
     text: &str,
     scratch: &mut Scratch,

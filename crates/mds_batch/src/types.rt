@@ -20,7 +20,6 @@ pub(crate) struct TypeList {
 }
 
 impl TypeList {
-    /// No types so far.
     pub(crate) fn new() -> TypeList
         ensures { HoldsTypes [] result }
     {
@@ -30,7 +29,6 @@ impl TypeList {
         }
     }
 
-    /// Leaves no types.
     fn clear(&mut self)
         ensures { HoldsTypes [] self.new }
     {
@@ -38,7 +36,6 @@ impl TypeList {
         self.is_whole = true;
     }
 
-    /// Whether the items so far are 1 to [`MAX_EVENT_TYPES`] type names.
     fn are_few(&self) -> bool
         ensures { (items : List Data) → HoldsTypes items self.now
             → few_types items ≡ cond result (Some self.now.names.items) None }
@@ -46,7 +43,6 @@ impl TypeList {
         self.is_whole && !self.names.is_empty()
     }
 
-    /// The names of the types.
     pub(crate) fn names(&self) -> &[TypeName]
         ensures { result.now ≡ self.now.names.items }
     {
@@ -76,7 +72,6 @@ impl Sequence<()> for TypeList {
     }
 }
 
-/// Reads the types that the next value lists, if it lists 1 to [`MAX_EVENT_TYPES`] type names and nothing else.
 pub(crate) fn read_types(
     types: &mut TypeList,
     tokens: &mut Tokens<'_>,

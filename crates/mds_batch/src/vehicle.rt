@@ -20,7 +20,6 @@ pub(crate) struct VehicleFields {
 }
 
 impl VehicleFields {
-    /// The vehicle that the members name.
     pub(crate) fn key(&self) -> Result<Key, ItemFault>
         ensures key { (found : Members) → HoldsVehicle found self.now
             → IfOk result (IsKeyOf (object found)) }

@@ -86,9 +86,9 @@ after_call seat before request reply = record {
   second_turns = turned 1 (shard_of (key_of request)) seat.second_turns;
 }
 
--- a call of a seat, which has one turn at the vehicle's shard: the reply is the answer after the shard's history then, which
--- begins with all that the seat had seen of it; the seat has then seen that history, with its own request at the end where it
--- was accepted
+-- a call of a seat, which has one turn at the vehicle's shard: the reply is the answer after a history `before` of the shard,
+-- which begins with all that the seat had seen of it; the seat has then seen that history, with its own request at the end
+-- where it was accepted
 pub record IsCalled (tables : Tables) (old : Seated) (request : Request) (reply : Reply) (new : Seated) : Type 0 where
   pub before : List Request
   pub seen : IsPrefix (seen_in old (shard_of (key_of request))) before
@@ -110,8 +110,8 @@ after_sight seat number before = record {
   second_turns = turned 1 number seat.second_turns;
 }
 
--- a list of a vehicle's events for a seat, which has one turn at its shard: they are those of the shard's history then, which
--- begins with all that the seat had seen of it; the seat has then seen that history
+-- a list of a vehicle's events for a seat, which has one turn at its shard: they are those of a history `before` of the shard,
+-- which begins with all that the seat had seen of it; the seat has then seen that history
 pub record IsListed (tables : Tables) (old : Seated) (key : Key) (found : Option (List Reported)) (new : Seated) : Type 0 where
   pub before : List Request
   pub seen : IsPrefix (seen_in old (shard_of key)) before

@@ -70,7 +70,7 @@ pub struct Book<L: ShardLedger, M: ShardLedger> {
     pub(crate) room: Vec<Account<L, M>>,
 }
 
-// By hand: a crate that drops a book then cites this function, and proves no destructor of what it holds.
+// By hand: crates above cite it.
 impl<L: ShardLedger, M: ShardLedger> Drop for Book<L, M> {
     fn drop(self) {
         let Book {
@@ -98,11 +98,6 @@ impl<L: ShardLedger, M: ShardLedger> Model for Book<L, M> {
         × (vec_len book.room ≡ 0) × (book.seats ≤ vec_capacity book.room) };
 }
 
-/// Seats that were told nothing, so many of them, each with a part of each shard.
-///
-/// # Errors
-///
-/// `AllocError` where there is no memory for them.
 fn seats_of<L: ShardLedger, M: ShardLedger>(
     alloc: Global,
     count: usize,
@@ -121,11 +116,7 @@ fn seats_of<L: ShardLedger, M: ShardLedger>(
     Ok(seats)
 }
 
-/// The shard of this number with nothing accepted, and what the seats' parts of it are made of.
-///
-/// # Errors
-///
-/// `AllocError` where there is no memory for the tables. It would come too where another had written to the log: nobody does.
+/// `AllocError` would come, too, where another had written to the log: nobody does.
 fn opened<L: ShardLedger, const N: usize>(
     alloc: Global,
     tables: &Tables,
@@ -144,11 +135,7 @@ fn opened<L: ShardLedger, const N: usize>(
     Ok((slot, parts))
 }
 
-/// Seats that were told nothing, so many of them, and room for what is left of them once they are settled.
-///
-/// # Errors
-///
-/// `AllocError` where there is no memory for them.
+/// The room is for what is left of the seats once they are settled.
 fn places_of<L: ShardLedger, M: ShardLedger>(
     alloc: Global,
     count: usize,
@@ -168,11 +155,7 @@ fn places_of<L: ShardLedger, M: ShardLedger>(
     Ok((seats, room))
 }
 
-/// Answers a request in the shard behind this lock, for a seat with this part of it. Only the step is made under the lock.
-///
-/// # Errors
-///
-/// `AllocError` where there is no memory to keep the request; nothing has changed then.
+/// Only the step is made under the lock.
 fn step_in<R: Wait, L: ShardLedger, const N: usize>(
     rt: &R,
     slot: &Mutex<Slot<L, N>>,
@@ -194,11 +177,6 @@ fn step_in<R: Wait, L: ShardLedger, const N: usize>(
     slot.lock(rt).step(part, request)
 }
 
-/// Makes room for the note of a call that may be noted.
-///
-/// # Errors
-///
-/// `AllocError` where there is no memory for it.
 fn make_room(notes: &mut Vec<Note>, may_note: bool) -> Result<(), AllocError>
     ensures items { notes.new.items ≡ notes.old.items }
     ensures room { IsOk result → may_note ≡ true → vec_len notes.new < vec_capacity notes.new }
@@ -210,7 +188,6 @@ fn make_room(notes: &mut Vec<Note>, may_note: bool) -> Result<(), AllocError>
     Ok(())
 }
 
-/// Notes a call, where every call is noted or it was accepted.
 fn note_call(notes: &mut Vec<Note>, keeps_all: bool, shard: usize, request: &Request, reply: &Reply)
     requires shard { shard ≡ number_of (key_of request.now) }
     requires room { (keeps_all || outcome_is_done reply.now.outcome) ≡ true
@@ -230,11 +207,6 @@ fn note_call(notes: &mut Vec<Note>, keeps_all: bool, shard: usize, request: &Req
     };
 }
 
-/// Copies the next requests of the shard behind this lock.
-///
-/// # Errors
-///
-/// `AllocError` where there is no memory for them; the progress is as it was then.
 fn copy_in<R: Wait, L: ShardLedger, const N: usize>(
     rt: &R,
     slot: &Mutex<Slot<L, N>>,
@@ -248,7 +220,6 @@ fn copy_in<R: Wait, L: ShardLedger, const N: usize>(
     slot.lock(rt).copy(progress, copies)
 }
 
-/// Whether all requests about a vehicle that a front has seen were copied of the shard behind this lock.
 fn has_copied_in<R: Wait, L: ShardLedger, const N: usize>(
     rt: &R,
     slot: &Mutex<Slot<L, N>>,
@@ -262,7 +233,6 @@ fn has_copied_in<R: Wait, L: ShardLedger, const N: usize>(
     slot.lock(rt).has_copied(seen, progress, key)
 }
 
-/// What a function answers on the shard behind this lock.
 fn with_slot<R: Wait, L: ShardLedger, const N: usize, X, F: FnOnce(&Shard) -> X>(
     rt: &R,
     slot: &Mutex<Slot<L, N>>,
@@ -313,11 +283,6 @@ impl<L: ShardLedger, M: ShardLedger> Book<L, M> {
         }
     }
 
-    /// A book of at least one seat, and its seats.
-    ///
-    /// # Errors
-    ///
-    /// `AllocError` as [`Book::open`] tells [`OpenFault::Memory`].
     fn open_all(
         alloc: Global,
         tables: Tables,
@@ -354,11 +319,6 @@ impl<L: ShardLedger, M: ShardLedger> Book<L, M> {
         )
     }
 
-    /// A book of these shards, and its seats, each with a part of each shard.
-    ///
-    /// # Errors
-    ///
-    /// `AllocError` where there is no memory.
     fn seated(
         alloc: Global,
         tables: Tables,
@@ -383,7 +343,6 @@ impl<L: ShardLedger, M: ShardLedger> Book<L, M> {
         Ok((book, list))
     }
 
-    /// A book of these shards, for so many seats.
     fn of(
         tables: Tables,
         seats: usize,
@@ -424,9 +383,8 @@ impl<L: ShardLedger, M: ShardLedger> Book<L, M> {
         shard_of(key)
     }
 
-    /// Answers a request, in the shard of its vehicle, for a caller's seat. The reply is the answer after all that the shard had
-    /// accepted then, and so after all that the seat had seen of it. The seat's count of the shard rises by one exactly where
-    /// the request is accepted, and the call is noted where the seat keeps such calls. It waits for the shard's lock.
+    /// Answers a request, in the shard of its vehicle, for a caller's seat: after all that the shard has accepted by
+    /// then. It waits for the shard's lock, and holds it for the step alone.
     ///
     /// # Errors
     ///
@@ -452,11 +410,6 @@ impl<L: ShardLedger, M: ShardLedger> Book<L, M> {
         }
     }
 
-    /// Answers a request about a vehicle of the first shard.
-    ///
-    /// # Errors
-    ///
-    /// As [`Book::call`].
     fn call_first<R: Wait>(
         &self,
         rt: &R,
@@ -477,11 +430,6 @@ impl<L: ShardLedger, M: ShardLedger> Book<L, M> {
         Ok(reply)
     }
 
-    /// Answers a request about a vehicle of the second shard.
-    ///
-    /// # Errors
-    ///
-    /// As [`Book::call`].
     fn call_second<R: Wait>(
         &self,
         rt: &R,
@@ -524,9 +472,9 @@ impl<L: ShardLedger, M: ShardLedger> Book<L, M> {
         }
     }
 
-    /// The accepted events of the vehicle in their order, or `None` where it isn't registered, for a caller's seat: those of the
-    /// shard's history at a moment that is not before what the seat had seen. The seat has then seen that history. It waits for
-    /// the shard's lock.
+    /// The accepted events of the vehicle in their order, or `None` where it isn't registered, for a caller's seat: of
+    /// all that the shard has accepted by then, which the seat has then seen. It waits for the shard's lock, and lets
+    /// it go between the pieces of a long list.
     ///
     /// # Errors
     ///
@@ -549,11 +497,6 @@ impl<L: ShardLedger, M: ShardLedger> Book<L, M> {
         }
     }
 
-    /// The events of a vehicle of the first shard, as [`Book::seat_events`].
-    ///
-    /// # Errors
-    ///
-    /// As there.
     fn list_first<R: Wait>(
         &self,
         rt: &R,
@@ -570,11 +513,6 @@ impl<L: ShardLedger, M: ShardLedger> Book<L, M> {
         Ok(found)
     }
 
-    /// The events of a vehicle of the second shard, as [`Book::seat_events`].
-    ///
-    /// # Errors
-    ///
-    /// As there.
     fn list_second<R: Wait>(
         &self,
         rt: &R,
@@ -591,8 +529,8 @@ impl<L: ShardLedger, M: ShardLedger> Book<L, M> {
         Ok(found)
     }
 
-    /// Copies the next requests of the first shard's history behind those that were copied, at most 256 of them; none where all
-    /// were. They come behind what was copied before. It waits for the shard's lock, and holds it for the copy alone.
+    /// Copies the next requests of the first shard's history behind those that were copied, at most 256 of them; none
+    /// where all were. It waits for the shard's lock, and holds it for the copy alone.
     ///
     /// # Errors
     ///
@@ -610,11 +548,7 @@ impl<L: ShardLedger, M: ShardLedger> Book<L, M> {
         copy_in(rt, &self.first, progress, copies)
     }
 
-    /// Copies the next requests of the second shard's history, as [`Book::copy_first`] does of the first's.
-    ///
-    /// # Errors
-    ///
-    /// As there.
+    /// As [`Book::copy_first`], of the second shard's history.
     pub fn copy_second<R: Wait>(
         &self,
         rt: &R,
@@ -694,7 +628,6 @@ impl<L: ShardLedger, M: ShardLedger> Book<L, M> {
     }
 }
 
-/// Whether the request was accepted.
 fn is_done(reply: &Reply) -> bool
     ensures { result ≡ outcome_is_done reply.now.outcome }
 {

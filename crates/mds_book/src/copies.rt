@@ -51,11 +51,6 @@ impl Copies {
         self.count = 0;
     }
 
-    /// Adds a request behind the others.
-    ///
-    /// # Errors
-    ///
-    /// `AllocError` where there is no room and no memory for it; nothing has changed then.
     fn push(&mut self, request: &Request) -> Result<(), AllocError>
         ensures pushed { OnOk result (self.new ≡ self.old ++ request.now ∷ []) }
         ensures unchanged { OnErr result (self.new ≡ self.old) }
@@ -69,11 +64,7 @@ impl Copies {
         Ok(())
     }
 
-    /// Adds requests behind the others.
-    ///
-    /// # Errors
-    ///
-    /// `AllocError` where there is no memory for them; some of them may then have been added.
+    /// Where there is no memory, some of them may have been added.
     pub(crate) fn extend(&mut self, requests: &[Request]) -> Result<(), AllocError>
         ensures { OnOk result (self.new ≡ self.old ++ requests.now) }
     {
@@ -84,7 +75,7 @@ impl Copies {
     }
 }
 
-/// Leaves the other request. Of an event only what it has of its own is copied.
+/// Of an event only what it has of its own is copied.
 fn assign(request: &mut Request, other: &Request)
     ensures { request.new ≡ other.now }
 {

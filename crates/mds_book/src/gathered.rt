@@ -49,7 +49,7 @@ pub struct Gathered<L: ShardLedger, M: ShardLedger> {
     pub(crate) seats: Vec<Account<L, M>>,
 }
 
-// By hand: a crate that drops what was gathered then cites this function, and proves no destructor of what it holds.
+// By hand: crates above cite it.
 impl<L: ShardLedger, M: ShardLedger> Drop for Gathered<L, M> {
     fn drop(self) {
         let Gathered {
@@ -86,7 +86,7 @@ pub struct Settled<L: ShardLedger, M: ShardLedger> {
     gathered: Gathered<L, M>,
 }
 
-// By hand: a crate that drops a settled book then cites this function, and proves no destructor of what it holds.
+// By hand: crates above cite it.
 impl<L: ShardLedger, M: ShardLedger> Drop for Settled<L, M> {
     fn drop(self) {
         let Settled { gathered: _ } = self;
@@ -133,7 +133,7 @@ impl<L: ShardLedger, M: ShardLedger> Gathered<L, M> {
         &self.tables
     }
 
-    /// Tells that the histories are lawful, each of its shard, and as long as what the seats counted. It does nothing.
+    /// For its contract alone: it does nothing.
     pub(crate) fn tell(&self)
         ensures { IsWhole self.now }
     {
@@ -144,7 +144,6 @@ impl<L: ShardLedger, M: ShardLedger> Gathered<L, M> {
 }
 
 impl<L: ShardLedger, M: ShardLedger> Settled<L, M> {
-    /// All that was gathered, once it is known that the notes fit, and that the seats saw beginnings.
     pub(crate) fn of(gathered: Gathered<L, M>) -> Settled<L, M>
         requires settled { IsSettledBook gathered }
         requires beginnings { AreBeginnings gathered }

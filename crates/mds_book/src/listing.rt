@@ -31,11 +31,6 @@ struct Listing {
     piece: Vec<Event>,
 }
 
-/// A list of the vehicle's events, which begins with none of them, or `None` where it isn't registered.
-///
-/// # Errors
-///
-/// `AllocError` where there is no memory for the list.
 fn begin(alloc: Global, shard: &Shard, key: &Key) -> Result<Option<Listing>, AllocError>
     ensures some { IfOk result (λ listing. IfSome listing (IsBegun shard.now.history key.now)) }
     ensures none { IfOk result (λ listing.
@@ -53,12 +48,6 @@ fn begin(alloc: Global, shard: &Shard, key: &Key) -> Result<Option<Listing>, All
     }))
 }
 
-/// A list of the vehicle's events in the shard behind this lock, for a seat with this part of it, which has then seen all that the
-/// shard had accepted.
-///
-/// # Errors
-///
-/// `AllocError` where there is no memory for the list; the part is as it was then.
 fn begin_seen<R: Wait, L: ShardLedger, const N: usize>(
     rt: &R,
     alloc: Global,
@@ -85,11 +74,7 @@ fn begin_seen<R: Wait, L: ShardLedger, const N: usize>(
     Ok(listing)
 }
 
-/// The same for no seat, with what the shard had accepted.
-///
-/// # Errors
-///
-/// `AllocError` where there is no memory for the list.
+/// For no seat: it shows a front of its own what the shard has accepted.
 fn begin_unseated<R: Wait, L: ShardLedger, const N: usize>(
     rt: &R,
     alloc: Global,
@@ -107,8 +92,7 @@ fn begin_unseated<R: Wait, L: ShardLedger, const N: usize>(
     Ok((slot.log(), listing))
 }
 
-/// Copies the next piece of a list that began when the shard behind this lock had accepted so much, from this place on: the place
-/// where it goes on, if it does.
+/// Copies the next piece of a list, from this place on, and answers the place where the list goes on, if it does.
 fn copy_piece<R: Wait, L: ShardLedger, const N: usize>(
     rt: &R,
     slot: &Mutex<Slot<L, N>>,
@@ -129,7 +113,6 @@ fn copy_piece<R: Wait, L: ShardLedger, const N: usize>(
     slot.lock(rt).walk_back(seen, from, piece)
 }
 
-/// The events of a list that began when the shard behind this lock had accepted so much.
 fn finish<R: Wait, L: ShardLedger, const N: usize>(
     rt: &R,
     slot: &Mutex<Slot<L, N>>,
@@ -156,11 +139,6 @@ fn finish<R: Wait, L: ShardLedger, const N: usize>(
     events
 }
 
-/// The events of a vehicle in the shard behind this lock.
-///
-/// # Errors
-///
-/// `AllocError` where there is no memory for the list.
 pub(crate) fn events_in<R: Wait, L: ShardLedger, const N: usize>(
     rt: &R,
     alloc: Global,
@@ -178,12 +156,6 @@ pub(crate) fn events_in<R: Wait, L: ShardLedger, const N: usize>(
     }
 }
 
-/// The events of a vehicle in the shard behind this lock, for a seat with this part of it, which has then seen all that the
-/// shard had accepted when the list began.
-///
-/// # Errors
-///
-/// `AllocError` where there is no memory for the list; the part is as it was then.
 pub(crate) fn list_in<R: Wait, L: ShardLedger, const N: usize>(
     rt: &R,
     alloc: Global,

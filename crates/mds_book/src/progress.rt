@@ -29,7 +29,6 @@ impl<L: ShardLedger> Model for Progress<L> {
 }
 
 impl<L: ShardLedger> Progress<L> {
-    /// So many requests of what this front has seen.
     pub(crate) fn of(front: Front<L>, count: usize) -> Progress<L>
         requires { count ≤ length (requests front) }
         ensures { result ≡ record { seen = requests front; count = count } }
@@ -37,14 +36,14 @@ impl<L: ShardLedger> Progress<L> {
         Progress { front, count }
     }
 
-    /// The same again.
+    /// A copy. It takes no memory.
     pub fn again(&self) -> Progress<L>
         ensures { result ≡ self.now }
     {
         self.with_count(self.count)
     }
 
-    /// The same beginning, of which so many requests count as copied.
+    /// What was seen, with so many requests of it counted as copied.
     pub fn with_count(&self, count: usize) -> Progress<L>
         requires { count ≤ length self.now.seen }
         ensures { result ≡ record { seen = self.now.seen; count = count } }
@@ -63,14 +62,12 @@ impl<L: ShardLedger> Progress<L> {
         self.count
     }
 
-    /// What was seen.
     pub(crate) fn front(&self) -> &Front<L>
         ensures { requests result.now ≡ self.now.seen }
     {
         &self.front
     }
 
-    /// Whether all that a front has seen was copied.
     pub(crate) fn has(&self, front: &Front<L>) -> bool
         ensures { result ≡ true → IsPrefix (requests front.now) (copied self.now) }
     {

@@ -58,7 +58,7 @@ pub struct Seat<L: ShardLedger, M: ShardLedger> {
     pub(crate) keeps_all: bool,
 }
 
-// By hand: a crate that drops a seat then cites this function, and proves no destructor of what it holds.
+// By hand: crates above cite it.
 impl<L: ShardLedger, M: ShardLedger> Drop for Seat<L, M> {
     fn drop(self) {
         let Seat {
@@ -94,7 +94,6 @@ impl<L: ShardLedger, M: ShardLedger> Model for Seat<L, M> {
 }
 
 impl<L: ShardLedger> Parts<L> {
-    /// One part, with a mark of its own, nothing counted and nothing seen.
     pub(crate) fn cut(&mut self) -> Part<L>
         requires { 1 ≤ self.old.share.parts }
         ensures count { result.count ≡ 0 }
@@ -111,7 +110,7 @@ impl<L: ShardLedger> Parts<L> {
 }
 
 impl<L: ShardLedger> Part<L> {
-    /// Tells that the part's count is no more than what the ledger has counted. It changes nothing.
+    /// For its contract alone: it changes nothing.
     pub(crate) fn audit(&mut self, accepted: &mut Book<L>)
         ensures count { self.new.count ≡ self.old.count }
         ensures sight { self.new.sight ≡ self.old.sight }
@@ -122,7 +121,6 @@ impl<L: ShardLedger> Part<L> {
         accepted.audit(&mut self.share);
     }
 
-    /// Has a turn at the log, and where a request was accepted counts it and adds it to the log.
     pub(crate) fn keep(
         &mut self,
         accepted: &mut Book<L>,
@@ -156,7 +154,6 @@ impl<L: ShardLedger> Part<L> {
 }
 
 impl<L: ShardLedger, M: ShardLedger> Seat<L, M> {
-    /// A seat that was told nothing, with a part of each shard.
     pub(crate) fn of(
         alloc: Global,
         keep: Keep,
@@ -212,14 +209,12 @@ impl<L: ShardLedger, M: ShardLedger> Seat<L, M> {
         first.has(self.first.sight.front()) && second.has(self.second.sight.front())
     }
 
-    /// Whether a call of the request may be noted: any call where every call is, and else one that may be accepted.
     pub(crate) fn may_note(&self, request: &Request) -> bool
         ensures { result ≡ (self.now.keeps_all || not (is_look request.now)) }
     {
         self.keeps_all || !matches!(request, Request::Look(_))
     }
 
-    /// Takes the seat back beside both shards.
     pub(crate) fn retire(
         self,
         first: &mut Closing<L, 0>,

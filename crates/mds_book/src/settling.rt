@@ -32,7 +32,7 @@ pub enum SettleFault<L: ShardLedger, M: ShardLedger> {
     },
 }
 
-/// Counts what the seats counted, all of them: it is what the histories hold. It changes nothing.
+/// Adds up the seats' parts of both ledgers: together they have counted the whole histories. It changes nothing.
 pub(crate) fn count_all<L: ShardLedger, M: ShardLedger>(
     first: &mut Slot<L, 0>,
     second: &mut Slot<M, 1>,
@@ -51,7 +51,7 @@ pub(crate) fn count_all<L: ShardLedger, M: ShardLedger>(
     count_seats(first, second, &mut ones, &mut others, seats);
 }
 
-/// Lends the parts of the seats from the first on to the shares, counts, and gives each part back.
+/// Goes over the seats from the first on: lends each seat's parts to the shares, goes on, and gives the parts back.
 fn count_seats<L: ShardLedger, M: ShardLedger>(
     first: &mut Slot<L, 0>,
     second: &mut Slot<M, 1>,
@@ -115,7 +115,6 @@ pub(crate) struct Closing<L: ShardLedger, const N: usize> {
 }
 
 impl<L: ShardLedger, const N: usize> Closing<L, N> {
-    /// A shard whose lock was opened.
     pub(crate) fn of(slot: Slot<L, N>, marks: Marks<L>) -> Closing<L, N>
         ensures slot { result.slot ≡ slot }
         ensures marks { result.marks ≡ marks }
@@ -124,7 +123,6 @@ impl<L: ShardLedger, const N: usize> Closing<L, N> {
         Closing { slot, log, marks }
     }
 
-    /// Takes a seat's part of the shard back, with its mark, and hands out its count and what it saw: a beginning of the log.
     pub(crate) fn retire(&mut self, part: Part<L>) -> (u64, Sight<L>)
         ensures slot { self.new.slot ≡ self.old.slot }
         ensures log { self.new.log ≡ self.old.log }
@@ -147,7 +145,6 @@ impl<L: ShardLedger, const N: usize> Closing<L, N> {
     }
 }
 
-/// Puts an account behind the others, where there is room for it.
 fn put<L: ShardLedger, M: ShardLedger>(room: &mut Vec<Account<L, M>>, account: Account<L, M>)
     requires { vec_len room.old < vec_capacity room.old }
     ensures items { room.new.items ≡ room.old.items ++ account ∷ [] }
@@ -159,7 +156,7 @@ fn put<L: ShardLedger, M: ShardLedger>(room: &mut Vec<Account<L, M>>, account: A
     };
 }
 
-/// Takes all seats back beside both shards, into room that was made when the book was opened.
+/// Takes all seats back, into room that was made when the book was opened.
 pub(crate) fn retire_all<L: ShardLedger, M: ShardLedger>(
     first: &mut Closing<L, 0>,
     second: &mut Closing<M, 1>,

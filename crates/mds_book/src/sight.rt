@@ -26,7 +26,6 @@ impl<L: ShardLedger> Model for Sight<L> {
 }
 
 impl<L: ShardLedger> Sight<L> {
-    /// Nothing seen yet, and no turn had.
     pub(crate) fn new(front: Front<L>) -> Sight<L>
         requires { front ≡ [] }
         ensures { result ≡ record { seen = []; turns = 0 } }
@@ -45,7 +44,6 @@ impl<L: ShardLedger> Sight<L> {
         self.turns = self.turns.wrapping_add(1);
     }
 
-    /// Adds a request to the log under this mark, and sees it there.
     pub(crate) fn add(&mut self, keeper: &mut Keeper<L>, mark: &Mark<L>, request: &Request)
         requires room { length keeper.old < 2 ^ 63 }
         ensures log { keeper.new ≡ keeper.old ++ record { tag = mark.now; request = request.now } ∷ [] }
@@ -55,14 +53,13 @@ impl<L: ShardLedger> Sight<L> {
         self.front = keeper.front();
     }
 
-    /// Tells that of what two seats saw of a log one is a beginning of the other. It does nothing at run time.
+    /// For its contract alone: it does nothing at run time.
     pub(crate) fn tell_order(&self, other: &Sight<L>)
         ensures { IsPrefix self.now.seen other.now.seen ⊎ IsPrefix other.now.seen self.now.seen }
     {
         self.front.tell_order(&other.front);
     }
 
-    /// What it saw.
     pub(crate) fn front(&self) -> &Front<L>
         ensures { result.now ≡ self.now.seen }
     {

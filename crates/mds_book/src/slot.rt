@@ -40,7 +40,6 @@ impl ShardLedger for Brand {
     ghost tables = { [] };
 }
 
-/// The number of the shard that holds a vehicle.
 pub(crate) fn shard_of(key: &Key) -> usize
     ensures number { result ≡ number_of key.now }
     ensures small { result < 2 }
@@ -51,7 +50,6 @@ pub(crate) fn shard_of(key: &Key) -> usize
 /// The most requests that are copied while a shard's lock is held once.
 const MAX_PIECE: usize = 256;
 
-/// The next piece of a history, from this place on.
 fn next_piece(history: &[Request], from: usize) -> &[Request]
     requires { from ≤ length history.now }
     ensures { IsPiece from history.now result.now }
@@ -69,7 +67,7 @@ pub struct Slot<L: ShardLedger, const N: usize> {
     keeper: Keeper<L>,
 }
 
-// By hand: a crate that drops a slot then cites this function, and proves no destructor of what it holds.
+// By hand: crates above cite it.
 impl<L: ShardLedger, const N: usize> Drop for Slot<L, N> {
     fn drop(self) {
         let Slot {
@@ -97,8 +95,7 @@ impl<L: ShardLedger, const N: usize> Model for Slot<L, N> {
 }
 
 impl<L: ShardLedger, const N: usize> Slot<L, N> {
-    /// A slot with nothing accepted, and what the seats' parts of it are made of. `None` would mean that another has written to
-    /// its log: nobody does.
+    /// `None` would mean that another has written to its log: nobody does.
     pub(crate) fn open(
         alloc: Global,
         tables: Tables,
@@ -158,7 +155,7 @@ impl<L: ShardLedger, const N: usize> Slot<L, N> {
         &self.shard
     }
 
-    /// Tells that the share, which has every part, has counted the whole history. It changes nothing.
+    /// For its contract alone: it changes nothing.
     pub(crate) fn audit(&mut self, all: &mut Share<L>)
         requires { all.old.parts ≡ L.parts }
         ensures slot { self.new ≡ self.old }
@@ -169,14 +166,13 @@ impl<L: ShardLedger, const N: usize> Slot<L, N> {
         self.accepted.audit(all);
     }
 
-    /// A front that has seen the whole log.
     pub(crate) fn log(&self) -> Front<L>
         ensures { requests result ≡ self.now.history }
     {
         self.keeper.front()
     }
 
-    /// Tells that a front has seen a beginning of the log, of which `whole` has seen all. It changes nothing.
+    /// For its contract alone: it changes nothing.
     pub(crate) fn show(&mut self, whole: &Front<L>, front: &Front<L>)
         requires whole { length whole.now ≡ length self.old.history }
         ensures slot { self.new ≡ self.old }
@@ -189,7 +185,7 @@ impl<L: ShardLedger, const N: usize> Slot<L, N> {
         self.keeper.show(&mut shown);
     }
 
-    /// Lets a seat's part have a turn at the log. Nothing else changes.
+    /// Lets a seat's part have a turn at the log.
     pub(crate) fn see(&mut self, part: &mut Part<L>)
         ensures slot { self.new ≡ self.old }
         ensures begins { IsPrefix part.old.sight.seen part.new.sight.seen }
@@ -203,11 +199,7 @@ impl<L: ShardLedger, const N: usize> Slot<L, N> {
         part.sight.look(&mut self.keeper);
     }
 
-    /// Copies the next requests of the history behind those that were copied, at most 256 of them.
-    ///
-    /// # Errors
-    ///
-    /// `AllocError` where there is no memory for them; the progress is as it was then.
+    /// At most [`MAX_PIECE`] requests.
     pub(crate) fn copy(
         &mut self,
         progress: &mut Progress<L>,
@@ -230,8 +222,7 @@ impl<L: ShardLedger, const N: usize> Slot<L, N> {
         Ok(())
     }
 
-    /// Copies events of a vehicle, the last one first, from the place of one of its requests on, as [`Shard::walk_back`] does, of a
-    /// list that began when the front had seen all of the log. It changes nothing else.
+    /// As [`Shard::walk_back`], of a list that began when the front had seen all of the log.
     pub(crate) fn walk_back(
         &mut self,
         seen: &Front<L>,
@@ -256,7 +247,7 @@ impl<L: ShardLedger, const N: usize> Slot<L, N> {
         self.shard.walk_back(from, piece)
     }
 
-    /// Tells that what was seen is a beginning of the history. It changes nothing.
+    /// For its contract alone: it changes nothing.
     pub(crate) fn tell_begins(&mut self, progress: &Progress<L>)
         ensures slot { self.new ≡ self.old }
         ensures begins { IsPrefix progress.now.seen self.old.history }
@@ -267,7 +258,6 @@ impl<L: ShardLedger, const N: usize> Slot<L, N> {
         self.keeper.show(&mut seen);
     }
 
-    /// Whether all requests about a vehicle that a front has seen were copied. It changes nothing.
     pub(crate) fn has_copied(&mut self, seen: &Front<L>, progress: &Progress<L>, key: &Key) -> bool
         ensures slot { self.new ≡ self.old }
         ensures copied { result ≡ true → IsPrefix (requests_of (requests seen.now) key.now)
@@ -282,9 +272,9 @@ impl<L: ShardLedger, const N: usize> Slot<L, N> {
         end <= progress.count()
     }
 
-    /// Answers a request about a vehicle of this shard, as [`Shard::step`] does, for a seat with this part of the shard, which
-    /// has a turn at the log: it has then seen all that the shard had accepted. Exactly where the request is accepted, the ledger moves one into the
-    /// part's share, and the request is added to the log under the part's mark.
+    /// Answers a request about a vehicle of this shard, as [`Shard::step`] does, for a seat with this part of the
+    /// shard, which has a turn at the log. Exactly where the request is accepted, the ledger moves one into the part's
+    /// share, and the request is added to the log under the part's mark.
     ///
     /// # Errors
     ///

@@ -1,5 +1,5 @@
 -- What the command that serves over a journal does.
-use Rattle.std.specs.Prelude.{◌≡◌, ◌⊎◌, ℕ, ◌+◌, List, length, codes, Option, Ok}
+use Rattle.std.specs.Prelude.{◌≡◌, ◌⊎◌, ℕ, ◌+◌, List, length, codes, Option, Result, Ok, Err}
 use Rattle.std.specs.Io.KnownBytes.{Appends, Keeps}
 use Rattle.mds_table.specs.Tables.{Tables}
 use Rattle.mds_io.specs.Page.{AppendsFront, AppendsUpTo, with_newline}
@@ -86,9 +86,17 @@ IsStopProblem path (Listen fault) problem = IsListenProblem fault problem
 IsStopProblem path (Print fault) problem = problem ≡ Journal (Other (written_problem fault))
 IsStopProblem path (Serve stop) problem = IsServingProblem stop problem
 
--- why the journal of this path isn't open
-abbrev pub IsJournalStop : List ℕ → ServeProblem → Type 0
-IsJournalStop path problem = ((fault : FileFault) × IsFileProblem path fault problem) ⊎ ((fault : StartFault) × IsStartProblem path fault problem)
+-- of a host: the relation of a path to what comes of opening the journal there, and the host
+module _ {H J : Type 0} (opens_journal : H → List ℕ → Result J FileFault → Type 0) (host : H) where
+  -- the host opened the journal of this path
+  abbrev pub HadJournal : List ℕ → Type 0
+  HadJournal path = (file : J) × opens_journal host path (Ok file)
+
+  -- why the journal of this path isn't open: the host didn't open it, or it did, and it isn't read from its first request on
+  abbrev pub IsJournalStop : List ℕ → ServeProblem → Type 0
+  IsJournalStop path problem =
+      ((fault : FileFault) × opens_journal host path (Err fault) × IsFileProblem path fault problem)
+      ⊎ (HadJournal path × ((fault : StartFault) × IsStartProblem path fault problem))
 
 -- so many requests were accepted by a settled book over these tables, whose workers answered so many connections each
 abbrev pub HasAccepted : Tables → ℕ → ℕ → ℕ → Type 0
@@ -116,8 +124,9 @@ module _ {H L : Type 0} (listens : H → ℕ → L → ℕ → Type 0) (host : H
   StopsBook out out_new (Print fault) = SaidFront out out_new
   StopsBook out out_new (Serve stop) = IsUntorn (Serve stop) × SaidListening out out_new
 
-  -- besides: the known bytes of a table file's reader, and the table file if one is given
-  module _ {T : Type 0} (table_bytes : T → Option (List ℕ)) (table : Option (Source T)) where
+  -- besides: the relation of a path to what comes of opening the journal there; the known bytes of a table file's reader, and the table
+  -- file if one is given
+  module _ {J T : Type 0} (opens_journal : H → List ℕ → Result J FileFault → Type 0) (table_bytes : T → Option (List ℕ)) (table : Option (Source T)) where
     -- the tables were had
     abbrev pub HadTables : Type 0
     HadTables = (tables : Tables) × HasTablesIn table_bytes table tables
@@ -128,13 +137,13 @@ module _ {H L : Type 0} (listens : H → ℕ → L → ℕ → Type 0) (host : H
     StopsOver path out out_new problem =
         ((told : Problem) × (problem ≡ Journal (Other told)) × ExplainsTable table_bytes table told × Keeps out out_new)
         ⊎ (HadTables × (problem ≡ Journal (Other Random)) × Keeps out out_new)
-        ⊎ (HadTables × IsJournalStop path problem × Keeps out out_new)
-        ⊎ (HadTables × ((stop : BookStop) × IsStopProblem path stop problem × StopsBook out out_new stop))
+        ⊎ (HadTables × IsJournalStop opens_journal host path problem × Keeps out out_new)
+        ⊎ (HadTables × HadJournal opens_journal host path × ((stop : BookStop) × IsStopProblem path stop problem × StopsBook out out_new stop))
 
-    -- a book over the tables was served to its end, and holds so many requests
-    abbrev pub ServedOver : ℕ → ℕ → Option (List ℕ) → Option (List ℕ) → ℕ → Type 0
-    ServedOver workers each out out_new accepted =
-        (tables : Tables) × HasTablesIn table_bytes table tables × ServedBook tables workers each out out_new accepted
+    -- the journal of this path was opened, and a book over the tables was served to its end, and holds so many requests
+    abbrev pub ServedOver : List ℕ → ℕ → ℕ → Option (List ℕ) → Option (List ℕ) → ℕ → Type 0
+    ServedOver path workers each out out_new accepted =
+        (tables : Tables) × HasTablesIn table_bytes table tables × HadJournal opens_journal host path × ServedBook tables workers each out out_new accepted
 
     -- what the command came to: it stopped for a problem, which was told, or for want of memory to tell it; or it served to the end, and
     -- said how many requests the book holds
@@ -142,5 +151,5 @@ module _ {H L : Type 0} (listens : H → ℕ → L → ℕ → Type 0) (host : H
     CameToServeOver path workers each ended out out_new faults faults_new =
         ((problem : ServeProblem) × StopsOver path out out_new problem
         × (IsServeTold problem ended faults faults_new ⊎ IsServeTold (Journal (Other Memory)) ended faults faults_new))
-        ⊎ ((accepted : ℕ) × (out_then : Option (List ℕ)) × ServedOver workers each out out_then accepted
+        ⊎ ((accepted : ℕ) × (out_then : Option (List ℕ)) × ServedOver path workers each out out_then accepted
         × SaysAccepted accepted ended out_then out_new faults faults_new)

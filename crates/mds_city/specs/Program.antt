@@ -1,5 +1,5 @@
 -- What the program does with the words of its command line.
-use Rattle.std.specs.Prelude.{◌≡◌, ◌≢◌, ◌⊎◌, ℕ, ◌<◌, ◌≤◌, List, Option, Some, None, Bool, true, false, codes, option_map}
+use Rattle.std.specs.Prelude.{◌≡◌, ◌≢◌, ◌⊎◌, ℕ, ◌<◌, ◌≤◌, List, Option, Some, None, Result, Bool, true, false, codes, option_map}
 use Rattle.std.specs.Io.KnownBytes.{Keeps}
 use Rattle.mds_replay.specs.declared.report.Opening.{Opening}
 use Rattle.mds_replay.specs.declared.report.Opening.TheVariants.{Removed, Any}
@@ -16,6 +16,7 @@ use Rattle.mds_args.specs.declared.words.Command.{Command}
 use Rattle.mds_args.specs.declared.words.Command.TheVariants.{Serve, Replay, Debug, Table, Vehicles}
 use Rattle.mds_commands.specs.Command.{CameToReplay, CameToTable}
 use Rattle.mds_commands.specs.Debug.{Debugs}
+use Rattle.mds_file.specs.declared.fault.FileFault.{FileFault}
 use Rattle.mds_listing.specs.Listing.{CameToListing}
 use Rattle.mds_city.specs.Serve.{CameToServe}
 use Rattle.mds_city.specs.Journal.{CameToServeOver}
@@ -80,19 +81,20 @@ module _ {O F : Type 0} (opens : O → List ℕ → Option F → Type 0) (files 
         ⊎ ((path ≢ codes "-") × (file : Source F) × IsFileOf path file
         × CameToListing file_bytes table file_bytes file ended out out_new faults faults_new)
 
-  -- besides, of what listens: the relation of a number asked for to what listens and its port's number; and of what reads files: the
-  -- bytes that are known of each
-  module _ {L : Type 0} (listens : O → ℕ → L → ℕ → Type 0) (file_bytes : F → Option (List ℕ)) where
+  -- besides, of what listens: the relation of a number asked for to what listens and its port's number; of what opens journals: that of a
+  -- path to what comes of it; and of what reads files: the bytes that are known of each
+  module _ {L J : Type 0} (listens : O → ℕ → L → ℕ → Type 0) (opens_journal : O → List ℕ → Result J FileFault → Type 0) (file_bytes : F → Option (List ℕ)) where
     -- serving over the journal of this path, or over none, came to these
     abbrev pub CarriesServe : Option (List ℕ) → ℕ → Option (Source F) → ℕ → ℕ → Status → Option (List ℕ) → Option (List ℕ) → Option (List ℕ) → Option (List ℕ) → Type 0
     CarriesServe None port table workers each ended out out_new faults faults_new =
         CameToServe listens files port file_bytes table workers each ended out out_new faults faults_new
     CarriesServe (Some path) port table workers each ended out out_new faults faults_new =
-        CameToServeOver listens files port file_bytes table path workers each ended out out_new faults faults_new
+        CameToServeOver listens files port opens_journal file_bytes table path workers each ended out out_new faults faults_new
 
-  -- besides, of what listens: the relation of a number asked for to what listens and its port's number; and of what reads files and
-  -- standard input: the bytes that are known of each, and standard input itself
-  module _ {L I : Type 0} (listens : O → ℕ → L → ℕ → Type 0) (file_bytes : F → Option (List ℕ)) (input_bytes : I → Option (List ℕ)) (input : I) where
+  -- besides, of what listens and opens journals: the same relations; and of what reads files and standard input: the bytes that are known
+  -- of each, and standard input itself
+  module _ {L J I : Type 0} (listens : O → ℕ → L → ℕ → Type 0) (opens_journal : O → List ℕ → Result J FileFault → Type 0) (file_bytes : F → Option (List ℕ))
+      (input_bytes : I → Option (List ℕ)) (input : I) where
     -- a replay of the file of this path, which is standard input for `-` alone, came to these
     abbrev pub CarriesReplay : ReplayOptions → List ℕ → Option (Source F) → Status → Option (List ℕ) → Option (List ℕ) → Option (List ℕ) → Option (List ℕ) → Type 0
     CarriesReplay options path table ended out out_new faults faults_new =
@@ -105,7 +107,7 @@ module _ {O F : Type 0} (opens : O → List ℕ → Option F → Type 0) (files 
     abbrev pub Carries : Command → Status → Option (List ℕ) → Option (List ℕ) → Option (List ℕ) → Option (List ℕ) → Type 0
     Carries (Serve port each workers path journal) ended out out_new faults faults_new =
         (table : Option (Source F)) × IsFileNamed (option_map (λ named. named.now) path) table
-        × CarriesServe listens file_bytes (option_map (λ named. named.now) journal) port table workers each ended out out_new faults faults_new
+        × CarriesServe listens opens_journal file_bytes (option_map (λ named. named.now) journal) port table workers each ended out out_new faults faults_new
     Carries (Table path) ended out out_new faults faults_new =
         (table : Option (Source F)) × IsFileNamed (option_map (λ named. named.now) path) table × CameToTable file_bytes table ended out out_new faults faults_new
     Carries (Replay file path any lines workers) ended out out_new faults faults_new =

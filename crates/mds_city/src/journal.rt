@@ -6,7 +6,7 @@ ghost use Rattle.mds_file.specs.declared.fault.FileFault.{FileFault as Unopened}
 ghost use Rattle.mds_book.specs.Books.{IsSeatCount};
 ghost use Rattle.mds_follow.specs.Disk.{IsTold};
 ghost use Rattle.mds_follow.specs.Reading.{IsAtFirstRequest};
-ghost use Rattle.mds_city.specs.Journal.{CameToServeOver, IsFileProblem, IsJournalStop, IsListenProblem, IsServeTold, IsServingProblem, IsStartProblem, IsStopProblem, IsUntorn};
+ghost use Rattle.mds_city.specs.Journal.{CameToServeOver, HadJournal, IsFileProblem, IsJournalStop, IsListenProblem, IsServeTold, IsServingProblem, IsStartProblem, IsStopProblem, IsUntorn};
 ghost use Rattle.mds_city.specs.Journal.{ServedBook, ServedOver, StopsBook, StopsOver};
 
 use crate::page::{ListeningLine, print_line};
@@ -122,18 +122,20 @@ pub fn serve_over<
     faults: &mut E,
 ) -> Status
     requires { IsSeatCount asked.workers }
-    ensures { CameToServeOver H.listens host.now asked.port T.remaining table.entry path.now
-        asked.workers asked.each result
+    ensures { CameToServeOver H.listens host.now asked.port H.opens_journal T.remaining table.entry
+        path.now asked.workers asked.each result
         (W.contents out.old) (W.contents out.new) (E.contents faults.old) (E.contents faults.new) }
 {
+    // What listens is kept until it is told how serving ended: answers leave until it is let go.
     let (accepted, _listening) = match serve_to_end(rt, alloc, host, table, path, asked, out) {
         Ok(served) => served,
-        Err(problem) => return tell_serve_problem(alloc, faults, problem),
+        Err((problem, _listening)) => return tell_serve_problem(alloc, faults, problem),
     };
     say_accepted(alloc, accepted, out, faults)
 }
 
-/// Serves as [`serve_over`], up to its end: how many requests the book holds then, and what listened, by which answers leave still.
+/// Serves as [`serve_over`], up to its end: how many requests the book holds then, or the problem; and what listened, if it came to
+/// that, by which answers leave still.
 fn serve_to_end<
     'a,
     R: Threads + Wait + RandomSource + Sync,
@@ -148,20 +150,24 @@ fn serve_to_end<
     path: &'a str,
     asked: ServeOptions,
     out: &mut W,
-) -> Result<(u128, H::Listening), ServeProblem<'a>>
+) -> Result<(u128, H::Listening), (ServeProblem<'a>, Option<H::Listening>)>
     requires { IsSeatCount asked.workers }
-    ensures ok { IfOk result (λ served. ServedOver H.listens host.now asked.port T.remaining table.entry
-        asked.workers asked.each (W.contents out.old) (W.contents out.new) served.0) }
-    ensures err { IfErr result (StopsOver H.listens host.now asked.port T.remaining table.entry
-        path.now (W.contents out.old) (W.contents out.new)) }
+    ensures ok { IfOk result (λ served. ServedOver H.listens host.now asked.port H.opens_journal
+        T.remaining table.entry path.now asked.workers asked.each
+        (W.contents out.old) (W.contents out.new) served.0) }
+    ensures err { IfErr result (λ stopped. StopsOver H.listens host.now asked.port H.opens_journal
+        T.remaining table.entry path.now (W.contents out.old) (W.contents out.new) stopped.0) }
 {
-    let tables = tables_in(alloc, table)?;
+    let tables = match tables_in(alloc, table) {
+        Ok(tables) => tables,
+        Err(problem) => return Err((ServeProblem::from(problem), None)),
+    };
     let (Ok(first), Ok(second)) = (RandomState::new(rt), RandomState::new(rt)) else {
-        return Err(ServeProblem::from(Problem::Random));
+        return Err((ServeProblem::from(Problem::Random), None));
     };
     let reader = match open_reader(alloc, host, path) {
         Ok(reader) => reader,
-        Err(problem) => return Err(problem),
+        Err(problem) => return Err((problem, None)),
     };
     let opening = NewBook::of(tables, asked.workers, [first, second]);
     let log = BlankLog::new();
@@ -169,7 +175,7 @@ fn serve_to_end<
         rt, alloc, host, opening, reader, log, asked, out,
     ) {
         Ok(served) => Ok(served),
-        Err(stop) => Err(problem_of_stop(path, stop)),
+        Err((stop, listening)) => Err((problem_of_stop(path, stop), listening)),
     }
 }
 
@@ -182,7 +188,8 @@ fn open_reader<'a, H: OpensJournals>(
     ensures ok { IfOk result (λ reader.
         IsAtFirstRequest H.Journal.seen H.Journal.may_leave H.Journal.may_be_used H.Journal.is_true
         reader.opening) }
-    ensures err { IfErr result (IsJournalStop path.now) }
+    ensures had { IfOk result (λ _. HadJournal H.opens_journal host.now path.now) }
+    ensures err { IfErr result (IsJournalStop H.opens_journal host.now path.now) }
 {
     let file = match host.open_journal(path) {
         Ok(file) => file,
@@ -194,8 +201,8 @@ fn open_reader<'a, H: OpensJournals>(
     }
 }
 
-/// Opens a book over the journal, prints where it listens, and serves: how many requests the book holds at the end, and what
-/// listened.
+/// Opens a book over the journal, prints where it listens, and serves: how many requests the book holds at the end, or why it
+/// wasn't served to that; and what listened, if a connection could come of it.
 fn serve_reader<
     R: Threads + Wait + Sync,
     H: Listens + OpensJournals + Sync,
@@ -212,7 +219,7 @@ fn serve_reader<
     log: BlankLog,
     asked: ServeOptions,
     out: &mut W,
-) -> Result<(u128, H::Listening), BookStop>
+) -> Result<(u128, H::Listening), (BookStop, Option<H::Listening>)>
     requires first { (opening.first.name ≡ L.name) × (opening.first.parts ≡ L.parts) }
     requires second { (opening.second.name ≡ M.name) × (opening.second.parts ≡ M.parts) }
     requires first_log { (opening.first.log ≡ L.log) × (opening.first.marks ≡ L.marks) }
@@ -229,22 +236,22 @@ fn serve_reader<
         → IsTold (recovered (H.Journal.seen reader.opening.device)) told → J.held told }
     ensures ok { IfOk result (λ served. ServedBook H.listens host.now asked.port opening.tables
         opening.seats asked.each (W.contents out.old) (W.contents out.new) served.0) }
-    ensures err { IfErr result (StopsBook H.listens host.now asked.port
-        (W.contents out.old) (W.contents out.new)) }
+    ensures err { IfErr result (λ stopped. StopsBook H.listens host.now asked.port
+        (W.contents out.old) (W.contents out.new) stopped.0) }
 {
     let book = match RecordedBook::<Disk<H::Journal>, L, M, J>::open(
         rt, alloc, opening, reader, log,
     ) {
         Ok(book) => book,
-        Err((fault, _file)) => return Err(BookStop::Start(fault)),
+        Err((fault, _file)) => return Err((BookStop::Start(fault), None)),
     };
     let (listening, port) = match host.listen(alloc, asked.port) {
         Ok(had) => had,
-        Err(fault) => return Err(BookStop::Listen(fault)),
+        Err(fault) => return Err((BookStop::Listen(fault), None)),
     };
     match print_line(alloc, out, &ListeningLine { port }) {
         Ok(()) => {}
-        Err(fault) => return Err(BookStop::Print(fault)),
+        Err(fault) => return Err((BookStop::Print(fault), None)),
     }
     let alarm = FirstFailure {
         host,
@@ -252,11 +259,10 @@ fn serve_reader<
     };
     match book.serve(rt, alloc, &listening, asked.each, &alarm) {
         Ok(end) => Ok((end.book.settled.accepted(), listening)),
-        Err(stop) => Err(BookStop::Serve(stop)),
+        Err(stop) => Err((BookStop::Serve(stop), Some(listening))),
     }
 }
 
-/// The problem of a journal that can't be opened.
 fn problem_of_file<'a>(path: &'a str, fault: FileFault) -> ServeProblem<'a>
     ensures { IsFileProblem path.now fault result }
 {
@@ -267,7 +273,6 @@ fn problem_of_file<'a>(path: &'a str, fault: FileFault) -> ServeProblem<'a>
     }
 }
 
-/// The problem of a book that can't be opened over a journal.
 fn problem_of_start<'a>(path: &'a str, fault: StartFault) -> ServeProblem<'a>
     ensures { IsStartProblem path.now fault result }
 {
@@ -278,7 +283,6 @@ fn problem_of_start<'a>(path: &'a str, fault: StartFault) -> ServeProblem<'a>
     }
 }
 
-/// The problem by which a book over a journal wasn't served to its end.
 fn problem_of_stop<'a>(path: &'a str, stop: BookStop) -> ServeProblem<'a>
     requires { IsUntorn stop }
     ensures { IsStopProblem path.now stop result }
@@ -291,7 +295,6 @@ fn problem_of_stop<'a>(path: &'a str, stop: BookStop) -> ServeProblem<'a>
     }
 }
 
-/// The problem that nothing listens at a port.
 fn problem_of_listening<'a>(fault: ListenFault) -> ServeProblem<'a>
     ensures { IsListenProblem fault result }
 {
@@ -301,7 +304,6 @@ fn problem_of_listening<'a>(fault: ListenFault) -> ServeProblem<'a>
     }
 }
 
-/// The problem by which serving stopped.
 fn problem_of_serving<'a>(stop: RecordedStop) -> ServeProblem<'a>
     requires { IsUntorn (BookStop.Serve stop) }
     ensures { IsServingProblem stop result }

@@ -4,6 +4,7 @@ ghost use Rattle.std.specs.IoError.{error_kind};
 ghost use Rattle.mds_args.specs.Error.{words_kind};
 ghost use Rattle.mds_book.specs.Books.{IsSeatCount};
 ghost use Rattle.mds_commands.specs.Problem.{Tells};
+ghost use Rattle.mds_io.specs.Page.{AppendsUpTo, with_newline};
 ghost use Rattle.mds_city.specs.Program.{Carries, CarriesServe, CarriesVehicles, Explains, HasWorkers, IsFileNamed, IsFileOf, Runs};
 ghost use Rattle.mds_city.specs.Program.{form_if, opening_if, options_of};
 
@@ -65,7 +66,9 @@ pub fn words_of(alloc: Global, args: io::Result<Args>) -> Result<Vec<String>, Wo
 
 /// Tells why the words of the command line can't be read.
 pub fn tell_words<E: Write>(alloc: Global, faults: &mut E, fault: WordsFault) -> Status
-    ensures not_text { fault ≡ WordsFault.NotText → result ≡ Status.BadWords }
+    ensures not_text { fault ≡ WordsFault.NotText → (result ≡ Status.BadWords)
+        × AppendsUpTo (E.contents faults.old) (E.contents faults.new)
+        (with_newline (codes "error: the words of the command line aren't text")) }
     ensures memory { fault ≡ WordsFault.Memory → (result ≡ Status.NoMemory)
         × Tells (E.contents faults.old) (E.contents faults.new) Problem.Memory }
 {
@@ -93,7 +96,7 @@ pub fn run<
     W: Write,
     E: Write,
 >(rt: &R, alloc: Global, words: &[S], files: &O, input: I, out: &mut W, faults: &mut E) -> Status
-    ensures { Runs O.opens files.now O.listens O.File.remaining I.remaining input
+    ensures { Runs O.opens files.now O.listens O.opens_journal O.File.remaining I.remaining input
         (map S.text words.now) result
         (W.contents out.old) (W.contents out.new) (E.contents faults.old) (E.contents faults.new) }
 {
@@ -147,8 +150,8 @@ fn carry_out<
     faults: &mut E,
 ) -> Status
     requires { HasWorkers command }
-    ensures { Carries O.opens files.now O.listens O.File.remaining I.remaining input
-        command.entry result
+    ensures { Carries O.opens files.now O.listens O.opens_journal O.File.remaining I.remaining
+        input command.entry result
         (W.contents out.old) (W.contents out.new) (E.contents faults.old) (E.contents faults.new) }
 {
     match command {
@@ -218,7 +221,7 @@ fn serve_named<
     faults: &mut E,
 ) -> Status
     requires { IsSeatCount asked.workers }
-    ensures { CarriesServe O.opens files.now O.listens O.File.remaining
+    ensures { CarriesServe O.opens files.now O.listens O.opens_journal O.File.remaining
         (option_map (λ named. named.now) journal.entry) asked.port table.entry
         asked.workers asked.each result
         (W.contents out.old) (W.contents out.new) (E.contents faults.old) (E.contents faults.new) }
@@ -254,7 +257,6 @@ fn list_vehicles<R: RandomSource, O: Opens, I: Read + Drop, W: Write, E: Write>(
     vehicles_to(rt, alloc, table, file_of(files, path), out, faults)
 }
 
-/// What these flags and so many workers ask of a replay.
 fn options_of(any: bool, lines: bool, workers: usize) -> ReplayOptions
     ensures { result ≡ options_of any lines workers }
 {
@@ -265,28 +267,24 @@ fn options_of(any: bool, lines: bool, workers: usize) -> ReplayOptions
     }
 }
 
-/// What the vehicles of a replay hold at first: with the flag `--any` nothing is taken for given.
 fn opening_if(any: bool) -> Opening
     ensures { result ≡ opening_if any }
 {
     if any { Opening::Any } else { Opening::Removed }
 }
 
-/// How the file of a replay has its items: with the flag `--lines` one on each line.
 fn form_if(lines: bool) -> Form
     ensures { result ≡ form_if lines }
 {
     if lines { Form::Lines } else { Form::Batch }
 }
 
-/// Whether the file of a replay is standard input.
 fn is_standard_input(file: &str) -> bool
     ensures { IsTrue result ↔ (file.now ≡ codes "-") }
 {
     file == "-"
 }
 
-/// The file of this path, which this reads.
 fn open_file<'a, R: Read + Drop>(path: &'a str, reader: R) -> Source<'a, R>
     ensures path { result.path.now ≡ path.now }
     ensures reader { result.reader ≡ Some reader }
@@ -297,14 +295,12 @@ fn open_file<'a, R: Read + Drop>(path: &'a str, reader: R) -> Source<'a, R>
     }
 }
 
-/// The file of this path, if one is named.
 fn file_if_named<'a, O: Opens>(files: &O, path: Option<&'a str>) -> Option<Source<'a, O::File>>
     ensures { IsFileNamed O.opens files.now (option_map (λ named. named.now) path.entry) result }
 {
     Some(file_of(files, path?))
 }
 
-/// The file of this path.
 fn file_of<'a, O: Opens>(files: &O, path: &'a str) -> Source<'a, O::File>
     ensures { IsFileOf O.opens files.now path.now result }
 {

@@ -191,7 +191,6 @@ where
     say(alloc, ended, out, faults)
 }
 
-/// Prints how many requests a settled book accepted, or tells why there is none.
 fn say<L: ShardLedger, M: ShardLedger, W: Write, E: Write>(
     alloc: Global,
     ended: Result<FinalBook<L, M>, Stop>,
@@ -209,7 +208,6 @@ fn say<L: ShardLedger, M: ShardLedger, W: Write, E: Write>(
     }
 }
 
-/// Prints how many requests were accepted.
 pub(crate) fn say_accepted<W: Write, E: Write>(
     alloc: Global,
     accepted: u128,

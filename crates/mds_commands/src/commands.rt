@@ -59,7 +59,6 @@ pub fn replay_to<P: Threads + Sync, T: Read + Drop, R: Read + Drop, W: Write, E:
     }
 }
 
-/// The status of a replay that refused so many items.
 pub(crate) fn status_on(refused: usize) -> Status
     ensures { result ≡ status_on refused }
 {
@@ -70,7 +69,6 @@ pub(crate) fn status_on(refused: usize) -> Status
     }
 }
 
-/// Replays the file's items over the tables and prints the report; it answers how many items were not accepted.
 fn replay_into<'a, P: Threads + Sync, T: Read + Drop, R: Read + Drop, W: Write>(
     rt: &P,
     alloc: Global,
@@ -94,7 +92,6 @@ fn replay_into<'a, P: Threads + Sync, T: Read + Drop, R: Read + Drop, W: Write>(
     Ok(report.refused)
 }
 
-/// The report of a replay of the file's items over the tables.
 fn report_on<'a, P: Threads + Sync, T: Read + Drop, R: Read + Drop>(
     rt: &P,
     alloc: Global,
@@ -120,7 +117,7 @@ fn report_on<'a, P: Threads + Sync, T: Read + Drop, R: Read + Drop>(
     }
 }
 
-/// The report of a replay of a batch, whose items are replayed as they are read: none is kept.
+/// The items are replayed as they are read: none is kept.
 fn report_of_batch<'a, R: Read + Drop>(
     alloc: Global,
     tables: Tables,
@@ -138,7 +135,6 @@ fn report_of_batch<'a, R: Read + Drop>(
     Ok(replayer.finish()?)
 }
 
-/// The report of a replay of these items by several workers.
 fn report_of_items<'a, P: Threads + Sync>(
     rt: &P,
     alloc: Global,
@@ -168,10 +164,9 @@ fn report_of_items<'a, P: Threads + Sync>(
     }
 }
 
-/// Prints the tables of a table file, or where none is given the profile's: a line for each row, in row order, and their
-/// number; of several tables these of each, behind a line that says from when it is in force. It answers the status
-/// that the program ends with: `Done`, or the one of the problem, which is told to `faults` in one line: `Fault` for a file
-/// that can't be read or is no table, or an output that fails, `NoMemory` for want of memory.
+/// Prints the tables of a table file, or where none is given the profile's. It answers the status that the program ends
+/// with: `Done`, or the one of the problem, which is told to `faults` in one line: `Fault` for a file that can't be
+/// read or is no table, or an output that fails, `NoMemory` for want of memory.
 pub fn table_to<T: Read + Drop, W: Write, E: Write>(
     alloc: Global,
     table: Option<Source<'_, T>>,
@@ -187,7 +182,6 @@ pub fn table_to<T: Read + Drop, W: Write, E: Write>(
     }
 }
 
-/// Prints the tables.
 fn table_into<'a, T: Read + Drop, W: Write>(
     alloc: Global,
     table: Option<Source<'a, T>>,

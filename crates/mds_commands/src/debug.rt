@@ -32,7 +32,6 @@ pub struct Named<'a> {
 }
 
 impl Named<'_> {
-    /// The vehicle, or `None` where a word is no identifier.
     fn key(&self) -> Option<Key>
         ensures { MatchOption result ((key : Vehicle) → IsNamed self.now key
             → ⊥) (IsNamed self.now) }
@@ -43,7 +42,6 @@ impl Named<'_> {
     }
 }
 
-/// The identifier that a word is, if it is one.
 fn identifier(word: &str) -> Option<Uuid>
     ensures { result ≡ parsed word.now }
 {
@@ -141,7 +139,6 @@ fn tell_debug<E: Write>(alloc: Global, faults: &mut E, problem: DebugProblem<'_>
     }
 }
 
-/// Shows the session; it answers how many of the vehicle's events were refused.
 fn debug_into<'a, T: Read + Drop, R: Read + Drop, I: Read, W: Write>(
     alloc: Global,
     table: Option<Source<'a, T>>,
@@ -173,7 +170,6 @@ struct Opened {
     counts: CountsLine,
 }
 
-/// The session over the accepted events of the vehicle that the words name.
 fn session_on<'a, T: Read + Drop, R: Read + Drop>(
     alloc: Global,
     table: Option<Source<'a, T>>,
@@ -197,7 +193,6 @@ fn session_on<'a, T: Read + Drop, R: Read + Drop>(
     }
 }
 
-/// The session over the accepted events of a vehicle, or `None` where no item names it.
 fn open_on(
     alloc: Global,
     tables: Tables,
@@ -220,7 +215,6 @@ fn open_on(
     Ok(Some(Opened { session, counts }))
 }
 
-/// The session over these events, which lead on from removed.
 fn session_of(alloc: Global, tables: Tables, events: Vec<Event>) -> Result<Session, AllocError>
     requires { AreOpenFrom tables State.Removed events.items }
     ensures { IfOk result (λ session. session ≡ record {
@@ -237,7 +231,6 @@ fn session_of(alloc: Global, tables: Tables, events: Vec<Event>) -> Result<Sessi
     }
 }
 
-/// Prints the start of the session, and what the commands of the script print.
 fn show<'a, I: Read, W: Write>(
     alloc: Global,
     opened: Opened,

@@ -37,7 +37,6 @@ pub fn print_report<W: Write>(
     end_page(writer, &mut page, &total)
 }
 
-/// Adds a line for each verdict to what the page has, and puts the page out as it fills.
 fn add_items<W: Write>(
     writer: &mut W,
     page: &mut String,
@@ -58,7 +57,6 @@ fn add_items<W: Write>(
     Ok(())
 }
 
-/// Adds a line for each vehicle to what the page has, and puts the page out as it fills.
 fn add_vehicles<W: Write>(
     writer: &mut W,
     page: &mut String,
@@ -101,7 +99,6 @@ pub fn print_tables<W: Write>(
     flush_page(writer, &mut page)
 }
 
-/// Adds what is printed of one of so many tables to what the page has, and puts the page out as it fills.
 fn add_table<W: Write>(
     alloc: Global,
     writer: &mut W,
@@ -122,8 +119,6 @@ fn add_table<W: Write>(
     add_counted(writer, page, &rows)
 }
 
-/// Adds the line that says from when a table is in force to what the page has, unless the table is alone, and puts the
-/// page out where it is full.
 fn add_heading<W: Write>(
     writer: &mut W,
     page: &mut String,
@@ -141,7 +136,6 @@ fn add_heading<W: Write>(
     add_line(writer, page, &FromLine { start })
 }
 
-/// Adds a line for each row, and their number, to what the page has, and puts the page out as it fills.
 fn add_counted<W: Write>(writer: &mut W, page: &mut String, rows: &[Row]) -> Result<(), PrintError>
     ensures ok { OnOk result (Passes (W.contents writer.old) (W.contents writer.new)
         (string_bytes page.old ++ rows_text rows.now) (string_bytes page.new)) }
@@ -153,7 +147,6 @@ fn add_counted<W: Write>(writer: &mut W, page: &mut String, rows: &[Row]) -> Res
     add_line(writer, page, &count)
 }
 
-/// Adds a line for each row to what the page has, and puts the page out as it fills.
 fn add_rows<W: Write>(writer: &mut W, page: &mut String, rows: &[Row]) -> Result<(), PrintError>
     ensures ok { OnOk result (Passes (W.contents writer.old) (W.contents writer.new)
         (string_bytes page.old ++ row_lines rows.now) (string_bytes page.new)) }

@@ -133,7 +133,6 @@ impl fmt::Display for Problem<'_> {
     }
 }
 
-/// Why the file of this path could not be read.
 pub(crate) fn read_problem(path: &str, error: ReadError) -> Problem<'_>
     ensures memory { error ≡ ReadError.Memory → result ≡ Problem.Memory }
     ensures read { error ≢ ReadError.Memory → result ≡ Problem.CannotRead path.entry }
@@ -164,7 +163,7 @@ struct Telling {
     line: Result<(), WriteError>,
 }
 
-/// Tells the problem in one line. Where there is no memory to lay the line out, the problem that is told is that.
+/// As [`tell`], with what became of the line.
 fn tell_whole<E: Write>(alloc: Global, faults: &mut E, problem: Problem<'_>) -> Telling
     ensures { IsTelling (E.contents faults.old) (E.contents faults.new) problem.entry result
         ⊎ IsTelling (E.contents faults.old) (E.contents faults.new) Problem.Memory result }

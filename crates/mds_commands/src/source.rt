@@ -35,7 +35,6 @@ pub struct Source<'a, R> {
     pub reader: Option<R>,
 }
 
-/// The bytes of the file, or its first `MAX_READ`.
 fn bytes_in<'a, R: Read + Drop>(
     alloc: Global,
     source: Source<'a, R>,
@@ -50,7 +49,7 @@ fn bytes_in<'a, R: Read + Drop>(
     front_of(alloc, path, &mut reader)
 }
 
-/// The bytes that the reader of a file of this path gives, to its end or the first `MAX_READ`. It reads no further.
+/// It reads no further than the first `MAX_READ` bytes.
 fn front_of<'a, R: Read>(
     alloc: Global,
     path: &'a str,
@@ -92,7 +91,6 @@ pub fn tables_in<'a, T: Read + Drop>(
     }
 }
 
-/// The tables of a table file.
 fn tables_of_file<'a, T: Read + Drop>(
     alloc: Global,
     source: Source<'a, T>,
@@ -104,7 +102,7 @@ fn tables_of_file<'a, T: Read + Drop>(
     tables_of_bytes(alloc, &bytes)
 }
 
-/// The tables that the bytes of a table file are. What is wrong with them is never told as a fault of what gave them.
+/// What is wrong with the bytes is never told as a fault of what gave them.
 fn tables_of_bytes<'a>(alloc: Global, bytes: &[u8]) -> Result<Tables, Problem<'a>>
     ensures tables { IfOk result (HasTables bytes.now) }
     ensures fault { IfErr result (IsTableProblem bytes.now) }
@@ -125,8 +123,7 @@ pub fn items_in<'a, R: Read + Drop>(
     Ok(items)
 }
 
-/// Hands the items of a batch in a file to a taker, one by one. Where the file has a fault, the taker has taken some of the
-/// items before it.
+/// Where the file has a fault, the taker has taken some of the items before it.
 pub(crate) fn each_item_in<'a, R: Read + Drop, T: TakesItems<Item = EventItem>>(
     alloc: Global,
     source: Source<'a, R>,
@@ -142,8 +139,7 @@ pub(crate) fn each_item_in<'a, R: Read + Drop, T: TakesItems<Item = EventItem>>(
     each_item_of_bytes(alloc, &bytes, taker)
 }
 
-/// Hands the items of a batch of these bytes to a taker. What is wrong with them is never told as a fault of what gave
-/// them.
+/// What is wrong with the bytes is never told as a fault of what gave them.
 fn each_item_of_bytes<'a, T: TakesItems<Item = EventItem>>(
     alloc: Global,
     bytes: &[u8],

@@ -39,7 +39,7 @@ pub fn report_of_lines<'a, R: Read + Drop>(
     }
 }
 
-/// The report of the stream that was fed. What is wrong with it is never told as a fault of what gave it.
+/// What is wrong with the stream is never told as a fault of what gave it.
 fn report_of<'a>(replay: LineReplay) -> Result<Report, Problem<'a>>
     ensures report { IfOk result (λ report. (bytes : List ℕ) → IsFed bytes replay.stream
         → IsLineReport replay.opening replay.tables bytes report) }
@@ -49,8 +49,8 @@ fn report_of<'a>(replay: LineReplay) -> Result<Report, Problem<'a>>
     Ok(replay.finish()?)
 }
 
-/// Feeds what the reader has, to its end or up to `MAX_READ` bytes, and reads no further. A fault of the lines is kept, and
-/// told at the end. `calls` is how many calls of `read` may be made for all of it.
+/// Feeds what the reader has. A fault of the lines is kept, and told at the end. `calls` is how many calls of `read`
+/// may be made for all of it.
 fn feed_all<R: Read>(
     alloc: Global,
     reader: &mut R,

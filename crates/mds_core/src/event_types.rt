@@ -33,7 +33,6 @@ impl Model for EventTypes {
 }
 
 impl EventTypes {
-    /// These types.
     pub(crate) fn of(types: &[TypeName]) -> EventTypes
         requires { length types.now ≤ max_event_types }
         ensures { result ≡ types.now }
@@ -46,7 +45,7 @@ impl EventTypes {
         }
     }
 
-    /// Leaves these types. Only the slots that hold a type, before or after, are written.
+    /// Only the slots that hold a type, before or after, are written.
     pub(crate) fn assign(&mut self, types: &[TypeName])
         requires { length types.now ≤ max_event_types }
         ensures { self.new ≡ types.now }
@@ -56,7 +55,6 @@ impl EventTypes {
         self.count = types.len();
     }
 
-    /// The types, one after the other.
     pub(crate) fn as_slice(&self) -> &[TypeName]
         ensures types { result.now ≡ self.now }
         ensures few { length result.now ≤ max_event_types }

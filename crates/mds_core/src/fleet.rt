@@ -9,8 +9,8 @@ use mds_table::Tables;
 use std::alloc::{AllocError, Global};
 use std::marker::Model;
 
-/// The plain machine over the tables that decide. It keeps its history of accepted requests alone, and looks everything up in it:
-/// this is the program of the definitions, and the measure of faster ones.
+/// The plain machine over the tables that decide. It keeps its history alone, and looks everything up in it. So it is
+/// short enough to compare with the definitions, and slow. No command calls it.
 #[derive(Debug, Drop)]
 pub struct Fleet {
     tables: Tables,
@@ -36,7 +36,7 @@ impl Fleet {
         }
     }
 
-    /// Answers one request, and keeps it in the history where it was accepted.
+    /// Answers one request, and keeps it in the history where it was accepted. It goes through the whole history.
     ///
     /// # Errors
     ///

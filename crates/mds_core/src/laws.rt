@@ -21,8 +21,9 @@ pub fn answers_are_of_their_kind()
     ensures { AnswersAreOfTheirKind }
 {}
 
-/// The answer to a request after a history is `Done` exactly where the request is acceptable after it: a registration where the
-/// history has nothing of its vehicle, an event where it is acceptable to its vehicle's own list, and a look never.
+/// The answer to a request after a history is `Done` exactly where the request is acceptable after it: a registration
+/// where the history has nothing of its vehicle, an event where its vehicle's own list makes it acceptable, and a look
+/// never.
 #[tactic(auto, using(crate::proofs::RunLaws::answer_exactly))]
 pub fn answers_accept_exactly()
     ensures { AnswersAcceptExactly }

@@ -8,7 +8,6 @@ ghost use Rattle.mds_core.specs.Machine.{events_in as accepted_in};
 use crate::{Event, Key, Known, Request, Standing};
 use std::alloc::{AllocError, Global};
 
-/// Whether the request is about the vehicle.
 fn is_about(request: &Request, key: &Key) -> bool
     ensures { result ≡ same_key (key_of request.now) key.now }
 {
@@ -31,7 +30,6 @@ pub fn known_in(history: &[Request], asked: &Request) -> Known
     known
 }
 
-/// What is known of the vehicle of a request after one more request about it.
 fn known_after(known: Known, request: &Request, asked: &Request) -> Known
     ensures { (requests : List Requested)
         → AreKnown requests asked.now known → length (reports requests) < usize.MAX
@@ -43,7 +41,7 @@ fn known_after(known: Known, request: &Request, asked: &Request) -> Known
     }
 }
 
-/// Where a vehicle stands after one more request about it that was accepted, by where it stood before, if it was registered.
+/// Where a vehicle stands after one more accepted request about it, by where it stood before, if it was registered.
 pub fn standing_after(standing: Option<Standing>, request: &Request) -> Standing
     ensures { (requests : List Requested)
         → standing ≡ standing_if requests → length (reports requests) < usize.MAX
@@ -56,7 +54,6 @@ pub fn standing_after(standing: Option<Standing>, request: &Request) -> Standing
     }
 }
 
-/// Whether both requests report an event, and their events have the same identifier.
 fn is_same_event(request: &Request, asked: &Request) -> bool
     ensures { result ≡ is_repeated (request.now ∷ []) asked.now }
 {

@@ -40,8 +40,8 @@ impl Standing {
         }
     }
 
-    /// Where the vehicle stands after one more event: where an event carries no position, the last one stays. The number
-    /// of events goes no further than `usize::MAX`.
+    /// Where the vehicle stands after one more event: where that carries no position, the last one stays. The number of
+    /// events stops at `usize::MAX`.
     pub fn after(&self, event: &Event) -> Standing
         ensures fields { self.now.events < usize.MAX → result ≡ record {
           state = event.now.state;
@@ -129,7 +129,7 @@ impl fmt::Display for Refusal {
 
 impl Error for Refusal {}
 
-/// A reply of the machine.
+/// What the machine replies to a request.
 #[derive(Clone, Copy, Debug, PartialEq, Eq)]
 pub struct Reply {
     /// How many requests were accepted before this one.

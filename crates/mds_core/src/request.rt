@@ -37,7 +37,7 @@ impl Request {
         }
     }
 
-    /// The same request again.
+    /// A copy. It takes no memory.
     pub fn copy(&self) -> Request
         ensures { result ≡ self.now }
     {

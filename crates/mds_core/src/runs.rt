@@ -7,12 +7,10 @@ use crate::{Fleet, Reply, Request};
 use mds_table::Tables;
 use std::alloc::{AllocError, Global};
 
-/// The machine over a whole list: the fleet after it, and a reply to each request.
+/// The machine over a whole list of requests: the fleet after it, and a reply to each.
 ///
-/// At each place of the list, with what was answered Done at earlier places: a registration is Done exactly where nothing
-/// of its vehicle was; an event exactly where its vehicle is registered, its identifier is new there, its time is not
-/// before the last, and rows of the table in force lead, one for each of its types in order, from the state held to the state
-/// reported; a look never. The fleet's history is the requests answered Done.
+/// The clause `accepted` is the main statement: by places, which requests are `Done`, and that the history is just
+/// those. The clause `run` says why it refuses the others.
 ///
 /// # Errors
 ///

@@ -58,11 +58,6 @@ pub fn read_script<R: Read>(alloc: Global, reader: &mut R) -> Result<ScriptBytes
     Ok(ScriptBytes { bytes, end })
 }
 
-/// How the reading of a script ended, by what it came to: broken off only where a read failed, or the calls had run out.
-///
-/// # Errors
-///
-/// `AllocError` where there was no memory for the bytes.
 fn end_of(read: Result<(), ReadError>) -> Result<ScriptEnd, AllocError>
     ensures { EndsAs read result }
 {

@@ -44,7 +44,6 @@ impl ScriptCommand {
     }
 }
 
-/// The command that has this text.
 fn command_of(text: &str) -> Option<ScriptCommand>
     ensures { IsCommandOf text.now result }
 {
@@ -80,7 +79,6 @@ pub fn script_of(alloc: Global, bytes: &[u8]) -> Result<Vec<Option<ScriptCommand
     Ok(script)
 }
 
-/// The first line, without its line feed, and what comes behind it.
 fn first_line(bytes: &[u8]) -> (&[u8], &[u8])
     requires { bytes.now ≢ [] }
     ensures first { IsFirstLine bytes.now result.0.now result.1.now }

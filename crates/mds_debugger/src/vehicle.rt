@@ -39,14 +39,12 @@ pub fn vehicle_events(
     Ok(VehicleEvents { accepted, refused })
 }
 
-/// How many of the items are events of the vehicle.
 fn count_told(items: &[EventItem], key: Key) -> usize
     ensures { result ≡ told_of key items.now }
 {
     items.iter().filter(|item| is_event_of(item, key)).count()
 }
 
-/// Whether the item is an event of the vehicle.
 fn is_event_of(item: &EventItem, key: Key) -> bool
     ensures { result ≡ is_event_of key item.now }
 {
@@ -56,7 +54,6 @@ fn is_event_of(item: &EventItem, key: Key) -> bool
     }
 }
 
-/// The accepted events of the vehicle.
 fn accepted_events(
     alloc: Global,
     items: &[EventItem],
@@ -76,7 +73,6 @@ fn accepted_events(
     Ok(accepted)
 }
 
-/// Puts the event of the item behind the others, where it is one of the vehicle and the verdict accepts it.
 fn add_accepted(
     accepted: &mut Vec<Event>,
     item: &EventItem,

@@ -69,14 +69,12 @@ pub fn print_walk<W: Write>(
     flush_page(writer, &mut page)
 }
 
-/// Whether the line of a script says something else than `quit`.
 fn goes_on(command: Option<ScriptCommand>) -> bool
     ensures { result ≡ goes_on command }
 {
     !matches!(command, Some(ScriptCommand::Quit))
 }
 
-/// Carries out one command, and adds the line that it prints to what the page has.
 fn add_answer<W: Write>(
     alloc: Global,
     writer: &mut W,
@@ -105,7 +103,6 @@ fn add_answer<W: Write>(
     }
 }
 
-/// Carries out one command: the line that it prints.
 fn carry_out(
     alloc: Global,
     session: &mut Session,
@@ -122,7 +119,6 @@ fn carry_out(
     }
 }
 
-/// Makes a move: the line of the place to which it leads, or why it leads nowhere.
 fn moved_line(session: &mut Session, to_make: Move) -> Line
     ensures prints { PrintsMove session.old to_make session.new.place (line_text result) }
     ensures kept { KeepsEvents session.old session.new }
@@ -133,7 +129,6 @@ fn moved_line(session: &mut Session, to_make: Move) -> Line
     }
 }
 
-/// Makes a move of a session.
 fn make_move(session: &mut Session, to_make: Move) -> Result<(), Halt>
     ensures kept { KeepsEvents session.old session.new }
     ensures moved { OnOk result (LeadsTo session.old to_make session.new.place) }
@@ -149,7 +144,6 @@ fn make_move(session: &mut Session, to_make: Move) -> Result<(), Halt>
     }
 }
 
-/// The line of the place at which a session stands.
 fn place_line(session: &Session) -> Line
     ensures { IsPlaceLine session.now (line_text result) }
 {
@@ -160,7 +154,7 @@ fn place_line(session: &Session) -> Line
     }
 }
 
-/// The states possible at the place. That they stand in the order of their codes is what `states` says of each set.
+/// Of each set `states` says that its members stand in the order of their codes.
 fn possible_of(session: &Session) -> StateSet
     ensures possible { ArePossible session.now result }
     ensures order { AreInCodeOrder result }
@@ -170,7 +164,6 @@ fn possible_of(session: &Session) -> StateSet
     possible
 }
 
-/// The line of the least chain of the present event, or that there is none at the end.
 fn chain_line(alloc: Global, session: &Session) -> Result<Line, AllocError>
     ensures { IfOk result (λ line. PrintsChain session.now (line_text line)) }
 {

@@ -48,7 +48,7 @@ pub struct EntryReader {
     text: String,
 }
 
-// By hand: a crate that drops a reader then cites this function, and proves no destructor of what it holds.
+// By hand: crates above cite it.
 impl Drop for EntryReader {
     fn drop(self) {
         let EntryReader {
@@ -87,12 +87,11 @@ impl EntryReader {
         }
     }
 
-    /// Puts the request that a line tells in the place of another one, as by [`EntryReader::read`]. Of an event only what it has of
-    /// its own is copied.
+    /// As [`EntryReader::read`], into the place of another request. Of an event only what it has of its own is copied.
     ///
     /// # Errors
     ///
-    /// As there. The request stays as it was.
+    /// Those of [`EntryReader::read`]. The request stays as it was.
     pub fn read_into(&mut self, line: &[u8], request: &mut Request) -> Result<(), EntryFault>
         ensures request { OnOk result (Tells line.now request.new) }
         ensures fault { IfErr result (IsFaultOfLine line.now) }
@@ -133,7 +132,6 @@ impl EntryReader {
     }
 }
 
-/// Leaves the report of an event.
 fn put_report(request: &mut Request, event: &Event)
     ensures { request.new ≡ Report event.now }
 {
@@ -143,11 +141,7 @@ fn put_report(request: &mut Request, event: &Event)
     }
 }
 
-/// Whether a line tells this very request. Nothing of it is copied.
-///
-/// # Errors
-///
-/// As [`EntryReader::read`].
+/// Nothing of the line is copied.
 fn tells(
     alloc: Global,
     items: &mut ItemReader,
@@ -173,11 +167,6 @@ fn has_no_id(fault: ItemFault) -> bool
     matches!(fault, ItemFault::Missing(Member::EventId))
 }
 
-/// The vehicle whose registration a line tells, which is no event for this fault.
-///
-/// # Errors
-///
-/// As [`EntryReader::read`].
 fn read_registration(alloc: Global, line: &[u8], fault: ItemFault) -> Result<Key, EntryFault>
     requires { IsItemText IsEventItem line.now (Wrong fault) }
     ensures key { IfOk result (λ key. Tells line.now (Register key)) }
@@ -193,7 +182,6 @@ fn read_registration(alloc: Global, line: &[u8], fault: ItemFault) -> Result<Key
     }
 }
 
-/// The vehicle of a list of one.
 fn only_vehicle(items: &[VehicleItem]) -> Option<Key>
     ensures some { IfSome result (λ key. items.now ≡ Names key ∷ []) }
     ensures none { IfNone result ((key : Vehicle) → items.now ≢ Names key ∷ []) }
@@ -207,7 +195,6 @@ fn only_vehicle(items: &[VehicleItem]) -> Option<Key>
     }
 }
 
-/// Lays the text of a request out, in the place of another one, and says whether it has one: a look has none.
 fn lay_out(text: &mut String, request: &Request) -> Result<bool, AllocError>
     ensures some { IfOk result (λ has. has ≡ true → line_of request.now ≡ Some (string_bytes text.new)) }
     ensures none { IfOk result (λ has. has ≡ false → line_of request.now ≡ None) }
@@ -228,7 +215,6 @@ fn lay_out(text: &mut String, request: &Request) -> Result<bool, AllocError>
     }
 }
 
-/// Whether a request reports this event.
 fn is_report(request: &Request, event: &Event) -> bool
     ensures { IsTrue result ↔ (request.now ≡ Report event.now) }
 {
@@ -238,7 +224,6 @@ fn is_report(request: &Request, event: &Event) -> bool
     }
 }
 
-/// Whether a request registers this vehicle.
 fn is_registration(request: &Request, key: Key) -> bool
     ensures { IsTrue result ↔ (request.now ≡ Register key) }
 {
@@ -248,7 +233,6 @@ fn is_registration(request: &Request, key: Key) -> bool
     }
 }
 
-/// Whether two events are the same one.
 fn is_same_event(event: &Event, other: &Event) -> bool
     ensures { IsTrue result ↔ (event.now ≡ other.now) }
 {
@@ -267,7 +251,6 @@ fn is_same_event(event: &Event, other: &Event) -> bool
     event.time() == other.time() && is_same_place(event.position(), other.position())
 }
 
-/// Whether two lists of types are the same one.
 #[tactic(auto, using(crate::proofs::SameLemmas::same_types))]
 fn are_same_types(types: &[TypeName], others: &[TypeName]) -> bool
     ensures { IsTrue result ↔ (types.now ≡ others.now) }
@@ -275,7 +258,6 @@ fn are_same_types(types: &[TypeName], others: &[TypeName]) -> bool
     types == others
 }
 
-/// Whether two positions are the same one, or there is none twice.
 fn is_same_place(place: Option<Position>, other: Option<Position>) -> bool
     ensures { IsTrue result ↔ (place ≡ other) }
 {

@@ -100,12 +100,8 @@ pub fn serve_one<R: Read, W: Write, D: Desk>(
     }
 }
 
-/// Puts what is asked for to the desk, and writes the answer. What was asked and what was found are let go before that: a client
-/// that reads slowly holds the bytes of its answer, and nothing else.
-///
-/// # Errors
-///
-/// Those of [`serve_one`] that come after a request was read.
+/// What was asked and what was found are let go before the answer is written: a client that reads slowly holds the
+/// bytes of its answer, and nothing else.
 #[tactic(auto, using(crate::proofs::ConnectionLemmas::stops_unwritten))]
 fn answer<W: Write, D: Desk>(
     alloc: Global,
@@ -134,11 +130,8 @@ fn answer<W: Write, D: Desk>(
     }
 }
 
-/// Puts what is asked for to the desk: what is found.
-///
-/// # Errors
-///
-/// `AllocError` where there is no memory for the replies of a POST, and no call was made then, or for what a GET looks at.
+/// `AllocError` where there is no memory for the replies of a POST, and no call was made then, or for what a GET looks
+/// at.
 pub(crate) fn find<D: Desk>(alloc: Global, desk: &mut D, plan: &Plan) -> Result<Found, AllocError>
     ensures finds { IfOk result (λ found. Finds D.calls D.gives_events D.gives_rows
         desk.old (asked_in plan.now) (finding_in found) desk.new) }
@@ -155,7 +148,6 @@ pub(crate) fn find<D: Desk>(alloc: Global, desk: &mut D, plan: &Plan) -> Result<
     }
 }
 
-/// What is said of an answer that was written whole.
 pub(crate) fn served_of(plan: &Plan, found: &Found) -> Served
     ensures status { result.status ≡ (answer_to (asked_in plan.now) (finding_in found.now)).status }
     ensures accepted { result.accepted ≡ accepted_in (replies_in (finding_in found.now)) }
@@ -166,12 +158,7 @@ pub(crate) fn served_of(plan: &Plan, found: &Found) -> Served
     }
 }
 
-/// Writes an answer, by as many calls of `write` as `calls` says; those that were made are taken off it.
-///
-/// # Errors
-///
-/// [`ServeFault::Write`] where a write failed or took no byte, [`ServeFault::TooManyTurns`] where the calls of `write` ran
-/// out, with the number of bytes that were written.
+/// At most `calls` calls of `write` are made; those that were made are taken off.
 pub(crate) fn write_answer<W: Write>(
     writer: &mut W,
     bytes: &[u8],
@@ -195,7 +182,7 @@ pub(crate) fn write_answer<W: Write>(
     }
 }
 
-/// Writes the fixed answer of status 503, as far as the writer takes it: the fault that says so. It takes no memory.
+/// It takes no memory.
 pub(crate) fn out_of_memory<W: Write>(writer: &mut W) -> ServeFault
     ensures { (sent : ℕ) × (result ≡ ServeFault.Memory sent)
         × IsFixedAnswer (W.contents writer.old) (W.contents writer.new) sent }

@@ -24,10 +24,11 @@ pub trait Desk {
     ghost use Rattle.mds_core.specs.Answer.{IsOutcomeFor};
     ghost use Rattle.mds_response.specs.Found.{tables_of};
 
-    /// From a state, a request leads by its reply to the next; by none where there was no memory.
+    /// In the first state a request may get this reply, and leave the second state; `None` where there was no memory.
     ghost calls: { Self → Asked → Option Replied → Self → Type 0 };
 
-    /// From a state, a question for a vehicle's accepted events leads by them to the next; none where it isn't registered.
+    /// In the first state a question for a vehicle's accepted events may get these, and leave the second state; `None`
+    /// where it isn't registered.
     ghost gives_events: { Self → About → Option (List Reported) → Self → Type 0 };
 
     /// In a state, these are the tables.
@@ -96,11 +97,6 @@ impl Desk for Fleet {
     }
 }
 
-/// The starting times of tables and their rows, in order of time.
-///
-/// # Errors
-///
-/// `AllocError` where there is no memory for them.
 fn listed(alloc: Global, tables: &Tables) -> Result<Vec<(u64, Vec<Row>)>, AllocError>
     ensures { IfOk result (λ listed. tables_of listed.items ≡ tables.now) }
 {

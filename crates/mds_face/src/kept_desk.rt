@@ -31,10 +31,11 @@ pub trait KeptDesk: Desk {
     ghost use Rattle.std.specs.Prelude.{OnOk, Option};
     ghost use Rattle.mds_core.specs.declared.key.Key.{Key as About};
 
-    /// In a state, all is recorded that its answers about this vehicle rest on, or, with none named, all of its answers.
+    /// In this state all is recorded that answers about this vehicle rest on; with none named, all that any answer
+    /// rests on.
     ghost is_kept: { Self → Option About → Type 0 };
 
-    /// From a state, keeping leads to the next: its answers rest on the same.
+    /// Keeping may lead from the first state to the second, in which answers rest on the same.
     ghost keeps: { Self → Self → Type 0 };
 
     /// Sees to it that all is recorded that its answers about a vehicle rest on, or, with none named, all of its answers.
@@ -93,12 +94,7 @@ pub fn serve_kept<R: Read, W: Write, D: KeptDesk>(
     }
 }
 
-/// Puts what is asked for to the desk, and writes the answer once what it rests on is recorded. What was asked and what was found
-/// are let go before that.
-///
-/// # Errors
-///
-/// Those of [`serve_kept`] that come after a request was read.
+/// What was asked and what was found are let go before the answer is written.
 fn answer_kept<W: Write, D: KeptDesk>(
     alloc: Global,
     writer: &mut W,
@@ -133,12 +129,7 @@ fn answer_kept<W: Write, D: KeptDesk>(
     }
 }
 
-/// Sees to it that what an answer rests on is recorded, where it rests on what was accepted: about this vehicle, or, with none
-/// named, about all.
-///
-/// # Errors
-///
-/// As [`KeptDesk::keep`].
+/// Where the answer doesn't rest on what was accepted, nothing is kept.
 fn keep_if<D: KeptDesk>(desk: &mut D, of_history: bool, about: Option<Key>) -> Result<(), KeepFault>
     ensures kept { OnOk result (of_history ≡ true → D.is_kept desk.new about) }
     ensures keeps { MatchBool of_history (D.keeps desk.old desk.new) (desk.new ≡ desk.old) }
@@ -150,7 +141,7 @@ fn keep_if<D: KeptDesk>(desk: &mut D, of_history: bool, about: Option<Key>) -> R
     Ok(())
 }
 
-/// Whether the answer to a plan rests on what was accepted. A fault of the request doesn't, and the tables don't.
+/// A fault of the request doesn't rest on what was accepted, and the tables don't.
 fn is_of_history(plan: &Plan) -> bool
     ensures { result ≡ is_of_history (asked_in plan.now) }
 {
@@ -160,7 +151,6 @@ fn is_of_history(plan: &Plan) -> bool
     }
 }
 
-/// The vehicle of which alone the answer to a plan tells: where it stands, or its events.
 fn vehicle_of(plan: &Plan) -> Option<Key>
     ensures { result ≡ vehicle_of (asked_in plan.now) }
 {
@@ -170,11 +160,7 @@ fn vehicle_of(plan: &Plan) -> Option<Key>
     }
 }
 
-/// Writes an answer at a desk: one that rests on what was accepted, once that is recorded.
-///
-/// # Errors
-///
-/// As [`write_answer`].
+/// The desk is here for the `requires`: it says that what the answer rests on is recorded.
 fn write_kept<W: Write, D: KeptDesk>(
     writer: &mut W,
     _desk: &D,
@@ -191,8 +177,6 @@ fn write_kept<W: Write, D: KeptDesk>(
     write_answer(writer, bytes, &mut calls)
 }
 
-/// Writes what goes out in place of an answer that rests on what isn't recorded, as far as the writer takes it: the fault that
-/// says so.
 fn not_kept<W: Write>(writer: &mut W, fault: KeepFault) -> KeptFault
     ensures { IsInstead fault (W.contents writer.old) (W.contents writer.new) result }
 {

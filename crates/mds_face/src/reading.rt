@@ -13,12 +13,15 @@ use mds_request::{Face, HeadStatus, MAX_HEAD, Plan};
 use std::alloc::{AllocError, Global};
 use std::io::Read;
 
+/// How many bytes a call of `read` asks for at most. The room for them is filled anew for each request.
+const ROOM_BYTES: usize = 4_096;
+
 /// What the stream of bytes that `reader` gives asks for: of these bytes alone, however they are cut.
 ///
-/// It reads no further than it needs. Up to the head's end a call of `read` asks for what a head may yet have, so that a
-/// request that comes in one piece takes one call; then for what the body yet has. So it never waits for bytes that a client
-/// has no reason to send, and bytes behind the request may stay with the reader. It calls `read` at most `MAX_CALLS` times;
-/// an interrupted call is made again.
+/// It reads no further than it needs. Up to the head's end a call of `read` asks for what a head may yet have, and then for
+/// what the body yet has, but for 4096 bytes at most. So a short request that comes in one piece takes one call, and it never
+/// waits for bytes that a client has no reason to send. Bytes behind the request may stay with the reader. It calls `read` at
+/// most `MAX_CALLS` times; an interrupted call is made again.
 ///
 /// # Errors
 ///
@@ -30,11 +33,11 @@ pub fn read_plan<R: Read>(alloc: Global, face: &Face, reader: &mut R) -> Result<
     ensures no_further { ReadsNoFurther (R.remaining reader.old) (R.remaining reader.new) }
 {
     let mut bytes = Vec::new(alloc);
-    let mut room = [0u8; MAX_HEAD];
+    let mut room = [0u8; ROOM_BYTES];
     plan_into(alloc, face, reader, &mut bytes, &mut room)
 }
 
-/// What the stream asks for, its bytes read behind none into `bytes`.
+/// It reads into `bytes`, which has none yet. A call of `read` fills `room`.
 fn plan_into<R: Read>(
     alloc: Global,
     face: &Face,
@@ -60,10 +63,8 @@ fn plan_into<R: Read>(
     }
 }
 
-/// Reads behind none until the bytes have a head, can't come to have one, or are `MAX_HEAD` or all that the reader has: what
-/// they say of the head.
-///
-/// They are parsed after each call of `read`, so that no call is made that the answer doesn't wait for.
+/// Reads on until the bytes have a head, can't come to have one, or are `MAX_HEAD` or all that the reader has. They are
+/// parsed after each call of `read`, so that no call is made that the answer doesn't wait for.
 fn read_head<R: Read>(
     face: &Face,
     reader: &mut R,
@@ -96,7 +97,6 @@ fn read_head<R: Read>(
     Ok(face.head_status(bytes))
 }
 
-/// Reads the body that a head without a fault announces, behind the bytes that are there, or to the reader's end.
 fn read_body<R: Read>(
     status: &HeadStatus,
     reader: &mut R,

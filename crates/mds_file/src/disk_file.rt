@@ -56,7 +56,6 @@ pub struct DiskFile<O: Origin> {
 impl<O: Origin> DiskFile<O> {
     ghost use Rattle.mds_file.specs.DiskFile.{calls_of};
 
-    /// A file of which no call was made.
     pub(crate) fn new(file: File) -> DiskFile<O>
         ensures { calls_of result ≡ [] }
     {
@@ -159,7 +158,7 @@ impl<O: Origin> Device for DiskFile<O> {
     }
 }
 
-/// Reads from an offset on, as many bytes as the system gives at once. A read that is interrupted is made again.
+/// A read that is interrupted is made again.
 fn read_some(file: &File, at: u64, buffer: &mut [u8]) -> io::Result<usize>
     ensures { IfOk result (λ count. count ≤ length buffer.old) }
 {

@@ -18,7 +18,6 @@ impl Model for Record {
 }
 
 impl Record {
-    /// A record of no calls.
     pub(crate) fn new() -> Record
         ensures { result.made ≡ [] }
     {

@@ -25,6 +25,12 @@ safe_read left start now told later read =
     let Safe : List Acceptance → Type 0 = λ w. IsSafe left now w in
     subst Safe (sym read.at_start) (safe_later left start now (recorded_at start (requests told)) later (safe_more left start [] (requests told) (safe_none left start) read.only))
 
+-- what was read at the start is recorded since then
+pub begins_at : (left : ℕ → List Request → Type 0) (start : ℕ) (told : List Acceptance) → IsRead left start told → IsPrefix (recorded_at start (requests told)) told
+begins_at left start told read =
+    let then = recorded_at start (requests told) in
+    subst (λ (w : List Acceptance). IsPrefix then w) (sym read.at_start) (prefix_self then)
+
 -- a seat's progress has all that it has seen
 pub follows_all : (number : ℕ) (told : List Request) (seen : List Request) (progress : Progressed) → seen ≡ part number told → progress ≡ record { seen = seen; count = length seen }
     → Follows number told progress

@@ -6,7 +6,7 @@ use Rattle.mds_log.specs.Log.{Acceptance, requests}
 use Rattle.mds_log.proofs.Lists.{prefix_trans}
 use Rattle.mds_follow.specs.declared.record.RecordFault.{RecordFault}
 use Rattle.mds_follow.specs.declared.record.RecordFault.TheVariants.{Memory, NotKept, Lost}
-use Rattle.mds_follow.specs.Record.{IsBeforeOrAfter, Passes, HasSame, recorded_at, IsSafe, BeginsWith, IsDesk}
+use Rattle.mds_follow.specs.Record.{IsBeforeOrAfter, Passes, HasSame, recorded_at, IsSafe, BeginsAt, IsDesk}
 use Rattle.mds_follow.proofs.Safety.{safe_step, safe_more, recorded_requests}
 
 module _ {F : Type 0} (is_sound is_true may_go_on : F → Type 0) (stands : F → List Request → Type 0) (moment : F → ℕ) (left_since : F → ℕ → List Request → Type 0) (start : ℕ)
@@ -69,10 +69,17 @@ module _ {F : Type 0} (is_sound is_true may_go_on : F → Type 0) (stands : F �
         begun = begun known was past;
         safe = λ truth. subst Safe (sym is) (safe_more (left_since new) (moment new) told group (safe known was past truth) (λ c left. only new (requests told ++ group) c (stands_now truth) left));
         kept = λ truth still. subst Stands (sym recorded) (stands_now truth);
-        old = λ truth. subst Begins (sym recorded) (begins_longer (known.old (was truth)));
+        old = λ truth. subst Begins (sym is) (begins_longer (known.old (was truth)));
       } where
-        Begins : List Request → Type 0
-        Begins w = BeginsWith held w
+        Begins : List Acceptance → Type 0
+        Begins w = BeginsAt held start w
 
-        begins_longer : BeginsWith held (requests told) → BeginsWith held (requests told ++ group)
-        begins_longer is = record { old = is.old; is_held = is.is_held; begins = prefix_trans is.old (requests told) (requests told ++ group) is.begins (group, refl) }
+        longer : List Acceptance
+        longer = told ++ recorded_at (moment new) group
+
+        begins_longer : BeginsAt held start told → BeginsAt held start longer
+        begins_longer is = record {
+          old = is.old;
+          is_held = is.is_held;
+          begins = prefix_trans (recorded_at start is.old) told longer is.begins (recorded_at (moment new) group, refl);
+        }

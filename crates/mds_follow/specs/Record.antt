@@ -42,7 +42,14 @@ pub record BeginsWith (held : List Request → Type 0) (told : List Request) : T
   pub is_held : held old
   pub begins : IsPrefix old told
 
--- what is known of a file and of what is recorded in it since the moment `start`, at which it told requests of which `held` holds
+-- what is recorded begins with requests of which this holds, each recorded at that moment
+pub record BeginsAt (held : List Request → Type 0) (start : ℕ) (told : List Acceptance) : Type 0 where
+  pub old : List Request
+  pub is_held : held old
+  pub begins : IsPrefix (recorded_at start old) told
+
+-- what is known of a file and of what is recorded in it since the moment `start`, at which it told requests of which `held` holds:
+-- these are recorded since then, so they are safe against a crash at any moment since
 pub record IsDesk {F : Type 0} (is_sound is_true may_go_on : F → Type 0) (stands : F → List Request → Type 0) (moment : F → ℕ)
     (left_since : F → ℕ → List Request → Type 0) (start : ℕ) (held : List Request → Type 0) (file : F) (told : List Acceptance) : Type 0 where
   pub sound : is_sound file
@@ -50,4 +57,4 @@ pub record IsDesk {F : Type 0} (is_sound is_true may_go_on : F → Type 0) (stan
   pub begun : is_true file → start ≤ moment file
   pub safe : is_true file → IsSafe (left_since file) (moment file) told
   pub kept : is_true file → may_go_on file → stands file (requests told)
-  pub old : is_true file → BeginsWith held (requests told)
+  pub old : is_true file → BeginsAt held start told

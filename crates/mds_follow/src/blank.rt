@@ -19,12 +19,8 @@ const CLOSED_GATE: u8 = b'#';
 /// More bytes than a file has whose form was begun.
 const ROOM: usize = 64;
 
-/// Whether a file is blank: it is empty, or has no more than a crash leaves of the line that names the form, where that was
-/// begun. Whatever else stands in a file without a form is somebody's, and isn't to be written over.
-///
-/// # Errors
-///
-/// Those of the device.
+/// Whether the file is empty, or has no more than a crash leaves of the line that names the form, where that was begun.
+/// Whatever else stands in a file without a form is somebody's, and isn't to be written over.
 fn is_blank<D: Device>(device: &mut D) -> Result<bool, DeviceError>
     requires { D.may_be_used device.old }
     ensures usable { D.may_be_used device.new }

@@ -19,7 +19,7 @@ pub(crate) struct Desk<F: Record, J: RecordLog> {
     pub(crate) keeper: Keeper<J>,
 }
 
-/// Adds requests to the log, at the moment of this file. It does nothing but count at run time.
+/// At run time it only counts.
 fn note<F: Record, J: RecordLog>(keeper: &mut Keeper<J>, file: &F, group: &[Request])
     requires room { length keeper.old + length group.now < 2 ^ 63 }
     ensures { keeper.new ≡ keeper.old ++ recorded_at (F.tag file.now) group.now }
@@ -34,7 +34,7 @@ impl<F: Record, J: RecordLog> Desk<F, J> {
     ///
     /// # Errors
     ///
-    /// As [`Record::append`]; and `NotKept` where the log would have more than 2^63 requests.
+    /// As [`Record::append`]; and `NotKept` where the log, or the group, has 2^62 requests or more.
     pub(crate) fn put(&mut self, group: &[Request]) -> Result<(), RecordFault>
         requires { IsDesk F.is_sound F.is_true F.may_go_on F.stands F.tag F.left_since J.start
             J.held self.old.file self.old.keeper }

@@ -87,11 +87,7 @@ impl<D: Device> Tagged for Disk<D> {
     ghost tag = { λ disk. D.moment disk.journal.device };
 }
 
-/// Lays a request out behind the others of a group.
-///
-/// # Errors
-///
-/// `Memory`; and `NotKept` for a request that has no line, or whose line has no room. The group is as it was.
+/// `NotKept` comes for a request that has no line, or whose line has no room.
 fn lay_out_one(
     reader: &mut EntryReader,
     group: &mut Group,
@@ -113,11 +109,7 @@ fn lay_out_one(
     }
 }
 
-/// Lays requests out as a group of lines.
-///
-/// # Errors
-///
-/// As [`lay_out_one`]. The group may then have some of them.
+/// Where it fails the group may have some of the requests.
 fn lay_out(
     reader: &mut EntryReader,
     group: &mut Group,

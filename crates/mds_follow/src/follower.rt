@@ -26,7 +26,7 @@ pub struct Follower<F: Record, L: ShardLedger, M: ShardLedger, J: RecordLog> {
     group: Copies,
 }
 
-// By hand: a crate that drops a follower then cites this function, and proves no destructor of what it holds.
+// By hand: crates above cite it.
 impl<F: Record + Drop, L: ShardLedger, M: ShardLedger, J: RecordLog> Drop for Follower<F, L, M, J> {
     fn drop(self) {
         let Follower {
@@ -59,11 +59,6 @@ impl<F: Record, L: ShardLedger, M: ShardLedger, J: RecordLog> Model for Follower
         → IsSound (F.left_since follower.desk.file) J.start 1 follower.second.seen) };
 }
 
-/// Copies the next requests of both shards, those of the first before those of the second, in place of what was copied before.
-///
-/// # Errors
-///
-/// `AllocError` where there is no memory for them.
 fn next_group<L: ShardLedger, M: ShardLedger, R: Wait>(
     rt: &R,
     book: &Book<L, M>,
@@ -207,7 +202,6 @@ impl<F: Record, L: ShardLedger, M: ShardLedger, J: RecordLog> Follower<F, L, M, 
         Ok(())
     }
 
-    /// Shows a receipt all that is recorded.
     pub(crate) fn show(&mut self, receipt: &mut Receipt<L, M, J>)
         ensures same { self.new ≡ self.old }
         ensures begins { IsPrefix receipt.old self.old }

@@ -219,7 +219,6 @@ impl<D: Device> RequestReader<D> {
         }
     }
 
-    /// The number of the line that comes next. The first one is 0.
     pub(crate) fn number(&self) -> usize
         ensures { result ≡ number_of self.now.opening }
     {

@@ -19,7 +19,7 @@ pub struct Receipt<L: ShardLedger, M: ShardLedger, J: RecordLog> {
     pub(crate) second: Progress<M>,
 }
 
-// By hand: a crate that drops a receipt then cites this function, and proves no destructor of what it holds.
+// By hand: crates above cite it.
 impl<L: ShardLedger, M: ShardLedger, J: RecordLog> Drop for Receipt<L, M, J> {
     fn drop(self) {
         let Receipt {
@@ -44,7 +44,7 @@ impl<L: ShardLedger, M: ShardLedger, J: RecordLog> Model for Receipt<L, M, J> {
 }
 
 impl<L: ShardLedger, M: ShardLedger, J: RecordLog> Receipt<L, M, J> {
-    /// The same again.
+    /// A copy. It takes no memory.
     pub fn again(&self) -> Receipt<L, M, J>
         ensures { result ≡ self.now }
     {

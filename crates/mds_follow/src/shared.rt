@@ -16,7 +16,7 @@ pub struct SharedFollower<F: Record, L: ShardLedger, M: ShardLedger, J: RecordLo
     newest: Mutex<Receipt<L, M, J>>,
 }
 
-// By hand: a crate that drops a shared follower then cites this function, and proves no destructor of what it holds.
+// By hand: crates above cite it.
 impl<F: Record + Drop, L: ShardLedger, M: ShardLedger, J: RecordLog> Drop
     for SharedFollower<F, L, M, J> {
     fn drop(self) {

@@ -11,6 +11,17 @@ pub trait Gate {
     fn leave(&self, worker: usize, nth: usize);
 }
 
+/// Takes the worker of this number past a gate with the piece of this number: it enters, does the piece, and leaves.
+pub fn pass<G: Gate, T, F: FnOnce() -> T>(gate: &G, worker: usize, nth: usize, piece: F) -> T
+    requires { F.pre piece }
+    ensures { F.post piece result }
+{
+    gate.enter(worker, nth);
+    let done = piece();
+    gate.leave(worker, nth);
+    done
+}
+
 /// The gate that does nothing.
 #[derive(Clone, Copy, Debug, PartialEq, Eq)]
 pub struct OpenGate;

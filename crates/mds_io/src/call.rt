@@ -22,7 +22,6 @@ pub(crate) enum Call {
     Failed,
 }
 
-/// What a call that answered this came to.
 pub(crate) fn call_of(came: io::Result<usize>) -> Call
     ensures ok { IfOk came (λ count. result ≡ moved count) }
     ensures again { IfErr came (λ error. error_kind error ≡ ErrorKind.Interrupted
@@ -43,7 +42,6 @@ pub(crate) fn call_of(came: io::Result<usize>) -> Call
     }
 }
 
-/// Whether a call that failed in this way is made again: only one that was interrupted.
 fn is_made_again(kind: ErrorKind) -> bool
     ensures { IsTrue result ↔ (kind ≡ ErrorKind.Interrupted) }
 {

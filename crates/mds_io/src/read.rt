@@ -44,6 +44,7 @@ pub fn read_front<R: Read>(
         LosesAt fault limit (R.remaining reader.old) (R.remaining reader.new)) }
     ensures counted { calls.new ≤ calls.old }
     ensures made { IfErr result (λ fault. fault ≢ ReadError.TooManyTurns → calls.new < calls.old) }
+    ensures spent { OnOk result (0 < limit → calls.new < calls.old) }
     ensures turns { IsErrOf result ReadError.TooManyTurns → calls.new ≡ 0 }
 {
     let mut bytes = Vec::new(alloc);
@@ -80,6 +81,7 @@ pub fn read_up_to<R: Read>(
     ensures short { OnErr result (length bytes.new.items < limit) }
     ensures counted { calls.new ≤ calls.old }
     ensures made { IfErr result (λ fault. fault ≢ ReadError.TooManyTurns → calls.new < calls.old) }
+    ensures spent { OnOk result (length bytes.old.items < limit → calls.new < calls.old) }
     ensures turns { IsErrOf result ReadError.TooManyTurns → calls.new ≡ 0 }
 {
     while bytes.len() < limit {
@@ -154,7 +156,6 @@ fn read_again<R: Read>(reader: &mut R, room: &mut [u8], calls: &mut u32) -> Call
     Call::Again
 }
 
-/// One call of `read` into `room`.
 fn read_once<R: Read>(reader: &mut R, room: &mut [u8]) -> Call
     requires { 0 < length room.old }
     ensures { Reads result (R.remaining reader.old) (R.remaining reader.new) room.new }

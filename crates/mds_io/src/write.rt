@@ -43,6 +43,7 @@ pub fn write_all_of<W: Write>(
         × Appends (W.contents writer.old) (W.contents writer.new) (take stop.sent bytes.now)) }
     ensures counted { calls.new ≤ calls.old }
     ensures made { IfErr result (λ stop. stop.kind ≡ WriteErrorKind.Device → calls.new < calls.old) }
+    ensures spent { OnOk result (0 < length bytes.now → calls.new < calls.old) }
     ensures turns { IfErr result (λ stop. stop.kind ≡ WriteErrorKind.TooManyTurns
         → calls.new ≡ 0) }
 {
@@ -65,7 +66,6 @@ pub fn write_all_of<W: Write>(
     Ok(())
 }
 
-/// One call of `write`.
 fn write_once<W: Write>(writer: &mut W, bytes: &[u8]) -> Call
     requires { 0 < length bytes.now }
     ensures { Writes result (W.contents writer.old) (W.contents writer.new) bytes.now }

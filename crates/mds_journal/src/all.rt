@@ -49,7 +49,6 @@ pub fn read_all<D: Device>(
     }
 }
 
-/// The texts of the lines that weren't handed out yet.
 fn read_lines<D: Device>(alloc: Global, opening: &mut Opening<D>) -> Result<Vec<Vec<u8>>, OpenError>
     requires { IsReading D.seen D.may_leave D.may_be_used D.is_true opening.old }
     ensures reading { IsReading D.seen D.may_leave D.may_be_used D.is_true opening.new }

@@ -55,6 +55,10 @@ impl Model for Group {
 
 impl Group {
     /// A group with no lines.
+    ///
+    /// # Errors
+    ///
+    /// `AllocError` where there is no memory for the first gate.
     pub fn new(alloc: Global) -> Result<Group, AllocError>
         ensures { IfOk result (λ group. group ≡ []) }
     {
@@ -110,7 +114,6 @@ impl Group {
         Ok(())
     }
 
-    /// The bytes of a file at rest with these lines.
     pub(crate) fn bytes(&self) -> &[u8]
         ensures texts { recovered result.now ≡ self.now }
         ensures at_rest { result.now ≡ at_rest self.now }
@@ -120,7 +123,6 @@ impl Group {
     }
 }
 
-/// Whether a group of so many bytes has room for a text of so many.
 fn has_room(used: usize, more: usize) -> bool
     requires { used ≤ MAX_GROUP_BYTES }
     ensures { IsTrue result ↔ (used + more + 2 ≤ MAX_GROUP_BYTES) }
@@ -128,7 +130,6 @@ fn has_room(used: usize, more: usize) -> bool
     more <= MAX_GROUP_BYTES && used + more + 2 <= MAX_GROUP_BYTES
 }
 
-/// Lays a text, a line feed and a closed gate out behind what is there.
 fn add_line(bytes: &mut Vec<u8>, text: &[u8]) -> Result<(), AllocError>
     ensures ok { OnOk result (bytes.new.items ≡ bytes.old.items ++ (text.now ++ 10 ∷ 35 ∷ [])) }
     ensures err { OnErr result (take (length bytes.old.items) bytes.new.items ≡ bytes.old.items) }
@@ -138,7 +139,6 @@ fn add_line(bytes: &mut Vec<u8>, text: &[u8]) -> Result<(), AllocError>
     Ok(())
 }
 
-/// Where the first line feed stands.
 pub(crate) fn find_feed(bytes: &[u8]) -> Option<usize>
     ensures none { IfNone result (HasNoFeed bytes.now) }
     ensures some { IfSome result (λ at. (at < length bytes.now)

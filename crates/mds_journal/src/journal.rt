@@ -91,11 +91,7 @@ impl<D: Device> Journal<D> {
         self.put(group)
     }
 
-    /// Adds a group with lines for which the file is short enough.
-    ///
-    /// # Errors
-    ///
-    /// `NotWritten` and `Unknown`, as [`Journal::append`].
+    /// Only `NotWritten` and `Unknown` come.
     fn put(&mut self, group: &Group) -> Result<(), AppendError>
         requires sound { IsSound D.seen D.may_leave D.may_be_used D.is_true self.old }
         requires ready { MayGoOn self.old }

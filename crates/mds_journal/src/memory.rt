@@ -31,6 +31,10 @@ impl Memory {
     ghost use Rattle.mds_journal.specs.Memory.{memory_bytes};
 
     /// A file with these bytes, all of them on the disk.
+    ///
+    /// # Errors
+    ///
+    /// `AllocError` where there is no memory for them.
     pub fn new(alloc: Global, bytes: &[u8]) -> Result<Memory, AllocError>
         ensures { IfOk result (λ memory. memory_bytes memory ≡ bytes.now) }
     {
@@ -52,7 +56,6 @@ impl Memory {
     }
 }
 
-/// These bytes with others at an offset.
 fn overwrite(alloc: Global, old: &[u8], at: usize, bytes: &[u8]) -> Result<Vec<u8>, AllocError>
     requires { at ≤ length old.now }
     ensures { IfOk result (λ next. Holds old.now at bytes.now next.items) }

@@ -239,7 +239,6 @@ impl<D: Device> Opening<D> {
         }
     }
 
-    /// Hands out the line at hand, whose text has so many bytes.
     fn take_line(&mut self, size: usize, line: &mut Vec<u8>) -> Result<bool, OpenError>
         requires reading { IsReading D.seen D.may_leave D.may_be_used D.is_true self.old }
         requires found { IsFound (at_hand self.old) (Found.Line size) }
@@ -281,7 +280,6 @@ impl<D: Device> Opening<D> {
     }
 }
 
-/// What these bytes say of the line that they begin with.
 pub(crate) fn find_line(bytes: &[u8]) -> Found
     ensures { IsFound bytes.now result }
 {
@@ -297,7 +295,6 @@ pub(crate) fn find_line(bytes: &[u8]) -> Found
     }
 }
 
-/// These bytes and then those.
 pub(crate) fn join(alloc: Global, these: &[u8], those: &[u8]) -> Result<Vec<u8>, AllocError>
     ensures { IfOk result (λ all. all.items ≡ these.now ++ those.now) }
 {

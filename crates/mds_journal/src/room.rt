@@ -13,7 +13,6 @@ const ROOM_BYTES: usize = 1_048_576;
 /// What is written ahead. They are line feeds, so that a reader of lines sees no long line and no byte of 0.
 static ROOM: [u8; ROOM_BYTES] = [LINE_FEED; ROOM_BYTES];
 
-/// What is written ahead.
 fn line_feeds() -> &'static [u8]
     ensures { length result.now ≡ ROOM_BYTES }
 {

@@ -159,7 +159,6 @@ impl<R: Read> LineStream<R> {
         }
     }
 
-    /// Hands out the line at hand, whose text has so many bytes.
     fn take_line(&mut self, size: usize, line: &mut Vec<u8>) -> Result<bool, StreamError>
         requires stream { IsStream self.old }
         requires found { IsFound (held_by self.old) (Found.Line size) }
@@ -194,7 +193,6 @@ impl<R: Read> LineStream<R> {
     }
 }
 
-/// How many bytes a reader puts behind the first ones, as by [`read_some`].
 fn read_behind<R: Read>(reader: &mut R, bytes: &mut [u8], start: usize) -> Option<usize>
     requires { start < length bytes.old }
     ensures front { take start bytes.new ≡ take start bytes.old }

@@ -26,7 +26,6 @@ pub(crate) struct Lines {
 }
 
 impl Lines {
-    /// No lines so far.
     pub(crate) fn new(alloc: Global) -> Lines
         ensures { AreRead [] result.ended result.count result.taken [] }
     {
@@ -63,7 +62,6 @@ impl Lines {
         Ok(())
     }
 
-    /// Ends the line that these bytes end with, behind which a line feed comes.
     fn end_line<T: TakesItems<Item = EventItem>>(
         &mut self,
         bytes: &[u8],
@@ -84,7 +82,6 @@ impl Lines {
         Ok(())
     }
 
-    /// Hands on the item of the line that these bytes end with, if it has one.
     pub(crate) fn take_last<T: TakesItems<Item = EventItem>>(
         &mut self,
         bytes: &[u8],
@@ -106,7 +103,6 @@ impl Lines {
         Ok(())
     }
 
-    /// Hands on the item of this line, if it has one.
     fn take<T: TakesItems<Item = EventItem>>(
         &mut self,
         line: &[u8],
@@ -141,7 +137,6 @@ impl Lines {
     }
 }
 
-/// Whether a line holds no item.
 fn is_blank(line: &[u8]) -> bool
     ensures { result ≡ is_blank line.now }
 {

@@ -46,13 +46,14 @@ impl LineReader {
         }
     }
 
-    /// Takes in the next bytes of the stream, and hands the items of the lines that end in them to a taker, in their order.
+    /// Takes in the next bytes of the stream, and hands the items of the lines that end in them to a taker, in their
+    /// order.
     ///
     /// # Errors
     ///
-    /// The first fault of the stream, as far as it has come: every stream that begins so has it. It is told as soon as its
-    /// line has ended, or its byte has come. Each later call answers it too. A taker that has no memory for an item is [`LineFault::Memory`]. The items of the lines before the fault
-    /// may have been taken by then.
+    /// The first fault of the stream, as far as it has come: every stream that begins so has it. It is told as soon as
+    /// its line has ended, or its byte has come. Each later call answers it too. A taker that has no memory for an item
+    /// is [`LineFault::Memory`]. The items of the lines before the fault may have been taken by then.
     pub fn feed<T: TakesItems<Item = EventItem>>(
         &mut self,
         piece: &[u8],
@@ -104,7 +105,6 @@ impl LineReader {
     }
 }
 
-/// Hands on the item of the line that these bytes end with, of whose lines those that have ended are read.
 fn take_last<T: TakesItems<Item = EventItem>>(
     bytes: &[u8],
     mut lines: Lines,
@@ -121,8 +121,7 @@ fn take_last<T: TakesItems<Item = EventItem>>(
     Ok(())
 }
 
-/// Puts a piece behind the bytes, and reads the lines that end in it. Of a piece that is too long one byte over the limit
-/// is kept.
+/// Of a piece that is too long one byte over the limit is kept.
 fn feed<T: TakesItems<Item = EventItem>>(
     bytes: &mut Vec<u8>,
     lines: &mut Lines,

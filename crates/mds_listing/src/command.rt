@@ -37,7 +37,6 @@ pub fn vehicles_to<P: RandomSource, T: Read + Drop, R: Read + Drop, W: Write, E:
     }
 }
 
-/// Lists the vehicles.
 fn vehicles_into<'a, P: RandomSource, T: Read + Drop, R: Read + Drop, W: Write>(
     rt: &P,
     alloc: Global,
@@ -61,7 +60,6 @@ fn vehicles_into<'a, P: RandomSource, T: Read + Drop, R: Read + Drop, W: Write>(
     Ok(())
 }
 
-/// The roster over the tables of the requests of a journal in a file.
 fn roster_in<'a, R: Read + Drop>(
     alloc: Global,
     tables: Tables,

@@ -57,7 +57,6 @@ pub fn tell_journal_problem<E: Write>(
     }
 }
 
-/// Tells what is wrong with a file that is no journal, as [`tell_journal_problem`] does.
 fn tell_fault<E: Write>(alloc: Global, faults: &mut E, fault: JournalFault) -> Status
     ensures { ((result ≡ Status.Fault) × TellsJournal (E.contents faults.old)
         (E.contents faults.new) (JournalProblem.NotAJournal fault))

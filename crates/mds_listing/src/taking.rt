@@ -72,7 +72,7 @@ pub fn roster_of<R: Read + Drop>(
     Ok(roster)
 }
 
-/// Takes the first line, which has to name the form.
+/// The first line has to name the form.
 fn take_form<R: Read>(lines: &mut LineStream<R>, line: &mut Vec<u8>) -> Result<(), TakeError>
     requires stream { IsStream lines.old }
     requires limit { most_of lines.old ≡ max_bytes }
@@ -92,7 +92,6 @@ fn take_form<R: Read>(lines: &mut LineStream<R>, line: &mut Vec<u8>) -> Result<(
     }
 }
 
-/// Takes the requests of the lines that are left.
 fn take_all<R: Read>(
     lines: &mut LineStream<R>,
     line: &mut Vec<u8>,
@@ -115,7 +114,7 @@ fn take_all<R: Read>(
     }
 }
 
-/// Takes the request of the next line, or says `false` where no more lines count.
+/// `false` where no more lines count.
 fn take_line<R: Read>(
     lines: &mut LineStream<R>,
     line: &mut Vec<u8>,

@@ -9,7 +9,7 @@ use logbook::{Offer, Pen, Plain, Play, Rule, Seen, Start, Word};
 use mds_core::Request;
 use std::marker::{Brand, Model, PhantomData};
 
-/// The rule of the log: its word has its length, and the pen that may have added an entry is used up once it has.
+/// The rule of the log: its word has the log's length, and a pen can add one entry.
 pub struct LogRule;
 
 impl Rule<Entry, u64> for LogRule {
@@ -233,7 +233,7 @@ impl BlankLog {
 }
 
 impl<J: Logged> Front<J> {
-    /// The same front again.
+    /// A copy. It takes no memory.
     pub fn again(&self) -> Front<J>
         ensures { result ≡ self.now }
     {
@@ -296,7 +296,6 @@ impl<J: Logged> Keeper<J> {
         self.tell_prefix(front);
     }
 
-    /// Tells that a front which is no longer than the log has seen a beginning of it.
     fn tell_prefix(&self, front: &Front<J>)
         requires { length front.now ≤ length self.now }
         ensures { IsPrefix front.now self.now }

@@ -175,7 +175,6 @@ impl<R: Wait, P: Port, L: ShardLedger, M: ShardLedger, G: Gate, K: Recorder<L, M
     G,
     K,
 > {
-    /// Lets each worker answer so many connections, all workers at once, and hands the workers back.
     fn work_through(&self, mut workers: Vec<Worker<L, M>>, each: usize) -> Vec<Worker<L, M>>
     where
         R: Threads + Sync,
@@ -195,7 +194,6 @@ impl<R: Wait, P: Port, L: ShardLedger, M: ShardLedger, G: Gate, K: Recorder<L, M
         workers
     }
 
-    /// The same of a slice of workers.
     fn work_all(&self, workers: &mut [Worker<L, M>], each: usize)
     where
         R: Threads + Sync,
@@ -254,7 +252,6 @@ impl<R: Wait, P: Port, L: ShardLedger, M: ShardLedger, G: Gate, K: Recorder<L, M
         }
     }
 
-    /// Answers a connection for a seat, by a receipt of what the seat has seen.
     fn answer(
         &self,
         seat: &mut Seat<L, M>,
@@ -288,7 +285,6 @@ impl<R: Wait, P: Port, L: ShardLedger, M: ShardLedger, G: Gate, K: Recorder<L, M
     }
 }
 
-/// Answers a connection at a seat's desk.
 fn answer_at_seat<R: Wait, P: Port, L: ShardLedger, M: ShardLedger, K: Recorder<L, M>>(
     alloc: Global,
     face: &Face,

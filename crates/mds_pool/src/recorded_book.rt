@@ -35,7 +35,7 @@ pub struct RecordedBook<F: Record, L: ShardLedger, M: ShardLedger, J: RecordLog>
     follower: Follower<F, L, M, J>,
 }
 
-// By hand: a crate that drops such a book then cites this function, and proves no destructor of what it holds.
+// By hand: crates above cite it.
 impl<F: Record + Drop, L: ShardLedger, M: ShardLedger, J: RecordLog> Drop
     for RecordedBook<F, L, M, J> {
     fn drop(self) {

@@ -72,12 +72,6 @@ impl<R: Wait, L: ShardLedger, M: ShardLedger, K: Recorder<L, M>> KeptDesk
     }
 }
 
-/// Sees to it that all is recorded that a seat has seen of a vehicle, or, with none named, of every one. The seat stays as it
-/// is.
-///
-/// # Errors
-///
-/// As [`Recorder::commit`].
 fn commit_seat<R: Wait, L: ShardLedger, M: ShardLedger, K: Recorder<L, M>>(
     recorder: &K,
     rt: &R,

@@ -112,7 +112,6 @@ impl<F: Record, L: ShardLedger, M: ShardLedger, J: RecordLog, A: Alarm> Recorder
     }
 }
 
-/// What a fault of a record says of the answers that rest on it.
 fn keep_fault(fault: RecordFault) -> KeepFault
     ensures { result ≡ keep_fault fault }
 {

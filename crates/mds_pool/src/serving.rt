@@ -20,7 +20,8 @@ use std::thread::Threads;
 /// Why no settled book was handed out.
 #[derive(Clone, Copy, Debug, PartialEq, Eq)]
 pub enum Stop {
-    /// There was no memory to begin. No connection was taken.
+    /// There was no memory to begin, and no connection was taken; or, over a journal, none at the end to record what the last
+    /// answers left.
     Memory,
     /// A worker could take no further connection, and answered fewer than it was to. The others went on to their ends. Nothing
     /// was settled.
@@ -55,6 +56,7 @@ impl NewBook {
         ensures tables { result.tables ≡ tables }
         ensures seats { result.seats ≡ seats }
         ensures parts { (result.first.parts ≡ seats) × (result.second.parts ≡ seats) }
+        ensures hashers { result.hashers ≡ hashers }
     {
         NewBook {
             tables,
@@ -74,7 +76,7 @@ pub struct FinalBook<L: ShardLedger, M: ShardLedger> {
     pub answered: Vec<AnswerCount>,
 }
 
-// By hand: a crate that drops a settled book then cites this function, and proves no destructor of what it holds.
+// By hand: crates above cite it.
 impl<L: ShardLedger, M: ShardLedger> Drop for FinalBook<L, M> {
     fn drop(self) {
         let FinalBook {
@@ -92,11 +94,7 @@ impl<L: ShardLedger, M: ShardLedger> Model for FinalBook<L, M> {
     ghost view = { λ book. record { all = book.settled; answered = book.answered.items } };
 }
 
-/// Opens a book to be served: its seats note the calls that are accepted.
-///
-/// # Errors
-///
-/// `AllocError` where there is no memory for it.
+/// Its seats note the calls that are accepted.
 pub(crate) fn open_book<L: ShardLedger, M: ShardLedger>(
     alloc: Global,
     opening: NewBook,

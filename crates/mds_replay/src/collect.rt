@@ -15,11 +15,6 @@ use mds_batch::{EventItem, ItemFault};
 use mds_core::Key;
 use std::alloc::{AllocError, Global};
 
-/// The report of items that were replayed in parts, one of each worker.
-///
-/// # Errors
-///
-/// `AllocError` where there is no memory for the report.
 pub fn collect(
     alloc: Global,
     items: &[EventItem],
@@ -36,7 +31,6 @@ pub fn collect(
     Ok(report_of(lines, vehicles))
 }
 
-/// The verdicts on all items: those that the workers told, and the faults of faulty items.
 fn lines_of(alloc: Global, items: &[EventItem], parts: &[Part]) -> Result<Vec<Verdict>, AllocError>
     requires { All (HasPlacesWithin (length items.now)) parts.now }
     ensures { IfOk result (λ lines. ArePut (all_told parts.now) (map line_of items.now) lines.items) }
@@ -46,14 +40,13 @@ fn lines_of(alloc: Global, items: &[EventItem], parts: &[Part]) -> Result<Vec<Ve
     Ok(lines)
 }
 
-/// What stands in the lines of the items before anything is told.
 fn lines_before(alloc: Global, items: &[EventItem]) -> Result<Vec<Verdict>, AllocError>
     ensures { IfOk result (λ lines. lines.items ≡ map line_of items.now) }
 {
     items.iter().map(line_before).collect(alloc)
 }
 
-/// What stands in an item's line before anything is told.
+/// A faulty item's line is its fault. An event's line says anything, until its worker's verdict is put there.
 fn line_before(item: &EventItem) -> Verdict
     ensures { result ≡ line_of item.now }
 {
@@ -63,7 +56,6 @@ fn line_before(item: &EventItem) -> Verdict
     }
 }
 
-/// Puts what the parts tell at its places.
 fn put_parts(lines: &mut [Verdict], parts: &[Part])
     requires { All (HasPlacesWithin (length lines.old)) parts.now }
     ensures { ArePut (all_told parts.now) lines.old lines.new }
@@ -73,7 +65,6 @@ fn put_parts(lines: &mut [Verdict], parts: &[Part])
     }
 }
 
-/// Puts each verdict that is told at its place.
 fn put_told(lines: &mut [Verdict], told: &[ToldVerdict])
     requires { All (λ one. one.index < length lines.old) told.now }
     ensures { ArePut told.now lines.old lines.new }
@@ -83,7 +74,6 @@ fn put_told(lines: &mut [Verdict], told: &[ToldVerdict])
     }
 }
 
-/// Where the vehicles end that the items mention, each by the part of its worker.
 fn ends_in(
     alloc: Global,
     items: &[EventItem],
@@ -102,7 +92,6 @@ fn ends_in(
     Ok(ends)
 }
 
-/// The vehicles that the items mention, in the order of first mention.
 fn vehicles_in(alloc: Global, items: &[EventItem]) -> Result<IndexSet<Key>, AllocError>
     ensures { IfOk result (λ keys. keys.keys ≡ vehicles_of (events_of items.now)) }
 {
@@ -115,7 +104,6 @@ fn vehicles_in(alloc: Global, items: &[EventItem]) -> Result<IndexSet<Key>, Allo
     Ok(keys)
 }
 
-/// Where a vehicle ends, by the part of its worker.
 fn end_in(parts: &[Part], key: &Key, opening: Opening) -> VehicleEnd
     requires { 0 < length parts.now }
     ensures { IsEndIn opening parts.now key.now result }

@@ -24,7 +24,6 @@ pub struct Followed {
 }
 
 impl Followed {
-    /// Before the first event of the vehicle.
     pub fn begins(opening: Opening) -> Followed
         ensures { (tables : Tables) (key : Vehicle) → IsFollowed opening tables key [] result }
     {
@@ -40,7 +39,6 @@ impl Followed {
         }
     }
 
-    /// The same again.
     pub fn copy(&self) -> Followed
         ensures { result ≡ self.now }
     {
@@ -50,8 +48,7 @@ impl Followed {
         }
     }
 
-    /// The verdict on one more event of the vehicle, and what is kept of the vehicle then. The event is repeated where the
-    /// vehicle has an accepted one with its identifier.
+    /// The event is repeated where the vehicle has an accepted one with its identifier.
     pub fn judge(self, tables: &Tables, event: &Event, repeated: bool) -> (Verdict, Followed)
         ensures verdict { (opening : Openings) (prior : List Reported)
             → IsFollowed opening tables.now event.now.key prior self
@@ -82,7 +79,6 @@ impl Followed {
     }
 }
 
-/// The verdict on an event of a vehicle of which no state is known, and what is kept of the vehicle then.
 fn judge_first(tables: &Tables, event: &Event) -> (Verdict, Followed)
     ensures verdict { IsFirst tables.now event.now result.0 }
     ensures followed { IsFollowed Opening.Any tables.now event.now.key

@@ -26,7 +26,7 @@ pub type Vehicles = IndexMap<Key, Followed>;
 /// The names of the accepted events.
 pub type AcceptedNames = IndexSet<EventName>;
 
-/// The verdict on an item, with which what is kept of its vehicle goes on. Without memory what is kept stays as it was.
+/// Without memory what is kept stays as it was.
 pub fn judge_item(
     tables: &Tables,
     opening: Opening,
@@ -48,7 +48,6 @@ pub fn judge_item(
     }
 }
 
-/// The verdict on an event, with which what is kept of its vehicle goes on.
 fn judge_event(
     tables: &Tables,
     opening: Opening,
@@ -81,7 +80,6 @@ fn judge_event(
     Ok(line)
 }
 
-/// What is kept of a vehicle so far.
 pub fn vehicle_at(vehicles: &Vehicles, key: &Key, opening: Opening) -> Followed
     ensures { (tables : Tables) (mentioned : List Vehicle) (accepted : List Reported)
         (seen : List Name)

@@ -42,7 +42,7 @@ impl Model for Replayer {
 }
 
 impl Replayer {
-    /// A replay over these tables, with this opening of its vehicles, to which no item has come. It takes no memory.
+    /// A replay to which no item has come. It takes no memory.
     pub fn open(alloc: Global, tables: Tables, opening: Opening) -> Replayer
         ensures took { Took [] result }
         ensures tables { result.tables ≡ tables }
@@ -91,7 +91,7 @@ impl Replayer {
     pub fn finish(self) -> Result<Report, AllocError>
         ensures report { IfOk result (λ report. (items : List Item) → Took items self
             → IsReport self.opening self.tables items report) }
-        // With `Removed` the verdicts are the outcomes of the machine, as those of `replay` are.
+        // With `Removed` the verdicts are the outcomes of the machine, as those of [`replay`](crate::replay) are.
         ensures runs { IfOk result (λ report. (items : List Item) → Took items self
             → self.opening ≡ Opening.Removed → AreOutcomes self.tables items report.lines.items) }
     {

@@ -28,7 +28,6 @@ pub struct Part {
     pub vehicles: Vehicles,
 }
 
-/// The worker, of so many, who goes over the vehicle's events.
 pub fn worker_of(workers: usize, key: &Key) -> usize
     requires { 0 < workers }
     ensures number { result ≡ number_of workers key.now }
@@ -37,7 +36,6 @@ pub fn worker_of(workers: usize, key: &Key) -> usize
     (key.device.as_u128() % workers as u128) as usize
 }
 
-/// Whether the item is an event of a vehicle of this worker's.
 fn is_own(workers: usize, worker: usize, item: &EventItem) -> bool
     requires { 0 < workers }
     ensures { result ≡ is_of workers worker item.now }
@@ -48,11 +46,6 @@ fn is_own(workers: usize, worker: usize, item: &EventItem) -> bool
     }
 }
 
-/// Replays the events of a worker's own vehicles one after the other.
-///
-/// # Errors
-///
-/// `AllocError` where there is no memory for the verdicts, or for what is kept of the vehicles.
 pub fn replay_part(
     alloc: Global,
     tables: &Tables,

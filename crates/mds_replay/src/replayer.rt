@@ -46,7 +46,6 @@ pub fn replay(
     replayer.finish()
 }
 
-/// The report of these verdicts and ends.
 pub fn report_of(lines: Vec<Verdict>, vehicles: Vec<VehicleEnd>) -> Report
     ensures report { (opening : Openings) (tables : Tables) (items : List Item)
         → AreVerdicts opening tables items lines.items
@@ -65,21 +64,18 @@ pub fn report_of(lines: Vec<Verdict>, vehicles: Vec<VehicleEnd>) -> Report
     }
 }
 
-/// How many of the verdicts accept.
 fn count_accepted(lines: &[Verdict]) -> usize
     ensures { result ≡ count_by accepts lines.now }
 {
     lines.iter().filter(|verdict| verdict.accepts()).count()
 }
 
-/// Where the vehicles end.
 pub fn ends_of(alloc: Global, vehicles: &Vehicles) -> Result<Vec<VehicleEnd>, AllocError>
     ensures { IfOk result (λ ends. ends.items ≡ map end_at vehicles.now.entries) }
 {
     vehicles.iter().map(end_of).collect(alloc)
 }
 
-/// Where a vehicle ends of which this is kept.
 pub fn end_of(entry: (&Key, &Followed)) -> VehicleEnd
     ensures { result ≡ end_at (entry.entry.0.now, entry.entry.1.now) }
 {

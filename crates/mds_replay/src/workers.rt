@@ -9,7 +9,7 @@ use crate::collect::collect;
 use crate::part::{Part, replay_part};
 use crate::{Opening, Report};
 use mds_batch::EventItem;
-use mds_gate::Gate;
+use mds_gate::{Gate, pass};
 use mds_table::Tables;
 use std::alloc::{AllocError, Global};
 use std::error::Error;
@@ -85,7 +85,6 @@ pub fn replay_with<R: Threads + Sync, G: Gate + Sync>(
     Ok(report)
 }
 
-/// The parts of the workers, in their order.
 fn replay_parts<R: Threads + Sync, G: Gate + Sync>(
     rt: &R,
     alloc: Global,
@@ -103,10 +102,9 @@ fn replay_parts<R: Threads + Sync, G: Gate + Sync>(
         requires { 0 < workers }
         ensures { IfOk result (IsPart opening tables.entry.now items.entry.now workers worker) }
     {
-        gate.enter(worker, 0);
-        let part = replay_part(alloc, tables, items, opening, workers, worker);
-        gate.leave(worker, 0);
-        part
+        pass(gate, worker, 0, || {
+            replay_part(alloc, tables, items, opening, workers, worker)
+        })
     };
     let results = thread::map_indices(rt, alloc, workers, &job)?;
     let mut parts = Vec::with_capacity(alloc, workers)?;

@@ -58,7 +58,7 @@ pub data Asked : Type 0 where
 abbrev pub asked_in : Plan → Asked
 asked_in (plan.Fixed fault) = Fixed (fault_in fault)
 asked_in (plan.Vehicles items) = Vehicles items.items
-asked_in (plan.Events items) = Events items.items
+asked_in (plan.Events items) = Events items
 asked_in (plan.One key) = One key
 asked_in (plan.History key) = History key
 asked_in plan.Rows = Rows

@@ -13,7 +13,7 @@ pub struct Face {
     router: Router<Route>,
 }
 
-// By hand: a crate that drops the routes then cites this function, and proves no destructor of what it holds.
+// By hand: crates above cite it.
 impl Drop for Face {
     fn drop(self) {
         let Face { router: _ } = self;
@@ -39,13 +39,12 @@ impl Face {
     ///
     /// # Errors
     ///
-    /// There was no memory for them.
+    /// `AllocError` where there is no memory for them.
     pub fn open(alloc: Global) -> Result<Face, AllocError> {
         let router = router_of(alloc)?;
         Ok(Face { router })
     }
 
-    /// The route of a path.
     pub(crate) fn route_of(&self, path: &str) -> Option<Route>
         ensures { result ≡ route_at path.now }
     {
@@ -56,11 +55,6 @@ impl Face {
     }
 }
 
-/// Adds a route, by its text, which goes with those that are there.
-///
-/// # Errors
-///
-/// There was no memory for it.
 fn add_route(router: &mut Router<Route>, text: &str, route: Route) -> Result<(), AllocError>
     requires { Fits (parse_route text.now) router.old }
     ensures { OnOk result (router.new ≡ with_scan (parse_route text.now) route router.old) }
@@ -75,7 +69,6 @@ fn add_route(router: &mut Router<Route>, text: &str, route: Route) -> Result<(),
     }
 }
 
-/// A router of the five routes.
 fn router_of(alloc: Global) -> Result<Router<Route>, AllocError>
     ensures { IfOk result (λ router. router ≡ routes) }
 {

@@ -26,7 +26,7 @@ pub(crate) enum FieldValues<'a> {
     Often,
 }
 
-/// Whether a field has this name, whatever the case of its letters.
+/// Names of fields are compared without regard to the case of letters (RFC 9110, section 5.1).
 #[tactic(auto, using(crate::proofs::FieldLemmas::same_name))]
 fn has_name(field: &[u8], name: &str) -> bool
     ensures { result ≡ str_eq_ignore_ascii_case field.now name.now }
@@ -34,7 +34,6 @@ fn has_name(field: &[u8], name: &str) -> bool
     field.eq_ignore_ascii_case(name.as_bytes())
 }
 
-/// What the fields of a name give, with one more field, which may have this name or another.
 fn with_field<'a>(
     found: FieldValues<'a>,
     bytes: &'a [u8],
@@ -56,7 +55,6 @@ fn with_field<'a>(
     }
 }
 
-/// What the fields of a name give, whatever the case of its letters. The fields lie in these bytes.
 pub(crate) fn look_up<'a>(bytes: &'a [u8], headers: &[HeaderSpan], name: &str) -> FieldValues<'a>
     requires { All (IsHeaderWithin (length bytes.now)) headers.now }
     ensures { AreFieldValues
@@ -69,21 +67,18 @@ pub(crate) fn look_up<'a>(bytes: &'a [u8], headers: &[HeaderSpan], name: &str) -
     found
 }
 
-/// Whether all bytes are digits.
 fn are_digits(bytes: &[u8]) -> bool
     ensures { result ≡ list_all is_ascii_digit bytes.now }
 {
     bytes.iter().all(|byte| byte.is_ascii_digit())
 }
 
-/// Whether a value is one or more digits.
 pub(crate) fn is_number(value: &[u8]) -> bool
     ensures { result ≡ (nat_lt 0 (length value.now) && list_all is_ascii_digit value.now) }
 {
     !value.is_empty() && are_digits(value)
 }
 
-/// The number that digits write, if it's a length of at most [`MAX_BYTES`].
 pub(crate) fn length_of(digits: &[u8]) -> Option<usize>
     requires { IsTrue (list_all is_ascii_digit digits.now) }
     ensures { MatchOption result (max_bytes < digits_value 10 digits.now)
@@ -99,11 +94,7 @@ pub(crate) fn length_of(digits: &[u8]) -> Option<usize>
     Some(len)
 }
 
-/// The length of the body that a head says, its fields lying in these bytes: that of a POST, and 0 for a GET.
-///
-/// # Errors
-///
-/// No length is given for a POST, more than one, one that is no number, or one over [`MAX_BYTES`].
+/// The fields lie in these bytes. A GET has no body, whatever it announces.
 pub(crate) fn body_length(
     aim: &Aim<Key>,
     bytes: &[u8],

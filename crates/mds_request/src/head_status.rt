@@ -62,7 +62,6 @@ impl Face {
     }
 }
 
-/// What a whole head comes to, its parts standing in these bytes.
 fn judge_head(face: &Face, bytes: &[u8], spans: &RequestSpans, headers: &[HeaderSpan]) -> HeadStatus
     requires method { IsWithin (length bytes.now) spans.now.method }
     requires target { IsWithin (length bytes.now) spans.now.path }
@@ -106,7 +105,7 @@ impl HeadStatus {
     ///
     /// # Errors
     ///
-    /// There was no memory for the items of a body that is all there.
+    /// `AllocError` where there is no memory for the items of a body that is all there.
     pub fn plan(&self, alloc: Global, stream: &[u8]) -> Result<Plan, AllocError>
         requires status { IsHeadStatus stream.now self.now }
         requires in_reach { IsInReach stream.now self.now }

@@ -8,19 +8,19 @@ ghost use Rattle.mds_request.specs.Plan.{is_post, body_fault, IsBatch, IsAsked, 
 ghost use Rattle.mds_request.specs.HeadStatus.{HoldsBody};
 
 use crate::{Aim, Face, HttpFault};
-use mds_batch::{BatchFault, EventItem, VehicleItem, read_events, read_vehicles};
+use mds_batch::{BatchFault, EventItems, VehicleItem, read_event_items, read_vehicles};
 use mds_core::Key;
 use std::alloc::{AllocError, Global};
 
 /// What a stream of request bytes asks for.
-#[derive(Debug, PartialEq, Eq, Drop)]
+#[derive(Debug, Drop)]
 pub enum Plan {
     /// Nothing: it is answered by this fault.
     Fixed(HttpFault),
     /// One registration for each item.
     Vehicles(Vec<VehicleItem>),
     /// One report for each item.
-    Events(Vec<EventItem>),
+    Events(EventItems),
     /// A look at a vehicle.
     One(Key),
     /// The accepted events of a vehicle.
@@ -29,11 +29,6 @@ pub enum Plan {
     Rows,
 }
 
-/// What is answered for a body that is no batch.
-///
-/// # Errors
-///
-/// There was no memory to read it.
 fn fault_of(fault: BatchFault) -> Result<HttpFault, AllocError>
     requires { fault ≢ TooLong }
     ensures told { IfOk result (λ told. body_fault fault ≡ Some (fault_in told)) }
@@ -48,7 +43,6 @@ fn fault_of(fault: BatchFault) -> Result<HttpFault, AllocError>
     }
 }
 
-/// What a body of registrations asks for.
 fn plan_of_vehicles(alloc: Global, body: &[u8]) -> Result<Plan, AllocError>
     requires { length body.now ≤ max_bytes }
     ensures { IfOk result (λ plan. IsBatch IsVehicleItem Vehicles body.now (asked_in plan)) }
@@ -59,18 +53,16 @@ fn plan_of_vehicles(alloc: Global, body: &[u8]) -> Result<Plan, AllocError>
     }
 }
 
-/// What a body of events asks for.
 fn plan_of_events(alloc: Global, body: &[u8]) -> Result<Plan, AllocError>
     requires { length body.now ≤ max_bytes }
     ensures { IfOk result (λ plan. IsBatch IsEventItem Events body.now (asked_in plan)) }
 {
-    match read_events(alloc, body) {
+    match read_event_items(alloc, body) {
         Ok(items) => Ok(Plan::Events(items)),
         Err(fault) => Ok(Plan::Fixed(fault_of(fault)?)),
     }
 }
 
-/// What a request asks for by what it is about, the length of its body, and the bytes behind its head.
 pub(crate) fn plan_about(
     alloc: Global,
     aim: &Aim<Key>,
@@ -96,7 +88,7 @@ pub(crate) fn plan_about(
 ///
 /// # Errors
 ///
-/// There was no memory for the items of a body that is all there.
+/// `AllocError` where there is no memory for the items of a body that is all there.
 pub fn plan_of(alloc: Global, face: &Face, stream: &[u8]) -> Result<Plan, AllocError>
     ensures plan { IfOk result (λ plan. IsPlan stream.now (asked_in plan)) }
     ensures memory { OnErr result (HoldsBody stream.now) }

@@ -10,7 +10,6 @@ use crate::{Aim, Face};
 use mds_core::Key;
 use uuid::Uuid;
 
-/// What stands before the first of an ASCII character, and what stands behind it.
 fn cut(text: &str, at: char) -> (&str, &str)
     requires { at < 128 }
     ensures before { result.0.now ≡ before_first (λ byte. byte == at) text.now }
@@ -19,14 +18,12 @@ fn cut(text: &str, at: char) -> (&str, &str)
     text.split_once(at).unwrap_or((text, ""))
 }
 
-/// The identifier that a text is, in one of the forms of a UUID (RFC 9562).
 fn uuid_of(text: &str) -> Option<Uuid>
     ensures { result ≡ parsed text.now }
 {
     Uuid::try_parse(text).ok()
 }
 
-/// The third and the fourth piece of a path between its slashes.
 fn names_in(path: &str) -> (&str, &str)
     ensures third { result.0.now ≡ piece 2 path.now }
     ensures fourth { result.1.now ≡ piece 3 path.now }
@@ -38,7 +35,6 @@ fn names_in(path: &str) -> (&str, &str)
     (third, fourth)
 }
 
-/// The vehicle that a path names.
 fn key_of(path: &str) -> Option<Key>
     ensures { result ≡ key_in path.now }
 {
@@ -48,7 +44,6 @@ fn key_of(path: &str) -> Option<Key>
     Some(Key { provider, device })
 }
 
-/// What a request of a target is about.
 pub(crate) fn aim_of(face: &Face, target: &str) -> Option<Aim<Key>>
     ensures { result ≡ aim_in target.now }
 {
@@ -62,7 +57,6 @@ pub(crate) fn aim_of(face: &Face, target: &str) -> Option<Aim<Key>>
     }
 }
 
-/// The method of a route, as a field `allow` names it.
 pub(crate) fn method_of(aim: &Aim<Key>) -> &'static str
     ensures { result.now ≡ method_for (Some aim.now) }
 {

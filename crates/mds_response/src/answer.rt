@@ -19,7 +19,7 @@ use std::alloc::{AllocError, Global};
 ///
 /// # Errors
 ///
-/// There was no memory for the bytes.
+/// `AllocError` where there is no memory for the bytes.
 pub fn bytes_of(alloc: Global, plan: &Plan, found: &Found) -> Result<Vec<u8>, AllocError>
     ensures { IfOk result (λ bytes. bytes.items
         ≡ answer_text (answer_to (asked_in plan.now) (finding_in found.now))) }
@@ -28,7 +28,6 @@ pub fn bytes_of(alloc: Global, plan: &Plan, found: &Found) -> Result<Vec<u8>, Al
     whole_answer(alloc, status_of(plan, found), allow_of(plan), &body)
 }
 
-/// The route's method, where another one was asked for.
 fn allow_of(plan: &Plan) -> Option<&str>
     ensures { option_map (λ method. method.now) result ≡ allow_for (asked_in plan.now) }
 {

@@ -9,8 +9,7 @@ use mds_batch::{BatchItem, ItemFault};
 use mds_core::Reply;
 use std::alloc::{AllocError, Global};
 
-/// Why an item with this fault, if any, wasn't accepted, if it wasn't, and the replies that are left for the items behind
-/// it; `None` where there is no reply for it.
+/// Beside the cause come the replies for the items behind; `None` where there is no reply for this one.
 fn verdict_on(fault: Option<ItemFault>, replies: &[Reply]) -> Option<(Option<Cause>, &[Reply])>
     ensures some { IfSome result (λ said. (later : List (Option Wrong))
         → verdicts (fault ∷ later) replies.now ≡ said.0 ∷ verdicts later said.1.now) }
@@ -24,7 +23,6 @@ fn verdict_on(fault: Option<ItemFault>, replies: &[Reply]) -> Option<(Option<Cau
     Some((Cause::of_outcome(reply.outcome), left))
 }
 
-/// How many items are answered: all of them, or those before the first that found no memory.
 pub(crate) fn answered_items<I: BatchItem>(items: &[I], replies: &[Reply]) -> usize
     ensures { result ≡ length (verdicts (map I.wrong items.now) replies.now) }
 {
@@ -41,7 +39,6 @@ pub(crate) fn answered_items<I: BatchItem>(items: &[I], replies: &[Reply]) -> us
     items.len()
 }
 
-/// The items that weren't accepted, in order of index, up to the first that found no memory.
 pub(crate) fn failures_of<I: BatchItem>(
     alloc: Global,
     items: &[I],
@@ -62,7 +59,6 @@ pub(crate) fn failures_of<I: BatchItem>(
     Ok(failures)
 }
 
-/// Adds the failure of the item of this index, if it wasn't accepted.
 fn add_failure(
     failures: &mut Vec<Failure>,
     index: usize,

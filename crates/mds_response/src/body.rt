@@ -17,11 +17,6 @@ use mds_texts::Commas;
 use std::alloc::{AllocError, Global};
 use std::fmt::Display;
 
-/// The body of the answer to what was asked for, by what was found.
-///
-/// # Errors
-///
-/// There was no memory for it.
 pub(crate) fn body_of(alloc: Global, plan: &Plan, found: &Found) -> Result<String, AllocError>
     ensures { IfOk result (λ body. string_bytes body
         ≡ (answer_to (asked_in plan.now) (finding_in found.now)).body) }
@@ -29,14 +24,13 @@ pub(crate) fn body_of(alloc: Global, plan: &Plan, found: &Found) -> Result<Strin
     match plan {
         Plan::Fixed(fault) => fault_body(alloc, fault),
         Plan::Vehicles(items) => batch_body(alloc, items, found.replies()),
-        Plan::Events(items) => batch_body(alloc, items, found.replies()),
+        Plan::Events(items) => batch_body(alloc, items.kept(), found.replies()),
         Plan::One(key) => look_body(alloc, key, found.standing()),
         Plan::History(_) => events_body(alloc, found.events()),
         Plan::Rows => tables_body(alloc, found.tables()),
     }
 }
 
-/// The body of a fault of this word.
 fn fault_body<D: Display>(alloc: Global, word: &D) -> Result<String, AllocError>
     ensures { IfOk result (λ body.
         IfSome (D.output word.now) (λ word. string_bytes body ≡ fault_body word)) }
@@ -44,7 +38,6 @@ fn fault_body<D: Display>(alloc: Global, word: &D) -> Result<String, AllocError>
     format!(in alloc; "{{\"error\":\"{word}\"}}")
 }
 
-/// The body of a POST of these items, to which these are the replies.
 fn batch_body<I: BatchItem>(
     alloc: Global,
     items: &[I],
@@ -64,7 +57,6 @@ fn batch_body<I: BatchItem>(
     format!(in alloc; "{{\"failures\":[{failures}],\"success\":{success},\"total\":{total}}}")
 }
 
-/// The body of a look at this vehicle, which saw this standing, or none where it isn't registered.
 fn look_body(alloc: Global, key: &Key, seen: Option<Standing>) -> Result<String, AllocError>
     ensures { IfOk result (λ body. string_bytes body ≡ (look_content key.now seen).body) }
 {
@@ -77,7 +69,6 @@ fn look_body(alloc: Global, key: &Key, seen: Option<Standing>) -> Result<String,
     }
 }
 
-/// The body of the events of a vehicle, or `None` where it isn't registered.
 fn events_body(alloc: Global, events: Option<&[Event]>) -> Result<String, AllocError>
     ensures { IfOk result (λ body. string_bytes body
         ≡ (events_content (option_map (λ events. events.now) events.entry)).body) }
@@ -91,7 +82,7 @@ fn events_body(alloc: Global, events: Option<&[Event]>) -> Result<String, AllocE
     }
 }
 
-/// The body of tables by their starting times and rows: of one table its rows alone.
+/// Of one table its rows alone.
 #[tactic(auto, using(crate::proofs::BodyLaws::several_listed))]
 fn tables_body(alloc: Global, tables: &[(u64, Vec<Row>)]) -> Result<String, AllocError>
     ensures { IfOk result (λ body. string_bytes body ≡ tables_body (tables_of tables.now)) }

@@ -15,7 +15,6 @@ pub enum Cause {
 }
 
 impl Cause {
-    /// Why an item with such an outcome wasn't accepted, or `None` where it was.
     pub(crate) fn of_outcome(outcome: Outcome) -> Option<Cause>
         ensures { result ≡ cause_of outcome }
     {

@@ -28,7 +28,6 @@ impl Found {
         accepted(self.replies())
     }
 
-    /// The replies to items: none where something else was found.
     pub(crate) fn replies(&self) -> &[Reply]
         ensures { result.now ≡ replies_in (finding_in self.now) }
     {
@@ -38,7 +37,6 @@ impl Found {
         }
     }
 
-    /// The standing that a look saw, or `None` where the vehicle isn't registered.
     pub(crate) fn standing(&self) -> Option<Standing>
         ensures { result ≡ standing_in (finding_in self.now) }
     {
@@ -48,7 +46,6 @@ impl Found {
         }
     }
 
-    /// The accepted events of a vehicle, or `None` where it isn't registered.
     pub(crate) fn events(&self) -> Option<&[Event]>
         ensures { option_map (λ events. events.now) result ≡ events_in (finding_in self.now) }
     {
@@ -58,7 +55,6 @@ impl Found {
         }
     }
 
-    /// The tables by their starting times and rows: none where something else was found.
     pub(crate) fn tables(&self) -> &[(u64, Vec<Row>)]
         ensures { tables_of result.now ≡ tables_in (finding_in self.now) }
     {
@@ -69,7 +65,6 @@ impl Found {
     }
 }
 
-/// The standing that an outcome shows.
 fn standing_seen(outcome: Outcome) -> Option<Standing>
     ensures { result ≡ standing_seen outcome }
 {
@@ -79,7 +74,6 @@ fn standing_seen(outcome: Outcome) -> Option<Standing>
     }
 }
 
-/// How many of the replies accept.
 pub(crate) fn accepted(replies: &[Reply]) -> usize
     ensures { result ≡ accepted_in replies.now }
 {

@@ -31,12 +31,7 @@ pub fn not_kept_bytes() -> &'static [u8]
     NOT_KEPT_ANSWER.as_bytes()
 }
 
-/// All bytes of an answer of this status and body; where another method was asked for than the route's, `allow` is the
-/// route's.
-///
-/// # Errors
-///
-/// There was no memory for them.
+/// Where another method was asked for than the route's, `allow` is the route's.
 pub(crate) fn whole_answer(
     alloc: Global,
     status: StatusCode,
@@ -61,7 +56,7 @@ pub(crate) fn whole_answer(
     Ok(text.into_bytes())
 }
 
-/// Adds the field that names the route's method, where another one was asked for (RFC 9110, section 10.2.1).
+/// RFC 9110, section 10.2.1.
 fn add_allow(text: &mut String, allow: Option<&str>) -> Result<(), AllocError>
     ensures { OnOk result (string_bytes text.new
         ≡ string_bytes text.old ++ allow_line (option_map (λ method. method.now) allow.entry)) }

@@ -68,7 +68,6 @@ impl Json for Failure {
     }
 }
 
-/// Writes the failure of a faulty item.
 fn write_fault<W: fmt::Write>(f: &mut Formatter<W>, index: usize, fault: ItemFault) -> fmt::Result
     ensures { DisplaysOnOk W.write_str_gives f.old result
         (Some (cause_text index (Cause.Fault fault))) f.new }
@@ -85,7 +84,6 @@ fn write_fault<W: fmt::Write>(f: &mut Formatter<W>, index: usize, fault: ItemFau
     }
 }
 
-/// Writes the failure of an item whose request was refused.
 fn write_refusal<W: fmt::Write>(f: &mut Formatter<W>, index: usize, refusal: Refusal) -> fmt::Result
     ensures { DisplaysOnOk W.write_str_gives f.old result
         (Some (cause_text index (Cause.Refused refusal))) f.new }

@@ -18,14 +18,13 @@ pub fn status_of(plan: &Plan, found: &Found) -> StatusCode
     match plan {
         Plan::Fixed(fault) => fault_status(fault),
         Plan::Vehicles(items) => batch_status(items, found.replies()),
-        Plan::Events(items) => batch_status(items, found.replies()),
+        Plan::Events(items) => batch_status(items.kept(), found.replies()),
         Plan::One(_) => vehicle_status(found.standing().is_some()),
         Plan::History(_) => vehicle_status(found.events().is_some()),
         Plan::Rows => StatusCode::OK,
     }
 }
 
-/// The status of a fault.
 fn fault_status(fault: &HttpFault) -> StatusCode
     ensures { result ≡ fault_status (fault_in fault.now) }
 {
@@ -44,7 +43,6 @@ fn fault_status(fault: &HttpFault) -> StatusCode
     }
 }
 
-/// The status of a POST of these items, to which these are the replies.
 fn batch_status<I: BatchItem>(items: &[I], replies: &[Reply]) -> StatusCode
     ensures { result ≡ (batch_content (map I.wrong items.now) replies.now).status }
 {
@@ -55,7 +53,6 @@ fn batch_status<I: BatchItem>(items: &[I], replies: &[Reply]) -> StatusCode
     }
 }
 
-/// The status of a GET of a vehicle, by whether it is registered.
 fn vehicle_status(is_registered: bool) -> StatusCode
     ensures { result ≡ (if is_registered then 200 else 404) }
 {

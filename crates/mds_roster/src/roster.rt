@@ -87,6 +87,7 @@ impl Roster {
         }
     }
 
+    /// The vehicle that was registered at this place of all, from 0, and where it stands.
     pub fn vehicle(&self, place: usize) -> Option<(Key, Standing)>
         ensures { (tables : TableList) (history : List Requested) → IsRosterOf tables history self.now
             → result ≡ slice_get (standings_in history) place }
@@ -97,6 +98,7 @@ impl Roster {
         }
     }
 
+    /// How many vehicles are registered.
     pub fn registrations(&self) -> usize
         ensures count { (tables : TableList) (history : List Requested) → IsRosterOf tables history self.now
             → result ≡ length (registered_in history) }
@@ -105,6 +107,7 @@ impl Roster {
         self.vehicles.len()
     }
 
+    /// How many events were accepted.
     pub fn events(&self) -> usize
         ensures count { (tables : TableList) (history : List Requested) → IsRosterOf tables history self.now
             → result ≡ length (reports history) }

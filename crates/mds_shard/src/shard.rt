@@ -145,6 +145,7 @@ impl Shard {
         Ok(())
     }
 
+    /// The accepted requests, in the order in which they were accepted.
     pub fn history(&self) -> &[Request]
         ensures history { result.now ≡ self.now.history }
         ensures lawful { IsLawful self.now.tables self.now.history }
@@ -152,7 +153,7 @@ impl Shard {
         self.history.as_slice()
     }
 
-    /// It costs the same whatever the shard holds.
+    /// Where the vehicle stands, or `None` where it isn't registered. It costs the same whatever the shard holds.
     pub fn standing(&self, key: &Key) -> Option<Standing>
         ensures { result ≡ where_it_stands self.now.history key.now }
     {
@@ -193,8 +194,8 @@ impl Shard {
         Ok(Some(events))
     }
 
-    /// Where a walk over the vehicle's requests begins, or `None` where it isn't registered. It costs the same whatever the shard
-    /// holds.
+    /// Where a walk over the vehicle's requests begins, or `None` where it isn't registered. It costs the same whatever
+    /// the shard holds.
     pub fn walk_start(&self, key: &Key) -> Option<WalkStart>
         ensures start { IfSome result (IsStart self.now.history key.now) }
         ensures none { IfNone result (events_in self.now.history key.now ≡ None) }
@@ -206,8 +207,9 @@ impl Shard {
         })
     }
 
-    /// Copies events of a vehicle, the last one first, from the place of one of its requests on, of at most [`MAX_STEPS`] requests:
-    /// the place where the walk goes on, if it does. A history only grows, so it may have grown since the walk began.
+    /// Copies events of a vehicle, the last one first, from the place of one of its requests on, over at most
+    /// [`MAX_STEPS`] of them, and answers the place where the walk goes on, if it does. The history may have grown
+    /// since the walk began.
     pub fn walk_back(&self, from: usize, piece: &mut Vec<Event>) -> Option<usize>
         requires from { from < length self.now.history }
         requires empty { vec_len piece.old ≡ 0 }
@@ -221,12 +223,14 @@ impl Shard {
         walk_back(&self.history, &self.before, from, piece)
     }
 
+    /// The tables that decide, each event by the one in force at its time.
     pub fn tables(&self) -> &Tables
         ensures { result.now ≡ self.now.tables }
     {
         &self.tables
     }
 
+    /// How many requests were accepted.
     pub fn len(&self) -> usize
         ensures len { result ≡ length self.now.history }
         ensures lawful { IsLawful self.now.tables self.now.history }

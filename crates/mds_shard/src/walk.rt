@@ -24,7 +24,6 @@ pub struct WalkStart {
     pub events: usize,
 }
 
-/// Adds the event that a request reports, if it reports one.
 fn add_event(events: &mut Vec<Event>, request: &Request)
     requires { vec_len events.old < vec_capacity events.old }
     ensures items { events.new.items ≡ events.old.items ++ option_to_list (report_of request.now) }
@@ -38,8 +37,7 @@ fn add_event(events: &mut Vec<Event>, request: &Request)
     }
 }
 
-/// Copies the events of a vehicle, the last one first, from the place of one of its requests on, at most [`MAX_STEPS`]: the place
-/// where it goes on, if it does.
+/// As [`crate::Shard::walk_back`].
 pub(crate) fn walk_back(
     history: &[Request],
     before: &[Option<usize>],

@@ -1,4 +1,4 @@
-//! What becomes of taking a connection that failed.
+//! What is done where taking a connection failed.
 ghost use Rattle.std.specs.Prelude.{◌≡◌};
 ghost use Rattle.std.specs.IoError.{error_kind, raw_os_error};
 ghost use Rattle.mds_socket.specs.Retries.{retry_by_code, retry_by_kind};
@@ -22,7 +22,7 @@ const TOO_MANY_IN_PROCESS: i32 = 24;
 /// The error of a lack of memory for sockets.
 const NO_BUFFERS: i32 = 105;
 
-/// What becomes of taking a connection that failed.
+/// What is done where taking a connection failed.
 #[derive(Clone, Copy, Debug, PartialEq, Eq)]
 pub(crate) enum Retry {
     /// None is there: it is waited for.
@@ -39,14 +39,13 @@ pub(crate) enum Retry {
     Never,
 }
 
-/// What becomes of taking a connection that failed in this way.
 pub(crate) fn retry_of(error: &io::Error) -> Retry
     ensures { result ≡ retry_by_kind (error_kind error.now) (raw_os_error error.now) }
 {
     retry_of_kind(error.kind(), error.raw_os_error())
 }
 
-/// The same, by the kind of the error, and by its number where the kind says nothing.
+/// By the kind of the error, and by its number where the kind says nothing.
 fn retry_of_kind(kind: ErrorKind, number: Option<i32>) -> Retry
     ensures { result ≡ retry_by_kind kind number }
 {
@@ -65,7 +64,7 @@ fn retry_of_kind(kind: ErrorKind, number: Option<i32>) -> Retry
     }
 }
 
-/// The same of an error whose kind says nothing, by its number.
+/// By the number of an error whose kind says nothing.
 fn retry_of_number(number: Option<i32>) -> Retry
     ensures { result ≡ retry_by_code number }
 {
@@ -76,6 +75,3 @@ fn retry_of_number(number: Option<i32>) -> Retry
         _ => Retry::Never,
     }
 }
-
-#[cfg(test)]
-mod tests;

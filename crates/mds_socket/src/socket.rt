@@ -112,6 +112,3 @@ impl<R: Wait + Clock + Copy> SocketPort<R> {
         Ok(self.system().listener.local_addr()?.port())
     }
 }
-
-#[cfg(test)]
-mod tests;

@@ -82,6 +82,7 @@ impl StateSet {
     /// The bits of every state.
     const ALL: Mask = Mask::MAX >> (Mask::BITS as usize - State::COUNT);
 
+    /// The set without a state.
     #[tactic(auto, unfolding(crate::specs::StateSet::states_in, mds_table::specs::Mask::has_bit))]
     pub fn empty() -> StateSet
         ensures { result ≡ [] }
@@ -89,6 +90,7 @@ impl StateSet {
         StateSet::of_mask(0)
     }
 
+    /// The set of all states.
     #[tactic(auto, unfolding(crate::specs::StateSet::states_in, mds_table::specs::Mask::has_bit))]
     pub fn all() -> StateSet
         ensures { result ≡ all_states }
@@ -96,6 +98,7 @@ impl StateSet {
         StateSet::of_mask(StateSet::ALL)
     }
 
+    /// The set of this state alone.
     #[tactic(auto, using(crate::proofs::Members::one_state))]
     pub fn of(state: State) -> StateSet
         ensures { result ≡ state ∷ [] }
@@ -112,6 +115,7 @@ impl StateSet {
         }
     }
 
+    /// The set as a number.
     #[tactic(auto, using(crate::specs::Masks::mask_given_back))]
     pub fn bits(&self) -> StateBits
         ensures { result.0 ≡ mask_of self.now }
@@ -119,6 +123,7 @@ impl StateSet {
         self.bits
     }
 
+    /// Whether the set has the state.
     #[tactic(auto, using(crate::proofs::Members::members))]
     pub fn contains(&self, state: State) -> bool
         ensures { IsTrue result ↔ Contains self.now state }
@@ -126,6 +131,7 @@ impl StateSet {
         mask::has(self.bits.0, state)
     }
 
+    /// The states that are in either set.
     pub fn union(&self, other: &StateSet) -> StateSet
         ensures { IsUnion self.now other.now result }
     {
@@ -138,6 +144,7 @@ impl StateSet {
         StateSet::of_mask(self.bits.0 & other.bits.0)
     }
 
+    /// Whether the set has no state.
     #[tactic(auto, using(crate::proofs::Members::none_in_mask), unfolding(crate::specs::StateSet::states_in, mds_table::specs::Mask::has_bit))]
     pub fn is_empty(&self) -> bool
         ensures { IsTrue result ↔ (self.now ≡ []) }
@@ -160,6 +167,7 @@ impl StateSet {
         states
     }
 
+    /// A copy. It takes no memory.
     pub fn copy(&self) -> StateSet
         ensures { result ≡ self.now }
     {

@@ -8,6 +8,7 @@ use crate::StateSet;
 use mds_table::mask::Mask;
 use mds_table::{State, Table, TypeName};
 
+/// The states to which rows of this type lead from a state of the set.
 pub fn next_states(table: &Table, set: &StateSet, kind: &TypeName) -> StateSet
     ensures { AreNext table.now set.now kind.now result }
 {
@@ -21,6 +22,7 @@ pub fn next_states(table: &Table, set: &StateSet, kind: &TypeName) -> StateSet
     next
 }
 
+/// The states from which rows of this type lead to a state of the set.
 pub fn previous_states(table: &Table, kind: &TypeName, set: &StateSet) -> StateSet
     ensures { ArePrevious table.now set.now kind.now result }
 {

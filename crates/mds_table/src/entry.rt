@@ -17,14 +17,12 @@ pub(crate) struct States {
 }
 
 impl States {
-    /// Whether the state is marked.
     pub fn has(&self, state: State) -> bool
         ensures { result ≡ is_marked self.now state }
     {
         self.marks[usize::from(state.code())]
     }
 
-    /// Marks the state.
     fn mark(&mut self, state: State)
         ensures marked { is_marked self.new state ≡ true }
         ensures others { (other : State) → code_of other ≢ code_of state →
@@ -37,16 +35,12 @@ impl States {
 /// An entry: it stands for all pairs of a state of `from` and a state of `to`.
 #[derive(Drop)]
 pub(crate) struct Entry {
-    /// The type of its rows.
     pub kind: TypeName,
-    /// The states that they lead from.
     pub from: States,
-    /// The states that they lead to.
     pub to: States,
 }
 
 impl Entry {
-    /// The entry that the value is, or `None` where it isn't of the right form.
     pub fn of_value(value: &Value) -> Option<Entry>
         ensures form { IfSome result (λ _. IsRowEntry (view value.now)) }
         ensures rows { IfSome result (λ entry. IsEntryOf (view value.now) entry) }
@@ -59,7 +53,6 @@ impl Entry {
     }
 }
 
-/// The states that the value lists: those of a list of at least one, or a single one.
 fn states_in(value: &Value) -> Option<States>
     ensures form { IfSome result (λ _. ListsStates (view value.now)) }
     ensures states { IfSome result (λ states. AreMarked (listed (view value.now)) states) }
@@ -72,7 +65,6 @@ fn states_in(value: &Value) -> Option<States>
     states_among(values)
 }
 
-/// The items of a list, or else the value alone.
 fn values_in(value: &Value) -> &[Value]
     ensures { map view result.now ≡ listed (view value.now) }
 {
@@ -82,7 +74,6 @@ fn values_in(value: &Value) -> &[Value]
     }
 }
 
-/// The states that the values name, if each names one.
 fn states_among(values: &[Value]) -> Option<States>
     ensures form { IfSome result (λ _. All IsStateName (map view values.now)) }
     ensures states { IfSome result (λ states. AreMarked (map view values.now) states) }

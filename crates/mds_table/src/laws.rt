@@ -16,12 +16,12 @@ pub fn files_have_one_table()
     ensures { FilesHaveOneTable }
 {}
 
-/// A table file has no fault, want of memory aside.
+/// Bytes that stand for a table have no fault, want of memory aside.
 pub fn table_files_have_no_fault()
     ensures { TableFilesHaveNoFault }
 {}
 
-/// A file has one first fault, want of memory aside.
+/// As a table file, bytes have no more than one first fault, want of memory aside.
 pub fn files_have_one_fault()
     ensures { FilesHaveOneFault }
 {}
@@ -32,12 +32,12 @@ pub fn files_have_one_list_of_tables()
     ensures { FilesHaveOneListOfTables }
 {}
 
-/// A file of tables has no fault, want of memory aside.
+/// Bytes that stand for a list of tables have no fault, want of memory aside.
 pub fn files_of_tables_have_no_fault()
     ensures { FilesOfTablesHaveNoFault }
 {}
 
-/// A file that is to stand for tables has one first fault, want of memory aside.
+/// As a file of tables, bytes have no more than one first fault, want of memory aside.
 pub fn files_have_one_tables_fault()
     ensures { FilesHaveOneTablesFault }
 {}

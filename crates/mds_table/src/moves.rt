@@ -13,13 +13,11 @@ use std::alloc::{AllocError, Global};
 /// Where the events of a type may lead.
 #[derive(Debug, Drop)]
 pub(crate) struct Moves {
-    /// The type.
     kind: TypeName,
     /// The states that its rows lead to, from each state by code.
     masks: [Mask; State::COUNT],
 }
 
-/// The moves of the rows, by type.
 pub(crate) fn moves_of(alloc: Global, rows: &[Row]) -> Result<Vec<Moves>, AllocError>
     requires { in_order rows.now ≡ true }
     ensures { IfOk result (λ moves. AreMoves rows.now rows.now moves.items) }
@@ -31,7 +29,7 @@ pub(crate) fn moves_of(alloc: Global, rows: &[Row]) -> Result<Vec<Moves>, AllocE
     Ok(moves)
 }
 
-/// The masks of the type among the moves of a table, which are empty where the type isn't there.
+/// The masks are empty where the type isn't there.
 pub(crate) fn masks_among(moves: &[Moves], kind: &TypeName) -> [Mask; State::COUNT]
     requires { ascends moves_cmp moves.now ≡ true }
     ensures { (rows : List Row) → AreMoves rows rows moves.now → AreMasks rows kind.now result }
@@ -42,7 +40,6 @@ pub(crate) fn masks_among(moves: &[Moves], kind: &TypeName) -> [Mask; State::COU
     }
 }
 
-/// The place of the type, or the gap where it belongs.
 fn place_of(moves: &[Moves], kind: &TypeName) -> Result<usize, usize>
     requires { ascends moves_cmp moves.now ≡ true }
     ensures { MatchResult result (HasKindAt moves.now kind.now) (HasGapAt moves.now kind.now) }
@@ -50,7 +47,6 @@ fn place_of(moves: &[Moves], kind: &TypeName) -> Result<usize, usize>
     moves.binary_search_by(|other| other.kind.cmp(kind))
 }
 
-/// Adds the moves of the type where they aren't there yet.
 fn add_kind(moves: &mut Vec<Moves>, rows: &[Row], kind: &TypeName) -> Result<(), AllocError>
     requires rows { in_order rows.now ≡ true }
     requires moves { ascends moves_cmp moves.old.items ≡ true }
@@ -71,7 +67,6 @@ fn add_kind(moves: &mut Vec<Moves>, rows: &[Row], kind: &TypeName) -> Result<(),
     Ok(())
 }
 
-/// The masks of the type, by the rows.
 fn masks_of(rows: &[Row], kind: &TypeName) -> [Mask; State::COUNT]
     requires { in_order rows.now ≡ true }
     ensures { AreMasks rows.now kind.now result }
@@ -83,7 +78,6 @@ fn masks_of(rows: &[Row], kind: &TypeName) -> [Mask; State::COUNT]
     masks
 }
 
-/// The states that rows of the type lead to from this state.
 fn mask_of(rows: &[Row], kind: &TypeName, from: State) -> Mask
     requires { in_order rows.now ≡ true }
     ensures { IsMask rows.now kind.now from result }

@@ -75,7 +75,6 @@ const LINES: [Line; 29] = [
 /// How many rows the profile has.
 const ROWS: usize = 74;
 
-/// The rows of the profile, in row order.
 pub fn rows(alloc: Global) -> Result<Vec<Row>, AllocError>
     ensures { IfOk result (λ rows. rows.items ≡ profile_rows) }
 {
@@ -84,7 +83,6 @@ pub fn rows(alloc: Global) -> Result<Vec<Row>, AllocError>
     Ok(rows)
 }
 
-/// Adds the rows that the lines stand for.
 fn add_lines(rows: &mut Vec<Row>, lines: &[Line]) -> Result<(), AllocError>
     requires { list_all has_type_name lines.now ≡ true }
     ensures { OnOk result (rows.new.items ≡ rows.old.items ++ flat_map rows_printed lines.now) }
@@ -97,7 +95,6 @@ fn add_lines(rows: &mut Vec<Row>, lines: &[Line]) -> Result<(), AllocError>
     Ok(())
 }
 
-/// Adds the rows of a type, from each of some states to each of others.
 fn add_line(
     rows: &mut Vec<Row>,
     kind: &TypeName,
@@ -113,7 +110,6 @@ fn add_line(
     Ok(())
 }
 
-/// Adds the rows of a type from one state to each of some.
 fn add_rows(
     rows: &mut Vec<Row>,
     from: State,

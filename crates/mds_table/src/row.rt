@@ -23,7 +23,7 @@ pub struct Row {
 }
 
 impl Row {
-    /// The same row again.
+    /// A copy. It takes no memory.
     pub fn copy(&self) -> Row
         ensures { result ≡ self.now }
     {
@@ -73,7 +73,6 @@ impl Ord for Row {
     }
 }
 
-/// How the row stands to the one of these parts: by type, then by the state before, then by the state after.
 fn compare(row: &Row, from: State, kind: &TypeName, to: State) -> Ordering
     ensures { result ≡ row_cmp row.now (row_of from kind.now to) }
 {
@@ -83,7 +82,6 @@ fn compare(row: &Row, from: State, kind: &TypeName, to: State) -> Ordering
         .then(row.to.code().cmp(&to.code()))
 }
 
-/// Whether the row of these parts is one of the rows.
 pub(crate) fn has_row_of(rows: &[Row], from: State, kind: &TypeName, to: State) -> bool
     requires { in_order rows.now ≡ true }
     ensures { IsTrue result ↔ Contains rows.now (row_of from kind.now to) }
@@ -92,7 +90,6 @@ pub(crate) fn has_row_of(rows: &[Row], from: State, kind: &TypeName, to: State) 
         .is_ok()
 }
 
-/// Adds the row where it isn't there yet.
 pub(crate) fn add_row(rows: &mut Vec<Row>, row: Row) -> Result<(), AllocError>
     requires { in_order rows.old.items ≡ true }
     ensures order { OnOk result (in_order rows.new.items ≡ true) }

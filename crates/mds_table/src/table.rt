@@ -19,7 +19,7 @@ use std::marker::Model;
 #[derive(Debug, Drop)]
 pub struct Table {
     rows: Vec<Row>,
-    /// The same by types, for looking up.
+    /// The rows by types, for looking up.
     moves: Vec<Moves>,
 }
 
@@ -65,7 +65,6 @@ impl Table {
         Ok(Table::of_rows(alloc, rows)?)
     }
 
-    /// The table of these entries of a table file.
     pub(crate) fn of_entries(alloc: Global, entries: &[Value]) -> Result<Table, TableFault>
         ensures table { IfOk result (λ table. AreTableOf (map view entries.now) table) }
         ensures fault { IfErr result (λ fault. HasFaultIn (map view entries.now) fault) }
@@ -90,7 +89,7 @@ impl Table {
         masks_among(&self.moves, kind)
     }
 
-    /// The rows of the table, each once, in ascending order of type (by bytes), from code and to code.
+    /// A list of the rows of its own.
     ///
     /// # Errors
     ///
@@ -113,7 +112,7 @@ impl Table {
         self.rows.len()
     }
 
-    /// The same table again.
+    /// A copy.
     ///
     /// # Errors
     ///
@@ -124,7 +123,6 @@ impl Table {
         Table::of_rows(alloc, self.rows(alloc)?)
     }
 
-    /// The table of these rows.
     fn of_rows(alloc: Global, rows: Vec<Row>) -> Result<Table, AllocError>
         requires { in_order rows.items ≡ true }
         ensures { IfOk result (λ table. table ≡ rows.items) }

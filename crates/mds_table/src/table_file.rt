@@ -1,8 +1,4 @@
-//! Table files: JSON texts that stand for the rows of a table.
-//!
-//! A file is an object with a member `rows`, a list of entries `{"from":[..],"type":"..","to":[..]}`. `from` and `to`
-//! are a list of at least one state name, or a single one; `type` is a type name. Other members are ignored. An entry
-//! stands for all pairs of its states; a row that is written twice counts once.
+//! Table files: JSON texts that stand for the rows of a table, in the form that [`crate::Table::from_json`] tells.
 ghost use Rattle.std.specs.Prelude.{◌≡◌, ℕ, List, map, option_map, true, Some, IfOk, IfErr, OnOk, Contains};
 ghost use Rattle.serde_json.specs.View.{view};
 ghost use Rattle.mds_table.specs.Row.{ascends, in_order};
@@ -92,7 +88,6 @@ impl fmt::Display for TableFault {
     }
 }
 
-/// The rows that the file stands for, in row order.
 pub(crate) fn rows_in_file(alloc: Global, text: &[u8]) -> Result<Vec<Row>, TableFault>
     ensures rows { IfOk result (λ rows. HasTable text.now rows.items) }
     ensures fault { IfErr result (λ fault. HasFault text.now fault) }
@@ -104,14 +99,12 @@ pub(crate) fn rows_in_file(alloc: Global, text: &[u8]) -> Result<Vec<Row>, Table
     rows_of_entries(alloc, entries)
 }
 
-/// The entries of a file, or of a table in one, or `None` where the value isn't an object with a list `rows`.
 pub(crate) fn entries_of(file: &Value) -> Option<&[Value]>
     ensures { option_map (λ entries. map view entries.now) result ≡ entries_in (view file.now) }
 {
     Some(file.get("rows")?.as_array()?.as_slice())
 }
 
-/// The rows that the entries stand for, in row order.
 pub(crate) fn rows_of_entries(alloc: Global, entries: &[Value]) -> Result<Vec<Row>, TableFault>
     ensures rows { IfOk result (λ rows. AreTableOf (map view entries.now) rows.items) }
     ensures order { IfOk result (λ rows. in_order rows.items ≡ true) }
@@ -138,7 +131,6 @@ pub(crate) fn rows_of_entries(alloc: Global, entries: &[Value]) -> Result<Vec<Ro
     Ok(rows)
 }
 
-/// Adds the type where it isn't there yet.
 fn add_kind(kinds: &mut Vec<TypeName>, kind: TypeName) -> Result<(), AllocError>
     requires { ascends (slice_cmp nat_cmp) kinds.old.items ≡ true }
     ensures order { OnOk result (ascends (slice_cmp nat_cmp) kinds.new.items ≡ true) }
@@ -151,7 +143,6 @@ fn add_kind(kinds: &mut Vec<TypeName>, kind: TypeName) -> Result<(), AllocError>
     Ok(())
 }
 
-/// Adds the rows of the entry that aren't there yet.
 fn add_rows(rows: &mut Vec<Row>, entry: &Entry) -> Result<(), AllocError>
     requires { in_order rows.old.items ≡ true }
     ensures order { OnOk result (in_order rows.new.items ≡ true) }
@@ -160,7 +151,6 @@ fn add_rows(rows: &mut Vec<Row>, entry: &Entry) -> Result<(), AllocError>
     add_rows_from_each(rows, &State::ALL, entry)
 }
 
-/// Adds the rows of the entry that lead from one of these states.
 fn add_rows_from_each(
     rows: &mut Vec<Row>,
     states: &[State],
@@ -179,7 +169,6 @@ fn add_rows_from_each(
     Ok(())
 }
 
-/// Adds the rows of the entry's type from one state to each of these that the entry has.
 fn add_rows_from(
     rows: &mut Vec<Row>,
     from: State,

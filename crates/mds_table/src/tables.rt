@@ -21,7 +21,7 @@ pub struct Tables {
     entries: Vec<(u64, Table)>,
 }
 
-// By hand: a crate that drops tables then cites this function, and proves no destructor of what they hold.
+// By hand: crates above cite it.
 impl Drop for Tables {
     fn drop(self) {
         let Tables { entries: _ } = self;
@@ -117,7 +117,7 @@ impl Tables {
         Some((entry.0, &entry.1))
     }
 
-    /// The same tables again.
+    /// A copy.
     ///
     /// # Errors
     ///
@@ -133,7 +133,6 @@ impl Tables {
         Ok(Tables { entries })
     }
 
-    /// These starting times and tables.
     pub(crate) fn of_entries(entries: Vec<(u64, Table)>) -> Tables
         requires { AreTimed entries.items }
         ensures { result ≡ entries.items }
@@ -142,7 +141,6 @@ impl Tables {
     }
 }
 
-/// Adds a starting time and its table at the end.
 pub(crate) fn add(
     entries: &mut Vec<(u64, Table)>,
     start: u64,
@@ -154,7 +152,6 @@ pub(crate) fn add(
     Ok(())
 }
 
-/// Whether so many tables may follow one another.
 pub(crate) fn check_count(count: usize) -> Result<(), TablesFault>
     ensures { MatchResult result (λ _. IsCount count) (IsCountFault count) }
 {
@@ -167,7 +164,6 @@ pub(crate) fn check_count(count: usize) -> Result<(), TablesFault>
     Ok(())
 }
 
-/// Whether the table at this place may start at this time, after the last one before it.
 pub(crate) fn check_start(at: usize, last: Option<u64>, start: u64) -> Result<(), TablesFault>
     ensures { MatchResult result (λ _. Follows last start) (IsStartFault at last start) }
 {

@@ -44,7 +44,6 @@ pub enum TablesFault {
 impl Error for TablesFault {}
 
 impl TablesFault {
-    /// The fault of tables of which the one at this place has the fault; `None` is the one table of a file of `rows`.
     pub(crate) fn of_table(table: Option<usize>, fault: TableFault) -> TablesFault
         ensures { result ≡ of_table table fault }
     {

@@ -1,8 +1,4 @@
-//! Files of tables that change at stated times.
-//!
-//! A file with a member `rows` is a table file, and its table is in force from 0 on. Else it is an object with a member
-//! `tables`, a list of entries `{"from_time":N,"rows":[..]}` in order of time, whose rows are those of a table file. Other
-//! members are ignored.
+//! Files of tables that change at stated times, in the form that [`crate::Tables::from_json`] tells.
 ghost use Rattle.std.specs.Prelude.{◌≡◌, map, length, option_map, Some, IsSomeAnd, IfSome, IfOk, IfErr};
 ghost use Rattle.serde_json.specs.View.{view};
 ghost use Rattle.mds_table.specs.TableFile.{entries_in, AreTableOf};
@@ -16,7 +12,6 @@ use crate::{Table, Tables, TablesFault};
 use serde_json::Value;
 use std::alloc::Global;
 
-/// The starting times and tables of the file.
 pub(crate) fn tables_in_file(alloc: Global, text: &[u8]) -> Result<Tables, TablesFault>
     ensures tables { IfOk result (HasTables text.now) }
     ensures fault { IfErr result (HasTablesFault text.now) }
@@ -29,7 +24,6 @@ pub(crate) fn tables_in_file(alloc: Global, text: &[u8]) -> Result<Tables, Table
     }
 }
 
-/// The table of a file with a member `rows`, from 0 on.
 fn one_table(alloc: Global, file: &Value) -> Result<Tables, TablesFault>
     ensures table { IfOk result (IsTableFrom0 (entries_in (view file.now))) }
     ensures fault { IfErr result (IsFileFault (entries_in (view file.now))) }
@@ -41,7 +35,6 @@ fn one_table(alloc: Global, file: &Value) -> Result<Tables, TablesFault>
     Ok(Tables::one(alloc, table)?)
 }
 
-/// The starting times and tables of a file without a member `rows`.
 fn listed_tables(alloc: Global, file: &Value) -> Result<Tables, TablesFault>
     ensures tables { IfOk result (λ tables.
         IsSomeAnd (listed_in (view file.now)) (λ items. AreTablesOf items tables)) }
@@ -54,14 +47,12 @@ fn listed_tables(alloc: Global, file: &Value) -> Result<Tables, TablesFault>
     tables_of_items(alloc, items)
 }
 
-/// The items of the file's member `tables`, or `None` where it isn't an object with such a list.
 fn items_of(file: &Value) -> Option<&[Value]>
     ensures { option_map (λ items. map view items.now) result ≡ listed_in (view file.now) }
 {
     Some(file.get("tables")?.as_array()?.as_slice())
 }
 
-/// The starting times and tables that the items stand for.
 fn tables_of_items(alloc: Global, items: &[Value]) -> Result<Tables, TablesFault>
     requires { IsCount (length items.now) }
     ensures tables { IfOk result (AreTablesOf (map view items.now)) }
@@ -81,7 +72,6 @@ fn tables_of_items(alloc: Global, items: &[Value]) -> Result<Tables, TablesFault
     Ok(Tables::of_entries(entries))
 }
 
-/// The starting time of an item, and the entries of its table, or `None` where it isn't of the right form.
 fn parts_of(item: &Value) -> Option<(u64, &[Value])>
     ensures start { option_map (λ parts. parts.0) result ≡ start_in (view item.now) }
     ensures rows { IfSome result (λ parts.
@@ -91,7 +81,6 @@ fn parts_of(item: &Value) -> Option<(u64, &[Value])>
     Some((start, entries_of(item)?))
 }
 
-/// The table of these entries, which stands at this place of a file, or is the one of a file of `rows`.
 fn table_at(alloc: Global, at: Option<usize>, rows: &[Value]) -> Result<Table, TablesFault>
     ensures table { IfOk result (AreTableOf (map view rows.now)) }
     ensures fault { IfErr result (IsTableFault at (map view rows.now)) }

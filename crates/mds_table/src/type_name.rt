@@ -102,7 +102,6 @@ impl TypeName {
         &self.bytes[..usize::from(self.length)]
     }
 
-    /// The name of these bytes.
     fn of_bytes(text: &[u8]) -> TypeName
         requires { IsTypeName text.now }
         ensures { result ≡ text.now }
@@ -115,7 +114,7 @@ impl TypeName {
         }
     }
 
-    /// The same name again.
+    /// A copy. It takes no memory.
     pub fn copy(&self) -> TypeName
         ensures { result ≡ self.now }
     {
@@ -192,14 +191,12 @@ impl fmt::Display for TypeName {
     }
 }
 
-/// Whether the byte may stand in a type name.
 fn may_stand_in_name(byte: u8) -> bool
     ensures { result ≡ may_stand byte }
 {
     matches!(byte, b'a'..=b'z' | b'0'..=b'9' | b'_')
 }
 
-/// The place of the first byte that may not stand in a type name.
 fn first_bad_byte(bytes: &[u8]) -> Option<usize>
     ensures { result ≡ position (λ byte. not (may_stand byte)) bytes.now }
 {

@@ -9,6 +9,7 @@ use Rattle.std.proofs.lemmas.List.Elements.{All-nil, All-cons}
 use Rattle.std.proofs.lemmas.Option.{slice_get-get_or, slice_get_within, get_or_from_slice_get}
 use Rattle.std.proofs.lemmas.Slice.Eq.{bytes_eq-Decides}
 use Rattle.std.proofs.Math.Seq.{get_or-append_seam}
+use Rattle.mds_table.specs.declared.state.State.{State}
 use Rattle.mds_table.specs.declared.state.State.TheVariants.{Removed}
 use Rattle.mds_table.specs.Tables.{Tables, rows_at}
 use Rattle.mds_table.specs.Chain.{Leads}
@@ -93,12 +94,19 @@ module _ (tables : Tables) (key registered : Key) where
       let not_late : ltb event.time last.time ≡ false = sym (ap (λ (one : Option Reported). is_late (option_map (λ (event : Reported). event.time) one) event.time) ends) ∙ in_time in
       record { key = theirs ∙ sym same; time = ltb-false event.time last.time not_late }
 
-  -- over one event more that is open and leads on, a session may be opened
+  -- over one event more that is open and leads on, a session may be opened from the same state
+  pub open_further : (from : State) (done : List Reported) (event : Reported) → All (λ (one : Reported). one.key ≡ key) done → event.key ≡ key
+      → AreOpenFrom tables from done → IsOpen (told done) event → Leads (rows_at tables event.time) (held_at from done (length done)) event.types event.state
+      → AreOpenFrom tables from (done ++ event ∷ [])
+  open_further from done event theirs same before is_open leads =
+      let new : IsNewAfter done event = new_to event.id done (sym (ap (list_any (λ (one : Reported). bytes_eq one.id event.id)) (reports_of done)) ∙ is_open.new) in
+      open_push tables from done event before (order_more done event before.order new (comes_next done event theirs same is_open)) leads
+
+  -- and from removed where the machine's rows lead
   pub open_next : (done : List Reported) (event : Reported) → All (λ (one : Reported). one.key ≡ key) done → event.key ≡ key → AreOpenFrom tables Removed done
       → IsOpen (told done) event → Leads (rows_at tables event.time) (state_of (told done)) event.types event.state → AreOpenFrom tables Removed (done ++ event ∷ [])
   open_next done event theirs same before is_open leads =
-      let new : IsNewAfter done event = new_to event.id done (sym (ap (list_any (λ (one : Reported). bytes_eq one.id event.id)) (reports_of done)) ∙ is_open.new) in
-      open_push tables Removed done event before (order_more done event before.order new (comes_next done event theirs same is_open))
+      open_further Removed done event theirs same before is_open
       (subst (λ state. Leads (rows_at tables event.time) state event.types event.state)
       (ap (λ events. option_map_or (λ (one : Reported). one.state) (last_or None events) Removed) (reports_of done) ∙ held_is done) leads)
 

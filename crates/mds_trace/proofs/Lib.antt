@@ -5,3 +5,4 @@ pub mod Lawful
 pub mod Accepted
 pub mod FeedingLemmas
 pub mod Told
+pub mod Midway

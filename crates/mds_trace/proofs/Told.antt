@@ -13,6 +13,7 @@ use Rattle.mds_core.specs.History.{same_key, standing_of}
 use Rattle.mds_core.proofs.Histories.{same_key_refl}
 use Rattle.mds_batch.specs.declared.item.EventItem.{EventItem}
 use Rattle.mds_batch.specs.declared.item.EventItem.TheVariants.{Event, Fault as Faulty}
+use Rattle.mds_replay.specs.declared.report.Opening.{Opening}
 use Rattle.mds_replay.specs.declared.report.Opening.TheVariants.{Removed}
 use Rattle.mds_replay.specs.declared.report.Verdict.{Verdict}
 use Rattle.mds_replay.specs.declared.report.Verdict.TheVariants.{Accepted, Refused, NoOpening, Fault}
@@ -34,7 +35,7 @@ behind (x ∷ xs) ys n =
     ap (λ k. slice_get (x ∷ (xs ++ ys)) k) place ∙ behind xs ys n
 
 -- an accepted event of the vehicle stands among its accepted events behind those of the items before it
-stands_behind : (key : Key) (i : ℕ) (items : List EventItem) (lines : List Verdict) (event : Reported) (state : State)
+pub stands_behind : (key : Key) (i : ℕ) (items : List EventItem) (lines : List Verdict) (event : Reported) (state : State)
     → slice_get items i ≡ Some (Event event) → same_key event.key key ≡ true → slice_get lines i ≡ Some (Accepted state)
     → slice_get (prior_of key (accepted_of items lines)) (length (accepted_before items lines key i)) ≡ Some event
 stands_behind key i [] lines event state there same told = absurd (cc)
@@ -61,29 +62,27 @@ stands_behind key (suc i) (item ∷ items) (line ∷ lines) event state there sa
     ∙ stands_behind key i items lines event state there same told
 
 -- the state that a session holds behind an event is the one that it reports
-held_behind : (events : List Reported) (n : ℕ) (event : Reported) → slice_get events n ≡ Some event → held_at state.Removed events (n + 1) ≡ event.state
-held_behind events n event there = rw add-one (ap (λ one. option_map_or (λ (it : Reported). it.state) one state.Removed) there)
+pub held_behind : (from : State) (events : List Reported) (n : ℕ) (event : Reported) → slice_get events n ≡ Some event → held_at from events (n + 1) ≡ event.state
+held_behind from events n event there = rw add-one (ap (λ one. option_map_or (λ (it : Reported). it.state) one from) there)
 
 -- a verdict that accepts tells the state that its event reports
 told_is_reported : (tables : Tables) (accepted : List Reported) (event : Reported) (state : State) → IsVerdict Removed tables accepted (Event event) (Accepted state)
     → event.state ≡ state
 told_is_reported tables accepted event state is = sym is.0
 
--- an end of a report stands where its vehicle does after its accepted events
-end_of : (tables : Tables) (accepted : List Reported) (keys : List Key) (ends : List VehicleEnd) (n : ℕ) (end : VehicleEnd)
-    → AllZip (IsEnd Removed tables accepted) keys ends → slice_get ends n ≡ Some end
-    → end.standing ≡ Some (standing_of (as_requests end.key (prior_of end.key accepted)))
-end_of tables accepted [] [] n end are there = absurd (cc)
-end_of tables accepted [] (one ∷ ends) n end are there = absurd are
-end_of tables accepted (key ∷ keys) [] n end are there = absurd are
-end_of tables accepted (key ∷ keys) (one ∷ ends) zero end are there =
+-- an end of a report is the end of its vehicle
+pub end_of : (opening : Opening) (tables : Tables) (accepted : List Reported) (keys : List Key) (ends : List VehicleEnd) (n : ℕ) (end : VehicleEnd)
+    → AllZip (IsEnd opening tables accepted) keys ends → slice_get ends n ≡ Some end → IsEnd opening tables accepted end.key end
+end_of opening tables accepted [] [] n end are there = absurd (cc)
+end_of opening tables accepted [] (one ∷ ends) n end are there = absurd are
+end_of opening tables accepted (key ∷ keys) [] n end are there = absurd are
+end_of opening tables accepted (key ∷ keys) (one ∷ ends) zero end are there =
     let here : one ≡ end = cc in
-    subst (λ (it : VehicleEnd). it.standing ≡ Some (standing_of (as_requests it.key (prior_of it.key accepted)))) here
-    (subst (λ (it : Key). one.standing ≡ Some (standing_of (as_requests it (prior_of it accepted)))) (sym are.0.key_is) are.0.standing)
-end_of tables accepted (key ∷ keys) (one ∷ ends) (suc n) end are there = end_of tables accepted keys ends n end are.1 there
+    subst (λ (it : VehicleEnd). IsEnd opening tables accepted it.key it) here (subst (λ (it : Key). IsEnd opening tables accepted it one) (sym are.0.key_is) are.0)
+end_of opening tables accepted (key ∷ keys) (one ∷ ends) (suc n) end are there = end_of opening tables accepted keys ends n end are.1 there
 
 -- the state held after all events is the one in which the vehicle stands
-held_at_end : (key : Key) (events : List Reported) (standing : Standing) → Some (standing_of (as_requests key events)) ≡ Some standing
+pub held_at_end : (key : Key) (events : List Reported) (standing : Standing) → Some (standing_of (as_requests key events)) ≡ Some standing
     → held_at state.Removed events (length events) ≡ standing.state
 held_at_end key events standing same =
     let is : standing_of (as_requests key events) ≡ standing = cc in
@@ -93,13 +92,13 @@ held_at_end key events standing same =
 pub sessions_show_reports : SessionsShowReports
 sessions_show_reports tables items report n end is at = record {
   opens = accepted_events_open tables items report.lines.items end.key is.lines;
-  told = λ i event state there same told.
+  told = λ i event reported there same told.
       let accepted = prior_of end.key (accepted_of items report.lines.items) in
       let own : same_key event.key end.key ≡ true = subst (λ key. same_key event.key key ≡ true) same (same_key_refl event.key) in
-      held_behind accepted (length (accepted_before items report.lines.items end.key i)) event (stands_behind end.key i items report.lines.items event state there own told)
-      ∙ told_is_reported tables (accepted_of (take i items) (take i report.lines.items)) event state (is.lines.each i (Event event) (Accepted state) there told);
+      held_behind state.Removed accepted (length (accepted_before items report.lines.items end.key i)) event (stands_behind end.key i items report.lines.items event reported there own told)
+      ∙ told_is_reported tables (accepted_of (take i items) (take i report.lines.items)) event reported (is.lines.each i (Event event) (Accepted reported) there told);
   ended = λ standing stands.
       let accepted = accepted_of items report.lines.items in
       held_at_end end.key (prior_of end.key accepted) standing
-      (sym (end_of tables accepted (vehicles_of (events_of items)) report.vehicles.items n end is.vehicles at) ∙ stands);
+      (sym (end_of Removed tables accepted (vehicles_of (events_of items)) report.vehicles.items n end is.vehicles at).standing ∙ stands);
 }

@@ -5,6 +5,7 @@ pub mod Walk
 pub mod Session
 pub mod SessionFault
 pub mod SessionLaws
+pub mod MidwayLaws
 pub mod Feeding
 pub mod LineReport
 pub mod LinesTaken

@@ -1,5 +1,6 @@
 //! What holds of the definitions alone: of verdicts and runs, and of sessions, whoever computes them. Each law is a
 //! function that does nothing; its contract is the law.
+ghost use Rattle.mds_trace.specs.MidwayLaws.{MidwaySessionsShowReports};
 ghost use Rattle.mds_trace.specs.SessionLaws.{LawfulReportsOpen, AcceptedEventsOpen, SessionsShowReports};
 
 pub use mds_replay::laws::{replays_are_runs, replays_have_requests, reports_are_one};
@@ -21,4 +22,11 @@ pub fn accepted_events_open()
 /// each of them the state of its verdict, and at its end that of the vehicle's line.
 pub fn sessions_show_reports()
     ensures { SessionsShowReports }
+{}
+
+/// The debugger would show the states that a replay with [`Opening::Any`](crate::Opening::Any) told. Of a report of such a replay,
+/// a session over a vehicle's accepted events opens from each state in which the report says that the vehicle may have opened,
+/// and from no other. It holds behind each event the state of its verdict, and at its end that of the vehicle's line.
+pub fn midway_sessions_show_reports()
+    ensures { MidwaySessionsShowReports }
 {}

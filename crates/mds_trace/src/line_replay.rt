@@ -37,8 +37,7 @@ impl Model for LineReplay {
 }
 
 impl LineReplay {
-    /// A replay over these tables, with this opening of its vehicles, of a stream of which nothing has come. It takes no
-    /// memory.
+    /// A replay of a stream of which nothing has come. It takes no memory.
     pub fn open(alloc: Global, tables: Tables, opening: Opening) -> LineReplay
         ensures { result ≡ record {
           tables = tables;
@@ -56,10 +55,9 @@ impl LineReplay {
     ///
     /// # Errors
     ///
-    /// The first fault of the stream, as far as it has come: every stream that begins so has it. It is told as soon as its
-    /// line has ended, or its byte has come.
-    /// [`LineFault::Memory`] comes as soon as a growth is refused, and then says nothing of the stream. Each later call
-    /// answers the same fault.
+    /// The first fault of the stream, as far as it has come: every stream that begins so has it. It is told as soon as
+    /// its line has ended, or its byte has come, and by each later call. [`LineFault::Memory`] comes as soon as a
+    /// growth is refused, and says nothing of the stream.
     pub fn feed(&mut self, piece: &[u8]) -> Result<(), LineFault>
         ensures fed { OnOk result (self.new ≡ record self.old {
           stream = record { bytes = self.old.stream.bytes ++ piece.now; fault = None };

@@ -70,7 +70,7 @@ pub struct Session {
     sets: Sets,
 }
 
-// By hand: a crate that drops a session then cites this function, and proves no destructor of what it holds.
+// By hand: crates above cite it.
 impl Drop for Session {
     fn drop(self) {
         let Session {
@@ -277,7 +277,6 @@ impl Session {
         }
     }
 
-    /// Goes to the place before this event, or to the end, where only the state held is possible.
     fn stand_before(&mut self, event: usize)
         requires { event ≤ length self.old.events }
         ensures kept { KeepsEvents self.old self.new }
@@ -287,7 +286,7 @@ impl Session {
         self.place = Place { event, passed: 0 };
     }
 
-    /// Goes to the place behind the last type of this event. Its sets were not kept, so they are computed again.
+    /// The event's sets were not kept, so they are computed again.
     fn stand_behind(&mut self, event: usize)
         requires { event < length self.old.events }
         ensures kept { KeepsEvents self.old self.new }
@@ -303,7 +302,6 @@ impl Session {
         self.place.passed = passed;
     }
 
-    /// Passes one type of the present event, by one step from the last set.
     fn pass_type(&mut self)
         requires { self.old.place.passed < length (types_at self.old.events self.old.place.event) }
         ensures kept { KeepsEvents self.old self.new }
@@ -331,7 +329,6 @@ impl Session {
     }
 }
 
-/// The sets at the place before an event, with this state held.
 fn sets_before(held: State) -> Sets
     ensures { result.items ≡ (held ∷ []) ∷ [] }
 {
@@ -340,8 +337,6 @@ fn sets_before(held: State) -> Sets
     sets
 }
 
-/// The sets at all places of an event with these types, by the table in force at its time and with this state held
-/// before it.
 fn sets_of(table: &Table, held: State, types: &[TypeName]) -> Sets
     requires { length types.now ≤ max_event_types }
     ensures { AreSets table.now held types.now (length types.now) result.items }

@@ -11,7 +11,6 @@ use mds_table::{State, Tables, TypeName};
 use std::alloc::{AllocError, Global};
 use uuid::Uuid;
 
-/// The state held before the event at this place; past the last event, the state held after it.
 pub fn held_at(opening: State, events: &[Event], at: usize) -> State
     ensures { result ≡ held_at opening events.now at }
 {
@@ -24,7 +23,6 @@ pub fn held_at(opening: State, events: &[Event], at: usize) -> State
     }
 }
 
-/// The types of the event at this place; none past the last event.
 pub fn types_at(events: &[Event], at: usize) -> &[TypeName]
     ensures types { result.now ≡ types_at events.now at }
     ensures few { length result.now ≤ max_event_types }
@@ -35,7 +33,7 @@ pub fn types_at(events: &[Event], at: usize) -> &[TypeName]
     }
 }
 
-/// The time of the event at this place; 0 past the last event, where no type asks for a row.
+/// 0 past the last event, where no type asks for a row.
 pub fn time_at(events: &[Event], at: usize) -> u64
     ensures { result ≡ time_at events.now at }
 {
@@ -78,7 +76,6 @@ pub fn check_events(
     Ok(())
 }
 
-/// Whether the event may stand behind these, whose identifiers were seen; its own is then seen too.
 fn keeps_order(
     seen: &mut IndexSet<Uuid>,
     before: &[Event],
@@ -93,7 +90,6 @@ fn keeps_order(
     Ok(is_new && follows_on(before, event))
 }
 
-/// Whether the event has an identifier that none of those seen has; it is then seen too.
 fn is_new(seen: &mut IndexSet<Uuid>, event: &Event) -> Result<bool, AllocError>
     ensures { IfOk result (λ new. (before : List Reported) → seen.old.keys ≡ identifiers_of before
         → (IsTrue new ↔ IsNewAfter before event.now)
@@ -102,7 +98,6 @@ fn is_new(seen: &mut IndexSet<Uuid>, event: &Event) -> Result<bool, AllocError>
     Ok(seen.insert(event.id())?)
 }
 
-/// Whether the event is the first, or is of the vehicle of the last event before it and not earlier.
 fn follows_on(before: &[Event], event: &Event) -> bool
     ensures { IsTrue result ↔ FollowsOn before.now event.now }
 {
@@ -112,14 +107,12 @@ fn follows_on(before: &[Event], event: &Event) -> bool
     }
 }
 
-/// Whether both events are of one vehicle, and the second isn't earlier.
 fn comes_next(last: &Event, event: &Event) -> bool
     ensures { IsTrue result ↔ ComesNext last.now event.now }
 {
     last.key() == event.key() && last.time() <= event.time()
 }
 
-/// The first event from this place on that reports this state.
 pub fn first_reporting(events: &[Event], from: usize, state: State) -> Option<usize>
     ensures { IsFirstReporting events.now from state result }
 {

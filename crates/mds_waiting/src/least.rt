@@ -24,7 +24,6 @@ pub(crate) struct Found {
 }
 
 impl Order {
-    /// The time by which the connection of a slot is compared, if there is one, and it is among those that are.
     fn time_in<S>(self, slot: &Option<Waiter<S>>) -> Option<u64>
         ensures { result ≡ time_in self slot.now }
     {
@@ -39,7 +38,6 @@ impl Order {
     }
 }
 
-/// The one of both with the lesser time, if there are both, and the first of equal ones.
 fn lesser(first: Option<Found>, key: usize, time: Option<u64>) -> Option<Found>
     ensures { result ≡ lesser first key time }
 {
@@ -50,7 +48,6 @@ fn lesser(first: Option<Found>, key: usize, time: Option<u64>) -> Option<Found>
     }
 }
 
-/// The connection with the least time in this order, the first of equal ones.
 pub(crate) fn least<S>(slots: &[Option<Waiter<S>>], order: Order) -> Option<Found>
     ensures { IsLeast order slots.now result }
 {

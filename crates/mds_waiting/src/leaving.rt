@@ -10,8 +10,8 @@ use crate::peer::{Came, Peer, receive, send};
 /// How many bytes that a client sends after the answer are thrown away at most.
 const MAX_LAST_BYTES: usize = 16_777_216;
 
-/// How many of them one call asks for.
-const ROOM_BYTES: usize = 16_384;
+/// How many of them one call asks for. The room is filled anew at each look, also at one that throws nothing away.
+const ROOM_BYTES: usize = 4_096;
 
 /// An answer that leaves.
 #[derive(Drop)]
@@ -59,7 +59,7 @@ impl<S: Peer> Leaving<S> {
         Look::Waits
     }
 
-    /// The same with one call for bytes. `None` where the client may take or give more.
+    /// Makes one call for bytes. `None` where the client may take or give more.
     fn look_once(&mut self, bytes: &[u8]) -> Option<Look>
         ensures sent { SendsPart (S.sent self.old.peer) (S.sent self.new.peer) bytes.now
             self.old.sent self.new.sent }

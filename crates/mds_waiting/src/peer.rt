@@ -55,7 +55,6 @@ pub(crate) enum Came {
     Lost,
 }
 
-/// What a call that answered this came to.
 fn came_of(called: io::Result<usize>) -> Came
     ensures ok { IfOk called (λ count. result ≡ came_by count) }
     ensures none { OnErr called (IsWithout result) }
@@ -68,14 +67,12 @@ fn came_of(called: io::Result<usize>) -> Came
     }
 }
 
-/// Whether bytes may come after a call that failed in this way.
 fn may_pass(kind: ErrorKind) -> bool
     ensures { IsTrue result ↔ ((kind ≡ ErrorKind.WouldBlock) ⊎ (kind ≡ ErrorKind.Interrupted)) }
 {
     matches!(kind, ErrorKind::WouldBlock | ErrorKind::Interrupted)
 }
 
-/// One call for bytes of the other side.
 pub(crate) fn receive<S: Peer>(peer: &mut S, room: &mut [u8]) -> Came
     ensures came { Receives result (S.coming peer.old) (S.coming peer.new) room.new }
     ensures sent { Keeps (S.sent peer.old) (S.sent peer.new) }
@@ -84,7 +81,6 @@ pub(crate) fn receive<S: Peer>(peer: &mut S, room: &mut [u8]) -> Came
     came_of(peer.receive(room))
 }
 
-/// One call that sends these bytes.
 pub(crate) fn send<S: Peer>(peer: &mut S, bytes: &[u8]) -> Came
     ensures { Sends result (S.sent peer.old) (S.sent peer.new) bytes.now }
 {

@@ -18,7 +18,6 @@ pub struct Waiter<S> {
     pub until: u64,
 }
 
-/// How much so many bytes count.
 pub(crate) fn counted(len: usize) -> usize
     ensures { result ≡ min len max_held }
 {

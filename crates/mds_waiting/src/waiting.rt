@@ -195,7 +195,6 @@ impl<S> Waiting<S> {
     }
 }
 
-/// Whether the clock tells a time before this one.
 fn is_before(now: Option<u64>, time: u64) -> bool
     ensures { IsTrue result → IsSomeAnd now (λ now. now < time) }
 {
@@ -213,7 +212,6 @@ fn key_if_over(found: Found, now: Option<u64>) -> Option<usize>
     }
 }
 
-/// Puts a connection into a slot.
 fn fill<S: Drop>(slots: &mut Vec<Option<Waiter<S>>>, key: usize, waiter: Waiter<S>)
     requires { key < vec_len slots.old }
     ensures { slots.new.items ≡ slice_set slots.old.items key (Some waiter) }
@@ -221,7 +219,6 @@ fn fill<S: Drop>(slots: &mut Vec<Option<Waiter<S>>>, key: usize, waiter: Waiter<
     slots[key] = Some(waiter);
 }
 
-/// Takes the connection out of a slot, if there is one.
 fn empty<S>(slots: &mut Vec<Option<Waiter<S>>>, key: usize) -> Option<Waiter<S>>
     ensures taken { result ≡ slice_index_or slots.old.items key None }
     ensures slots { slots.new.items ≡ slice_set slots.old.items key None }
@@ -232,7 +229,6 @@ fn empty<S>(slots: &mut Vec<Option<Waiter<S>>>, key: usize) -> Option<Waiter<S>>
     mem::replace(&mut slots[key], None)
 }
 
-/// The number of the first slot without a connection.
 fn vacant_in<S>(slots: &[Option<Waiter<S>>]) -> Option<usize>
     ensures vacant { IfSome result (IsVacant slots.now) }
     ensures none { IfNone result (All IsSome slots.now) }

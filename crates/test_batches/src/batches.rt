@@ -1,11 +1,11 @@
-//! Batches: values from outside, and that each call can succeed.
-mod changes;
+//! Batches: a value from outside, and that each call can succeed. More values are asked of the built program.
 mod quiet;
+mod single;
 mod takers;
-mod texts;
 
 use mds_batch::{
-    BatchFault, BatchItem, EventItem, ItemFault, Member, VehicleItem, read_events, read_vehicles,
+    BatchFault, BatchItem, BatchItems, EventItem, EventItems, ItemFault, Member, VehicleItem,
+    read_event_items, read_events, read_vehicles,
 };
 use mds_core::Position;
 use mds_table::State;
@@ -14,7 +14,7 @@ pub use takers::Few;
 use test_fixtures::{A, E1, again, event_of, key};
 
 /// How many items a text lists and the fault of the first, or why it lists none.
-pub type First = Result<(usize, Option<ItemFault>), BatchFault>;
+type First = Result<(usize, Option<ItemFault>), BatchFault>;
 
 fn first_of<I: BatchItem + Drop>(read: Result<Vec<I>, BatchFault>) -> First {
     let items = read?;
@@ -25,12 +25,13 @@ fn first_of<I: BatchItem + Drop>(read: Result<Vec<I>, BatchFault>) -> First {
     Ok((items.len(), fault))
 }
 
-/// What a text lists, of registrations and of events.
-pub type Firsts = (First, First);
-
-pub fn firsts(alloc: Global, text: &[u8]) -> Firsts {
-    let vehicles = first_of(read_vehicles(alloc, text));
-    (vehicles, first_of(read_events(alloc, text)))
+fn first_kept(read: Result<EventItems, BatchFault>) -> First {
+    let items = read?;
+    let fault = match items.kept().first() {
+        Some(item) => item.fault(),
+        None => None,
+    };
+    Ok((items.count(), fault))
 }
 
 /// The pieces, each as often as it stands.
@@ -48,20 +49,11 @@ pub const EVENT: &str = r#"{"provider_id":"00000000-0000-4000-8000-000000000001"
 "vehicle_state":"on_trip","event_types":["trip_end","battery_low","trip_end"],
 "timestamp":1000,"location_e7":{"lat":525200000,"lng":134050000}}"#;
 
-/// A latitude and a longitude, if there are any.
-pub type Place = Option<(i64, i64)>;
-
-/// The position of the event.
-pub const BERLIN: Place = Some((525200000, 134050000));
-
-/// The item that reports the event, at this time and place. No text of these tests has the other one.
-pub fn report(time: u64, place: Place) -> EventItem {
+/// The item that reports it. No text of these tests has the other one.
+pub fn report() -> EventItem {
     let types = &["trip_end", "battery_low", "trip_end"];
-    let position = match place {
-        Some((lat, lng)) => Position::new(lat, lng),
-        None => None,
-    };
-    match event_of(A, E1, types, State::OnTrip, time, position) {
+    let position = Position::new(525200000, 134050000);
+    match event_of(A, E1, types, State::OnTrip, 1000, position) {
         Some(event) => EventItem::Event(event),
         None => EventItem::Fault(ItemFault::NotObject),
     }
@@ -102,6 +94,10 @@ pub const TWO_ITEMS: &[u8] = br#"[{"provider_id":"00000000-0000-4000-8000-000000
 fn call_succeeds_after_a_refused_growth(rt: HostRuntime) {
     let vehicles = again!(read_vehicles(rt.alloc(), TWO_ITEMS));
     let events = again!(read_events(rt.alloc(), TWO_ITEMS));
+    let kept = again!(read_event_items(rt.alloc(), TWO_ITEMS));
     let expected = Ok((2, Some(ItemFault::Missing(Member::DeviceId))));
-    assert_eq!(rt; [first_of(vehicles), first_of(events)], [expected; 2]);
+    assert_eq!(rt;
+        [first_of(vehicles), first_of(events), first_kept(kept)],
+        [expected; 3]
+    );
 }

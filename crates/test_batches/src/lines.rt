@@ -1,12 +1,9 @@
-//! Lines: values from outside, however they are cut, and that each call can succeed.
+//! Lines: that each call can succeed, and a taker without memory. Values are asked of the built program.
 use crate::batches::Few;
 use mds_batch::{BatchItem, EventItem, ItemFault, Member};
 use mds_lines::{LineFault, LineReader};
 use std::alloc::Global;
-use test_fixtures::{again, fence, rows};
-
-/// What is read of a stream: the faults of its items, each if it has one, or the stream's own first fault.
-type Items<'a> = Result<&'a [Option<ItemFault>], LineFault>;
+use test_fixtures::{again, fence};
 
 const NO_OBJECT: Option<ItemFault> = Some(ItemFault::NotObject);
 
@@ -21,40 +18,11 @@ const EVENTS: &[u8] =
 {}
 {"provider_id":"00000000-0000-4000-8000-000000000001","device_id":"00000000-0000-4000-8000-00000000000a","event_id":"00000000-0000-4000-8000-0000000000e1","vehicle_state":"on_trip","event_types":["trip_start"],"timestamp":1000}"#;
 
-/// Line 0 is no JSON.
-const AT_0: Items<'static> = Err(LineFault::NotJson { line: 0 });
-
-const AT_1: Items<'static> = Err(LineFault::NotJson { line: 1 });
-
-const AT_2: Items<'static> = Err(LineFault::NotJson { line: 2 });
-
-const STREAMS: &[(&[u8], Items<'static>)] = rows! {
-    // no items
-    (b"", Ok(&[])),
-    (b"\n\r\n \t\n\t ", Ok(&[])),
-    // lines of one item each; the last may end without a line feed
-    (b"7", Ok(&[NO_OBJECT])),
-    (b"\n\n{}\n \r\n\n7\r\n\n", Ok(&[NO_PROVIDER, NO_OBJECT])),
-    // characters of two, three and four bytes
-    (b"\"\xc3\xa4\xe2\x82\xac\xf0\x9f\x9b\xb4\"\n7", Ok(&[NO_OBJECT, NO_OBJECT])),
-    // a line that is no JSON; blank lines are counted too
-    (b"7\n{\n7\n", AT_1),
-    (b"{}\r\n7\r\n\"\xe2\x82\xac\n\"\n", AT_2),
-    // a character that a line feed divides
-    (b"\"\xe2\x82\n\xac\"\n", AT_0),
-};
-
-/// The items of a stream that is fed in a front and in pieces of this length, or its first fault.
-fn fed(
-    alloc: Global,
-    front: &[u8],
-    rest: &[u8],
-    length: usize,
-) -> Result<Vec<EventItem>, LineFault> {
+/// The items of a stream that is fed in pieces of this length, or its first fault.
+fn fed(alloc: Global, stream: &[u8], length: usize) -> Result<Vec<EventItem>, LineFault> {
     let mut items = Vec::new(alloc);
     let mut reader = LineReader::open(alloc);
-    reader.feed(front, &mut items)?;
-    for piece in rest.chunks(length.max(1)) {
+    for piece in stream.chunks(length.max(1)) {
         reader.feed(piece, &mut items)?;
     }
     reader.finish(&mut items)?;
@@ -67,62 +35,16 @@ fn have(items: &[EventItem], faults: &[Option<ItemFault>]) -> bool {
     items.len() == faults.len() && pairs.all(|(item, fault)| item.fault() == *fault)
 }
 
-/// Whether this was read.
-fn is_as(read: Result<Vec<EventItem>, LineFault>, expected: Items<'_>) -> bool {
-    match (read, expected) {
-        (Ok(items), Ok(faults)) => have(items.as_slice(), faults),
-        (Err(found), Err(fault)) => found == fault,
-        _ => false,
-    }
+/// Whether a stream of events among other lines is read, fed again from its beginning where a growth is refused.
+fn is_read(alloc: Global) -> Result<bool, LineFault> {
+    let items = again!(fed(alloc, EVENTS, 99))?;
+    Ok(have(&items, &[None, None, NO_OBJECT, NO_PROVIDER, None]))
 }
 
-/// The length of the first front with which something else is read of a stream, where the rest comes whole, or byte
-/// by byte.
-fn first_front(alloc: Global, stream: &[u8], expected: Items<'_>) -> Option<usize> {
-    for at in 0..stream.len().saturating_add(1) {
-        let (front, rest) = stream.split_at(at.min(stream.len()));
-        let whole = fed(alloc, front, rest, usize::MAX);
-        if !is_as(whole, expected) || !is_as(fed(alloc, front, rest, 1), expected) {
-            return Some(at);
-        }
-    }
-    None
-}
-
-#[test]
-fn streams_whole_and_cut_at_each_byte(rt: HostRuntime) {
-    let other = STREAMS.iter().position(|(stream, expected)| first_front(
-        rt.alloc(),
-        stream,
-        *expected,
-    ).is_some());
-    assert_eq!(rt; other, None);
-}
-
-/// A stream of events among other lines, fed again from its beginning where a growth is refused (by
-/// `tests/refused-growths`).
+/// Growths are refused by `tests/refused-growths`.
 #[test]
 fn a_stream_is_read_after_a_refused_growth(rt: HostRuntime) {
-    let read = again!(fed(rt.alloc(), b"", EVENTS, 99));
-    assert!(rt; is_as(read, Ok(&[None, None, NO_OBJECT, NO_PROVIDER, None])));
-}
-
-/// Want of memory is kept, as any fault is (growths are refused by `tests/refused-growths`).
-#[test]
-fn memory_is_kept_after_a_refused_growth(rt: HostRuntime) {
-    let mut items = Vec::new(rt.alloc());
-    let mut reader = LineReader::open(rt.alloc());
-    let fed = [
-        reader.feed(b"7\n7\n", &mut items),
-        reader.feed(b"7", &mut items),
-        reader.feed(b"\n", &mut items),
-    ];
-    let ended = reader.finish(&mut items).map(|()| items.len());
-    let kept = match fed {
-        [Ok(()), Ok(()), Ok(())] => ended == Ok(3) || ended == Err(LineFault::Memory),
-        [_, _, last] => last == Err(LineFault::Memory) && ended == Err(LineFault::Memory),
-    };
-    assert!(rt; kept);
+    assert_eq!(rt; is_read(rt.alloc()), Ok(true));
 }
 
 /// What a stream answers that is fed in two pieces and finished, where the taker finds memory for so many items of the first

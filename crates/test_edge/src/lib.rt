@@ -6,6 +6,8 @@ mod peers;
 #[cfg(test)]
 mod ports;
 #[cfg(test)]
+mod sockets;
+#[cfg(test)]
 mod waiting;
 #[cfg(test)]
 mod workers;

@@ -3,9 +3,10 @@ use mds_request::Face;
 use mds_waiting::{Coming, Leaving, Look, Outgoing, Part, Peer};
 use std::alloc::{AllocError, Global};
 use std::io::{self, ErrorKind, Write};
+use test_fixtures::rows;
 
 /// What a client does at one call.
-#[derive(Clone, Copy, Debug, PartialEq, Eq)]
+#[derive(Clone, Copy)]
 pub(crate) enum Act {
     /// It gives these bytes, or ends where there are none.
     Gives(&'static [u8]),
@@ -83,41 +84,26 @@ const LATER: Act = Act::Fails(ErrorKind::WouldBlock);
 /// What a client does, what becomes of one look at its request, whether its head is there then, and how many bytes are.
 type Request = (&'static [Act], Look, Part, usize);
 
-const REQUESTS: &[Request] = &[
-    (
-        &[Act::Gives(b"GET / HTTP/1.1\r\n\r\n")],
-        Look::Done,
-        Part::Request,
-        18,
-    ),
-    (
-        &[Act::Gives(b"GET / HTTP/1.1\r\n\r\nmore")],
-        Look::Done,
-        Part::Request,
-        22,
-    ),
+const REQUESTS: &[Request] = rows! {
+    (&[Act::Gives(b"GET / HTTP/1.1\r\n\r\n")], Look::Done, Part::Request, 18),
+    (&[Act::Gives(b"GET / HTTP/1.1\r\n\r\nmore")], Look::Done, Part::Request, 22),
     (&[Act::Gives(b"nothing\r\n")], Look::Done, Part::Request, 9),
     (&[Act::Gives(b"GET /")], Look::Waits, Part::Head, 5),
     (&[LATER], Look::Waits, Part::Head, 0),
-    (
-        &[Act::Fails(ErrorKind::Interrupted)],
-        Look::Waits,
-        Part::Head,
-        0,
-    ),
+    (&[Act::Fails(ErrorKind::Interrupted)], Look::Waits, Part::Head, 0),
     (&[Act::Gives(b"")], Look::Done, Part::Head, 0),
     (&[LOST], Look::Gone, Part::Head, 0),
     (&[Act::Gives(HEAD)], Look::Waits, Part::Request, 44),
-];
+};
 
-/// The first request of which something else becomes.
-fn other_request(alloc: Global) -> Result<Option<Request>, AllocError> {
+/// The place of the first request of which something else becomes.
+fn other_request(alloc: Global) -> Result<Option<usize>, AllocError> {
     let face = Face::open(alloc)?;
-    for (acts, look, part, count) in REQUESTS.iter().copied() {
+    for (at, (acts, look, part, count)) in REQUESTS.iter().copied().enumerate() {
         let (mut coming, mut bytes) = (Coming::new(Played::new(acts)), Vec::new(alloc));
         let looked = coming.look(&face, &mut bytes, &mut [0u8; 64]);
         if looked != look || coming.part != part || bytes.len() != count {
-            return Ok(Some((acts, looked, coming.part, bytes.len())));
+            return Ok(Some(at));
         }
     }
     Ok(None)
@@ -128,38 +114,22 @@ fn requests_come_as_their_clients_give_them(rt: HostRuntime) {
     assert_eq!(rt; other_request(rt.alloc()), Ok(None));
 }
 
-/// A request whose body comes in pieces, with nothing between, and one that is lost in its body: what each look comes to.
-const PIECES: &[Act] = &[
-    Act::Gives(HEAD),
-    LATER,
-    Act::Gives(b"12"),
-    Act::Gives(b"345"),
-];
+/// What a client does, and what each of four looks at its request comes to; and how many bytes are there then.
+type Pieces = (&'static [Act], [Look; 4], usize);
 
-const CUT: &[Act] = &[Act::Gives(HEAD), Act::Gives(b"12"), LOST, LOST];
+const CUT: [Look; 4] = [Look::Waits, Look::Waits, Look::Gone, Look::Gone];
 
-/// Heads that come in pieces: one whose last byte comes alone, one with a line that is no field, and one that is none, which is
-/// found out at twice its bytes.
-const ENDS: &[Act] = &[
-    Act::Gives(b"GET / HTTP/1.1\r\n"),
-    Act::Gives(b"a:b\r\n"),
-    Act::Gives(b"\r"),
-    Act::Gives(b"\n"),
-];
+const FOUND: [Look; 4] = [Look::Waits, Look::Waits, Look::Waits, Look::Done];
 
-const NO_FIELD: &[Act] = &[
-    Act::Gives(b"GET / HTTP/1.1\r\n"),
-    Act::Gives(b"a "),
-    Act::Gives(b"b"),
-    Act::Gives(b"\r\n"),
-];
-
-const NO_HEAD: &[Act] = &[
-    Act::Gives(b"GET /"),
-    Act::Gives(b" y"),
-    LATER,
-    Act::Gives(b"yyy"),
-];
+const PIECES: &[Pieces] = rows! {
+    // A body comes in pieces, with nothing between, or is lost.
+    (&[Act::Gives(HEAD), LATER, Act::Gives(b"12"), Act::Gives(b"345")], FOUND, 48),
+    (&[Act::Gives(HEAD), Act::Gives(b"12"), LOST, LOST], CUT, 46),
+    // So does a head: its last byte comes alone, or it has a line that is no field; one that is none is found out at twice its bytes.
+    (&[Act::Gives(b"GET / HTTP/1.1\r\n"), Act::Gives(b"a:b\r\n"), Act::Gives(b"\r"), Act::Gives(b"\n")], FOUND, 23),
+    (&[Act::Gives(b"GET / HTTP/1.1\r\n"), Act::Gives(b"a "), Act::Gives(b"b"), Act::Gives(b"\r\n")], FOUND, 21),
+    (&[Act::Gives(b"GET /"), Act::Gives(b" y"), LATER, Act::Gives(b"yyy")], FOUND, 10),
+};
 
 /// What each of four looks at a request comes to, and how many bytes are there then.
 fn looks(alloc: Global, acts: &'static [Act]) -> Result<([Look; 4], usize), AllocError> {
@@ -172,64 +142,43 @@ fn looks(alloc: Global, acts: &'static [Act]) -> Result<([Look; 4], usize), Allo
     Ok((looks, bytes.len()))
 }
 
-#[test]
-fn a_body_comes_in_pieces(rt: HostRuntime) {
-    let whole = [Look::Waits, Look::Waits, Look::Waits, Look::Done];
-    let cut = [Look::Waits, Look::Waits, Look::Gone, Look::Gone];
-    assert_eq!(rt; looks(rt.alloc(), PIECES), Ok((whole, 48)));
-    assert_eq!(rt; looks(rt.alloc(), CUT), Ok((cut, 46)));
+/// The place of the first of these requests of which something else becomes.
+fn other_pieces(alloc: Global) -> Result<Option<usize>, AllocError> {
+    for (at, (acts, expected, count)) in PIECES.iter().copied().enumerate() {
+        if looks(alloc, acts)? != (expected, count) {
+            return Ok(Some(at));
+        }
+    }
+    Ok(None)
 }
 
 #[test]
-fn a_head_comes_in_pieces(rt: HostRuntime) {
-    let found = [Look::Waits, Look::Waits, Look::Waits, Look::Done];
-    assert_eq!(rt; looks(rt.alloc(), ENDS), Ok((found, 23)));
-    assert_eq!(rt; looks(rt.alloc(), NO_FIELD), Ok((found, 21)));
-    assert_eq!(rt; looks(rt.alloc(), NO_HEAD), Ok((found, 10)));
+fn requests_come_in_pieces(rt: HostRuntime) {
+    assert_eq!(rt; other_pieces(rt.alloc()), Ok(None));
 }
 
 /// What a client does at an answer of five bytes, whether its request was read to its end, what each of two looks comes to, and how
 /// many bytes it was sent.
 type Answer = (&'static [Act], bool, [Look; 2], usize);
 
-const ANSWERS: &[Answer] = &[
+const ANSWERS: &[Answer] = rows! {
     (&[Act::Takes(5), LATER], true, [Look::Gone, Look::Gone], 5),
-    (
-        &[Act::Takes(2), LATER, Act::Takes(3), LATER],
-        true,
-        [Look::Waits, Look::Gone],
-        5,
-    ),
-    (
-        &[Act::Takes(2), LOST, LOST],
-        true,
-        [Look::Gone, Look::Gone],
-        2,
-    ),
+    (&[Act::Takes(2), LATER, Act::Takes(3), LATER], true, [Look::Waits, Look::Gone], 5),
+    (&[Act::Takes(2), LOST, LOST], true, [Look::Gone, Look::Gone], 2),
     (&[Act::Takes(0)], true, [Look::Gone, Look::Waits], 0),
     (&[LATER, LATER], true, [Look::Waits, Look::Waits], 0),
-    (
-        &[Act::Takes(5), LATER, Act::Gives(b"")],
-        false,
-        [Look::Waits, Look::Gone],
-        5,
-    ),
-    (
-        &[Act::Takes(5), Act::Gives(b"more"), LATER, LOST],
-        true,
-        [Look::Waits, Look::Gone],
-        5,
-    ),
-];
+    (&[Act::Takes(5), LATER, Act::Gives(b"")], false, [Look::Waits, Look::Gone], 5),
+    (&[Act::Takes(5), Act::Gives(b"more"), LATER, LOST], true, [Look::Waits, Look::Gone], 5),
+};
 
-/// The first answer of which something else becomes.
-fn other_answer() -> Option<Answer> {
-    for (acts, is_read, looks, count) in ANSWERS.iter().copied() {
+/// The place of the first answer of which something else becomes.
+fn other_answer() -> Option<usize> {
+    for (at, (acts, is_read, looks, count)) in ANSWERS.iter().copied().enumerate() {
         let mut leaving = Leaving::new(Played::new(acts), is_read);
         let looked = [leaving.look(b"12345"), leaving.look(b"12345")];
         let is_front = leaving.peer.sent.get(..count) == b"12345".get(..count);
         if looked != looks || leaving.peer.count != count || !is_front {
-            return Some((acts, is_read, looked, leaving.peer.count));
+            return Some(at);
         }
     }
     None
@@ -252,19 +201,34 @@ fn written(alloc: Global, acts: &'static [Act]) -> io::Result<(usize, usize, boo
     Ok((count, outgoing.rest.len(), is_front && is_rest))
 }
 
+/// What a client does, and how many of the bytes it is sent, and how many are kept.
+const WRITTEN: &[(&[Act], (usize, usize, bool))] = rows! {
+    (&[Act::Takes(2)], (2, 3, true)),
+    (&[LATER], (0, 5, true)),
+    (&[Act::Takes(3), Act::Takes(8)], (5, 0, true)),
+};
+
+/// The place of the first client to which something else is written.
+fn other_written(alloc: Global) -> Option<usize> {
+    for (at, (acts, expected)) in WRITTEN.iter().enumerate() {
+        if written(alloc, *acts).ok() != Some(*expected) {
+            return Some(at);
+        }
+    }
+    None
+}
+
+/// Whether a client that is lost is told of at once, and isn't behind the first bytes that it took.
+fn is_lost(alloc: Global) -> bool {
+    written(alloc, &[LOST]).is_err() && written(alloc, &[Act::Takes(2), LOST]).is_ok()
+}
+
 #[test]
 fn what_a_client_does_not_take_is_kept(rt: HostRuntime) {
-    let alloc = rt.alloc();
-    assert!(rt; matches!(written(alloc, &[Act::Takes(2)]), Ok((2, 3, true))));
-    assert!(rt; matches!(written(alloc, &[LATER]), Ok((0, 5, true))));
-    assert!(rt;
-        matches!(
-            written(alloc, &[Act::Takes(3), Act::Takes(8)]),
-            Ok((5, 0, true))
-        )
+    assert_eq!(rt;
+        (other_written(rt.alloc()), is_lost(rt.alloc())),
+        (None, true)
     );
-    assert!(rt; written(alloc, &[Act::Takes(2), LOST]).is_ok());
-    assert!(rt; written(alloc, &[LOST]).is_err());
 }
 
 /// Whether a request comes whole, and what a client doesn't take of an answer is kept.

@@ -1,5 +1,5 @@
 //! Connections that wait, put and taken, and growths that are refused.
-use mds_waiting::{Given, MAX_WAITING, Part, Waiter, Waiting};
+use mds_waiting::{Given, MAX_WAITING, Waiter, Waiting};
 use std::alloc::{AllocError, Global};
 use std::io::Read;
 use test_fixtures::again;
@@ -130,31 +130,4 @@ fn the_eldest_leave_for_others(rt: HostRuntime) {
         leaves_for_others(rt.alloc()),
         Ok((Some(2), 2, true, false))
     );
-}
-
-/// Times, and what is over then: by the part of a connection, since when it goes on, and when its client did something at last.
-type Time = (Part, u64, u64, u64);
-
-const TIMES: &[Time] = &[
-    (Part::Head, 5_000, 5_000, 15_000),
-    (Part::Head, 5_000, 14_999, 15_000),
-    (Part::Request, 5_000, 5_000, 35_000),
-    (Part::Request, 5_000, 34_999, 64_999),
-    (Part::Request, 5_000, 64_000, 65_000),
-    (Part::Answer, 90_000, 90_000, 120_000),
-    (Part::Answer, 90_000, 149_000, 150_000),
-    (Part::Last, 0, 0, 2_000),
-    (Part::Last, 0, 9_000, 10_000),
-    (Part::Head, u64::MAX, u64::MAX, u64::MAX),
-];
-
-/// The first time of which something else is said.
-fn other_time() -> Option<Time> {
-    let mut times = TIMES.iter().copied();
-    times.find(|(part, begun, now, until)| part.until(*begun, *now) != *until)
-}
-
-#[test]
-fn times_are_over_as_documented(rt: HostRuntime) {
-    assert_eq!(rt; other_time(), None);
 }

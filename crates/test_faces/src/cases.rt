@@ -3,49 +3,24 @@ use mds_table::Tables;
 use std::alloc::{AllocError, Global};
 use test_fixtures::{Lack, again, profile_again};
 
-/// An answer: what stands in the status line behind the version, the fields behind the last one that every answer has, and
-/// the body.
-pub type Answer = (&'static str, &'static str, &'static str);
+/// An answer: what stands in the status line behind the version, and the body.
+pub type Answer = (&'static str, &'static str);
 
 const BAD: &str = "400 Bad Request";
 
-pub const BAD_HEAD: Answer = (BAD, "", r#"{"error":"bad_head"}"#);
+pub const BAD_HEAD: Answer = (BAD, r#"{"error":"bad_head"}"#);
 
-pub const BAD_LENGTH: Answer = (BAD, "", r#"{"error":"bad_length"}"#);
-
-pub const CUT_SHORT: Answer = (BAD, "", r#"{"error":"cut_short"}"#);
-
-pub const NOT_JSON: Answer = (BAD, "", r#"{"error":"not_json"}"#);
-
-pub const NOT_LIST: Answer = (BAD, "", r#"{"error":"not_list"}"#);
+pub const CUT_SHORT: Answer = (BAD, r#"{"error":"cut_short"}"#);
 
 const NONE: &str = "404 Not Found";
 
-pub const NO_ROUTE: Answer = (NONE, "", r#"{"error":"not_found"}"#);
-
-pub const UNKNOWN: Answer = (NONE, "", r#"{"error":"unregistered"}"#);
-
-const NO_METHOD: &str = "405 Method Not Allowed";
-
-pub const POST_ONLY: Answer = (
-    NO_METHOD,
-    "allow: POST\r\n",
-    r#"{"error":"method_not_allowed"}"#,
-);
-
-pub const NO_LENGTH: Answer = ("411 Length Required", "", r#"{"error":"length_required"}"#);
-
-pub const TOO_LONG: Answer = ("413 Payload Too Large", "", r#"{"error":"too_long"}"#);
-
-const NO_SUCH: &str = "501 Not Implemented";
-
-pub const CODED: Answer = (NO_SUCH, "", r#"{"error":"transfer_encoding"}"#);
+pub const NO_ROUTE: Answer = (NONE, r#"{"error":"not_found"}"#);
 
 const LACKING: &str = "503 Service Unavailable";
 
-pub const LACKING_AT_0: Answer = (LACKING, "", r#"{"error":"out_of_memory","index":0}"#);
+pub const LACKING_AT_0: Answer = (LACKING, r#"{"error":"out_of_memory","index":0}"#);
 
-pub const LACKING_AT_2: Answer = (LACKING, "", r#"{"error":"out_of_memory","index":2}"#);
+pub const LACKING_AT_2: Answer = (LACKING, r#"{"error":"out_of_memory","index":2}"#);
 
 /// The batch of no items, and its answer.
 pub const EMPTY: &str = "POST /events HTTP/1.1\r\nContent-Length: 2\r\n\r\n[]";
@@ -72,10 +47,10 @@ pub const WAKE_AND_REST: &str =
 
 /// The text of an answer.
 pub fn answer_text(alloc: Global, answer: Answer) -> Result<String, AllocError> {
-    let (status, fields, body) = answer;
+    let (status, body) = answer;
     let length = body.len();
     format!(in alloc;
-        "HTTP/1.1 {status}\r\ncontent-type: application/json\r\ncontent-length: {length}\r\nconnection: close\r\n{fields}\r\n{body}"
+        "HTTP/1.1 {status}\r\ncontent-type: application/json\r\ncontent-length: {length}\r\nconnection: close\r\n\r\n{body}"
     )
 }
 

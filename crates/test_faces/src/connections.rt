@@ -1,4 +1,4 @@
-//! One connection: the worked answers, and what becomes of it where a device fails or there is no memory.
+//! One connection: its answers, and what becomes of it where a device fails or there is no memory.
 mod answers;
 mod endings;
 mod growths;
@@ -6,68 +6,11 @@ mod kept;
 mod quiet;
 mod seats;
 
-ghost use Rattle.std.specs.Prelude.{◌≡◌, IfOk};
-
 use crate::cases::{Answer, answer_text};
 use mds_face::{Desk, Face, ServeFault, Served, serve_one};
 use std::alloc::{AllocError, Global};
-use std::io::{self, Error, ErrorKind, Read, Write};
-use test_fixtures::again;
-
-/// What a device does once it has given or taken the bytes that it is to.
-#[derive(Clone, Copy, Debug, PartialEq, Eq)]
-pub enum Last {
-    /// It answers 0.
-    Ends,
-    /// It fails.
-    Fails,
-    /// It is interrupted, again and again.
-    Pauses,
-}
-
-/// The answer of a device that has no bytes left to give or to take.
-fn last_answer(last: Last) -> io::Result<usize>
-    ensures { IfOk result (λ count. count ≡ 0) }
-{
-    match last {
-        Last::Ends => Ok(0),
-        Last::Fails => Err(Error::from(ErrorKind::BrokenPipe)),
-        Last::Pauses => Err(Error::from(ErrorKind::Interrupted)),
-    }
-}
-
-/// A client that sends its bytes, at most so many a call.
-#[derive(Drop)]
-pub struct Client<'a> {
-    pub bytes: &'a [u8],
-    pub piece: usize,
-    pub last: Last,
-    pub reads: u32,
-}
-
-/// A client that sends these bytes, so many a call, and then does this.
-pub fn client_of(bytes: &[u8], piece: usize, last: Last) -> Client<'_> {
-    Client {
-        bytes,
-        piece,
-        last,
-        reads: 0,
-    }
-}
-
-impl Read for Client<'_> {
-    fn read(&mut self, buf: &mut [u8]) -> io::Result<usize> {
-        self.reads = self.reads.saturating_add(1);
-        let count = buf.len().min(self.piece).min(self.bytes.len());
-        if count == 0 {
-            return last_answer(self.last);
-        }
-        let (first, rest) = self.bytes.split_at(count);
-        buf[..count].copy_from_slice(first);
-        self.bytes = rest;
-        Ok(count)
-    }
-}
+use std::io::{self, Write};
+use test_fixtures::{ENDS, Last, again, ending, pieces_of};
 
 /// A client's other side, which takes so many bytes.
 #[derive(Drop)]
@@ -83,7 +26,7 @@ pub fn peer_of(alloc: Global) -> Result<Peer, AllocError> {
     Ok(Peer {
         taken: again!(Vec::with_capacity(alloc, 4096))?,
         room: usize::MAX,
-        last: Last::Ends,
+        last: ENDS,
         writes: 0,
     })
 }
@@ -93,7 +36,7 @@ impl Write for Peer {
         self.writes = self.writes.saturating_add(1);
         let count = buf.len().min(self.room);
         if count == 0 {
-            return last_answer(self.last);
+            return ending(self.last);
         }
         self.taken.extend_from_slice(&buf[..count])?;
         self.room -= count;
@@ -124,7 +67,7 @@ pub fn answered<D: Desk>(
     bytes: &[u8],
     piece: usize,
 ) -> Result<Ending, AllocError> {
-    let mut client = client_of(bytes, piece, Last::Ends);
+    let mut client = pieces_of(bytes, piece, ENDS);
     let mut peer = peer_of(alloc)?;
     let served = serve_one(alloc, face, &mut client, &mut peer, desk);
     Ok((served, peer.taken))

@@ -5,7 +5,7 @@
 #[cfg(test)]
 macro_rules! ok {
     ($body:expr) => {
-        ("200 OK", "", $body)
+        ("200 OK", $body)
     };
 }
 

@@ -3,7 +3,7 @@ use crate::cases::{
     Answer, FAULTY_AMONG_THREE, LACKING_AT_0, LACKING_AT_2, NO_ROUTE, NONE_DONE, WAKE_AND_REST,
     answer_text, tables_of,
 };
-use mds_batch::{EventItem, ItemFault, Member};
+use mds_batch::{EventItem, EventItems, ItemFault, Member, TakesItems};
 use mds_core::{Event, Outcome, Position, Refusal, Reply};
 use mds_request::{HttpFault, Plan};
 use mds_response::{Found, bytes_of, memory_bytes, status_of};
@@ -77,14 +77,14 @@ fn last_event() -> Result<Event, Lack> {
 
 /// A POST of as many events or faults.
 fn events(alloc: Global, items: &[Item]) -> Result<Plan, Lack> {
-    let mut events = Vec::new(alloc);
+    let mut events = EventItems::new(alloc);
     let first = first_event()?;
     for item in items {
         let event = match item {
             Item::Faulty(fault) => EventItem::Fault(*fault),
             _ => EventItem::Event(first.copy()),
         };
-        pushed(&mut events, event)?;
+        again!(events.take(&event))?;
     }
     Ok(Plan::Events(events))
 }

@@ -37,11 +37,19 @@ fn taken(alloc: Global, left: usize, last: Last) -> Result<Taken, AllocError> {
     Ok((script.bytes.len(), reader.left, reader.calls, script.end))
 }
 
+/// The place of the first stream of which something else is read.
+fn first_other(alloc: Global, cases: &[Case]) -> Result<Option<usize>, AllocError> {
+    for (at, (length, last, expected)) in cases.iter().enumerate() {
+        if taken(alloc, *length, *last)? != *expected {
+            return Ok(Some(at));
+        }
+    }
+    Ok(None)
+}
+
 #[test]
 fn reading_ends_at_the_end_the_limit_or_a_fault(rt: HostRuntime) {
-    let other = CASES.iter().position(|(len, last, expected)| taken(rt.alloc(), *len, *last)
-        != Ok(*expected));
-    assert_eq!(rt; other, None);
+    assert_eq!(rt; first_other(rt.alloc(), CASES), Ok(None));
 }
 
 /// What the line of a script says.
@@ -165,8 +173,17 @@ const LINES: &[(&[u8], Said)] = rows! {
     (b"\xff", None),
 };
 
-/// The place of the first of these lines that says something else, and how a script that quits ends, which prints nothing;
-/// between two fences.
+/// The place of the first of these lines that says something else.
+fn first_misread(lines: &[(&[u8], Said)]) -> Option<usize> {
+    for (at, (line, said)) in lines.iter().enumerate() {
+        if ScriptCommand::of_line(line) != *said {
+            return Some(at);
+        }
+    }
+    None
+}
+
+/// The same between two fences, and how a script that quits ends, which prints nothing.
 fn misread_and_quit(
     alloc: Global,
     lines: &[(&[u8], Said)],
@@ -174,8 +191,7 @@ fn misread_and_quit(
     let (mut session, _) = opened(alloc)?;
     let mut writer = Expects { rest: b"" };
     let _begun = fence(alloc);
-    let mut said = lines.iter();
-    let misread = said.position(|(line, said)| ScriptCommand::of_line(line) != *said);
+    let misread = first_misread(lines);
     let end = print_walk(alloc, &mut writer, &mut session, &[QUIT, None]);
     let _ended = fence(alloc);
     Ok((misread, end))

@@ -1,6 +1,9 @@
-//! Tests of replays, of the sessions over what they accepted, and of what the debugger prints of these.
+//! Tests of replays, of the sessions over what they accepted, of what the debugger prints of these, and of the commands and the
+//! words that ask for them.
 #![tactic(auto)]
 
+#[cfg(test)]
+mod commands;
 #[cfg(test)]
 mod debugger;
 #[cfg(test)]
@@ -11,5 +14,7 @@ mod replays;
 mod sessions;
 #[cfg(test)]
 mod told;
+#[cfg(test)]
+mod words;
 #[cfg(test)]
 mod workers;

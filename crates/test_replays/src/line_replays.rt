@@ -1,19 +1,9 @@
 //! The worked cases of lines, and that each call can succeed.
-use crate::told::{Expected, FIVE_REPORT, NOTHING, is_report};
+use crate::told::{Expected, FIVE_EVENTS, FIVE_REPORT, NOTHING, is_report};
 use mds_batch::ItemFault;
 use mds_trace::{LineFault, LineReplay, Opening, Report, Verdict};
 use std::alloc::{AllocError, Global};
 use test_fixtures::{Lack, again, fence, profile};
-
-/// The five-event run, an event a line, with an empty line after the second.
-const FIVE_EVENTS: &str =
-    r#"{"provider_id":"00000000-0000-4000-8000-000000000001","device_id":"00000000-0000-4000-8000-00000000000a","event_id":"00000000-0000-4000-8000-0000000000e1","vehicle_state":"available","event_types":["provider_drop_off"],"timestamp":1000}
-{"provider_id":"00000000-0000-4000-8000-000000000001","device_id":"00000000-0000-4000-8000-00000000000a","event_id":"00000000-0000-4000-8000-0000000000e2","vehicle_state":"on_trip","event_types":["trip_start"],"timestamp":2000}
-
-{"provider_id":"00000000-0000-4000-8000-000000000001","device_id":"00000000-0000-4000-8000-00000000000b","event_id":"00000000-0000-4000-8000-0000000000e1","vehicle_state":"available","event_types":["agency_drop_off"],"timestamp":1500}
-{"provider_id":"00000000-0000-4000-8000-000000000001","device_id":"00000000-0000-4000-8000-00000000000a","event_id":"00000000-0000-4000-8000-0000000000e3","vehicle_state":"non_operational","event_types":["battery_low"],"timestamp":3000}
-{"provider_id":"00000000-0000-4000-8000-000000000001","device_id":"00000000-0000-4000-8000-00000000000a","event_id":"00000000-0000-4000-8000-0000000000e4","vehicle_state":"available","event_types":["trip_end"],"timestamp":1999}
-"#;
 
 /// Ten items that are no objects.
 const TEN: &str = "7\n7\n7\n7\n7\n7\n7\n7\n7\n7";
@@ -71,41 +61,19 @@ fn comes_out(alloc: Global, stream: &Stream) -> Result<bool, Lack> {
     }
 }
 
-#[test]
-fn worked_streams(rt: HostRuntime) {
-    let other = STREAMS
-        .iter()
-        .position(|stream| comes_out(rt.alloc(), stream) != Ok(true));
-    assert_eq!(rt; other, None);
-}
-
-/// Pieces that are fed, and how each of these calls ends.
-type Fed = (&'static [u8], Result<(), LineFault>);
-
-/// Pieces of which the second line has a fault, which every later call answers.
-const FED: &[Fed] = &[
-    (b"7\n{", Ok(())),
-    (b"", Ok(())),
-    (b"\n", Err(SECOND)),
-    (b"7\n{\n", Err(SECOND)),
-    (b"", Err(SECOND)),
-];
-
-/// The first of these pieces of which the call ends otherwise, and how the stream ends.
-fn fed_on(alloc: Global, pieces: &[Fed]) -> Result<(Option<usize>, Option<LineFault>), AllocError> {
-    let mut replay = opened(alloc, Opening::Removed)?;
-    let mut other = None;
-    for (at, (piece, ended)) in pieces.iter().enumerate() {
-        if replay.feed(piece) != *ended && other.is_none() {
-            other = Some(at);
+/// The place of the first stream that comes to something else.
+fn first_other(alloc: Global, streams: &[Stream]) -> Result<Option<usize>, Lack> {
+    for (at, stream) in streams.iter().enumerate() {
+        if !comes_out(alloc, stream)? {
+            return Ok(Some(at));
         }
     }
-    Ok((other, replay.finish().err()))
+    Ok(None)
 }
 
 #[test]
-fn a_fault_is_answered_again(rt: HostRuntime) {
-    assert_eq!(rt; fed_on(rt.alloc(), FED), Ok((None, Some(SECOND))));
+fn worked_streams(rt: HostRuntime) {
+    assert_eq!(rt; first_other(rt.alloc(), STREAMS), Ok(None));
 }
 
 /// How a replay that takes in no byte goes, between two fences.
@@ -131,29 +99,4 @@ const IN_PIECES: Stream = (FIVE_EVENTS, 300, Opening::Any, FIVE);
 #[test]
 fn lines_are_replayed_after_a_refused_growth(rt: HostRuntime) {
     assert_eq!(rt; again!(comes_out(rt.alloc(), &IN_PIECES)), Ok(true));
-}
-
-/// Feeds the five events and a last line: whether each call after a fault answers it again, and the end is that fault, or
-/// has six items.
-fn keeps_its_fault(mut replay: LineReplay) -> bool {
-    let five = replay.feed(FIVE_EVENTS.as_bytes());
-    let seven = replay.feed(b"7");
-    let last = replay.feed(b"\n");
-    let is_kept = (five.is_ok() || seven == five) && (seven.is_ok() || last == seven);
-    is_kept
-        && match replay.finish() {
-            Ok(report) => last.is_ok() && report.lines.len() == 6,
-            Err(fault) => fault == LineFault::Memory && (last.is_ok() || last == Err(fault)),
-        }
-}
-
-/// The same of a replay that is opened again where a growth is refused.
-fn memory_is_kept(alloc: Global) -> Result<bool, AllocError> {
-    Ok(keeps_its_fault(again!(opened(alloc, Opening::Any))?))
-}
-
-/// Want of memory is kept, as any fault is (growths are refused by `tests/refused-growths`).
-#[test]
-fn memory_is_kept_after_a_refused_growth(rt: HostRuntime) {
-    assert_eq!(rt; memory_is_kept(rt.alloc()), Ok(true));
 }

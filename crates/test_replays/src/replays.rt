@@ -92,12 +92,19 @@ fn comes_out<R: Threads + Sync>(rt: &R, alloc: Global, case: &Case) -> Result<bo
     Ok(is_report(&whole, expected) && is_report(&one_by_one, expected) && by_workers)
 }
 
+/// The place of the first case that comes to something else.
+fn first_other<R: Threads + Sync>(rt: &R, alloc: Global) -> Result<Option<usize>, Lack> {
+    for (at, case) in CASES.iter().enumerate() {
+        if !comes_out(rt, alloc, case)? {
+            return Ok(Some(at));
+        }
+    }
+    Ok(None)
+}
+
 #[test]
 fn worked_replays(rt: HostRuntime) {
-    let other = CASES
-        .iter()
-        .position(|case| comes_out(&rt, rt.alloc(), case) != Ok(true));
-    assert_eq!(rt; other, None);
+    assert_eq!(rt; first_other(&rt, rt.alloc()), Ok(None));
 }
 
 /// The items of the five events, made again where a growth is refused.

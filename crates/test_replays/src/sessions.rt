@@ -184,16 +184,19 @@ const OPENINGS: &[Opening] = rows! {
     Opening(Start(OnTrip, &[TRIP_END; 2]), Some(SessionFault::BadOrder { event: 1 })),
 };
 
-/// Why a session isn't opened, if it isn't.
-fn fault_of(alloc: Global, start: &Start) -> Result<Option<SessionFault>, Lack> {
-    Ok(opened(alloc, start)?.err())
+/// The place of the first of these that opens otherwise.
+fn first_opened_otherwise(alloc: Global, openings: &[Opening]) -> Result<Option<usize>, Lack> {
+    for (at, Opening(start, fault)) in openings.iter().enumerate() {
+        if opened(alloc, start)?.err() != *fault {
+            return Ok(Some(at));
+        }
+    }
+    Ok(None)
 }
 
 #[test]
 fn sessions_that_open_or_not(rt: HostRuntime) {
-    let other = OPENINGS.iter().position(|Opening(start, fault)| fault_of(rt.alloc(), start)
-        != Ok(*fault));
-    assert_eq!(rt; other, None);
+    assert_eq!(rt; first_opened_otherwise(rt.alloc(), OPENINGS), Ok(None));
 }
 
 /// Whether a session over the end of a trip shows its chain, where each is asked for again if a growth is refused.

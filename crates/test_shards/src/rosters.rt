@@ -1,4 +1,4 @@
-//! Rosters: the worked cases of vehicles, each growth refused once, and what rosters tell while each is.
+//! Rosters: each growth refused once, and what rosters tell while each is.
 use mds_core::Outcome::{self, Refused};
 use mds_core::Refusal::{AlreadyRegistered, Unregistered};
 use mds_core::{Key, Request, Standing};
@@ -9,7 +9,7 @@ use std::hash::RandomState;
 use std::random::RandomSource;
 use test_fixtures::Ask::{Look, Register};
 use test_fixtures::{A, C, Lack, fence, key, profile, profile_again, request_of, rows};
-use test_steps::{AVAILABLE, CASES, DROPPED_OFF, NEW, Step, WorkedCase, hasher, tables_of};
+use test_steps::{AVAILABLE, DROPPED_OFF, NEW, Step, hasher};
 
 /// The place of the first step that the roster judges otherwise.
 fn first_other(roster: &mut Roster, steps: &[Step]) -> Result<Option<usize>, Lack> {
@@ -20,26 +20,6 @@ fn first_other(roster: &mut Roster, steps: &[Step]) -> Result<Option<usize>, Lac
         }
     }
     Ok(None)
-}
-
-/// The name of the first case that a roster judges otherwise.
-fn first_difference<R: RandomSource>(
-    rt: &R,
-    alloc: Global,
-    cases: &[WorkedCase],
-) -> Result<Option<&'static str>, Lack> {
-    for (name, file, steps) in cases {
-        let mut roster = Roster::open(alloc, tables_of(alloc, *file)?, hasher(rt)?);
-        if first_other(&mut roster, steps)?.is_some() {
-            return Ok(Some(*name));
-        }
-    }
-    Ok(None)
-}
-
-#[test]
-fn rosters_judge_cases_of_vehicles(rt: HostRuntime) {
-    assert_eq!(rt; first_difference(&rt, rt.alloc(), CASES), Ok(None));
 }
 
 /// Whether the roster takes the request; it's asked again where a growth is refused, which changes nothing.

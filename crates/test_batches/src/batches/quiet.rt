@@ -1,44 +1,72 @@
 //! The calls that take no memory, or find none and say so.
 use super::EVENT;
 use mds_batch::{
-    BatchFault, BatchItem, EventItem, ItemFault, ItemReader, Member, TakesItems, VehicleItem,
-    each_event, read_events, read_item, read_vehicles,
+    BatchFault, BatchItem, BatchItems, EventItem, EventItems, ItemFault, ItemReader, Member,
+    TakesItems, VehicleItem, each_event, read_event_items, read_events, read_item, read_vehicles,
 };
 use mds_core::Request;
 use std::alloc::Global;
 use test_fixtures::{A, fence, key};
 
+/// A registration, and an object without members.
+const VEHICLES: &[u8] =
+    br#"[{"provider_id":"00000000-0000-4000-8000-000000000001","device_id":"00000000-0000-4000-8000-00000000000a"},{}]"#;
+
 /// Why each call that reads a text gives nothing of this one.
-fn faults(alloc: Global, text: &[u8]) -> [Option<BatchFault>; 5] {
+fn faults(alloc: Global, text: &[u8]) -> [Option<BatchFault>; 6] {
     let mut taker = Vec::new(alloc);
     let mut reader = ItemReader::new(alloc);
     [
         read_vehicles(alloc, text).err(),
         read_events(alloc, text).err(),
+        read_event_items(alloc, text).err(),
         each_event(alloc, text, &mut taker).err(),
         read_item(alloc, text).err(),
         reader.read(text).err(),
     ]
 }
 
-/// Whether an item asks for a request, and has no fault then.
-fn asks<I: BatchItem>(item: &I) -> bool {
+/// Whether the item at this place, if there is one, asks for a request.
+fn asks<I: BatchItems>(items: &I, at: usize) -> bool {
     let mut request = Request::Look(key(A));
-    item.ask(&mut request) && item.fault().is_none()
+    at < items.count() && items.ask(at, &mut request)
 }
 
-/// Whether an event asks for a request that a reader reads again, and a taker with room for it takes.
+/// Whether an event that a reader reads again is taken by a taker with room for it.
 fn takes(reader: &mut ItemReader, taker: &mut Vec<EventItem>) -> Result<bool, BatchFault> {
     let item = reader.read(EVENT.as_bytes())?;
-    Ok(TakesItems::take(taker, item).is_ok() && asks(item))
+    Ok(TakesItems::take(taker, item).is_ok() && item.fault().is_none())
 }
 
-/// Whether a registration asks for a request, and a fault asks for none and has its words.
-fn told() -> bool {
+/// An event and a fault, and a registration and a fault.
+#[derive(Drop)]
+struct Both {
+    events: EventItems,
+    vehicles: Vec<VehicleItem>,
+}
+
+/// Both, of these texts.
+fn both_of(alloc: Global) -> Result<Both, BatchFault> {
+    let mut events = read_event_items(alloc, EVENT.as_bytes())?;
+    let fault = EventItem::Fault(ItemFault::Bad(Member::DeviceId));
+    events.take(&fault).ok().ok_or(BatchFault::Memory)?;
+    let vehicles = read_vehicles(alloc, VEHICLES)?;
+    Ok(Both { events, vehicles })
+}
+
+/// Whether an event and a registration ask for requests, and a fault asks for none and has its words.
+fn told(both: &Both) -> bool {
     let member = Member::DeviceId;
     let fault = ItemFault::Bad(member);
-    asks(&VehicleItem::Vehicle(key(A)))
-        && !asks(&EventItem::Fault(fault))
+    let kept = match both.events.kept().get(1) {
+        Some(kept) => kept.fault(),
+        None => None,
+    };
+    asks(&both.events, 0)
+        && !asks(&both.events, 1)
+        && kept == Some(fault)
+        && asks(&both.vehicles, 0)
+        && !asks(&both.vehicles, 1)
         && fault.word() == "bad_param"
         && member.name() == "device_id"
 }
@@ -54,17 +82,18 @@ fn found(alloc: Global) -> Result<(bool, bool, bool, bool), BatchFault> {
     };
     let mut reader = ItemReader::new(alloc);
     reader.read(EVENT.as_bytes())?;
+    let both = both_of(alloc)?;
     let _begun = fence(alloc);
     let taken = takes(&mut reader, &mut taker);
-    let told = told();
+    let told = told(&both);
     let too_long = faults(alloc, long.as_bytes());
     let without = faults(alloc, EVENT.as_bytes());
     let lack = match fence(alloc) {
         Ok(_) => None,
         Err(_) => Some(BatchFault::Memory),
     };
-    let is_long = too_long == [Some(BatchFault::TooLong); 5];
-    Ok((taken == Ok(true), told, is_long, without == [lack; 5]))
+    let is_long = too_long == [Some(BatchFault::TooLong); 6];
+    Ok((taken == Ok(true), told, is_long, without == [lack; 6]))
 }
 
 #[test]

@@ -1,11 +1,11 @@
 //! Readers and writers that fail, end or are interrupted: what is told, what is written, and how many calls it takes.
 use super::answers::fleet_over;
-use super::{Client, Last, answer_of, client_of, peer_of};
+use super::{answer_of, peer_of};
 use crate::cases::{Answer, BAD_HEAD, CUT_SHORT, EMPTY, NONE_DONE, PROFILE, answer_text};
 use mds_core::Fleet;
 use mds_face::{Face, ServeFault, Served, serve_one};
 use std::alloc::{AllocError, Global};
-use test_fixtures::Lack;
+use test_fixtures::{ENDS, FAILS, Lack, Last, PAUSES, Pieces, pieces_of};
 
 /// The bytes that a client sends, with so many times a letter or a space behind them, how many a call, and what it does then;
 /// the answer, in how many calls it is read, and how many bytes the client has left.
@@ -23,15 +23,15 @@ const BARE: (&str, usize) = ("", 0);
 
 const WHOLE: usize = usize::MAX;
 
-/// A request that comes at once or byte by byte, and has bytes behind it that say nothing of what is asked for; long bodies, which
-/// take as few calls as their pieces allow; and a head that is too long.
+/// A request that comes at once or byte by byte, and has bytes behind it that say nothing of what is asked for; a long body, 40048
+/// bytes with its head, of which a call asks for 4096, and one that ends a byte before; and a head that is too long.
 const WAYS: &[Way] = &[
-    (EMPTY, BARE, WHOLE, Last::Fails, NONE_DONE, 1, 0),
-    (EMPTY, ("x", 2), 1, Last::Fails, NONE_DONE, 46, 2),
-    (BODY, (" ", 40_001), WHOLE, Last::Fails, NONE_DONE, 3, 3),
-    (BODY, (" ", 39_997), WHOLE, Last::Ends, CUT_SHORT, 4, 0),
-    ("", ("a", 16_385), WHOLE, Last::Fails, BAD_HEAD, 1, 1),
-    ("", ("a", 16_385), 1, Last::Fails, BAD_HEAD, 16_384, 1),
+    (EMPTY, BARE, WHOLE, FAILS, NONE_DONE, 1, 0),
+    (EMPTY, ("x", 2), 1, FAILS, NONE_DONE, 46, 2),
+    (BODY, (" ", 40_001), WHOLE, FAILS, NONE_DONE, 10, 3),
+    (BODY, (" ", 39_997), WHOLE, ENDS, CUT_SHORT, 11, 0),
+    ("", ("a", 16_385), WHOLE, FAILS, BAD_HEAD, 4, 1),
+    ("", ("a", 16_385), 1, FAILS, BAD_HEAD, 16_384, 1),
 ];
 
 const BODY: &str = "POST /events HTTP/1.1\r\nContent-Length: 40000\r\n\r\n[]";
@@ -51,7 +51,7 @@ fn server_of(alloc: Global) -> Result<Server, Lack> {
 fn came_of(
     alloc: Global,
     server: &mut Server,
-    mut client: Client<'_>,
+    mut client: Pieces<'_>,
     room: usize,
     last: Last,
 ) -> Result<Came, AllocError> {
@@ -75,8 +75,8 @@ fn first_other(alloc: Global, ways: &[Way]) -> Result<Option<(usize, Came)>, Lac
         let mut bytes = filling.repeat(alloc, times)?;
         bytes.insert_str(0, front)?;
         let expected = answer_text(alloc, answer)?;
-        let client = client_of(bytes.as_bytes(), piece, last);
-        let came = came_of(alloc, &mut server, client, WHOLE, Last::Ends)?;
+        let client = pieces_of(bytes.as_bytes(), piece, last);
+        let came = came_of(alloc, &mut server, client, WHOLE, ENDS)?;
         let is_it = came.0.is_ok() && came.2.as_slice() == expected.as_bytes();
         if !is_it || (came.1, came.3) != ((reads, 1), left) {
             return Ok(Some((place, came)));
@@ -99,8 +99,8 @@ fn turns_of(
     room: usize,
 ) -> Result<(Result<Served, ServeFault>, (u32, u32), usize), Lack> {
     let mut server = server_of(alloc)?;
-    let client = client_of(front.as_bytes(), piece, Last::Pauses);
-    let (told, calls, taken, _) = came_of(alloc, &mut server, client, room, Last::Pauses)?;
+    let client = pieces_of(front.as_bytes(), piece, PAUSES);
+    let (told, calls, taken, _) = came_of(alloc, &mut server, client, room, PAUSES)?;
     Ok((told, calls, taken.len()))
 }
 
@@ -134,8 +134,8 @@ fn first_other_read(
     };
     for count in from..47 {
         let front = EMPTY.as_bytes().get(..count).unwrap_or(b"none");
-        let client = client_of(front, 1, last);
-        let came = came_of(alloc, &mut server, client, WHOLE, Last::Ends)?;
+        let client = pieces_of(front, 1, last);
+        let came = came_of(alloc, &mut server, client, WHOLE, ENDS)?;
         if came.0 != told || came.2.as_slice() != expected.as_bytes() {
             return Ok(Some(count));
         }
@@ -146,15 +146,9 @@ fn first_other_read(
 /// The request has 46 bytes, of which 44 are its head.
 #[test]
 fn reads_that_fail_or_end(rt: HostRuntime) {
-    let failed = first_other_read(rt.alloc(), 0, Last::Fails, Err(ServeFault::Read), None);
-    let no_head = first_other_read(rt.alloc(), 0, Last::Ends, answer_of(400, 0), Some(BAD_HEAD));
-    let no_body = first_other_read(
-        rt.alloc(),
-        44,
-        Last::Ends,
-        answer_of(400, 0),
-        Some(CUT_SHORT),
-    );
+    let failed = first_other_read(rt.alloc(), 0, FAILS, Err(ServeFault::Read), None);
+    let no_head = first_other_read(rt.alloc(), 0, ENDS, answer_of(400, 0), Some(BAD_HEAD));
+    let no_body = first_other_read(rt.alloc(), 44, ENDS, answer_of(400, 0), Some(CUT_SHORT));
     assert_eq!(rt;
         [failed, no_head, no_body],
         [Ok(Some(46)), Ok(Some(44)), Ok(Some(46))]
@@ -169,7 +163,7 @@ fn first_other_write(
 ) -> Result<Option<(usize, Result<Served, ServeFault>)>, Lack> {
     let mut server = server_of(alloc)?;
     for sent in 0..200 {
-        let client = client_of(EMPTY.as_bytes(), 46, Last::Ends);
+        let client = pieces_of(EMPTY.as_bytes(), 46, ENDS);
         let (told, _, taken, _) = came_of(alloc, &mut server, client, sent, last)?;
         if told != Err(ServeFault::Write { sent }) || taken.len() != sent {
             return Ok(Some((sent, told)));
@@ -178,32 +172,11 @@ fn first_other_write(
     Ok(None)
 }
 
-/// What is told, and how many bytes are written, where a peer takes 1,000 bytes of the table, which are fewer than all, and then
-/// does this.
-fn cut_far_behind(alloc: Global, last: Last) -> Result<(Result<Served, ServeFault>, usize), Lack> {
-    let mut server = server_of(alloc)?;
-    let client = client_of(b"GET /table HTTP/1.1\r\n\r\n", 46, Last::Ends);
-    let (told, _, taken, _) = came_of(alloc, &mut server, client, 1000, last)?;
-    Ok((told, taken.len()))
-}
-
-#[test]
-fn writes_that_fail_far_behind(rt: HostRuntime) {
-    let found = [
-        cut_far_behind(rt.alloc(), Last::Fails),
-        cut_far_behind(rt.alloc(), Last::Ends),
-        cut_far_behind(rt.alloc(), Last::Pauses),
-    ];
-    let write = Ok((Err(ServeFault::Write { sent: 1000 }), 1000));
-    let turns = Ok((Err(ServeFault::TooManyTurns { sent: 1000 }), 1000));
-    assert_eq!(rt; found, [write, write, turns]);
-}
-
 /// The answer has 127 bytes.
 #[test]
 fn writes_that_fail(rt: HostRuntime) {
-    let failed = first_other_write(rt.alloc(), Last::Fails);
-    let refused = first_other_write(rt.alloc(), Last::Ends);
+    let failed = first_other_write(rt.alloc(), FAILS);
+    let refused = first_other_write(rt.alloc(), ENDS);
     let whole = Ok(Some((127, answer_of(200, 0))));
     assert_eq!(rt; [failed, refused], [whole, whole]);
 }

@@ -2,13 +2,14 @@
 ghost use Rattle.std.specs.Prelude.{◌≡◌, IfSome};
 
 use super::answers::fleet_over;
-use super::{Last, Peer, answer_of, answered, client_of, peer_of};
+use super::{Peer, answer_of, answered, peer_of};
 use crate::cases::{Answer, LACKING_AT_2, PROFILE, THREE, answer_text};
+use mds_batch::BatchItems;
 use mds_core::{Event, Fleet, Key, Reply, Request};
 use mds_face::{Desk, Face, Plan, ServeFault, Served, read_plan, serve_one};
 use mds_table::{Row, State};
 use std::alloc::{AllocError, Global};
-use test_fixtures::{A, B, Lack, again, key};
+use test_fixtures::{A, B, ENDS, Lack, again, key, pieces_of};
 
 /// Registers a vehicle, where memory allows at once or at a second try.
 pub fn register(fleet: &mut Fleet, device: u64) -> Result<Reply, AllocError> {
@@ -102,7 +103,7 @@ pub fn told_of(
     bytes: &[u8],
     mut peer: Peer,
 ) -> Told {
-    let mut client = client_of(bytes, usize::MAX, Last::Ends);
+    let mut client = pieces_of(bytes, usize::MAX, ENDS);
     let served = serve_one(alloc, face, &mut client, &mut peer, fleet);
     (served, peer.taken.len(), fleet.history().len())
 }
@@ -143,12 +144,8 @@ fn calls_stand_after_a_refused_growth(rt: HostRuntime) {
 /// How many events the batch reports, faulty items among them, read again where there was no memory to read it.
 fn reported(alloc: Global) -> Result<Option<usize>, Lack> {
     let face = again!(Face::open(alloc))?;
-    match again!(read_plan(
-        alloc,
-        &face,
-        &mut client_of(THREE.as_bytes(), 16, Last::Ends)
-    )) {
-        Ok(Plan::Events(items)) => Ok(Some(items.len())),
+    match again!(read_plan(alloc, &face, &mut pieces_of(THREE.as_bytes(), 16, ENDS))) {
+        Ok(Plan::Events(items)) => Ok(Some(items.count())),
         _ => Ok(None),
     }
 }

@@ -1,7 +1,7 @@
 //! What is answered where what answers rest on is recorded, and where it isn't.
 use super::answers::fleet_over;
 use super::growths::register;
-use super::{Last, client_of, peer_of};
+use super::peer_of;
 use crate::cases::{Answer, NO_ROUTE, PROFILE, answer_text};
 use mds_core::{Event, Fleet, Key, Reply, Request};
 use mds_face::{
@@ -10,7 +10,7 @@ use mds_face::{
 };
 use mds_table::Row;
 use std::alloc::{AllocError, Global};
-use test_fixtures::{A, Lack};
+use test_fixtures::{A, ENDS, Lack, pieces_of, rows};
 
 /// A fleet, and whether what it answers is recorded.
 #[derive(Drop)]
@@ -91,45 +91,24 @@ const REGISTERED: Answer = ok!(
     r#"{"device_id":"00000000-0000-4000-8000-00000000000a","events":0,"last":null,"location_e7":null,"provider_id":"00000000-0000-4000-8000-000000000001","vehicle_state":"removed"}"#
 );
 
-const CASES: &[Case] = &[
-    (
-        LOOK,
-        Ok(()),
-        Ok(Served {
-            status: 200,
-            accepted: 0,
-        }),
-        Written::Answer(REGISTERED),
-    ),
-    (
-        LOOK,
-        Err(KeepFault::NotKept),
-        Err(KeptFault::NotKept { sent: 127 }),
-        Written::NotKept,
-    ),
-    (
-        LOOK,
-        Err(KeepFault::Memory),
-        Err(KeptFault::Serve(ServeFault::Memory { sent: 74 })),
-        Written::Memory,
-    ),
-    (
-        LOOK,
-        Err(KeepFault::Lost),
-        Err(KeptFault::Lost),
-        Written::Nothing,
-    ),
+const OK: Result<Served, KeptFault> = Ok(Served {
+    status: 200,
+    accepted: 0,
+});
+
+const NONE: Result<Served, KeptFault> = Ok(Served {
+    status: 404,
+    accepted: 0,
+});
+
+const CASES: &[Case] = rows! {
+    (LOOK, Ok(()), OK, Written::Answer(REGISTERED)),
+    (LOOK, Err(KeepFault::NotKept), Err(KeptFault::NotKept { sent: 127 }), Written::NotKept),
+    (LOOK, Err(KeepFault::Memory), Err(KeptFault::Serve(ServeFault::Memory { sent: 74 })), Written::Memory),
+    (LOOK, Err(KeepFault::Lost), Err(KeptFault::Lost), Written::Nothing),
     // A fault of the request rests on nothing.
-    (
-        NOWHERE,
-        Err(KeepFault::Lost),
-        Ok(Served {
-            status: 404,
-            accepted: 0,
-        }),
-        Written::Answer(NO_ROUTE),
-    ),
-];
+    (NOWHERE, Err(KeepFault::Lost), NONE, Written::Answer(NO_ROUTE)),
+};
 
 /// Whether a fleet in which A is registered answers so.
 fn answers_so(alloc: Global, case: &Case) -> Result<bool, Lack> {
@@ -138,7 +117,7 @@ fn answers_so(alloc: Global, case: &Case) -> Result<bool, Lack> {
     let mut fleet = fleet_over(alloc, PROFILE)?;
     register(&mut fleet, A)?;
     let mut desk = Recorded { fleet, end: *end };
-    let mut client = client_of(request.as_bytes(), usize::MAX, Last::Ends);
+    let mut client = pieces_of(request.as_bytes(), usize::MAX, ENDS);
     let mut peer = peer_of(alloc)?;
     let served = serve_kept(alloc, &face, &mut client, &mut peer, &mut desk);
     let is_written = match written {

@@ -1,13 +1,13 @@
 //! What is answered without memory.
 use super::answers::fleet_over;
 use super::growths::{Told, register, told_of};
-use super::{Client, Last, Peer, answer_of, client_of, peer_of};
+use super::{Peer, answer_of, peer_of};
 use crate::cases::PROFILE;
 use mds_core::{Fleet, Outcome, Refusal, Request, Standing};
 use mds_face::{Desk, Face, ServeFault, Served, read_plan, serve_one};
 use mds_io::ReadError;
 use std::alloc::{AllocError, Global};
-use test_fixtures::{A, B, Lack, fence, key};
+use test_fixtures::{A, B, FAILS, Lack, Pieces, fence, key, pieces_of};
 
 /// The outcomes of a look at A and of its second registration, and whether B has no events.
 fn outcomes<D: Desk>(desk: &mut D) -> Result<([Outcome; 2], bool), AllocError> {
@@ -18,8 +18,8 @@ fn outcomes<D: Desk>(desk: &mut D) -> Result<([Outcome; 2], bool), AllocError> {
 }
 
 /// A client whose first read fails.
-fn failing() -> Client<'static> {
-    client_of(b"", 1, Last::Fails)
+fn failing() -> Pieces<'static> {
+    pieces_of(b"", 1, FAILS)
 }
 
 /// What is said of that client where it is served, and where it is only read.

@@ -25,8 +25,11 @@ fn counts(alloc: Global, asked: &[Ask]) -> Result<([usize; 2], Option<usize>), L
         again!(fleet.step(request))?;
     }
     let counts = [replies.len(), fleet.history().len()];
-    let events = again!(fleet.events(alloc, &key(A)))?;
-    Ok((counts, events.map(|events| events.len())))
+    let count = match again!(fleet.events(alloc, &key(A)))? {
+        Some(events) => Some(events.len()),
+        None => None,
+    };
+    Ok((counts, count))
 }
 
 #[test]

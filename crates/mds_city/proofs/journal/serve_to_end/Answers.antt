@@ -3,6 +3,6 @@ use Rattle.std.proofs.KnownBytes.{Keeps-refl}
 use Rattle.mds_city.proofs.journal.serve_to_end.Goals as goal
 
 -- the tables were had, and nothing went out before the journal
-pub returns-in-Err-clause-err : goal.returns-in-Err-clause-err
-returns-in-Err-clause-err g c =
-    inr (inr (inl ((c.in_ok-tables.tables, c.in_ok-tables.ensures.ok), c.in-Err.ensures.err, Keeps-refl _)))
+pub returns-in-Err-open_reader-clause-err : goal.returns-in-Err-open_reader-clause-err
+returns-in-Err-open_reader-clause-err g c =
+    inr (inr (inl ((c.in-Ok.tables, c.in-Ok.ensures.ok), c.in-Err-open_reader.ensures.err, Keeps-refl _)))

@@ -15,7 +15,7 @@ returns-then-is_standard_input g c =
     (out c.args.out.now) (out c.replay_to.new.out) (faults c.args.faults.now) (faults c.replay_to.new.faults))
     c.options_of-options.ensures c.replay_to.ensures in
     subst
-    (λ (command : Command). Carries g.O.Opens.opens c.args.files.now g.O.Listens.listens bytes g.I.Read.remaining c.args.input command c.replay_to.result
+    (λ (command : Command). Carries g.O.Opens.opens c.args.files.now g.O.Listens.listens g.O.OpensJournals.opens_journal bytes g.I.Read.remaining c.args.input command c.replay_to.result
     (out c.args.out.now) (out c.replay_to.new.out) (faults c.args.faults.now) (faults c.replay_to.new.faults))
     (sym c.in-Replay.is)
     (c.file_if_named-table-in-Replay.result, search rules, inl (search rules, c.open_file-file.result, c.open_file-file.ensures.path, c.open_file-file.ensures.reader, came))
@@ -30,7 +30,7 @@ returns-else-is_standard_input g c =
     (out c.args.out.now) (out c.replay_to-in-Replay.new.out) (faults c.args.faults.now) (faults c.replay_to-in-Replay.new.faults))
     c.options_of-options.ensures c.replay_to-in-Replay.ensures in
     subst
-    (λ (command : Command). Carries g.O.Opens.opens c.args.files.now g.O.Listens.listens bytes g.I.Read.remaining c.args.input command c.replay_to-in-Replay.result
+    (λ (command : Command). Carries g.O.Opens.opens c.args.files.now g.O.Listens.listens g.O.OpensJournals.opens_journal bytes g.I.Read.remaining c.args.input command c.replay_to-in-Replay.result
     (out c.args.out.now) (out c.replay_to-in-Replay.new.out) (faults c.args.faults.now) (faults c.replay_to-in-Replay.new.faults))
     (sym c.in-Replay.is)
     (c.file_if_named-table-in-Replay.result, search rules, inr (search rules, c.file_of.result, c.file_of.ensures, came))
@@ -42,7 +42,7 @@ returns-in-Debug g c =
     let out = g.W.Write.contents in
     let faults = g.E.Write.contents in
     subst
-    (λ (command : Command). Carries g.O.Opens.opens c.args.files.now g.O.Listens.listens bytes input c.args.input command c.debug_to.result
+    (λ (command : Command). Carries g.O.Opens.opens c.args.files.now g.O.Listens.listens g.O.OpensJournals.opens_journal bytes input c.args.input command c.debug_to.result
     (out c.args.out.now) (out c.debug_to.new.out) (faults c.args.faults.now) (faults c.debug_to.new.faults))
     (sym c.in-Debug.is)
     (c.file_if_named-table-in-Debug.result, search rules, c.file_of-file.result, c.file_of-file.ensures, input c.debug_to.new.script, c.debug_to.ensures)
@@ -54,7 +54,7 @@ returns-in-Serve g c =
     let out = g.W.Write.contents in
     let faults = g.E.Write.contents in
     subst
-    (λ (command : Command). Carries g.O.Opens.opens c.args.files.now g.O.Listens.listens bytes input c.args.input command c.serve_named.result
+    (λ (command : Command). Carries g.O.Opens.opens c.args.files.now g.O.Listens.listens g.O.OpensJournals.opens_journal bytes input c.args.input command c.serve_named.result
     (out c.args.out.now) (out c.serve_named.new.out) (faults c.args.faults.now) (faults c.serve_named.new.faults))
     (sym c.in-Serve.is)
     (c.file_if_named-table.result, search rules, c.serve_named.ensures)

@@ -7,4 +7,5 @@ loop-sent-preserved-in-Moved g c = record {
   within = omega (arith, c.in-Moved.ensures.1, length-drop c.loop-sent.sent c.args.bytes.now);
   went = appends_next _ _ _ _ _ _ c.loop-sent.invariant.went c.in-Moved.ensures.2;
   counted = omega (arith, c.loop-sent.invariant.counted);
+  spent = λ _. omega (arith, c.loop-sent.invariant.counted);
 }

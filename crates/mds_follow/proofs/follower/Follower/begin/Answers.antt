@@ -1,6 +1,5 @@
 use Rattle.mds_log.specs.Log.{requests}
-use Rattle.mds_log.proofs.Lists.{prefix_self}
-use Rattle.mds_follow.proofs.Begins.{safe_read, follows_all, sound_all}
+use Rattle.mds_follow.proofs.Begins.{safe_read, begins_at, follows_all, sound_all}
 use Rattle.mds_follow.proofs.follower.Follower.begin.Goals as goal
 
 pub invariant_of-result : goal.invariant_of-result
@@ -15,7 +14,7 @@ invariant_of-result g c =
         begun = is.begun;
         safe = λ truth. safe_read left g.J.RecordLog.start (g.F.Tagged.tag c.args.file) told (is.begun truth) (is.read truth);
         kept = is.stands;
-        old = λ truth. record { old = requests told; is_held = is.held truth; begins = prefix_self (requests told) };
+        old = λ truth. record { old = requests told; is_held = is.held truth; begins = begins_at left g.J.RecordLog.start told (is.read truth) };
       },
       follows_all 0 (requests told) _ _ is.refilled.first progress.first,
       follows_all 1 (requests told) _ _ is.refilled.second progress.second,

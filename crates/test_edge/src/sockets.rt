@@ -1,17 +1,12 @@
 //! A port over the sockets of the system: where there is no memory, and that takes what comes.
-use super::SocketPort;
 use mds_pool::{Ending, Port};
-use std::alloc::{AllocError, Global};
+use mds_socket::SocketPort;
+use std::alloc::Global;
 use std::io::{self, Read, Write};
 use std::net::{Ipv4Addr, Net, Shutdown, TcpListener, TcpStream};
 use std::sync::Wait;
 use std::time::Clock;
-
-/// A growth of a size of its own: `tests/refused-growths` refuses each one between two of these.
-#[inline(never)]
-fn fence(alloc: Global) -> Result<Vec<u8>, AllocError> {
-    Vec::with_capacity(alloc, 12_347)
-}
+use test_fixtures::fence;
 
 /// A request, and the answer that it is given.
 const REQUEST: &[u8] = b"GET /table HTTP/1.1\r\n\r\n";

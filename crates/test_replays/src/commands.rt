@@ -1,14 +1,15 @@
 //! Each command, from bytes to bytes, carried out again where a growth is refused (by `tests/refused-growths`).
 ghost use Rattle.mds_replay.specs.WithFault.{IsWorkerCount};
 
+use crate::told::FIVE_EVENTS as FIVE_EVENTS_IN_LINES;
 use mds_commands::{
     Form, Named, Problem, ReplayOptions, Source, debug_to, replay_to, table_to, tables_in, tell,
+    torn_to,
 };
 use mds_trace::Opening;
 use std::alloc::Global;
-use std::io::{Read, Write};
 use std::thread::Threads;
-use test_fixtures::{Expects, again, fence, rows};
+use test_fixtures::{Expects, PAUSES, Stream, again, fence, rows};
 
 /// The five-event run, and the lines that it prints.
 const FIVE_EVENTS: &str = r#"[
@@ -28,15 +29,6 @@ vehicle 00000000-0000-4000-8000-000000000001 00000000-0000-4000-8000-00000000000
 vehicle 00000000-0000-4000-8000-000000000001 00000000-0000-4000-8000-00000000000b available 1
 accepted 3 refused 2
 ";
-
-/// The same events, each on a line, with an empty line between.
-const FIVE_EVENT_LINES: &str =
-    r#"{"provider_id":"00000000-0000-4000-8000-000000000001","device_id":"00000000-0000-4000-8000-00000000000a","event_id":"00000000-0000-4000-8000-0000000000e1","vehicle_state":"available","event_types":["provider_drop_off"],"timestamp":1000}
-{"provider_id":"00000000-0000-4000-8000-000000000001","device_id":"00000000-0000-4000-8000-00000000000a","event_id":"00000000-0000-4000-8000-0000000000e2","vehicle_state":"on_trip","event_types":["trip_start"],"timestamp":2000}
-
-{"provider_id":"00000000-0000-4000-8000-000000000001","device_id":"00000000-0000-4000-8000-00000000000b","event_id":"00000000-0000-4000-8000-0000000000e1","vehicle_state":"available","event_types":["agency_drop_off"],"timestamp":1500}
-{"provider_id":"00000000-0000-4000-8000-000000000001","device_id":"00000000-0000-4000-8000-00000000000a","event_id":"00000000-0000-4000-8000-0000000000e3","vehicle_state":"non_operational","event_types":["battery_low"],"timestamp":3000}
-{"provider_id":"00000000-0000-4000-8000-000000000001","device_id":"00000000-0000-4000-8000-00000000000a","event_id":"00000000-0000-4000-8000-0000000000e4","vehicle_state":"available","event_types":["trip_end"],"timestamp":1999}"#;
 
 /// What `run on_trip` shows of the five events.
 const FIVE_SHOWN: &str = "events 2 refused 2
@@ -104,7 +96,7 @@ type Run = (Asked, &'static str, &'static str);
 type Came = (u8, bool, bool);
 
 /// A file of this text.
-pub fn file<'a>(path: &'a str, text: &'a str) -> Source<'a, &'a [u8]> {
+fn file<'a>(path: &'a str, text: &'a str) -> Source<'a, &'a [u8]> {
     Source {
         path,
         reader: Some(text.as_bytes()),
@@ -112,21 +104,21 @@ pub fn file<'a>(path: &'a str, text: &'a str) -> Source<'a, &'a [u8]> {
 }
 
 /// A writer of which this text is expected.
-pub fn expecting(text: &str) -> Expects<'_> {
+fn expecting(text: &str) -> Expects<'_> {
     Expects {
         rest: text.as_bytes(),
     }
 }
 
 /// The code of the status of a replay of a file of this form by so many workers.
-pub fn replayed<P: Threads + Sync, R: Read + Drop, W: Write, E: Write>(
+fn replayed<P: Threads + Sync>(
     rt: &P,
     alloc: Global,
-    file: Source<'_, R>,
+    file: Source<'_, &[u8]>,
     form: Form,
     workers: usize,
-    out: &mut W,
-    faults: &mut E,
+    out: &mut Expects<'_>,
+    faults: &mut Expects<'_>,
 ) -> u8
     requires { IsWorkerCount workers }
 {
@@ -172,18 +164,26 @@ fn came_again<P: Threads + Sync>(rt: &P, alloc: Global, run: &Run) -> Came {
 const RUNS: &[(u8, Run)] = rows! {
     (1, (Asked::Replay(Form::Batch), FIVE_EVENTS, FIVE_LINES)),
     (1, (Asked::ByFour, FIVE_EVENTS, FIVE_LINES)),
-    (1, (Asked::Replay(Form::Lines), FIVE_EVENT_LINES, FIVE_LINES)),
+    (1, (Asked::Replay(Form::Lines), FIVE_EVENTS_IN_LINES, FIVE_LINES)),
     (0, (Asked::Table, ONE_ROW, ONE_ROW_LINES)),
     (0, (Asked::Table, TWO_TABLES, TWO_TABLES_LINES)),
     (0, (Asked::Debug(DEVICE, SCRIPT), TWO_EVENTS, SCRIPT_LINES)),
     (1, (Asked::Debug(DEVICE, "run on_trip"), FIVE_EVENTS, FIVE_SHOWN)),
 };
 
+/// The first command that comes to something else.
+fn first_other<P: Threads + Sync>(rt: &P, alloc: Global) -> Option<usize> {
+    for (at, (status, run)) in RUNS.iter().enumerate() {
+        if came_again(rt, alloc, run) != (*status, true, false) {
+            return Some(at);
+        }
+    }
+    None
+}
+
 #[test]
 fn commands_succeed_after_a_refused_growth(rt: HostRuntime) {
-    let other = RUNS.iter().position(|(status, run)| came_again(&rt, rt.alloc(), run)
-        != (*status, true, false));
-    assert_eq!(rt; other, None);
+    assert_eq!(rt; first_other(&rt, rt.alloc()), None);
 }
 
 /// Bad words are told without memory, before the file is looked at.
@@ -233,4 +233,33 @@ fn problems_are_told_with_every_growth_refused(rt: HostRuntime) {
     let told = told(rt.alloc());
     let _ended = fence(rt.alloc());
     assert_eq!(rt; told, (4, true, Some(3)));
+}
+
+/// The status of telling where notes don't fit, and whether all of this went out.
+fn torn(shard: usize, place: usize, text: &str) -> (u8, bool) {
+    let mut faults = expecting(text);
+    let status = torn_to(&mut faults, shard, place);
+    (status.code(), faults.rest.is_empty())
+}
+
+/// The same of a writer that is interrupted again and again, and in how many calls.
+fn torn_in_vain() -> (u8, u32) {
+    let mut faults = Stream::new((0, 1, false, PAUSES));
+    (torn_to(&mut faults, 1, 2).code(), faults.calls)
+}
+
+/// The longest line, too, is told without memory.
+#[test]
+fn torn_is_told_with_every_growth_refused(rt: HostRuntime) {
+    let most = "mds_city: torn 18446744073709551615 18446744073709551615\n";
+    let _begun = fence(rt.alloc());
+    let short = torn(1, 2, "mds_city: torn 1 2\n");
+    let long = torn(usize::MAX, usize::MAX, most);
+    let (broken, vain) = (torn(1, 2, ""), torn_in_vain());
+    let _ended = fence(rt.alloc());
+    let told = [short, long, broken];
+    assert_eq!(rt;
+        (told, vain),
+        ([(5, true), (5, true), (3, true)], (3, 5_000_000))
+    );
 }
