@@ -1,5 +1,6 @@
 """Counting cases, and the program that they are about."""
 
+import faulthandler
 import os
 import sys
 import threading
@@ -28,9 +29,11 @@ def program_at(given=PROGRAM):
 
 
 class Count:
-    """How many cases passed, failed and were skipped. Threads may add cases side by side."""
+    """How many cases passed, failed and were skipped. Threads may add cases side by side. A script that is aborted says where
+    each thread stood."""
 
     def __init__(self):
+        faulthandler.enable()
         self.passed = self.failed = self.skipped = 0
         self.lock = threading.Lock()
 

@@ -123,7 +123,7 @@ def last_line_amid_an_answer(program, journal):
         with connect(server.port, room=SMALL_ROOM) as slow:
             slow.sendall(get(f"/vehicles/{P}/{A}/events"))
             start = time.monotonic()
-            line, wanted = server.child.stdout.readline().decode(), f"accepted {server.success}\n"
+            line, wanted = server.line(), f"accepted {server.success}\n"
             seconds = time.monotonic() - start
             if line != wanted or seconds > MOST_BESIDE:
                 yield f"the last line was {line!r} after {seconds:.1f} s, in place of {wanted!r} at once"

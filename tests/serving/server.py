@@ -2,6 +2,7 @@
 
 import os
 import re
+import select
 import socket
 import subprocess
 import tempfile
@@ -14,7 +15,7 @@ from serving.wire import ask, get
 
 LISTENING = re.compile(r"listening 127\.0\.0\.1:([0-9]+)\n")
 SECONDS = 120
-"""How long a server that has answered all its connections may take to end."""
+"""How long a server that has answered all its connections may take to end, and each to print a line."""
 
 
 def numbered_port():
@@ -66,7 +67,7 @@ class Server:
         """How many items its answers said to be accepted."""
 
     def __enter__(self):
-        line = self.child.stdout.readline().decode()
+        line = self.line()
         found = LISTENING.fullmatch(line)
         if not found:
             status, out, faults = self.ended()
@@ -74,6 +75,12 @@ class Server:
             raise NotListening((status, line + out, faults))
         self.port = int(found.group(1))
         return self
+
+    def line(self):
+        """The next line that it prints, or nothing where none comes in time."""
+        coming = select.poll()
+        coming.register(self.child.stdout, select.POLLIN)
+        return self.child.stdout.readline().decode() if coming.poll(1000 * SECONDS) else ""
 
     def __exit__(self, *_):
         if self.child.poll() is None:

@@ -20,6 +20,10 @@ from serving.talking import talk_over
 from serving.wire import get
 
 
+SECONDS = 300
+"""How long `ab` may take, which takes one or two."""
+
+
 def installed(name):
     if not shutil.which(name):
         raise Skipped(f"no `{name}` here")
@@ -133,7 +137,8 @@ def by_ab(program):
         where = f"http://127.0.0.1:{server.port}"
         posted = ["-l", "-T", "application/json", "-p", body.name, f"{where}/vehicles"]
         for words in ([f"{where}/table"], posted):
-            run = subprocess.run(["ab", "-q", "-n", "2000", "-c", "8", *words], capture_output=True, text=True)
+            words = ["ab", "-q", "-n", "2000", "-c", "8", *words]
+            run = subprocess.run(words, capture_output=True, text=True, timeout=SECONDS)
             server.count(2000, 1 if "-p" in words else 0)
             done_by = re.search(r"Complete requests:\s+2000\b", run.stdout)
             failed = re.search(r"Failed requests:\s+0\b", run.stdout)
