@@ -24,6 +24,8 @@ LITTLE, CROWD = 100000, 8
 EACH = 200
 FULL = 5
 """How often in turn a registration is refused for want of memory until there counts as none left."""
+SILENT = 20
+"""For how many seconds a server without memory may answer none of the looks that come one behind the other."""
 FIXED = b"HTTP/1.1 503 Service Unavailable\r\ncontent-length: 0\r\nconnection: close\r\n\r\n"
 
 
@@ -206,14 +208,24 @@ def in_little_address_space(program):
     with Server(program, EACH, workers=CROWD, address_space=LITTLE) as server:
         tried = filled(server)
         crowded(server, tried + 1)
-        first = str(uuid.UUID(int=1))
-        while server.child.poll() is None:
-            found = asked(server.port, get(f"/vehicles/{P}/{first}"))
-            if found not in (b"", look(first, "removed", 0, None).answer, FIXED):
-                yield f"a look was answered {found!r}"
+        yield from looked_at_to_its_end(server, str(uuid.UUID(int=1)))
         ended = server.ended()
         if ended != (4, "", NO_MEMORY) and not (ended[0] == 0 and server.success <= accepted(ended[1]) <= tried):
             yield f"ended with {ended}, where {server.success} to {tried} were accepted"
+
+
+def looked_at_to_its_end(server, device):
+    """What is wrong with the answers to looks at a vehicle, until the server ends. It may let some go without an answer."""
+    last = time.monotonic()
+    while server.child.poll() is None:
+        found = asked(server.port, get(f"/vehicles/{P}/{device}"))
+        if found:
+            last = time.monotonic()
+        elif time.monotonic() - last > SILENT:
+            yield f"no look was answered for {SILENT} s"
+            return
+        if found not in (b"", look(device, "removed", 0, None).answer, FIXED):
+            yield f"a look was answered {found!r}"
 
 
 def accepted(out):
