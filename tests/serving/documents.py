@@ -163,10 +163,11 @@ class Shell:
     def printed(self, command):
         """What comes up to the mark behind the command."""
         found, mark = b"", f"\n{MARK}\n".encode()
-        end = time.monotonic() + SECONDS
+        end, coming = time.monotonic() + SECONDS, select.poll()
+        coming.register(self.child.stdout, select.POLLIN)
         while not found.endswith(mark):
             left = max(end - time.monotonic(), 0)
-            if not select.select([self.child.stdout], [], [], left)[0]:
+            if not coming.poll(1000 * left):
                 raise Unwell(f"`{command}` didn't end in {SECONDS} s; so far it printed {found[-500:]!r}")
             piece = os.read(self.child.stdout.fileno(), 1 << 16)
             if not piece:

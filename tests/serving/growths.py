@@ -26,6 +26,8 @@ FULL = 5
 """How often in turn a registration is refused for want of memory until there counts as none left."""
 SILENT = 20
 """For how many seconds a server without memory may answer none of the looks that come one behind the other."""
+MOST_UNANSWERED = 0.25
+"""Which share of them may have no answer, in all."""
 FIXED = b"HTTP/1.1 503 Service Unavailable\r\ncontent-length: 0\r\nconnection: close\r\n\r\n"
 
 
@@ -181,14 +183,16 @@ def told(server, request):
 
 
 def filled(server):
-    """Registers vehicles, many at once and then one by one, until there is no memory for one more; how many were tried."""
+    """Registers vehicles, many at once and then one by one, until there is no memory for one more, or enough were tried: how many."""
     tried = 0
     for count in (2000, 100, 1):
         refused = 0
-        while refused < FULL:
+        for _ in range(EACH):
             found = told(server, registrations(count, tried + 1))
             tried += count
             refused = 0 if found.startswith(b"HTTP/1.1 200") else refused + 1
+            if refused == FULL:
+                break
     return tried
 
 
@@ -203,37 +207,38 @@ def crowded(server, start):
 
 
 def in_little_address_space(program):
-    """A server without memory goes on, in one of two runs at least: docs/operations.md says what becomes of few."""
-    wrong = list(without_memory(program))
-    if wrong:
-        print(f"a server without memory, the first time: {wrong[:3]}", flush=True)
-        yield from without_memory(program)
-
-
-def without_memory(program):
     """A server under a limit of its address space that is full of vehicles, and which each worker's client then holds with a long
     body, goes on answering looks, as many as its workers are to answer, and ends as usual, or for want of memory to settle."""
     with Server(program, EACH, workers=CROWD, address_space=LITTLE) as server:
         tried = filled(server)
         crowded(server, tried + 1)
-        yield from looked_at_to_its_end(server, str(uuid.UUID(int=1)))
+        yield from look_until_its_end(server, str(uuid.UUID(int=1)))
         ended = server.ended()
         if ended != (4, "", NO_MEMORY) and not (ended[0] == 0 and server.success <= accepted(ended[1]) <= tried):
             yield f"ended with {ended}, where {server.success} to {tried} were accepted"
 
 
-def looked_at_to_its_end(server, device):
-    """What is wrong with the answers to looks at a vehicle, until the server ends. It may let some go without an answer."""
-    last = time.monotonic()
+def look_until_its_end(server, device):
+    """What is wrong with the answers to looks at a vehicle, until the server ends: few have none."""
+    last, count, unanswered = time.monotonic(), 0, 0
+    request, answers = get(f"/vehicles/{P}/{device}"), (b"", look(device, "removed", 0, None).answer, FIXED)
     while server.child.poll() is None:
-        found = asked(server.port, get(f"/vehicles/{P}/{device}"))
+        try:
+            found = ask(server.port, request)
+        except ConnectionRefusedError:  # it listens no longer
+            break
+        except ConnectionError:
+            found = b""
+        count, unanswered = count + 1, unanswered + (not found)
         if found:
             last = time.monotonic()
         elif time.monotonic() - last > SILENT:
             yield f"no look was answered for {SILENT} s"
             return
-        if found not in (b"", look(device, "removed", 0, None).answer, FIXED):
+        if found not in answers:
             yield f"a look was answered {found!r}"
+    if unanswered > count * MOST_UNANSWERED:
+        yield f"{unanswered} of {count} looks had no answer"
 
 
 def accepted(out):

@@ -1,4 +1,4 @@
-"""How much memory connections take that wait, and bodies that never end."""
+"""How much memory connections take that wait, and bodies that never end, and the stack of the first thread."""
 
 import contextlib
 import os
@@ -7,16 +7,17 @@ import select
 import time
 from pathlib import Path
 
-from cases.replays import A
+from cases.replays import A, batch, history
 from harness.case import MAX_BYTES, padded
 from harness.counting import ROOT, Unwell
 from harness.texts import differing
+from model.http import error
 from serving.crowds import many_open_files
-from serving.http import EMPTY, Exchange, look, registered
+from serving.http import EMPTY, Exchange, done, look, registered
 from serving.looking import Looks
 from serving.server import Server
 from serving.talking import talk_over
-from serving.wire import connect, post, read_all
+from serving.wire import connect, get, post, read_all
 
 WAITING = 4096
 FRONT = post("/events", padded("[]", 4000))[:1000]
@@ -33,6 +34,10 @@ MOST_BY_UNIT = 1.25
 """The same with what the unit tells the C library: it gives pages of long lists back."""
 ENDLESS = 64
 """Clients that each send all of the longest body but its last byte: four times as much as the server holds."""
+EVENTS = 1000
+"""How many events a batch has."""
+LEAST_STACK = 256 * 2**10
+"""How many bytes of stack the first thread has at least once the server listens."""
 BUSY = 60
 """How many seconds the server may take to take in what was sent."""
 OPEN_FILES = 16384
@@ -142,4 +147,20 @@ def endless_bodies(program, env, times):
         yield from server.drain()
 
 
-MEMORY = [memory_of_waiting, bodies_that_never_end]
+def stack_of_the_first_thread(program):
+    """The first thread, which works too, has a stack that grows, and can't where memory ends: so it has what a worker needs once
+    the server listens."""
+    with Server(program, 4) as server:
+        before = server.bytes_of("VmStk")
+        if before < LEAST_STACK:
+            yield f"the first thread has {before} bytes of stack, in place of {LEAST_STACK}"
+        yield from talk_over(server, registered(A))
+        yield from talk_over(server, Exchange(post("/events", batch(history(A, 0, EVENTS))), done(EVENTS)))
+        yield from talk_over(server, Exchange(get("/nowhere"), error(404, "not_found")))
+        grown = server.bytes_of("VmStk") - before
+        if grown:
+            yield f"the stack of the first thread grew by {grown} bytes"
+        yield from server.end()
+
+
+MEMORY = [memory_of_waiting, bodies_that_never_end, stack_of_the_first_thread]

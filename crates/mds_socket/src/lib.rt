@@ -5,6 +5,7 @@ pub mod laws;
 mod port;
 mod retry;
 mod socket;
+mod spare;
 mod system;
 mod tables;
 mod watch;

@@ -3,13 +3,16 @@
 //! Idle workers wait side by side for whatever is ready next: a new connection, further bytes of a request, or room for those
 //! of an answer. Who is told of one looks at that connection, which nobody else has meanwhile, and lets it wait again, unless its
 //! request is whole, or it is over.
+ghost use Rattle.std.specs.Prelude.{◌≡◌, IfSome};
+
 use crate::retry::{Retry, retry_of};
+use crate::spare::{Kind, LIST_BYTES, is_worth_keeping, keep, take};
 use crate::system::{Ready, System};
 use crate::tables::Tables;
 use mds_pool::{Ending, Port, PortFault};
 use mds_request::Face;
 use mds_waiting::{Coming, Given, Leaving, Look, MAX_WAIT, Outgoing, Peer, ROOM_BYTES, Waiter};
-use std::alloc::{AllocError, Global};
+use std::alloc::Global;
 use std::io;
 use std::sync::atomic::{AtomicU32, Ordering};
 use std::sync::{Mutex, Wait};
@@ -27,8 +30,8 @@ pub struct WaitingPort<S: System, R: Wait + Copy> {
     system: S,
     face: Face,
     tables: Mutex<Tables<S::Peer>>,
-    /// Room for bytes that come, which nobody uses. It is kept, since it costs more to fill than a request to read.
-    rooms: Mutex<Vec<Vec<u8>>>,
+    /// Room that nobody uses. It is kept, so that a request which comes whole is answered, if only with 503, where no memory is left.
+    spare: Mutex<Vec<Vec<u8>>>,
     turn: AtomicU32,
 }
 
@@ -57,7 +60,7 @@ impl<S: System, R: Wait + Copy> WaitingPort<S, R> {
             system,
             face,
             tables: Mutex::new(Tables::new(alloc)),
-            rooms: Mutex::new(Vec::new(alloc)),
+            spare: Mutex::new(Vec::new(alloc)),
             turn: AtomicU32::new(0),
         }
     }
@@ -105,12 +108,13 @@ impl<S: System, R: Wait + Copy> WaitingPort<S, R> {
     }
 
     /// Goes on where there are too many open files for one more. The system says so also where no new connection is there
-    /// (accept(2)). Where one is, the eldest is let go whose request isn't whole; where there is none, a pause is made, so often
-    /// at most.
+    /// (accept(2)). Where one is, the eldest is let go whose request isn't whole, but for one that another worker took meanwhile;
+    /// where there is none, a pause is made, so often at most.
     fn go_on_without_files(&self, pauses: &mut u32) -> Result<Option<Ends<S::Peer>>, PortFault> {
+        let before = self.system.now().unwrap_or(u64::MAX);
         match self.look_after(MAX_WAIT) {
             Looked::Whole(ends) => return Ok(Some(ends)),
-            Looked::New if self.let_eldest_go() => {}
+            Looked::New if self.let_eldest_go(before) => {}
             Looked::New if *pauses < MAX_PAUSES => {
                 *pauses += 1;
                 self.system.pause();
@@ -130,12 +134,14 @@ impl<S: System, R: Wait + Copy> WaitingPort<S, R> {
             None => Looked::Nothing,
             Some(Ready::Listener) => Looked::New,
             Some(Ready::Coming(key)) => match self.take_coming(key) {
-                Some(waiter) => self.look_at_coming(waiter),
+                Some(waiter) => {
+                    self.look_at_coming(waiter.state, waiter.bytes, Some(waiter.begun))
+                }
                 None => Looked::Other,
             },
             Some(Ready::Leaving(key)) => {
                 if let Some(waiter) = self.take_leaving(key) {
-                    self.look_at_leaving(waiter);
+                    self.look_at_leaving(waiter.state, waiter.bytes, Some(waiter.begun));
                 }
                 Looked::Other
             }
@@ -150,11 +156,11 @@ impl<S: System, R: Wait + Copy> WaitingPort<S, R> {
         tables.patience(now)
     }
 
-    /// Lets go of the eldest connection whose request isn't whole: whether there was one.
-    fn let_eldest_go(&self) -> bool {
+    /// Lets go of the eldest connection whose request isn't whole, if it waited before this time: whether it did.
+    fn let_eldest_go(&self, before: u64) -> bool {
         let mut guard = self.tables.lock(&self.rt);
         let tables = &mut *guard;
-        tables.coming.let_eldest_go()
+        tables.coming.let_eldest_go(before)
     }
 
     fn take_coming(&self, key: usize) -> Option<Waiter<Coming<S::Peer>>> {
@@ -171,33 +177,34 @@ impl<S: System, R: Wait + Copy> WaitingPort<S, R> {
 
     /// Looks at a connection that was just taken: it, if its request is whole.
     fn look_at_new(&self, peer: S::Peer) -> Option<Ends<S::Peer>> {
-        let waiter = Waiter {
-            state: Coming::new(peer),
-            bytes: Vec::new(self.alloc),
-            begun: self.system.now().unwrap_or(0),
-            until: 0,
-        };
-        match self.look_at_coming(waiter) {
+        match self.look_at_coming(Coming::new(peer), Vec::new(self.alloc), None) {
             Looked::Whole(ends) => Some(ends),
             Looked::Other | Looked::New | Looked::Nothing => None,
         }
     }
 
-    /// Looks at a connection whose request comes.
-    fn look_at_coming(&self, waiter: Waiter<Coming<S::Peer>>) -> Looked<S::Peer> {
-        let Waiter {
-            mut state,
-            mut bytes,
-            begun,
-            ..
-        } = waiter;
-        match self.take_in(&mut state, &mut bytes) {
+    /// Looks at a connection whose request comes; `begun`: since when, where it waited before. Without memory for room, it is lost.
+    fn look_at_coming(
+        &self,
+        mut state: Coming<S::Peer>,
+        bytes: Vec<u8>,
+        begun: Option<u64>,
+    ) -> Looked<S::Peer> {
+        let was_empty = bytes.is_empty();
+        let Some((room, mut bytes)) = self.lend(bytes) else {
+            return Looked::Other;
+        };
+        match self.take_in(&mut state, &mut bytes, room) {
             Look::Done => {
                 let output = Outgoing::new(self.alloc, state.peer);
                 Looked::Whole((Given::new(bytes), output))
             }
             Look::Waits => {
                 let now = self.system.now().unwrap_or(0);
+                if was_empty {
+                    bytes = self.in_own_room(bytes);
+                }
+                let begun = begun.unwrap_or(now);
                 let until = state.part.until(begun, now);
                 self.let_come(Waiter {
                     state,
@@ -207,7 +214,10 @@ impl<S: System, R: Wait + Copy> WaitingPort<S, R> {
                 });
                 Looked::Other
             }
-            Look::Gone => Looked::Other,
+            Look::Gone => {
+                self.keep_list(bytes);
+                Looked::Other
+            }
         }
     }
 
@@ -217,45 +227,87 @@ impl<S: System, R: Wait + Copy> WaitingPort<S, R> {
         tables.let_come(&self.system, waiter);
     }
 
-    /// Takes in what came of a request. Where there is no memory for room, its connection is lost.
-    fn take_in(&self, coming: &mut Coming<S::Peer>, bytes: &mut Vec<u8>) -> Look {
-        let Ok(mut room) = self.room() else {
-            return Look::Gone;
-        };
+    /// Takes in what came of a request, by way of the room, which is kept.
+    fn take_in(
+        &self,
+        coming: &mut Coming<S::Peer>,
+        bytes: &mut Vec<u8>,
+        mut room: Vec<u8>,
+    ) -> Look {
         let look = coming.look(&self.face, bytes, &mut room);
-        let mut guard = self.rooms.lock(&self.rt);
-        let rooms = &mut *guard;
-        let _ = rooms.push(room);
+        let mut guard = self.spare.lock(&self.rt);
+        let spare = &mut *guard;
+        keep(spare, room);
         look
     }
 
-    /// Room for bytes that come: what was used before, if nobody uses it.
-    fn room(&self) -> Result<Vec<u8>, AllocError> {
-        match self.used_room() {
-            Some(room) => Ok(room),
-            None => vec![in self.alloc; 0; ROOM_BYTES],
+    /// Room for bytes that come, and a list with these bytes, behind which they go: for none, one that was used before. `None`
+    /// without memory for room.
+    fn lend(&self, bytes: Vec<u8>) -> Option<(Vec<u8>, Vec<u8>)>
+        ensures { IfSome result (λ lent. lent.1.items ≡ bytes.items) }
+    {
+        let (spare_room, spare_list) = self.spare(bytes.is_empty());
+        let room = match spare_room {
+            Some(room) => room,
+            None => vec![in self.alloc; 0; ROOM_BYTES].ok()?,
+        };
+        if !bytes.is_empty() {
+            return Some((room, bytes));
         }
+        let mut list = match spare_list {
+            Some(list) => list,
+            None => Vec::with_capacity(self.alloc, LIST_BYTES).unwrap_or(bytes),
+        };
+        list.clear();
+        Some((room, list))
     }
 
-    fn used_room(&self) -> Option<Vec<u8>> {
-        let mut guard = self.rooms.lock(&self.rt);
-        let rooms = &mut *guard;
-        rooms.pop()
+    /// Room that is there, and a list, if one is asked for.
+    fn spare(&self, with_list: bool) -> (Option<Vec<u8>>, Option<Vec<u8>>) {
+        let mut guard = self.spare.lock(&self.rt);
+        let spare = &mut *guard;
+        let room = take(spare, Kind::Room);
+        if with_list {
+            return (room, take(spare, Kind::List));
+        }
+        (room, None)
     }
 
-    /// Looks at a connection whose answer leaves.
-    fn look_at_leaving(&self, waiter: Waiter<Leaving<S::Peer>>) {
-        let Waiter {
-            mut state,
-            mut bytes,
-            mut begun,
-            ..
-        } = waiter;
+    /// Lets go of a list, which may be used again.
+    fn keep_list(&self, list: Vec<u8>) {
+        // A long one is freed here, where no other worker waits for that.
+        if !is_worth_keeping(&list) {
+            return;
+        }
+        let mut guard = self.spare.lock(&self.rt);
+        let spare = &mut *guard;
+        keep(spare, list);
+    }
+
+    /// These bytes, which are to wait, in a list with no more room than they need, if there is memory for it. Long lists stay as
+    /// they are, since they grow.
+    fn in_own_room(&self, bytes: Vec<u8>) -> Vec<u8>
+        ensures { result.items ≡ bytes.items }
+    {
+        if !is_worth_keeping(&bytes) {
+            return bytes;
+        }
+        let mut own = Vec::new(self.alloc);
+        if own.extend_from_slice(&bytes).is_err() {
+            return bytes;
+        }
+        self.keep_list(bytes);
+        own
+    }
+
+    /// Looks at a connection whose answer leaves; `begun`: since when, where it waited before.
+    fn look_at_leaving(&self, mut state: Leaving<S::Peer>, mut bytes: Vec<u8>, begun: Option<u64>) {
         let before = state.part;
         if state.look(&bytes) != Look::Waits {
             return;
         }
         let now = self.system.now().unwrap_or(0);
+        let mut begun = begun.unwrap_or(now);
         if state.part != before {
             begun = now;
             bytes = Vec::new(self.alloc);
@@ -303,7 +355,7 @@ impl<S: System, R: Wait + Copy> Drop for WaitingPort<S, R> {
             system: _,
             face: _,
             tables: _,
-            rooms: _,
+            spare: _,
             turn: _,
         } = self;
     }
@@ -327,7 +379,7 @@ impl<S: System, R: Wait + Copy> Port for WaitingPort<S, R> {
     fn end(&self, input: Given, output: Outgoing<S::Peer>, ending: Ending) {
         // A client that sent more than its request goes on sending, maybe: let go at once, it would lose its answer.
         let is_over = ending == Ending::AtOnce && input.is_over();
-        drop(input);
+        self.keep_list(input.into_bytes());
         let Outgoing {
             peer,
             rest,
@@ -336,12 +388,7 @@ impl<S: System, R: Wait + Copy> Port for WaitingPort<S, R> {
         if is_lost {
             return;
         }
-        self.look_at_leaving(Waiter {
-            state: Leaving::new(peer, is_over),
-            bytes: rest,
-            begun: self.system.now().unwrap_or(0),
-            until: 0,
-        });
+        self.look_at_leaving(Leaving::new(peer, is_over), rest, None);
     }
 
     fn stop(&self) {

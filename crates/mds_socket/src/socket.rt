@@ -5,7 +5,7 @@ use crate::watch::{Socket, Watch};
 use mds_request::Face;
 use mds_waiting::Outgoing;
 use std::alloc::Global;
-use std::io::{self, ErrorKind};
+use std::io::{self, ErrorKind, Read};
 use std::net::{Ipv4Addr, Net, Shutdown, SocketAddr, SocketAddrV4, TcpListener, TcpStream};
 use std::os::fd::OwnedFd;
 use std::sync::Wait;
@@ -14,6 +14,9 @@ use std::time::{Clock, Duration};
 
 /// How long a pause is, in milliseconds.
 const PAUSE_MILLIS: u64 = 100;
+
+/// How many bytes of stack a worker finds: more than it needs, which was 140 kB.
+const STACK_BYTES: usize = 262_144;
 
 /// A listening socket, from which any number of workers take connections.
 pub type SocketPort<R> = WaitingPort<Sockets<R>, R>;
@@ -43,6 +46,7 @@ impl<R: Clock + Copy> Sockets<R> {
         // On Linux each connection is set as the socket that it is taken from: what is written is sent at once.
         let socket = TcpStream::from(OwnedFd::from(listener.try_clone()?));
         socket.set_nodelay(true)?;
+        grow_stack(&socket);
         let watch = Watch::new(net)?;
         watch.begin(&listener)?;
         Ok(Sockets {
@@ -52,6 +56,15 @@ impl<R: Clock + Copy> Sockets<R> {
             watch,
         })
     }
+}
+
+/// Makes the stack of this thread as large as a worker needs it, while there is memory for that. The first thread of a process
+/// has a stack that grows, and where there is none left then, the system ends the process (setrlimit(2), RLIMIT_AS).
+#[inline(never)]
+fn grow_stack(socket: &TcpStream) {
+    let (mut room, mut listening) = ([0u8; STACK_BYTES], socket);
+    // A socket that listens has no bytes to give. To be handed the room, the system has to find it there.
+    let _ = listening.read(&mut room);
 }
 
 impl<R: Clock + Copy> System for Sockets<R> {

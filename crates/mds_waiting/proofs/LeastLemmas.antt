@@ -13,7 +13,7 @@ use Rattle.mds_waiting.specs.declared.least.Order.{Order}
 use Rattle.mds_waiting.specs.declared.least.Order.TheVariants.{Until, Begun}
 use Rattle.mds_waiting.proofs.SlotLemmas.{emptied}
 use Rattle.mds_waiting.specs.Least.{IsLeast, IsLeastBelow, IsNoSooner, lesser, time_in}
-use Rattle.mds_waiting.specs.Waiting.{HasLeft, HasTime, HoldsFewer, IsEldest, IsInTime, IsLate, IsOver, held, weight}
+use Rattle.mds_waiting.specs.Waiting.{HasBegunSince, HasLeft, HasTime, HoldsFewer, IsEldest, IsEldestBefore, IsInTime, IsLate, IsOver, held, weight}
 
 module _ {S : Type 0} where
   -- who is told of by when its time is over
@@ -124,6 +124,23 @@ module _ {S : Type 0} where
             let time = who.3 in
             omega arith;
       }
+
+  pub IsEldestBefore-from_least : (time : ℕ) (slots : List (Option (Waiter S))) (found : Found)
+      → IsLeast (Begun 0) slots (Some found) → found.time < time → IsEldestBefore time slots found.key
+  unfolding IsEldest-from_least begun_of
+  IsEldestBefore-from_least time slots found least early =
+      let who = begun_of 0 (get_or slots found.key None) found.time least.1 in
+      let is = who.3 in
+      let before : who.0.begun < time = omega (arith, early) in
+      (IsEldest-from_least 0 slots found least, before)
+
+  pub HasBegunSince-from_least : (time : ℕ) (slots : List (Option (Waiter S))) (found : Found)
+      → IsLeast (Begun 0) slots (Some found) → time ≤ found.time → All (HasBegunSince time) slots
+  HasBegunSince-from_least time slots found least late = λ k d within waiter same.
+      let told : time_in (Begun 0) (get_or slots k d) ≡ Some waiter.begun =
+      ap (time_in (Begun 0)) same ∙ rw (le-leb 0 (vec_len waiter.bytes) (omega arith)) refl in
+      let no_sooner = least.2 k d (omega arith) within waiter.begun told in
+      omega (arith, late)
 
   fewer : (bytes : ℕ) (waiter : Waiter S) → time_in (Begun bytes) (Some waiter) ≡ None → vec_len waiter.bytes < bytes
   fewer bytes waiter none = by (nat_le bytes (vec_len waiter.bytes)) refl none where

@@ -70,6 +70,14 @@ module _ {S : Type 0} where
     pub holds : bytes ≤ vec_len waiter.bytes
     pub first : All (λ slot. ForSome slot (λ other. bytes ≤ vec_len other.bytes → waiter.begun ≤ other.begun)) slots
 
+  -- the connection that began to wait first, and it did so before this time
+  abbrev pub IsEldestBefore : ℕ → List (Option (Waiter S)) → ℕ → Type 0
+  IsEldestBefore time slots key = (eldest : IsEldest 0 slots key) × (eldest.waiter.begun < time)
+
+  -- the slot's connection didn't begin to wait before this time
+  abbrev pub HasBegunSince : ℕ → Option (Waiter S) → Type 0
+  HasBegunSince time slot = ForSome slot (λ waiter. time ≤ waiter.begun)
+
   -- no connection holds so many bytes
   abbrev pub HoldsFewer : ℕ → Option (Waiter S) → Type 0
   HoldsFewer bytes slot = ForSome slot (λ waiter. vec_len waiter.bytes < bytes)
@@ -82,6 +90,10 @@ module _ {S : Type 0} where
   -- the eldest of all has left
   abbrev pub LeavesEldest : List (Option (Waiter S)) → List (Option (Waiter S)) → Type 0
   LeavesEldest old new = (key : ℕ) × IsEldest 0 old key × (new ≡ slice_set old key None)
+
+  -- the same, where it began to wait before this time
+  abbrev pub LeavesEldestBefore : ℕ → List (Option (Waiter S)) → List (Option (Waiter S)) → Type 0
+  LeavesEldestBefore time old new = (key : ℕ) × IsEldestBefore time old key × (new ≡ slice_set old key None)
 
   -- the same connections wait, or all but the eldest of them
   abbrev pub SameOrLeavesEldest : List (Option (Waiter S)) → List (Option (Waiter S)) → ℕ → Type 0

@@ -1,6 +1,6 @@
 //! Who leaves where one more connection is to wait.
 ghost use Rattle.std.specs.Prelude.{◌≡◌, All, IsTrue, IfSome, None, true, false};
-ghost use Rattle.mds_waiting.specs.Waiting.{HasRoom, HoldsFewer, IsVacant, LeavesEldest, SameOrLeavesEldest};
+ghost use Rattle.mds_waiting.specs.Waiting.{HasBegunSince, HasRoom, IsVacant, LeavesEldestBefore, SameOrLeavesEldest};
 
 use crate::waiting::{MAX_WAITING, Waiting};
 use std::alloc::AllocError;
@@ -41,12 +41,13 @@ impl<S: Drop> Waiting<S> {
         Some(key)
     }
 
-    /// Lets go of the connection that began to wait first: whether one waited.
-    pub fn let_eldest_go(&mut self) -> bool
-        ensures left { result ≡ true → LeavesEldest self.old self.new }
-        ensures none { result ≡ false → All (HoldsFewer 0) self.old }
+    /// Lets go of the connection that began to wait first, if it did so before this time: whether it did.
+    pub fn let_eldest_go(&mut self, before: u64) -> bool
+        ensures left { result ≡ true → LeavesEldestBefore before self.old self.new }
+        ensures none { result ≡ false → All (HasBegunSince before) self.old }
+        ensures same { result ≡ false → self.new ≡ self.old }
     {
-        match self.eldest(0) {
+        match self.eldest_before(before) {
             Some(key) => {
                 let _ = self.take(key);
                 true

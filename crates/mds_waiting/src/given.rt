@@ -36,6 +36,12 @@ impl Given {
         self.count == self.bytes.len()
     }
 
+    /// The list of all bytes, given or not: its room can be used again.
+    pub fn into_bytes(self) -> Vec<u8> {
+        let Given { bytes, count: _ } = self;
+        bytes
+    }
+
     /// Gives the next bytes into the room, as many as there is room for: how many they are.
     pub fn give(&mut self, room: &mut [u8]) -> usize
         ensures count { result ≡ min (length room.old) (length self.old) }

@@ -1,6 +1,6 @@
 //! The connections that wait.
 ghost use Rattle.std.specs.Prelude.{◌≡◌, ◌↔◌, ◌⊎◌, ◌+◌, ◌<◌, ◌≤◌, [], All, count_by, is_some, IsSome, IsSomeAnd, IsTrue, IfNone, IfOk, IfSome, Some, None, slice_index_or, slice_set, vec_len};
-ghost use Rattle.mds_waiting.specs.Waiting.{HasLeft, HasRoom, HasTime, HoldsFewer, IsEldest, IsFull, IsInTime, IsLate, IsOver, IsVacant, SameWaiters, held, max_held, max_wait, weight};
+ghost use Rattle.mds_waiting.specs.Waiting.{HasBegunSince, HasLeft, HasRoom, HasTime, HoldsFewer, IsEldest, IsEldestBefore, IsFull, IsInTime, IsLate, IsOver, IsVacant, SameWaiters, held, max_held, max_wait, weight};
 
 use crate::least::{Found, Order, least};
 use crate::waiter::{MAX_HELD, Waiter, counted};
@@ -178,6 +178,17 @@ impl<S> Waiting<S> {
     {
         let found = least(&self.slots, Order::Begun { bytes })?;
         Some(found.key)
+    }
+
+    /// The connection that began to wait first, if it did so before this time.
+    pub fn eldest_before(&self, time: u64) -> Option<usize>
+        ensures eldest { IfSome result (IsEldestBefore time self.now) }
+        ensures none { IfNone result (All (HasBegunSince time) self.now) }
+    {
+        match least(&self.slots, Order::Begun { bytes: 0 }) {
+            Some(found) if found.time < time => Some(found.key),
+            _ => None,
+        }
     }
 
     /// Lets go of the eldest connection that holds bytes, where there is no room for so many more.

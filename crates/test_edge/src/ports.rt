@@ -179,6 +179,11 @@ const CASES: &[Case] = rows! {
         Turn::Comes(PART), Turn::Comes(PART), Turn::Fails(NO_FILE), Turn::Tells(Ready::Listener),
         Turn::Tells(Ready::Coming(0)), Turn::Comes(WHOLE), Turn::Tells(Ready::Coming(1)),
     ], Some(1), 9, [18, 23], [2, 0]),
+    // None is let go that was taken when another worker found none left: a pause is made.
+    (&[
+        Turn::Comes(PART), Turn::Fails(NO_FILE), Turn::Tells(Ready::Listener), Turn::Tells(Ready::Coming(0)),
+        Turn::Comes(WHOLE),
+    ], Some(0), 9, [23, 18], [1, 1]),
     // None waits that could be let go: 30 seconds of pauses are made. No connection is there: none is.
     (&[Turn::Lacks], Some(1), 9, [0, 0], [0, 300]),
     (&[Turn::Fails(NO_FILE), Turn::Silent, Turn::Comes(WHOLE)], Some(1), 9, [18, 0], [0, 0]),

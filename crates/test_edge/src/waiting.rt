@@ -119,9 +119,14 @@ fn leaves_for_others(alloc: Global) -> Result<(Option<usize>, usize, bool, bool)
     let mut waiting = three(alloc)?;
     let key = waiting.key_for(usize::MAX);
     let count = waiting.len();
-    let first = waiting.let_eldest_go();
+    let first = !waiting.let_eldest_go(10) && waiting.let_eldest_go(11);
     let is_second = waiting.take(0).is_some();
-    Ok((key, count, first && is_second, waiting.let_eldest_go()))
+    Ok((
+        key,
+        count,
+        first && is_second,
+        waiting.let_eldest_go(u64::MAX),
+    ))
 }
 
 #[test]
