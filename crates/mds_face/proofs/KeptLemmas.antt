@@ -1,15 +1,16 @@
 -- How a connection ends at a desk whose answers go out once what they rest on is recorded.
-use Rattle.std.proofs.Common.{ℕ, List, Option, Result, Ok, Err, IfOk, IfErr, inr}
+use Rattle.std.proofs.Common.{ℕ, List, Option, Some, Result, Ok, Err, IfOk, IfErr, inl, inr, subst, sym}
 use Rattle.mds_table.specs.Tables.{Tables}
 use Rattle.mds_core.specs.declared.key.Key.{Key}
 use Rattle.mds_core.specs.declared.request.Request.{Request}
 use Rattle.mds_core.specs.declared.reply.Reply.{Reply}
 use Rattle.mds_core.specs.Reported.{Reported}
 use Rattle.mds_request.specs.Asked.{Asked}
+use Rattle.mds_request.specs.Plan.{IsPlan}
 use Rattle.mds_face.specs.declared.connection.Served.{Served}
 use Rattle.mds_face.specs.declared.kept_desk.KeptFault.{KeptFault}
 use Rattle.mds_face.specs.Serving.{IsAsked}
-use Rattle.mds_face.specs.Kept.{IsKeptAnswer, IsKeptStop, IsServedKept, StopsKept}
+use Rattle.mds_face.specs.Kept.{IsKeptAnswer, IsKeptStop, IsServedKept, StopsKept, StopsUnreadKept, StopsWhole}
 
 module _ {S : Type 0} (Calls : S → Request → Option Reply → S → Type 0) (GivesEvents : S → Key → Option (List Reported) → S → Type 0) (GivesRows : S → Tables → Type 0)
     (IsKept : S → Option Key → Type 0) (KeepsDesk : S → S → Type 0) where
@@ -25,3 +26,18 @@ module _ {S : Type 0} (Calls : S → Request → Option Reply → S → Type 0) 
       → IfErr result (StopsKept Calls GivesEvents GivesRows IsKept KeepsDesk input old new written_old written_new)
   stops_kept input what old new written_old written_new (Ok served) asked stopped = tt
   stops_kept input what old new written_old written_new (Err fault) asked stopped = inr (what, asked, stopped)
+
+  pub stops_whole : (request : List ℕ) (what : Asked) (old new : S) (written_old written_new : Option (List ℕ)) (result : Result Served KeptFault)
+      → IsPlan request what → IfErr result (IsKeptStop Calls GivesEvents GivesRows IsKept KeepsDesk what old new written_old written_new)
+      → IfErr result (StopsWhole Calls GivesEvents GivesRows IsKept KeepsDesk request old new written_old written_new)
+  stops_whole request what old new written_old written_new (Ok served) asked stopped = tt
+  stops_whole request what old new written_old written_new (Err fault) asked stopped = inr (what, asked, stopped)
+
+  -- what is known of a request that is all there is known of its connection
+  pub stops_whole_kept : (request : List ℕ) (old new : S) (written_old written_new : Option (List ℕ)) (result : Result Served KeptFault)
+      → IfErr result (StopsWhole Calls GivesEvents GivesRows IsKept KeepsDesk request old new written_old written_new)
+      → IfErr result (StopsKept Calls GivesEvents GivesRows IsKept KeepsDesk (Some request) old new written_old written_new)
+  stops_whole_kept request old new written_old written_new (Ok served) stopped = tt
+  stops_whole_kept request old new written_old written_new (Err fault) (inl (sent, is, same, fixed)) =
+      inl (subst (StopsUnreadKept Calls GivesEvents GivesRows IsKept KeepsDesk old new written_old written_new) (sym is) (same, fixed))
+  stops_whole_kept request old new written_old written_new (Err fault) (inr later) = inr later

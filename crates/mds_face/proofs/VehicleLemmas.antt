@@ -1,6 +1,5 @@
 -- What an answer about one vehicle rests on.
-use Rattle.std.proofs.Common.{◌≡◌, List, ap}
-use Rattle.mds_core.specs.declared.request.Request.{Request}
+use Rattle.std.proofs.Common.{◌≡◌, ap}
 use Rattle.mds_core.specs.declared.request.Request.TheVariants.{Look}
 use Rattle.mds_core.specs.declared.reply.Outcome.{Outcome}
 use Rattle.mds_core.specs.Machine.{events_in, events_if}
@@ -8,7 +7,7 @@ use Rattle.mds_core.proofs.Outcomes.{same_outcome}
 use Rattle.mds_request.specs.Asked as asked
 use Rattle.mds_response.specs.Found as finding
 use Rattle.mds_response.specs.Answer.{answer_to}
-use Rattle.mds_face.specs.Laws.{AgreeOn, LooksRestOnTheirVehicle}
+use Rattle.mds_face.specs.Laws.{LooksRestOnTheirVehicle}
 
 -- the outcome of a look is all that its answer shows of the reply
 pub rest_on_vehicle : LooksRestOnTheirVehicle

@@ -8,6 +8,7 @@ use Rattle.mds_core.specs.declared.reply.Reply.{Reply}
 use Rattle.mds_core.specs.Reported.{Reported}
 use Rattle.mds_request.specs.Asked.{Asked}
 use Rattle.mds_request.specs.Asked as asked
+use Rattle.mds_request.specs.Plan.{IsPlan}
 use Rattle.mds_response.specs.Found.{Finding}
 use Rattle.mds_response.specs.Head.{not_kept_text}
 use Rattle.mds_face.specs.declared.connection.Served.{Served}
@@ -91,3 +92,9 @@ module _ {S : Type 0} (Calls : S → Request → Option Reply → S → Type 0) 
   StopsKept input old new written_old written_new fault =
       StopsUnreadKept old new written_old written_new fault
       ⊎ ((what : Asked) × IsAsked input what × IsKeptStop what old new written_old written_new fault)
+
+  -- a request that is all there wasn't answered whole: there was no memory for its items, or it stopped later
+  abbrev pub StopsWhole : List ℕ → S → S → Option (List ℕ) → Option (List ℕ) → KeptFault → Type 0
+  StopsWhole request old new written_old written_new fault =
+      ((sent : ℕ) × (fault ≡ Serve (serve.Memory sent)) × (new ≡ old) × IsFixedAnswer written_old written_new sent)
+      ⊎ ((what : Asked) × IsPlan request what × IsKeptStop what old new written_old written_new fault)

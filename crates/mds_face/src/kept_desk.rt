@@ -1,8 +1,9 @@
 //! Serving one connection at a desk whose answers go out once what they rest on is recorded.
-ghost use Rattle.std.specs.Prelude.{◌≡◌, true, false, IfOk, IfErr, OnOk, IsOk, MatchBool};
+ghost use Rattle.std.specs.Prelude.{◌≡◌, true, false, IfOk, IfErr, OnOk, IsOk, MatchBool, Some};
 ghost use Rattle.std.specs.Io.KnownBytes.{Appends};
 ghost use Rattle.mds_request.specs.Asked.{asked_in};
-ghost use Rattle.mds_face.specs.Kept.{IsInstead, IsKeptAnswer, IsKeptStop, IsServedKept, StopsKept, is_of_history, vehicle_of};
+ghost use Rattle.mds_request.specs.HeadStatus.{IsHead};
+ghost use Rattle.mds_face.specs.Kept.{IsInstead, IsKeptAnswer, IsKeptStop, IsServedKept, StopsKept, StopsWhole, is_of_history, vehicle_of};
 ghost use Rattle.mds_face.specs.Reading.{ReadsNoFurther};
 ghost use Rattle.mds_face.specs.Serving.{IsUnwritten};
 
@@ -10,9 +11,9 @@ use crate::connection::{find, out_of_memory, served_of, write_answer};
 use crate::{Desk, ServeFault, Served, read_plan};
 use mds_core::Key;
 use mds_io::{MAX_CALLS, ReadError, write_all_of};
-use mds_request::{Face, Plan};
+use mds_request::{Face, Head, Plan};
 use mds_response::{bytes_of, not_kept_bytes};
-use std::alloc::Global;
+use std::alloc::{AllocError, Global};
 use std::io::{Read, Write};
 
 /// Why what answers rest on isn't known to be recorded.
@@ -91,6 +92,30 @@ pub fn serve_kept<R: Read, W: Write, D: KeptDesk>(
         Err(ReadError::TooManyTurns) => {
             Err(KeptFault::Serve(ServeFault::TooManyTurns { sent: 0 }))
         }
+    }
+}
+
+/// The same of a request that is all there: these are its bytes, and this is its head.
+///
+/// # Errors
+///
+/// [`KeptFault`] says when each comes, what was done then and what was written.
+pub fn serve_whole<W: Write, D: KeptDesk>(
+    alloc: Global,
+    request: &[u8],
+    head: &Head,
+    writer: &mut W,
+    desk: &mut D,
+) -> Result<Served, KeptFault>
+    requires { IsHead request.now head.now }
+    ensures served { IfOk result (IsServedKept D.calls D.gives_events D.gives_rows D.is_kept D.keeps
+        (Some request.now) desk.old desk.new (W.contents writer.old) (W.contents writer.new)) }
+    ensures stopped { IfErr result (StopsWhole D.calls D.gives_events D.gives_rows D.is_kept D.keeps
+        request.now desk.old desk.new (W.contents writer.old) (W.contents writer.new)) }
+{
+    match head.plan(alloc, request) {
+        Ok(plan) => answer_kept(alloc, writer, desk, plan),
+        Err(AllocError) => Err(KeptFault::Serve(out_of_memory(writer))),
     }
 }
 

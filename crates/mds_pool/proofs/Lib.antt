@@ -4,3 +4,4 @@ pub mod Growth
 pub mod Places
 pub mod Rounds
 pub mod SeatGrowth
+pub mod Unread

@@ -270,7 +270,7 @@ impl<R: Wait, P: Port, L: ShardLedger, M: ShardLedger, G: Gate, K: Recorder<L, M
             recorder: self.recorder,
             receipt,
         };
-        let answer = answer_at_seat(self.alloc, self.face, connection, &mut desk);
+        let answer = answer_at_seat(self.alloc, self.face, self.port, connection, &mut desk);
         let RecordedDesk {
             desk: SeatDesk {
                 alloc: _,
@@ -288,11 +288,12 @@ impl<R: Wait, P: Port, L: ShardLedger, M: ShardLedger, G: Gate, K: Recorder<L, M
 fn answer_at_seat<R: Wait, P: Port, L: ShardLedger, M: ShardLedger, K: Recorder<L, M>>(
     alloc: Global,
     face: &Face,
+    port: &P,
     connection: Connection<P>,
     desk: &mut RecordedDesk<'_, R, L, M, K>,
 ) -> Answer<P>
     ensures same_seat { desk.new.desk.seat.ghost_name ≡ desk.old.desk.seat.ghost_name }
     ensures grown { HasGrown desk.old.desk.seat.now desk.new.desk.seat.now }
 {
-    connection.answer_at(alloc, face, desk)
+    connection.answer_at(alloc, face, port, desk)
 }

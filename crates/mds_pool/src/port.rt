@@ -1,4 +1,8 @@
 //! Where connections come from.
+ghost use Rattle.std.specs.Prelude.{◌≡◌, Some, IfSome};
+ghost use Rattle.mds_request.specs.HeadStatus.{IsHead};
+
+use mds_face::Head;
 use std::error::Error;
 use std::fmt;
 use std::io::{Read, Write};
@@ -39,6 +43,15 @@ pub trait Port {
     ///
     /// [`PortFault`] where no further connection can be taken, for want of memory too.
     fn accept(&self) -> Result<(Self::In, Self::Out), PortFault>;
+
+    /// The bytes that a connection gives, and the head with which they begin, where the port knows both: then they needn't be
+    /// read. A port that doesn't needs to do nothing.
+    fn whole_of<'a>(&self, _input: &'a Self::In) -> Option<(&'a [u8], Head)>
+        ensures bytes { IfSome result (λ found. Self.In.remaining _input.now ≡ Some found.0.now) }
+        ensures head { IfSome result (λ found. IsHead found.0.now found.1) }
+    {
+        None
+    }
 
     /// Ends a connection, whose two ends these are. A port in which nothing gets lost by a sudden end needs no more than to
     /// drop them.

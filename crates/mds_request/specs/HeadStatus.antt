@@ -4,6 +4,7 @@ use Rattle.httparse.specs.Grammar.{RequestHead, print_request, MayBecomeRequest}
 use Rattle.mds_table.specs.Json.{max_bytes}
 use Rattle.mds_core.specs.declared.key.Key.{Key}
 use Rattle.mds_request.specs.declared.aim.Aim.{Aim}
+use Rattle.mds_request.specs.declared.head_status.Head.{Head}
 use Rattle.mds_request.specs.declared.head_status.HeadStatus.{HeadStatus}
 use Rattle.mds_request.specs.declared.head_status.HeadStatus.TheVariants.{Partial, Invalid, Rejected, Complete}
 use Rattle.mds_request.specs.Asked.{Asked, fault_in}
@@ -39,6 +40,10 @@ IfComplete other Says = Unit {0}
 -- the head lies in these bytes and is short enough, and the body isn't too long
 abbrev pub IsInReach : List ℕ → HeadStatus → Type 0
 IsInReach bytes status = IfComplete status (λ start len. (start ≤ length bytes) × (start ≤ max_head) × (len ≤ max_bytes))
+
+-- these bytes begin with this head, which has no fault
+abbrev pub IsHead : List ℕ → Head → Type 0
+IsHead bytes head = IsHeadStatus bytes (Complete head.aim head.start head.len) × IsInReach bytes (Complete head.aim head.start head.len)
 
 -- a body is read: that of a POST, where all of it is there
 abbrev pub HasBody : List ℕ → HeadStatus → Type 0

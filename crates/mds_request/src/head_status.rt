@@ -42,6 +42,40 @@ pub enum HeadStatus {
     },
 }
 
+/// A head that is there and has no fault.
+#[derive(Clone, Copy, Debug, PartialEq, Eq)]
+pub struct Head {
+    /// What the request is about.
+    pub aim: Aim<Key>,
+    /// How many bytes the head has: where the body starts.
+    pub start: usize,
+    /// How many bytes the body has.
+    pub len: usize,
+}
+
+impl Head {
+    ghost use Rattle.std.specs.Prelude.{IfOk, OnErr};
+    ghost use Rattle.mds_request.specs.Asked.{asked_in};
+    ghost use Rattle.mds_request.specs.Plan.{IsPlan};
+    ghost use Rattle.mds_request.specs.HeadStatus.{HasBody, IsHead};
+
+    /// What a stream asks for that begins with this head: these bytes are all that count.
+    ///
+    /// # Errors
+    ///
+    /// `AllocError` where there is no memory for the items of a body that is all there.
+    pub fn plan(&self, alloc: Global, stream: &[u8]) -> Result<Plan, AllocError>
+        requires { IsHead stream.now self.now }
+        ensures plan { IfOk result (λ plan. IsPlan stream.now (asked_in plan)) }
+        ensures memory { OnErr result (HasBody stream.now
+            (HeadStatus.Complete self.now.aim self.now.start self.now.len)) }
+    {
+        let Head { aim, start, len } = *self;
+        let status = HeadStatus::Complete { aim, start, len };
+        status.plan(alloc, stream)
+    }
+}
+
 impl Face {
     ghost use Rattle.mds_request.specs.HeadStatus.{IsHeadStatus, IsInReach};
 

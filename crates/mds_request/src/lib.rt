@@ -22,5 +22,5 @@ mod target;
 pub use aim::Aim;
 pub use face::Face;
 pub use fault::HttpFault;
-pub use head_status::{HeadStatus, MAX_FIELDS, MAX_HEAD};
+pub use head_status::{Head, HeadStatus, MAX_FIELDS, MAX_HEAD};
 pub use plan::{Plan, plan_of};

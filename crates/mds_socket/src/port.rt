@@ -4,13 +4,15 @@
 //! of an answer. Who is told of one looks at that connection, which nobody else has meanwhile, and lets it wait again, unless its
 //! request is whole, or it is over.
 ghost use Rattle.std.specs.Prelude.{◌≡◌, IfSome};
+ghost use Rattle.mds_waiting.specs.Looks.{IfDone};
+ghost use Rattle.mds_waiting.specs.Requests.{BeginsWith};
 
 use crate::retry::{Retry, retry_of};
 use crate::spare::{Kind, LIST_BYTES, is_worth_keeping, keep, take};
 use crate::system::{Ready, System};
 use crate::tables::Tables;
 use mds_pool::{Ending, Port, PortFault};
-use mds_request::Face;
+use mds_request::{Face, Head};
 use mds_waiting::{Coming, Given, Leaving, Look, MAX_WAIT, Outgoing, Peer, ROOM_BYTES, Waiter};
 use std::alloc::Global;
 use std::io;
@@ -195,9 +197,9 @@ impl<S: System, R: Wait + Copy> WaitingPort<S, R> {
             return Looked::Other;
         };
         match self.take_in(&mut state, &mut bytes, room) {
-            Look::Done => {
+            Look::Done(head) => {
                 let output = Outgoing::new(self.alloc, state.peer);
-                Looked::Whole((Given::new(bytes), output))
+                Looked::Whole((Given::new(bytes, head), output))
             }
             Look::Waits => {
                 let now = self.system.now().unwrap_or(0);
@@ -228,12 +230,9 @@ impl<S: System, R: Wait + Copy> WaitingPort<S, R> {
     }
 
     /// Takes in what came of a request, by way of the room, which is kept.
-    fn take_in(
-        &self,
-        coming: &mut Coming<S::Peer>,
-        bytes: &mut Vec<u8>,
-        mut room: Vec<u8>,
-    ) -> Look {
+    fn take_in(&self, coming: &mut Coming<S::Peer>, bytes: &mut Vec<u8>, mut room: Vec<u8>) -> Look
+        ensures { IfDone result (BeginsWith bytes.new.items) }
+    {
         let look = coming.look(&self.face, bytes, &mut room);
         let mut guard = self.spare.lock(&self.rt);
         let spare = &mut *guard;
@@ -374,6 +373,10 @@ impl<S: System, R: Wait + Copy> Port for WaitingPort<S, R> {
             }
         }
         unreachable!()
+    }
+
+    fn whole_of<'a>(&self, input: &'a Given) -> Option<(&'a [u8], Head)> {
+        input.whole()
     }
 
     fn end(&self, input: Given, output: Outgoing<S::Peer>, ending: Ending) {

@@ -4,7 +4,11 @@ use Rattle.std.proofs.Math.Seq.{drop-drop, take-add, take-length}
 use Rattle.std.specs.Prelude.{Option}
 use Rattle.std.specs.Io.KnownBytes.{Appends, Consumes, append_known}
 use Rattle.std.proofs.KnownBytes.{Appends-nil, Appends-trans, Consumes-nil, Consumes-trans}
+use Rattle.mds_waiting.specs.declared.look.Look.{Look}
+use Rattle.mds_waiting.specs.declared.look.Look.TheVariants.{Done, Waits, Gone}
+use Rattle.mds_waiting.specs.Looks.{IfDone, IsWholeOrEnded}
 use Rattle.mds_waiting.specs.Peers.{Grows, SendsPart}
+use Rattle.mds_waiting.specs.Requests.{IsWhole}
 
 -- what was kept behind what was sent goes on to be, with more behind it
 pub appended : (x b : Option (List ℕ)) (held more front : List ℕ) → Appends x (append_known b held) front
@@ -59,3 +63,9 @@ grows_nothing a b held none = ([], sym (append-nil held), none)
 
 pub grows_not : (a : Option (List ℕ)) (held : List ℕ) → Grows a a held held
 grows_not a held = grows_nothing a a held (Consumes-nil a)
+
+-- a request that is whole is so whether or not its client has ended
+pub whole_anyway : (look : Look) (bytes : List ℕ) (coming : Option (List ℕ)) → IfDone look (IsWhole bytes) → IfDone look (IsWholeOrEnded bytes coming)
+whole_anyway (Done head) bytes coming whole = inl whole
+whole_anyway Waits bytes coming whole = tt
+whole_anyway Gone bytes coming whole = tt

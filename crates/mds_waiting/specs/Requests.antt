@@ -1,8 +1,9 @@
 -- When a request is whole, by what the reader of requests says of its head.
-use Rattle.std.specs.Prelude.{◌≡◌, ◌≢◌, ℕ, ◌+◌, ◌≤◌, nat_le, List, All, length, Option, Some, None, if◌then◌else◌}
+use Rattle.std.specs.Prelude.{◌≡◌, ◌≢◌, ℕ, ◌+◌, ◌≤◌, nat_le, List, All, length, Option, Some, None, IfSome, IsSomeAnd, if◌then◌else◌}
 use Rattle.mds_table.specs.Json.{max_bytes}
 use Rattle.mds_request.specs.Head.{max_head}
-use Rattle.mds_request.specs.HeadStatus.{IsHeadStatus}
+use Rattle.mds_request.specs.HeadStatus.{IsHead, IsHeadStatus}
+use Rattle.mds_request.specs.declared.head_status.Head.{Head}
 use Rattle.mds_request.specs.declared.head_status.HeadStatus.{HeadStatus}
 use Rattle.mds_request.specs.declared.head_status.HeadStatus.TheVariants.{Partial, Invalid, Rejected, Complete}
 
@@ -19,13 +20,23 @@ total_by bytes Invalid = Some 0
 total_by bytes (Rejected fault) = Some 0
 total_by bytes (Complete aim start len) = Some (start + len)
 
--- the same, by what the reader says of these bytes
-abbrev pub IsTotal : List ℕ → Option ℕ → Type 0
-IsTotal bytes total = (status : HeadStatus) × IsHeadStatus bytes status × (total ≡ total_by bytes status)
+-- the head of which the reader says this, where it is there and has no fault
+abbrev pub head_in : HeadStatus → Option Head
+head_in (Complete aim start len) = Some (record { aim = aim; start = start; len = len })
+head_in other = None
 
--- a request is whole of which these bytes are there
-abbrev pub IsWhole : List ℕ → Type 0
-IsWhole bytes = (total : ℕ) × IsTotal bytes (Some total) × (total ≤ length bytes)
+-- a request is whole of which these bytes are there, and this is its head, if it has one without a fault
+abbrev pub IsWhole : List ℕ → Option Head → Type 0
+IsWhole bytes head = (status : HeadStatus) × IsHeadStatus bytes status
+    × IsSomeAnd (total_by bytes status) (λ total. total ≤ length bytes) × (head ≡ head_in status)
+
+-- these bytes begin with this head, if one is told
+abbrev pub BeginsWith : List ℕ → Option Head → Type 0
+BeginsWith bytes told = IfSome told (IsHead bytes)
+
+-- these bytes are a request, or a front of one, and nothing behind it
+abbrev pub IsRequestAlone : List ℕ → Type 0
+IsRequestAlone bytes = (head : Head) × IsHead bytes head × (length bytes ≤ head.start + head.len)
 
 -- no line ends in these bytes
 abbrev pub NoLineEnds : List ℕ → Type 0

@@ -1,14 +1,15 @@
 //! A request that comes: as soon as how many bytes are there it is whole, and a look for further ones.
-ghost use Rattle.std.specs.Prelude.{◌≡◌, ◌≢◌, ◌⊎◌, ◌<◌, ◌≤◌, drop, length, max, IsTrue, IfSome, Some, false};
-ghost use Rattle.std.specs.Io.KnownBytes.{IsAtEnd};
+ghost use Rattle.std.specs.Prelude.{◌≡◌, ◌≢◌, ◌<◌, ◌≤◌, ◌+◌, ◌++◌, drop, length, max, IfSome, None, Some, false};
 ghost use Rattle.mds_waiting.specs.Peers.{Grows};
 ghost use Rattle.mds_request.specs.Head.{max_head};
-ghost use Rattle.mds_waiting.specs.Requests.{IsTotal, IsWhole, NoLineEnds, max_request};
+ghost use Rattle.mds_request.specs.HeadStatus.{IsInReach};
+ghost use Rattle.mds_waiting.specs.Looks.{IfDone, IsWholeOrEnded};
+ghost use Rattle.mds_waiting.specs.Requests.{BeginsWith, IsWhole, NoLineEnds, head_in, max_request, total_by};
 
 use crate::look::{Look, MAX_CALLS};
 use crate::part::Part;
 use crate::peer::{Came, Peer, receive};
-use mds_request::{Face, HeadStatus, MAX_HEAD};
+use mds_request::{Face, Head, HeadStatus, MAX_HEAD};
 
 /// How many bytes one call takes in where the room for them is as large, and how many are taken in at most of a request whose
 /// head isn't there.
@@ -44,8 +45,8 @@ impl<S: Peer> Coming<S> {
     /// Takes in what came of the request, behind the bytes that are there, by way of the room. `Done` where it is whole, or its
     /// client has ended.
     pub fn look(&mut self, face: &Face, bytes: &mut Vec<u8>, room: &mut [u8]) -> Look
-        ensures whole { result ≡ Look.Done → IsWhole bytes.new.items
-            ⊎ IsAtEnd (S.coming self.new.peer) }
+        ensures whole { IfDone result (IsWholeOrEnded bytes.new.items (S.coming self.new.peer)) }
+        ensures head { IfDone result (BeginsWith bytes.new.items) }
         ensures grows { result ≢ Look.Gone → Grows (S.coming self.old.peer) (S.coming self.new.peer)
             bytes.old.items bytes.new.items }
         ensures bound { length bytes.new.items ≤ max (length bytes.old.items) max_request }
@@ -62,43 +63,55 @@ impl<S: Peer> Coming<S> {
     /// The same with one call, for as many bytes as there is room for. `None` where more may be there.
     #[tactic(auto, using(crate::proofs::PeerLemmas::grows_nothing))]
     fn look_once(&mut self, face: &Face, bytes: &mut Vec<u8>, room: &mut [u8]) -> Option<Look>
-        ensures whole { result ≡ Some Look.Done → IsWhole bytes.new.items
-            ⊎ IsAtEnd (S.coming self.new.peer) }
+        ensures whole { IfSome result (λ look. IfDone look (IsWholeOrEnded bytes.new.items (S.coming self.new.peer))) }
+        ensures head { IfSome result (λ look. IfDone look (BeginsWith bytes.new.items)) }
         ensures grows { result ≢ Some Look.Gone → Grows (S.coming self.old.peer) (S.coming self.new.peer)
             bytes.old.items bytes.new.items }
         ensures bound { length bytes.new.items ≤ max (length bytes.old.items) max_request }
         ensures room { length room.new ≡ length room.old }
     {
-        let from = bytes.len();
-        let asked = room.len().min(self.total.saturating_sub(from));
+        let asked = room.len().min(self.total.saturating_sub(bytes.len()));
         if asked == 0 {
-            return Some(self.judge(face, bytes));
+            return Some(self.judge_last(face, bytes));
         }
         match receive(&mut self.peer, &mut room[..asked]) {
-            Came::Bytes(count) => {
-                if bytes.extend_from_slice(&room[..count]).is_err() {
-                    return Some(Look::Gone);
-                }
-                if self.may_be_whole(bytes, from) && self.is_whole(face, bytes) {
-                    return Some(Look::Done);
-                }
-                (count < asked).then_some(Look::Waits)
-            }
-            Came::Ended => Some(Look::Done),
+            Came::Bytes(count) => match self.take_in(face, bytes, &room[..count]) {
+                Look::Waits if count == asked => None,
+                look => Some(look),
+            },
+            Came::Ended => Some(Look::Done(None)),
             Came::Nothing => Some(Look::Waits),
             Came::Lost => Some(Look::Gone),
         }
     }
 
-    /// What a look comes to where no more is read.
-    fn judge(&mut self, face: &Face, bytes: &[u8]) -> Look
-        ensures whole { result ≡ Look.Done → IsWhole bytes.now }
+    /// Takes in these bytes, behind those that are there. `Gone` where there is no memory for them.
+    fn take_in(&mut self, face: &Face, bytes: &mut Vec<u8>, new: &[u8]) -> Look
+        ensures whole { IfDone result (IsWhole bytes.new.items) }
+        ensures head { IfDone result (BeginsWith bytes.new.items) }
+        ensures grows { result ≢ Look.Gone → bytes.new.items ≡ bytes.old.items ++ new.now }
+        ensures bound { length bytes.new.items ≤ length bytes.old.items + length new.now }
         ensures peer { self.new.peer ≡ self.old.peer }
     {
-        if self.is_whole(face, bytes) {
-            Look::Done
-        } else {
-            Look::Gone
+        let from = bytes.len();
+        if bytes.extend_from_slice(new).is_err() {
+            return Look::Gone;
+        }
+        if self.may_be_whole(bytes, from) {
+            return self.judge(face, bytes);
+        }
+        Look::Waits
+    }
+
+    /// What a look comes to where no more is read.
+    fn judge_last(&mut self, face: &Face, bytes: &[u8]) -> Look
+        ensures whole { IfDone result (IsWhole bytes.now) }
+        ensures head { IfDone result (BeginsWith bytes.now) }
+        ensures peer { self.new.peer ≡ self.old.peer }
+    {
+        match self.judge(face, bytes) {
+            Look::Waits => Look::Gone,
+            look => look,
         }
     }
 
@@ -119,27 +132,48 @@ impl<S: Peer> Coming<S> {
             || bytes.get(from..).is_some_and(|new| new.contains(&b'\n'))
     }
 
-    /// Whether it is whole, of which these bytes are there: the reader of requests is asked.
-    fn is_whole(&mut self, face: &Face, bytes: &[u8]) -> bool
-        ensures whole { IsTrue result → IsWhole bytes.now }
+    /// Whether it is whole, of which these bytes are there, or goes on waiting: the reader of requests is asked.
+    fn judge(&mut self, face: &Face, bytes: &[u8]) -> Look
+        ensures whole { IfDone result (IsWhole bytes.now) }
+        ensures head { IfDone result (BeginsWith bytes.now) }
         ensures peer { self.new.peer ≡ self.old.peer }
     {
         self.asked = bytes.len();
-        let Some(total) = total_of(face, bytes) else {
-            return false;
+        let status = face.head_status(bytes);
+        let Some(total) = total_by(&status, bytes) else {
+            return Look::Waits;
         };
         self.part = Part::Request;
         self.total = total;
-        total <= bytes.len()
+        if total <= bytes.len() {
+            return Look::Done(head_of(&status));
+        }
+        Look::Waits
     }
 }
 
-/// As soon as how many bytes are there a request is whole of which these are there. `None` where its head may yet come.
-fn total_of(face: &Face, bytes: &[u8]) -> Option<usize>
-    ensures total { IsTotal bytes.now result }
+/// The head of which the reader said this, where it is there and has no fault.
+fn head_of(status: &HeadStatus) -> Option<Head>
+    ensures { result ≡ head_in status.now }
+{
+    match status {
+        HeadStatus::Complete { aim, start, len } => Some(Head {
+            aim: *aim,
+            start: *start,
+            len: *len,
+        }),
+        HeadStatus::Partial | HeadStatus::Invalid | HeadStatus::Rejected(_) => None,
+    }
+}
+
+/// As soon as how many bytes are there a request is whole of which these are there, of whose head the reader said this. `None`
+/// where its head may yet come.
+fn total_by(status: &HeadStatus, bytes: &[u8]) -> Option<usize>
+    requires { IsInReach bytes.now status.now }
+    ensures total { result ≡ total_by bytes.now status.now }
     ensures bound { IfSome result (λ total. total ≤ max_request) }
 {
-    match face.head_status(bytes) {
+    match status {
         HeadStatus::Complete { start, len, .. } => Some(start + len),
         HeadStatus::Invalid | HeadStatus::Rejected(_) => Some(0),
         HeadStatus::Partial if MAX_HEAD <= bytes.len() => Some(MAX_HEAD),

@@ -1,6 +1,9 @@
 //! Bytes that came, for a reader.
-ghost use Rattle.std.specs.Prelude.{◌≡◌, ◌↔◌, ◌++◌, [], IsTrue, length, min, take};
+ghost use Rattle.std.specs.Prelude.{◌≡◌, ◌↔◌, ◌⊎◌, ◌++◌, [], IsTrue, IfSome, length, min, take, Some, None};
+ghost use Rattle.mds_request.specs.HeadStatus.{IsHead};
+ghost use Rattle.mds_waiting.specs.Requests.{BeginsWith, IsRequestAlone};
 
+use mds_request::Head;
 use std::io::{self, Read};
 use std::marker::Model;
 
@@ -9,36 +12,60 @@ use std::marker::Model;
 pub struct Given {
     bytes: Vec<u8>,
     count: usize,
+    /// The head with which they begin, where it is known.
+    head: Option<Head>,
 }
 
 impl Model for Given {
     ghost use Rattle.std.specs.Prelude.{◌≤◌, ℕ, List, drop, vec_len};
+    ghost use Rattle.mds_waiting.specs.Requests.{BeginsWith};
 
     ghost Value = { List ℕ };
 
     ghost view = { λ given. drop given.count given.bytes.items };
 
-    ghost invariant = { λ given. given.count ≤ vec_len given.bytes };
+    ghost invariant = { λ given. (given.count ≤ vec_len given.bytes)
+        × BeginsWith given.bytes.items given.head };
 }
 
 impl Given {
-    /// These bytes, none of which is given yet.
-    pub fn new(bytes: Vec<u8>) -> Given
+    /// These bytes, none of which is given yet, and the head with which they begin, where it is known.
+    pub fn new(bytes: Vec<u8>, head: Option<Head>) -> Given
+        requires { BeginsWith bytes.items head }
         ensures { result ≡ bytes.items }
     {
-        Given { bytes, count: 0 }
+        Given {
+            bytes,
+            count: 0,
+            head,
+        }
     }
 
-    /// Whether none is left.
-    pub fn is_over(&self) -> bool
-        ensures { IsTrue result ↔ (self.now ≡ []) }
+    /// The bytes that are left, and the head with which they begin, where it is known.
+    pub fn whole(&self) -> Option<(&[u8], Head)>
+        ensures bytes { IfSome result (λ found. found.0.now ≡ self.now) }
+        ensures head { IfSome result (λ found. IsHead found.0.now found.1) }
     {
-        self.count == self.bytes.len()
+        match self.head {
+            Some(head) if self.count == 0 => Some((&self.bytes, head)),
+            _ => None,
+        }
+    }
+
+    /// Whether none is left behind the request.
+    pub fn is_over(&self) -> bool
+        ensures over { IsTrue result → (self.now ≡ []) ⊎ IsRequestAlone self.now }
+        ensures none { self.now ≡ [] → IsTrue result }
+    {
+        match self.head {
+            Some(head) if self.count == 0 => self.bytes.len() <= head.start + head.len,
+            _ => self.count == self.bytes.len(),
+        }
     }
 
     /// The list of all bytes, given or not: its room can be used again.
     pub fn into_bytes(self) -> Vec<u8> {
-        let Given { bytes, count: _ } = self;
+        let Given { bytes, .. } = self;
         bytes
     }
 

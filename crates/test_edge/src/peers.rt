@@ -1,6 +1,6 @@
 //! Connections whose clients are played: requests that come, and answers that leave.
 use mds_request::Face;
-use mds_waiting::{Coming, Leaving, Look, Outgoing, Part, Peer};
+use mds_waiting::{Coming, Given, Leaving, Look, Outgoing, Part, Peer};
 use std::alloc::{AllocError, Global};
 use std::io::{self, ErrorKind, Write};
 use test_fixtures::rows;
@@ -81,19 +81,36 @@ const LOST: Act = Act::Fails(ErrorKind::ConnectionReset);
 
 const LATER: Act = Act::Fails(ErrorKind::WouldBlock);
 
+/// What one look came to. Of a head only how many bytes it and its body have are told.
+#[derive(Clone, Copy, PartialEq, Eq)]
+enum LookOutcome {
+    Done(Option<[usize; 2]>),
+    Waits,
+    Gone,
+}
+
+fn outcome_of(look: Look) -> LookOutcome {
+    match look {
+        Look::Done(Some(head)) => LookOutcome::Done(Some([head.start, head.len])),
+        Look::Done(None) => LookOutcome::Done(None),
+        Look::Waits => LookOutcome::Waits,
+        Look::Gone => LookOutcome::Gone,
+    }
+}
+
 /// What a client does, what becomes of one look at its request, whether its head is there then, and how many bytes are.
-type Request = (&'static [Act], Look, Part, usize);
+type Request = (&'static [Act], LookOutcome, Part, usize);
 
 const REQUESTS: &[Request] = rows! {
-    (&[Act::Gives(b"GET / HTTP/1.1\r\n\r\n")], Look::Done, Part::Request, 18),
-    (&[Act::Gives(b"GET / HTTP/1.1\r\n\r\nmore")], Look::Done, Part::Request, 22),
-    (&[Act::Gives(b"nothing\r\n")], Look::Done, Part::Request, 9),
-    (&[Act::Gives(b"GET /")], Look::Waits, Part::Head, 5),
-    (&[LATER], Look::Waits, Part::Head, 0),
-    (&[Act::Fails(ErrorKind::Interrupted)], Look::Waits, Part::Head, 0),
-    (&[Act::Gives(b"")], Look::Done, Part::Head, 0),
-    (&[LOST], Look::Gone, Part::Head, 0),
-    (&[Act::Gives(HEAD)], Look::Waits, Part::Request, 44),
+    (&[Act::Gives(b"GET / HTTP/1.1\r\n\r\n")], LookOutcome::Done(None), Part::Request, 18),
+    (&[Act::Gives(b"GET / HTTP/1.1\r\n\r\nmore")], LookOutcome::Done(None), Part::Request, 22),
+    (&[Act::Gives(b"nothing\r\n")], LookOutcome::Done(None), Part::Request, 9),
+    (&[Act::Gives(b"GET /")], LookOutcome::Waits, Part::Head, 5),
+    (&[LATER], LookOutcome::Waits, Part::Head, 0),
+    (&[Act::Fails(ErrorKind::Interrupted)], LookOutcome::Waits, Part::Head, 0),
+    (&[Act::Gives(b"")], LookOutcome::Done(None), Part::Head, 0),
+    (&[LOST], LookOutcome::Gone, Part::Head, 0),
+    (&[Act::Gives(HEAD)], LookOutcome::Waits, Part::Request, 44),
 };
 
 /// The place of the first request of which something else becomes.
@@ -101,8 +118,8 @@ fn other_request(alloc: Global) -> Result<Option<usize>, AllocError> {
     let face = Face::open(alloc)?;
     for (at, (acts, look, part, count)) in REQUESTS.iter().copied().enumerate() {
         let (mut coming, mut bytes) = (Coming::new(Played::new(acts)), Vec::new(alloc));
-        let looked = coming.look(&face, &mut bytes, &mut [0u8; 64]);
-        if looked != look || coming.part != part || bytes.len() != count {
+        let found = outcome_of(coming.look(&face, &mut bytes, &mut [0u8; 64]));
+        if found != look || coming.part != part || bytes.len() != count {
             return Ok(Some(at));
         }
     }
@@ -114,16 +131,74 @@ fn requests_come_as_their_clients_give_them(rt: HostRuntime) {
     assert_eq!(rt; other_request(rt.alloc()), Ok(None));
 }
 
+/// What a client does; whether its request is handed on with its head, and whether nothing came behind it then.
+type Handed = (&'static [Act], bool, bool);
+
+const HANDED: &[Handed] = rows! {
+    (&[Act::Gives(b"GET /table HTTP/1.1\r\n\r\n")], true, true),
+    (&[Act::Gives(b"GET /table HTTP/1.1\r\n\r\nmore")], true, false),
+    (&[Act::Gives(HEAD), Act::Gives(b"1234")], true, true),
+    // Its client has ended before, or its head has a fault: it is read by the worker.
+    (&[Act::Gives(HEAD), Act::Gives(b"")], false, false),
+    (&[Act::Gives(b"GET / HTTP/1.1\r\n\r\n")], false, false),
+};
+
+/// What becomes of a request that is there after two looks.
+fn handed(alloc: Global, face: &Face, acts: &'static [Act]) -> Option<(bool, bool)> {
+    let (mut coming, mut bytes) = (Coming::new(Played::new(acts)), Vec::new(alloc));
+    for _ in 0..2 {
+        if let Look::Done(head) = coming.look(face, &mut bytes, &mut [0u8; 64]) {
+            let given = Given::new(bytes, head);
+            return Some((given.whole().is_some(), given.is_over()));
+        }
+    }
+    None
+}
+
+/// The place of the first request that is handed on otherwise.
+fn other_handed(alloc: Global) -> Result<Option<usize>, AllocError> {
+    let face = Face::open(alloc)?;
+    for (at, (acts, is_whole, is_over)) in HANDED.iter().copied().enumerate() {
+        if handed(alloc, &face, acts) != Some((is_whole, is_over)) {
+            return Ok(Some(at));
+        }
+    }
+    Ok(None)
+}
+
+#[test]
+fn requests_are_handed_on_with_their_heads(rt: HostRuntime) {
+    assert_eq!(rt; other_handed(rt.alloc()), Ok(None));
+}
+
 /// What a client does, and what each of four looks at its request comes to; and how many bytes are there then.
-type Pieces = (&'static [Act], [Look; 4], usize);
+type Pieces = (&'static [Act], [LookOutcome; 4], usize);
 
-const CUT: [Look; 4] = [Look::Waits, Look::Waits, Look::Gone, Look::Gone];
+const CUT: [LookOutcome; 4] = [
+    LookOutcome::Waits,
+    LookOutcome::Waits,
+    LookOutcome::Gone,
+    LookOutcome::Gone,
+];
 
-const FOUND: [Look; 4] = [Look::Waits, Look::Waits, Look::Waits, Look::Done];
+const FOUND: [LookOutcome; 4] = [
+    LookOutcome::Waits,
+    LookOutcome::Waits,
+    LookOutcome::Waits,
+    LookOutcome::Done(None),
+];
+
+/// The same of a request whose head has no fault.
+const WHOLE: [LookOutcome; 4] = [
+    LookOutcome::Waits,
+    LookOutcome::Waits,
+    LookOutcome::Waits,
+    LookOutcome::Done(Some([44, 4])),
+];
 
 const PIECES: &[Pieces] = rows! {
     // A body comes in pieces, with nothing between, or is lost.
-    (&[Act::Gives(HEAD), LATER, Act::Gives(b"12"), Act::Gives(b"345")], FOUND, 48),
+    (&[Act::Gives(HEAD), LATER, Act::Gives(b"12"), Act::Gives(b"345")], WHOLE, 48),
     (&[Act::Gives(HEAD), Act::Gives(b"12"), LOST, LOST], CUT, 46),
     // So does a head: its last byte comes alone, or it has a line that is no field; one that is none is found out at twice its bytes.
     (&[Act::Gives(b"GET / HTTP/1.1\r\n"), Act::Gives(b"a:b\r\n"), Act::Gives(b"\r"), Act::Gives(b"\n")], FOUND, 23),
@@ -132,12 +207,12 @@ const PIECES: &[Pieces] = rows! {
 };
 
 /// What each of four looks at a request comes to, and how many bytes are there then.
-fn looks(alloc: Global, acts: &'static [Act]) -> Result<([Look; 4], usize), AllocError> {
+fn looks(alloc: Global, acts: &'static [Act]) -> Result<([LookOutcome; 4], usize), AllocError> {
     let face = Face::open(alloc)?;
     let (mut coming, mut bytes) = (Coming::new(Played::new(acts)), Vec::new(alloc));
-    let mut looks = [Look::Waits; 4];
+    let mut looks = [LookOutcome::Waits; 4];
     for at in 0..4 {
-        looks[at] = coming.look(&face, &mut bytes, &mut [0u8; 64]);
+        looks[at] = outcome_of(coming.look(&face, &mut bytes, &mut [0u8; 64]));
     }
     Ok((looks, bytes.len()))
 }
@@ -159,25 +234,26 @@ fn requests_come_in_pieces(rt: HostRuntime) {
 
 /// What a client does at an answer of five bytes, whether its request was read to its end, what each of two looks comes to, and how
 /// many bytes it was sent.
-type Answer = (&'static [Act], bool, [Look; 2], usize);
+type Answer = (&'static [Act], bool, [LookOutcome; 2], usize);
 
 const ANSWERS: &[Answer] = rows! {
-    (&[Act::Takes(5), LATER], true, [Look::Gone, Look::Gone], 5),
-    (&[Act::Takes(2), LATER, Act::Takes(3), LATER], true, [Look::Waits, Look::Gone], 5),
-    (&[Act::Takes(2), LOST, LOST], true, [Look::Gone, Look::Gone], 2),
-    (&[Act::Takes(0)], true, [Look::Gone, Look::Waits], 0),
-    (&[LATER, LATER], true, [Look::Waits, Look::Waits], 0),
-    (&[Act::Takes(5), LATER, Act::Gives(b"")], false, [Look::Waits, Look::Gone], 5),
-    (&[Act::Takes(5), Act::Gives(b"more"), LATER, LOST], true, [Look::Waits, Look::Gone], 5),
+    (&[Act::Takes(5), LATER], true, [LookOutcome::Gone, LookOutcome::Gone], 5),
+    (&[Act::Takes(2), LATER, Act::Takes(3), LATER], true, [LookOutcome::Waits, LookOutcome::Gone], 5),
+    (&[Act::Takes(2), LOST, LOST], true, [LookOutcome::Gone, LookOutcome::Gone], 2),
+    (&[Act::Takes(0)], true, [LookOutcome::Gone, LookOutcome::Waits], 0),
+    (&[LATER, LATER], true, [LookOutcome::Waits, LookOutcome::Waits], 0),
+    (&[Act::Takes(5), LATER, Act::Gives(b"")], false, [LookOutcome::Waits, LookOutcome::Gone], 5),
+    (&[Act::Takes(5), Act::Gives(b"more"), LATER, LOST], true, [LookOutcome::Waits, LookOutcome::Gone], 5),
 };
 
 /// The place of the first answer of which something else becomes.
 fn other_answer() -> Option<usize> {
     for (at, (acts, is_read, looks, count)) in ANSWERS.iter().copied().enumerate() {
         let mut leaving = Leaving::new(Played::new(acts), is_read);
-        let looked = [leaving.look(b"12345"), leaving.look(b"12345")];
+        let first = outcome_of(leaving.look(b"12345"));
+        let found = [first, outcome_of(leaving.look(b"12345"))];
         let is_front = leaving.peer.sent.get(..count) == b"12345".get(..count);
-        if looked != looks || leaving.peer.count != count || !is_front {
+        if found != looks || leaving.peer.count != count || !is_front {
             return Some(at);
         }
     }

@@ -214,10 +214,18 @@ const CASES: &[Case] = rows! {
     (&[Turn::Comes(SLOW)], None, 9, [18, 0], [1, 0]),
 };
 
-/// Takes a connection, answers it and ends it: how many bytes its request has. `None` where none was taken.
+/// How many bytes the requests have that have no route. They aren't handed on whole.
+const WITHOUT_ROUTE: usize = 18;
+
+/// Takes a connection, answers it and ends it: how many bytes its request has. `None` where none was taken, or it was handed on
+/// otherwise.
 fn taken<R: Wait + Copy>(port: &WaitingPort<PlayedSystem, R>) -> Option<usize> {
     let (mut input, mut output) = port.accept().ok()?;
+    let is_whole = port.whole_of(&input).is_some();
     let count = input.read(&mut [0u8; 64]).ok()?;
+    if is_whole == (count == WITHOUT_ROUTE) {
+        return None;
+    }
     output.write_all(b"12345").ok()?;
     port.end(input, output, Ending::AtOnce);
     Some(count)

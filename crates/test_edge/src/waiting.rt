@@ -84,7 +84,7 @@ fn connections_wait_and_leave(rt: HostRuntime) {
 fn given(alloc: Global) -> Result<([u8; 6], bool), AllocError> {
     let mut bytes = Vec::new(alloc);
     bytes.extend_from_slice(b"abcde")?;
-    let (mut given, mut room) = (Given::new(bytes), [0u8; 6]);
+    let (mut given, mut room) = (Given::new(bytes, None), [0u8; 6]);
     let first = given.read(&mut room[..3]).unwrap_or(0);
     let second = given.give(&mut room[3..]);
     Ok((room, first == 3 && second == 2 && given.is_over()))

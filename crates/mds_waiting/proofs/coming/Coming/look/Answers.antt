@@ -1,10 +1,7 @@
-use Rattle.std.proofs.Common.{Some, ap, arith, ◌∙◌}
+use Rattle.std.proofs.Common.{arith, ◌∙◌}
 use Rattle.std.proofs.lemmas.Option.{none-some, same_Some}
 use Rattle.mds_waiting.proofs.PeerLemmas.{grows_then}
 use Rattle.mds_waiting.proofs.coming.Coming.look.Goals as goal
-
-pub returns-in-Some-clause-whole : goal.returns-in-Some-clause-whole
-returns-in-Some-clause-whole g c = λ is. c.in-Some.ensures.whole (ap Some is)
 
 pub returns-in-Some-clause-grows : goal.returns-in-Some-clause-grows
 returns-in-Some-clause-grows g c = λ other.
