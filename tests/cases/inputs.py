@@ -30,14 +30,16 @@ def unread():
     yield Case("replay --lines events.json", status=1, out="0 fault not_object\naccepted 0 refused 1\n", files={"events.json": "7"})
     yield listed(journal(registered(A)), [(A, "removed", 0)])
     yield Case(NO_CONNECTION, out=SERVED)
-    for words in ("table --table bad", "replay - --table bad", "vehicles - --table bad", f"debug events.json {P} {A} --table bad"):
+    for words in ("table", "replay -", "vehicles -", f"debug events.json {P} {A}", f"debug - {P} {A}"):
+        words += " --table bad"
         yield told(words, not_a_table("not_rows"), files=FILES)
     yield told("replay bad", not_a_batch("not_list"), files=FILES)
     yield told("vehicles bad", not_a_journal("form"), files=FILES)
     yield told("vehicles -", RANDOM, env=no_random_numbers())
     for words in ("table --table missing", "replay missing", "replay --lines missing", "vehicles missing", f"debug missing {P} {A}"):
         yield told(words, cannot_read("missing"))
-    yield Case(f"debug events.json {P} x", status=2, faults=BAD, files=FILES)
+    for words in (f"debug events.json {P} x", f"debug - {P} x"):
+        yield Case(words, status=2, faults=BAD, files=FILES)
     yield Case(f"debug events.json {P} {B}", status=1, faults=NOBODY, files=FILES)
 
 

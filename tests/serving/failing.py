@@ -15,7 +15,7 @@ from serving.http import Exchange, look, registered
 from serving.limits import moved_on
 from serving.server import Server
 from serving.talking import talk_over
-from serving.wire import connect, get
+from serving.wire import connect, get, read_all
 
 LOST = [
     errno.ECONNABORTED,
@@ -116,7 +116,7 @@ def last_line_before_the_last_answer(program):
 
 
 def last_line_amid_an_answer(program, journal):
-    """What is wrong with when the last line comes, where the last client reads nothing of its answer."""
+    """What is wrong with when the last line comes, where the last client reads nothing of its answer, and with what it then reads."""
     with Server(program, 4, journal=journal) as server:
         yield from long_list(server, A)
         server.count(1)
@@ -127,6 +127,9 @@ def last_line_amid_an_answer(program, journal):
             seconds = time.monotonic() - start
             if line != wanted or seconds > MOST_BESIDE:
                 yield f"the last line was {line!r} after {seconds:.1f} s, in place of {wanted!r} at once"
+            head, _, body = read_all(slow).partition(b"\r\n\r\n")
+            if f"content-length: {len(body)}\r\n".encode() not in head + b"\r\n":
+                yield f"of the last answer {len(body)} bytes came behind {head!r}"
         status = server.child.wait(timeout=120)
         if status != 0:
             yield f"ended with {status}"

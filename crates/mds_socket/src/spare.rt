@@ -19,8 +19,8 @@ pub(crate) enum Kind {
     List,
 }
 
-fn kind_of(kept: &[u8]) -> Kind {
-    if kept.len() == ROOM_BYTES {
+fn kind_of(room: &[u8]) -> Kind {
+    if room.len() == ROOM_BYTES {
         Kind::Room
     } else {
         Kind::List
@@ -38,9 +38,9 @@ pub(crate) fn take(spare: &mut Vec<Vec<u8>>, kind: Kind) -> Option<Vec<u8>> {
 }
 
 /// Keeps one more, unless there is enough.
-pub(crate) fn keep(spare: &mut Vec<Vec<u8>>, kept: Vec<u8>) {
+pub(crate) fn keep(spare: &mut Vec<Vec<u8>>, room: Vec<u8>) {
     if spare.len() < MAX_SPARE {
-        let _ = spare.push(kept);
+        let _ = spare.push(room);
     }
 }
 

@@ -11,8 +11,11 @@ impl<S: Drop> Waiting<S> {
     pub fn key_for(&mut self, count: usize) -> Option<usize>
         ensures vacant { IfSome result (IsVacant self.new) }
         ensures room { IfSome result (λ _. HasRoom self.new count) }
+        ensures others { HasRoom self.old count → IfSome result (SameOrLeavesEldest self.old self.new) }
     {
-        self.clear_room(count);
+        if !self.has_room(count) {
+            self.clear_room(count);
+        }
         let key = self.clear_key()?;
         let is_clear = self.is_vacant(key) && self.has_room(count);
         is_clear.then_some(key)

@@ -1,5 +1,6 @@
 //! A request that comes: as soon as how many bytes are there it is whole, and a look for further ones.
 ghost use Rattle.std.specs.Prelude.{◌≡◌, ◌≢◌, ◌<◌, ◌≤◌, ◌+◌, ◌++◌, drop, length, max, IfSome, None, Some, false};
+ghost use Rattle.std.specs.Io.KnownBytes.{Keeps};
 ghost use Rattle.mds_waiting.specs.Peers.{Grows};
 ghost use Rattle.mds_request.specs.Head.{max_head};
 ghost use Rattle.mds_request.specs.HeadStatus.{IsInReach};
@@ -32,7 +33,8 @@ pub struct Coming<S> {
 impl<S: Peer> Coming<S> {
     /// A request of which nothing came yet.
     pub fn new(peer: S) -> Coming<S>
-        ensures { result.peer ≡ peer }
+        ensures peer { result.peer ≡ peer }
+        ensures part { result.part ≡ Part.Head }
     {
         Coming {
             peer,
@@ -49,6 +51,7 @@ impl<S: Peer> Coming<S> {
         ensures head { IfDone result (BeginsWith bytes.new.items) }
         ensures grows { result ≢ Look.Gone → Grows (S.coming self.old.peer) (S.coming self.new.peer)
             bytes.old.items bytes.new.items }
+        ensures sent { Keeps (S.sent self.old.peer) (S.sent self.new.peer) }
         ensures bound { length bytes.new.items ≤ max (length bytes.old.items) max_request }
         ensures room { length room.new ≡ length room.old }
     {
@@ -67,6 +70,7 @@ impl<S: Peer> Coming<S> {
         ensures head { IfSome result (λ look. IfDone look (BeginsWith bytes.new.items)) }
         ensures grows { result ≢ Some Look.Gone → Grows (S.coming self.old.peer) (S.coming self.new.peer)
             bytes.old.items bytes.new.items }
+        ensures sent { Keeps (S.sent self.old.peer) (S.sent self.new.peer) }
         ensures bound { length bytes.new.items ≤ max (length bytes.old.items) max_request }
         ensures room { length room.new ≡ length room.old }
     {

@@ -1,5 +1,5 @@
 //! The end of a connection that takes its answer.
-ghost use Rattle.std.specs.Prelude.{◌≡◌, vec_len};
+ghost use Rattle.std.specs.Prelude.{◌≡◌, vec_len, OnOk, false};
 ghost use Rattle.std.specs.Io.{WritesAtMost};
 ghost use Rattle.std.specs.Io.KnownBytes.{WriteAppends, append_known};
 
@@ -23,6 +23,7 @@ impl<S: Peer> Outgoing<S> {
     pub fn new(alloc: Global, peer: S) -> Outgoing<S>
         ensures peer { result.peer ≡ peer }
         ensures rest { vec_len result.rest ≡ 0 }
+        ensures lost { result.is_lost ≡ false }
     {
         Outgoing {
             peer,
@@ -41,6 +42,7 @@ impl<S: Peer> Outgoing<S> {
         ensures sent { WriteAppends (append_known (S.sent self.old.peer) self.old.rest.items)
             (append_known (S.sent self.new.peer) self.new.rest.items) result bytes.now }
         ensures rest { self.new.rest.items ≡ self.old.rest.items }
+        ensures lost { OnOk result (self.new.is_lost ≡ self.old.is_lost) }
     {
         if !self.rest.is_empty() {
             return Ok(0);

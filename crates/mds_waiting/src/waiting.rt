@@ -197,6 +197,7 @@ impl<S> Waiting<S> {
         ensures room { IfNone result (HasRoom self.new count) }
         ensures same { IfNone result (self.new ≡ self.old) }
         ensures fewer { IfSome result (λ _. held self.new < held self.old) }
+        ensures needed { IfSome result (λ _. HasRoom self.old count → ⊥) }
     {
         if self.has_room(count) {
             return None;

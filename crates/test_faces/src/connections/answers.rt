@@ -7,7 +7,7 @@ use std::alloc::Global;
 use test_fixtures::Lack;
 
 /// Registrations of A and B.
-const BOTH_REGISTER: &str =
+pub(super) const BOTH_REGISTER: &str =
     "POST /vehicles HTTP/1.1\r\nHost: city\r\nContent-Length: 214\r\n\r\n[{\"provider_id\":\"00000000-0000-4000-8000-000000000001\",\"device_id\":\"00000000-0000-4000-8000-00000000000a\"},\n\
 {\"provider_id\":\"00000000-0000-4000-8000-000000000001\",\"device_id\":\"00000000-0000-4000-8000-00000000000b\"}]";
 

@@ -1,15 +1,17 @@
 //! What is answered where what answers rest on is recorded, and where it isn't.
-use super::answers::fleet_over;
+use super::answers::{BOTH_REGISTER, fleet_over};
 use super::growths::register;
 use super::peer_of;
 use crate::cases::{Answer, NO_ROUTE, PROFILE, answer_text};
 use mds_core::{Event, Fleet, Key, Reply, Request};
 use mds_face::{
-    Desk, Face, KeepFault, KeptDesk, KeptFault, ServeFault, Served, memory_bytes, not_kept_bytes,
-    serve_kept,
+    Desk, Face, Head, KeepFault, KeptDesk, KeptFault, ServeFault, Served, memory_bytes,
+    not_kept_bytes, serve_kept, serve_whole,
 };
+use mds_request::HeadStatus;
 use mds_table::Row;
 use std::alloc::{AllocError, Global};
+use std::io::Write;
 use test_fixtures::{A, ENDS, Lack, pieces_of, rows};
 
 /// A fleet, and whether what it answers is recorded.
@@ -96,6 +98,16 @@ const OK: Result<Served, KeptFault> = Ok(Served {
     accepted: 0,
 });
 
+/// A is registered, and B isn't.
+const B_ALONE: Answer = ok!(
+    r#"{"failures":[{"error":"already_registered","index":0}],"success":1,"total":2}"#
+);
+
+const ONE: Result<Served, KeptFault> = Ok(Served {
+    status: 200,
+    accepted: 1,
+});
+
 const NONE: Result<Served, KeptFault> = Ok(Served {
     status: 404,
     accepted: 0,
@@ -106,20 +118,47 @@ const CASES: &[Case] = rows! {
     (LOOK, Err(KeepFault::NotKept), Err(KeptFault::NotKept { sent: 127 }), Written::NotKept),
     (LOOK, Err(KeepFault::Memory), Err(KeptFault::Serve(ServeFault::Memory { sent: 74 })), Written::Memory),
     (LOOK, Err(KeepFault::Lost), Err(KeptFault::Lost), Written::Nothing),
+    (BOTH_REGISTER, Ok(()), ONE, Written::Answer(B_ALONE)),
     // A fault of the request rests on nothing.
     (NOWHERE, Err(KeepFault::Lost), NONE, Written::Answer(NO_ROUTE)),
 };
 
+/// Serves a request: as one that is all there, if it is to be and its head has no fault, or as one that is read.
+fn serve<W: Write>(
+    alloc: Global,
+    face: &Face,
+    request: &[u8],
+    is_whole: bool,
+    writer: &mut W,
+    desk: &mut Recorded,
+) -> Result<Served, KeptFault> {
+    match face.head_status(request) {
+        HeadStatus::Complete { aim, start, len } if is_whole => {
+            serve_whole(alloc, request, &Head { aim, start, len }, writer, desk)
+        }
+        _ => {
+            let mut client = pieces_of(request, usize::MAX, ENDS);
+            serve_kept(alloc, face, &mut client, writer, desk)
+        }
+    }
+}
+
 /// Whether a fleet in which A is registered answers so.
-fn answers_so(alloc: Global, case: &Case) -> Result<bool, Lack> {
+fn answers_so(alloc: Global, case: &Case, is_whole: bool) -> Result<bool, Lack> {
     let (request, end, said, written) = case;
     let face = Face::open(alloc)?;
     let mut fleet = fleet_over(alloc, PROFILE)?;
     register(&mut fleet, A)?;
     let mut desk = Recorded { fleet, end: *end };
-    let mut client = pieces_of(request.as_bytes(), usize::MAX, ENDS);
     let mut peer = peer_of(alloc)?;
-    let served = serve_kept(alloc, &face, &mut client, &mut peer, &mut desk);
+    let served = serve(
+        alloc,
+        &face,
+        request.as_bytes(),
+        is_whole,
+        &mut peer,
+        &mut desk,
+    );
     let is_written = match written {
         Written::Answer(answer) => peer.taken.as_slice() == answer_text(alloc, *answer)?.as_bytes(),
         Written::Memory => peer.taken.as_slice() == memory_bytes(),
@@ -130,9 +169,9 @@ fn answers_so(alloc: Global, case: &Case) -> Result<bool, Lack> {
 }
 
 /// The same, asked again where it wasn't so, or there was no memory for another call.
-fn answers_so_again(alloc: Global, case: &Case) -> Result<bool, Lack> {
-    match answers_so(alloc, case) {
-        Ok(false) | Err(Lack::Memory) => answers_so(alloc, case),
+fn answers_so_again(alloc: Global, case: &Case, is_whole: bool) -> Result<bool, Lack> {
+    match answers_so(alloc, case, is_whole) {
+        Ok(false) | Err(Lack::Memory) => answers_so(alloc, case, is_whole),
         found => found,
     }
 }
@@ -140,7 +179,7 @@ fn answers_so_again(alloc: Global, case: &Case) -> Result<bool, Lack> {
 /// The first case that is answered otherwise.
 fn first_other(alloc: Global) -> Result<Option<usize>, Lack> {
     for (place, case) in CASES.iter().enumerate() {
-        if !answers_so_again(alloc, case)? {
+        if !answers_so_again(alloc, case, false)? || !answers_so_again(alloc, case, true)? {
             return Ok(Some(place));
         }
     }

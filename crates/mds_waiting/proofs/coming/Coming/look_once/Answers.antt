@@ -1,3 +1,4 @@
+use Rattle.std.proofs.KnownBytes.{Keeps-refl}
 use Rattle.mds_waiting.proofs.PeerLemmas.{grows_not, whole_anyway}
 use Rattle.mds_waiting.proofs.coming.Coming.look_once.Goals as goal
 
@@ -7,3 +8,6 @@ returns-then-asked-eq0-clause-whole g c =
 
 pub returns-then-asked-eq0-clause-grows : goal.returns-then-asked-eq0-clause-grows
 returns-then-asked-eq0-clause-grows g c = λ other. rw c.judge_last.ensures.peer (grows_not _ _)
+
+pub returns-then-asked-eq0-clause-sent : goal.returns-then-asked-eq0-clause-sent
+returns-then-asked-eq0-clause-sent g c = rw c.judge_last.ensures.peer (Keeps-refl _)
