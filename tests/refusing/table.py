@@ -57,7 +57,6 @@ TESTED = {
     ("mds_response", "test_faces", "answer_is_whole_after_a_refused_growth"): ["bytes_of"],
     ("mds_face", "test_faces", "calls_stand_after_a_refused_growth"): ["serve_one"],
     ("mds_face", "test_faces", "kept_answers_go_out_after_a_refused_growth"): ["serve_kept", "serve_whole"],
-    ("mds_request", "test_faces", "kept_answers_go_out_after_a_refused_growth"): ["Head::plan"],
     ("mds_face", "test_faces", "a_batch_is_read_after_a_refused_growth"): ["read_plan"],
     ("mds_face", "test_faces", "a_seat_answers_after_a_refused_growth"): ["Desk::call", "Desk::events", "Desk::rows"],
     ("mds_pool", "test_edge", "workers_serve_after_a_refused_growth"): ["serve"],
@@ -101,6 +100,7 @@ WITHOUT = ["mds_table::Tables::new", "mds_io::flush_page"]
 
 WITHIN = {
     "mds_face::KeptDesk::keep": "mds_face::serve_kept",
+    "mds_request::Head::plan": "mds_face::serve_whole",
     "mds_follow::Record::append": "mds_follow::SharedFollower::commit",
     "mds_follow::Follower::follow_all": "mds_pool::RecordedBook::serve",
     "mds_pool::Recorder::commit": "mds_pool::RecordedBook::serve",
