@@ -126,8 +126,9 @@ def is_function(told, function):
     return parts[: len(path)] == path and name in parts and kind in told
 
 
-def checked(crate, texts, uses, given):
-    """What a check says of a crate with these texts, over what checks of `given` left."""
+def checked(crate, texts, uses, given, kept=None):
+    """What a check says of a crate with these texts, over what checks of `given` left. Checks in one repository wait for one another,
+    so this one has a room of its own. What it leaves is kept in a repository `kept`, if there is one."""
     with tempfile.TemporaryDirectory(prefix="edits-") as room:
         libraries = below(crate, uses)
         lay({crate, *libraries}, uses, given, Path(room), libraries)
@@ -136,7 +137,10 @@ def checked(crate, texts, uses, given):
             (folder / path).write_text(text)
         words = ["rt", "check", "--jobs", "1"]
         told = {"stdout": subprocess.PIPE, "stderr": subprocess.STDOUT, "text": True}
-        return subprocess.run(words, cwd=folder, stdin=subprocess.DEVNULL, **told).stdout
+        said = subprocess.run(words, cwd=folder, stdin=subprocess.DEVNULL, **told).stdout
+        if kept:
+            shutil.copytree(folder / "out", kept / "crates" / crate / "out", symlinks=True, copy_function=linked, dirs_exist_ok=True)
+        return said
 
 
 def complaints(edit, said):
