@@ -128,7 +128,7 @@ def is_function(told, function):
 
 def checked(crate, texts, uses, given, kept=None):
     """What a check says of a crate with these texts, over what checks of `given` left. Checks in one repository wait for one another,
-    so this one has a room of its own. What it leaves is kept in a repository `kept`, if there is one."""
+    so this one has a room of its own. Given a repository `kept`, it also builds the crate's library, and leaves all in that one."""
     with tempfile.TemporaryDirectory(prefix="edits-") as room:
         libraries = below(crate, uses)
         lay({crate, *libraries}, uses, given, Path(room), libraries)
@@ -139,6 +139,7 @@ def checked(crate, texts, uses, given, kept=None):
         told = {"stdout": subprocess.PIPE, "stderr": subprocess.STDOUT, "text": True}
         said = subprocess.run(words, cwd=folder, stdin=subprocess.DEVNULL, **told).stdout
         if kept:
+            subprocess.run(["rt", "lib"], cwd=folder, stdin=subprocess.DEVNULL, capture_output=True)
             shutil.copytree(folder / "out", kept / "crates" / crate / "out", symlinks=True, copy_function=linked, dirs_exist_ok=True)
         return said
 
