@@ -1,15 +1,15 @@
 -- Heads at the front of streams.
 use Rattle.std.proofs.Common.{◌≡◌, ◌≤◌, ◌⊎◌, inl, inr, ℕ, zero, suc, ◌-◌, min, List, [], ◌∷◌, ◌++◌, length, take, drop, refl, ap, ◌∙◌, sym, subst, arith}
 use Rattle.std.proofs.lemmas.List.{append-nil, take_min, length-take-le, length-map}
-use Rattle.httparse.specs.Grammar.{RequestHead, ReadsRequest}
+use Rattle.httparse.specs.Grammar.{RequestHead, ReadsRequest, HasNoRequest}
 use Rattle.httparse.specs.Spans.{header_bytes, name_and_value, IsRequestAt, RequestOverflows}
 use Rattle.httparse.specs.declared.spans.RequestSpans.{RequestSpans}
 use Rattle.httparse.specs.declared.spans.HeaderSpan.{HeaderSpan}
 use Rattle.mds_request.specs.declared.head_status.HeadStatus.{HeadStatus}
 use Rattle.mds_request.specs.declared.head_status.HeadStatus.TheVariants.{Partial, Invalid, Rejected, Complete}
-use Rattle.mds_request.specs.Head.{max_head, max_fields, HasHead, NeverHasHead}
+use Rattle.mds_request.specs.Head.{max_head, max_fields, HasHead, HasNoHead, NeverHasHead}
 use Rattle.mds_request.specs.Fields.{ArePartsOf}
-use Rattle.mds_request.specs.Asked.{BadHead}
+use Rattle.mds_request.specs.declared.fault.HttpFault.TheVariants.{BadHead}
 use Rattle.mds_request.specs.Asked as asked
 use Rattle.mds_request.specs.Plan.{IsPlan}
 use Rattle.mds_request.specs.HeadStatus.{IsJudged, IsHeadStatus}
@@ -65,7 +65,11 @@ judged_status front Invalid head has judged = absurd judged
 judged_status front (Rejected fault) head has judged = (head, has, judged)
 judged_status front (Complete aim start len) head has judged = (head, has, judged)
 
+-- bytes without a whole head begin with none
+pub unfinished_headless : (bytes : List ℕ) → HasNoRequest (take max_head bytes) → HasNoHead bytes
+unfinished_headless bytes none head has = none head has.rest has.reads
+
 -- what no head begins with asks for nothing
 pub headless_plan : (stream : List ℕ) (status : HeadStatus) → (status ≡ Partial) ⊎ (status ≡ Invalid) → IsHeadStatus stream status → IsPlan stream (asked.Fixed BadHead)
-headless_plan stream status (inl partial) is = inl ((subst (IsHeadStatus stream) partial is).0, refl)
+headless_plan stream status (inl partial) is = inl (unfinished_headless stream (subst (IsHeadStatus stream) partial is).0, refl)
 headless_plan stream status (inr invalid) is = inl (λ head has. subst (IsHeadStatus stream) invalid is [] head (subst (λ all. HasHead all head) (sym (append-nil stream)) has), refl)

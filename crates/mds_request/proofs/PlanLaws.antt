@@ -13,13 +13,14 @@ use Rattle.mds_batch.proofs.ItemLaws.{one_vehicle_item, one_event_item}
 use Rattle.mds_core.specs.declared.key.Key.{Key}
 use Rattle.mds_request.specs.declared.aim.Aim.{Aim}
 use Rattle.mds_request.specs.declared.aim.Aim.TheVariants as aim
-use Rattle.mds_request.specs.Asked.{Fault, Asked, Fixed, Vehicles, Events, fault_in}
+use Rattle.mds_request.specs.declared.fault.HttpFault.{HttpFault}
+use Rattle.mds_request.specs.Asked.{Asked, Fixed, Vehicles, Events}
 use Rattle.mds_request.specs.Head.{max_head, HasHead, after_head}
 use Rattle.mds_request.specs.Routes.{aim_in}
 use Rattle.mds_request.specs.Plan.{body_fault, IsBatch, IsPosted, IsAsked, IsPlanOf, head_fault, body_length}
 use Rattle.mds_request.specs.HeadStatus.{IsComplete}
 use Rattle.mds_request.specs.Laws.{PlansAreOne, InvalidDetermines, PartialDetermines, RejectedDetermines, CompleteDetermines, StatusesStay}
-use Rattle.mds_request.proofs.HeadLemmas.{head_bytes-append}
+use Rattle.mds_request.proofs.HeadLemmas.{head_bytes-append, unfinished_headless}
 
 -- ---- heads
 
@@ -57,7 +58,7 @@ invalid_determines bytes invalid more asked (inr some) = absurd (invalid [] some
 
 pub partial_determines : PartialDetermines
 partial_determines bytes partial long more asked (inl none) = inl (λ head has. none.0 head (head_less bytes more head long has), none.1)
-partial_determines bytes partial long more asked (inr some) = absurd (partial.0 some.0 some.1)
+partial_determines bytes partial long more asked (inr some) = absurd (unfinished_headless bytes partial.0 some.0 some.1)
 
 -- of a head with a fault the bytes behind it don't matter
 same_fault : {A : Type 0} (found : Option A) (fault : A) (Plan Other : Type 0) (Told : A → Type 0) → found ≡ Some fault → MatchOption found Plan Told → MatchOption found Other Told
@@ -68,7 +69,7 @@ pub rejected_determines : RejectedDetermines
 rejected_determines bytes fault is more asked (inl none) = absurd (none.0 is.0 is.1)
 rejected_determines bytes fault is more asked (inr some) =
     let same = one_head bytes is.0 some.0 is.1 some.1 in
-    inr (some.0, head_more bytes more some.0 some.1, same_fault (head_fault some.0) (fault_in fault) _ _ _ (subst (λ head. head_fault head ≡ Some (fault_in fault)) same is.2) some.2)
+    inr (some.0, head_more bytes more some.0 some.1, same_fault (head_fault some.0) fault _ _ _ (subst (λ head. head_fault head ≡ Some fault) same is.2) some.2)
 
 -- of a head without one what it is about decides
 same_aim : {A B : Type 0} (found : Option A) (aim : Option B) (about : B) (Plan Other : B → Type 0) (Told : A → Type 0)
@@ -116,7 +117,7 @@ complete_determines bytes about start len is more there after asked (inr some) =
 -- ---- one plan
 
 -- want of memory is no fault of a body
-no_memory : (told : BatchFault) (fault : Fault) → body_fault told ≡ Some fault → told ≡ batch.Memory → ⊥
+no_memory : (told : BatchFault) (fault : HttpFault) → body_fault told ≡ Some fault → told ≡ batch.Memory → ⊥
 no_memory told fault is memory = let no : None ≡ Some fault = ap body_fault (sym memory) ∙ is in cc
 
 -- a body has one batch or one fault
@@ -129,7 +130,7 @@ one_batch IsItemOf Items one none body asked other (inl is) (inr told) = absurd 
 one_batch IsItemOf Items one none body asked other (inr told) (inl is) = absurd (no_memory told.0 told.1 told.3 (none body is.0 told.0 is.1 told.2))
 one_batch IsItemOf Items one none body asked other (inr told) (inr tells) = told.4 ∙ ap Fixed (one_fault told.0 tells.0 told.1 tells.1 told.3 tells.3 (batches_have_one_fault body told.0 tells.0 told.2 tells.2)) ∙ sym tells.4
   where
-    one_fault : (told tells : BatchFault) (fault other : Fault) → body_fault told ≡ Some fault → body_fault tells ≡ Some other
+    one_fault : (told tells : BatchFault) (fault other : HttpFault) → body_fault told ≡ Some fault → body_fault tells ≡ Some other
         → (told ≡ batch.Memory) ⊎ ((tells ≡ batch.Memory) ⊎ (told ≡ tells)) → fault ≡ other
     one_fault told tells fault other is are (inl memory) = absurd (no_memory told fault is memory)
     one_fault told tells fault other is are (inr (inl memory)) = absurd (no_memory tells other are memory)
@@ -155,7 +156,7 @@ one_asked (aim.One key) len after asked other is are = is ∙ sym are
 one_asked (aim.History key) len after asked other is are = is ∙ sym are
 one_asked aim.Rows len after asked other is are = is ∙ sym are
 
-one_plan_of : (found : Option Fault) (about : Option (Aim Key)) (len : ℕ) (after : List ℕ) (asked other : Asked)
+one_plan_of : (found : Option HttpFault) (about : Option (Aim Key)) (len : ℕ) (after : List ℕ) (asked other : Asked)
     → MatchOption found (MatchOption about ⊥ (λ aim. IsAsked aim len after asked)) (λ fault. asked ≡ Fixed fault)
     → MatchOption found (MatchOption about ⊥ (λ aim. IsAsked aim len after other)) (λ fault. other ≡ Fixed fault) → asked ≡ other
 one_plan_of (Some fault) about len after asked other is are = is ∙ sym are

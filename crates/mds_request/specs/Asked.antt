@@ -4,32 +4,12 @@ use Rattle.mds_core.specs.declared.key.Key.{Key}
 use Rattle.mds_batch.specs.declared.item.VehicleItem.{VehicleItem}
 use Rattle.mds_batch.specs.declared.item.EventItem.{EventItem}
 use Rattle.mds_request.specs.declared.fault.HttpFault.{HttpFault}
-use Rattle.mds_request.specs.declared.fault.HttpFault.TheVariants as http
+use Rattle.mds_request.specs.declared.fault.HttpFault.TheVariants.{BadHead, TransferEncoding, NotFound, MethodNotAllowed, LengthRequired, BadLength, TooLong, CutShort, NotJson, NotList, TooMany}
 use Rattle.mds_request.specs.declared.plan.Plan.{Plan}
 use Rattle.mds_request.specs.declared.plan.Plan.TheVariants as plan
 
--- why a request is answered by a fault alone
-pub data Fault : Type 0 where
-  BadHead TransferEncoding NotFound : Fault
-  MethodNotAllowed : List ℕ → Fault
-  LengthRequired BadLength TooLong CutShort NotJson NotList TooMany : Fault
-
--- a fault as plain data
-abbrev pub fault_in : HttpFault → Fault
-fault_in http.BadHead = BadHead
-fault_in http.TransferEncoding = TransferEncoding
-fault_in http.NotFound = NotFound
-fault_in (http.MethodNotAllowed allow) = MethodNotAllowed allow.now
-fault_in http.LengthRequired = LengthRequired
-fault_in http.BadLength = BadLength
-fault_in http.TooLong = TooLong
-fault_in http.CutShort = CutShort
-fault_in http.NotJson = NotJson
-fault_in http.NotList = NotList
-fault_in http.TooMany = TooMany
-
 -- the word for a fault
-abbrev pub fault_word : Fault → List ℕ
+abbrev pub fault_word : HttpFault → List ℕ
 fault_word BadHead = codes "bad_head"
 fault_word TransferEncoding = codes "transfer_encoding"
 fault_word NotFound = codes "not_found"
@@ -42,13 +22,9 @@ fault_word NotJson = codes "not_json"
 fault_word NotList = codes "not_list"
 fault_word TooMany = codes "too_many"
 
--- the word for a fault
-abbrev pub fault_text : HttpFault → List ℕ
-fault_text fault = fault_word (fault_in fault)
-
 -- what a request asks for: nothing but the answer to its fault, the items of a POST, or what a GET looks at
 pub data Asked : Type 0 where
-  Fixed : Fault → Asked
+  Fixed : HttpFault → Asked
   Vehicles : List VehicleItem → Asked
   Events : List EventItem → Asked
   One History : Key → Asked
@@ -56,7 +32,7 @@ pub data Asked : Type 0 where
 
 -- a plan as plain data
 abbrev pub asked_in : Plan → Asked
-asked_in (plan.Fixed fault) = Fixed (fault_in fault)
+asked_in (plan.Fixed fault) = Fixed fault
 asked_in (plan.Vehicles items) = Vehicles items.items
 asked_in (plan.Events items) = Events items
 asked_in (plan.One key) = One key

@@ -5,7 +5,6 @@ use Rattle.httparse.specs.Spans.{span_bytes, header_bytes, name_and_value}
 use Rattle.httparse.specs.declared.spans.RequestSpans.{RequestSpans}
 use Rattle.httparse.specs.declared.spans.HeaderSpan.{HeaderSpan}
 use Rattle.mds_request.specs.declared.fault.HttpFault.{HttpFault}
-use Rattle.mds_request.specs.Asked.{fault_in}
 use Rattle.mds_request.specs.Plan.{length_faults, first_fault, announced}
 use Rattle.mds_request.specs.declared.field.FieldValues.{FieldValues}
 use Rattle.mds_request.specs.declared.field.FieldValues.TheVariants.{Nothing, Once, Often}
@@ -27,4 +26,4 @@ pub record ArePartsOf (bytes : List ℕ) (spans : RequestSpans) (headers : List 
 -- the length of a body by the lengths that are given for it, or the first thing that is wrong with these
 abbrev pub IsLengthOf : List (List ℕ) → Result ℕ HttpFault → Type 0
 IsLengthOf lengths (Ok len) = (first_fault (length_faults lengths) ≡ None) × (len ≡ announced lengths)
-IsLengthOf lengths (Err fault) = first_fault (length_faults lengths) ≡ Some (fault_in fault)
+IsLengthOf lengths (Err fault) = first_fault (length_faults lengths) ≡ Some fault

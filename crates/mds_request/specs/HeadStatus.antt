@@ -1,14 +1,14 @@
 -- What the first bytes of a stream say of the head of the request, and which bytes determine what is asked for.
 use Rattle.std.specs.Prelude.{◌≡◌, ℕ, ◌+◌, ◌≤◌, true, List, ◌++◌, length, take, Some, None}
-use Rattle.httparse.specs.Grammar.{RequestHead, print_request, MayBecomeRequest}
+use Rattle.httparse.specs.Grammar.{RequestHead, print_request, HasNoRequest, MayBecomeRequest}
 use Rattle.mds_table.specs.Json.{max_bytes}
 use Rattle.mds_core.specs.declared.key.Key.{Key}
 use Rattle.mds_request.specs.declared.aim.Aim.{Aim}
 use Rattle.mds_request.specs.declared.head_status.Head.{Head}
 use Rattle.mds_request.specs.declared.head_status.HeadStatus.{HeadStatus}
 use Rattle.mds_request.specs.declared.head_status.HeadStatus.TheVariants.{Partial, Invalid, Rejected, Complete}
-use Rattle.mds_request.specs.Asked.{Asked, fault_in}
-use Rattle.mds_request.specs.Head.{max_head, HasHead, HasNoHead, NeverHasHead}
+use Rattle.mds_request.specs.Asked.{Asked}
+use Rattle.mds_request.specs.Head.{max_head, HasHead, NeverHasHead}
 use Rattle.mds_request.specs.Routes.{aim_in}
 use Rattle.mds_request.specs.Plan.{is_post, body_length, head_fault, IsPlan}
 
@@ -21,13 +21,14 @@ pub record IsComplete (head : RequestHead) (aim : Aim Key) (start len : ℕ) : T
 
 -- what a whole head comes to: its first fault, or that it has none
 abbrev pub IsJudged : RequestHead → HeadStatus → Type 0
-IsJudged head (Rejected fault) = head_fault head ≡ Some (fault_in fault)
+IsJudged head (Rejected fault) = head_fault head ≡ Some fault
 IsJudged head (Complete aim start len) = IsComplete head aim start len
 IsJudged head other = ⊥
 
--- what bytes say of the head: it may yet come, none ever comes, it has a fault, or it has none
+-- what bytes say of the head: none is there whole, of however many fields, and one may yet come; none ever comes; it has a
+-- fault; or it has none
 abbrev pub IsHeadStatus : List ℕ → HeadStatus → Type 0
-IsHeadStatus bytes Partial = HasNoHead bytes × MayBecomeRequest (take max_head bytes)
+IsHeadStatus bytes Partial = HasNoRequest (take max_head bytes) × MayBecomeRequest (take max_head bytes)
 IsHeadStatus bytes Invalid = NeverHasHead bytes
 IsHeadStatus bytes (Rejected fault) = (head : RequestHead) × HasHead bytes head × IsJudged head (Rejected fault)
 IsHeadStatus bytes (Complete aim start len) = (head : RequestHead) × HasHead bytes head × IsJudged head (Complete aim start len)

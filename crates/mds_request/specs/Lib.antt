@@ -1,5 +1,6 @@
 pub mod Asked
 pub mod Head
+pub mod Method
 pub mod Fields
 pub mod Routes
 pub mod Plan

@@ -1,5 +1,5 @@
 -- What a stream of request bytes asks for.
-use Rattle.std.specs.Prelude.{◌≡◌, ◌⊎◌, ℕ, ◌<◌, ◌≤◌, Bool, true, false, not, ◌&&◌, nat_lt, nat_eq, if◌then◌else◌, List, [], ◌∷◌, length, take, find, Option, Some, None, is_none, option_map, MatchOption, codes}
+use Rattle.std.specs.Prelude.{◌≡◌, ◌⊎◌, ℕ, ◌<◌, ◌≤◌, Bool, true, false, not, ◌&&◌, nat_lt, nat_eq, if◌then◌else◌, List, [], ◌∷◌, length, take, find, Option, Some, None, is_none, option_map, MatchOption}
 use Rattle.std.specs.List.{list_all}
 use Rattle.std.specs.Char.{is_ascii_digit}
 use Rattle.std.specs.Str.{bytes_eq}
@@ -14,7 +14,12 @@ use Rattle.mds_batch.specs.declared.batch.BatchFault.TheVariants as batch
 use Rattle.mds_core.specs.declared.key.Key.{Key}
 use Rattle.mds_request.specs.declared.aim.Aim.{Aim}
 use Rattle.mds_request.specs.declared.aim.Aim.TheVariants as aim
-use Rattle.mds_request.specs.Asked.{Fault, BadHead, TransferEncoding, NotFound, MethodNotAllowed, LengthRequired, BadLength, TooLong, CutShort, NotJson, NotList, TooMany, Asked, Fixed, Vehicles, Events, One, History, Rows}
+use Rattle.mds_request.specs.declared.fault.HttpFault.{HttpFault}
+use Rattle.mds_request.specs.declared.fault.HttpFault.TheVariants.{BadHead, TransferEncoding, NotFound, MethodNotAllowed, LengthRequired, BadLength, TooLong, CutShort, NotJson, NotList, TooMany}
+use Rattle.mds_request.specs.declared.method.Method.{Method}
+use Rattle.mds_request.specs.declared.method.Method.TheVariants.{Get, Post}
+use Rattle.mds_request.specs.Method.{method_name}
+use Rattle.mds_request.specs.Asked.{Asked, Fixed, Vehicles, Events, One, History, Rows}
 use Rattle.mds_request.specs.Head.{HasHead, HasNoHead, after_head, encodings, lengths}
 use Rattle.mds_request.specs.Routes.{aim_in}
 
@@ -25,8 +30,8 @@ is_post (Some aim.Events) = true
 is_post other = false
 
 -- the method of a route
-abbrev pub method_for : Option (Aim Key) → List ℕ
-method_for aim = if is_post aim then codes "POST" else codes "GET"
+abbrev pub method_for : Option (Aim Key) → Method
+method_for about = if is_post about then Post else Get
 
 -- a length is given once, as one or more digits
 abbrev pub is_one_length : List (List ℕ) → Bool
@@ -43,7 +48,7 @@ abbrev pub body_length : RequestHead → ℕ
 body_length head = if is_post (aim_in head.target) then announced (lengths head) else 0
 
 -- what can be wrong with the lengths that are given for a body, each with where it is, in the order in which it is looked for
-abbrev pub length_faults : List (List ℕ) → List (Bool × Fault)
+abbrev pub length_faults : List (List ℕ) → List (Bool × HttpFault)
 length_faults lengths =
     (nat_eq (length lengths) 0, LengthRequired)
     ∷ (not (is_one_length lengths), BadLength)
@@ -51,23 +56,23 @@ length_faults lengths =
     ∷ []
 
 -- what can be wrong with a head
-abbrev pub head_faults : RequestHead → List (Bool × Fault)
+abbrev pub head_faults : RequestHead → List (Bool × HttpFault)
 head_faults head =
     (nat_lt 0 (length (encodings head)), TransferEncoding)
     ∷ (is_none (aim_in head.target), NotFound)
-    ∷ (not (bytes_eq head.method (method_for (aim_in head.target))), MethodNotAllowed (method_for (aim_in head.target)))
+    ∷ (not (bytes_eq head.method (method_name (method_for (aim_in head.target)))), MethodNotAllowed (method_for (aim_in head.target)))
     ∷ (if is_post (aim_in head.target) then length_faults (lengths head) else [])
 
 -- the first that holds
-abbrev pub first_fault : List (Bool × Fault) → Option Fault
+abbrev pub first_fault : List (Bool × HttpFault) → Option HttpFault
 first_fault faults = option_map (λ row. row.1) (find (λ row. row.0) faults)
 
 -- the first thing that is wrong with a head
-abbrev pub head_fault : RequestHead → Option Fault
+abbrev pub head_fault : RequestHead → Option HttpFault
 head_fault head = first_fault (head_faults head)
 
 -- what is asked for by a body that is no batch: nothing but the answer to its fault; its length was looked at before
-abbrev pub body_fault : BatchFault → Option Fault
+abbrev pub body_fault : BatchFault → Option HttpFault
 body_fault batch.NotJson = Some NotJson
 body_fault batch.NotList = Some NotList
 body_fault batch.TooMany = Some TooMany
@@ -77,7 +82,7 @@ body_fault other = None
 abbrev pub IsBatch : {A : Type 0} → (Data → A → Type 0) → (List A → Asked) → List ℕ → Asked → Type 0
 IsBatch {A} IsItemOf Items body asked =
     ((items : List A) × HasItems IsItemOf body items × (asked ≡ Items items))
-    ⊎ ((told : BatchFault) × (fault : Fault) × HasFault body told × (body_fault told ≡ Some fault) × (asked ≡ Fixed fault))
+    ⊎ ((told : BatchFault) × (fault : HttpFault) × HasFault body told × (body_fault told ≡ Some fault) × (asked ≡ Fixed fault))
 
 -- the stream ends before the length is reached, or else the body of that length says what is asked for
 abbrev pub IsPosted : (List ℕ → Asked → Type 0) → ℕ → List ℕ → Asked → Type 0

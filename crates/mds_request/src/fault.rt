@@ -1,7 +1,8 @@
 //! Why a request is answered by a fault alone.
 ghost use Rattle.std.specs.Prelude.{Some};
-ghost use Rattle.mds_request.specs.Asked.{fault_text};
+ghost use Rattle.mds_request.specs.Asked.{fault_word};
 
+use crate::Method;
 use std::error::Error;
 use std::fmt;
 
@@ -17,7 +18,7 @@ pub enum HttpFault {
     /// The method isn't the route's.
     MethodNotAllowed {
         /// The route's method, as a field `allow` names it (RFC 9110, section 10.2.1).
-        allow: &'static str,
+        allow: Method,
     },
     /// A POST says no length (RFC 9110, section 15.5.12).
     LengthRequired,
@@ -36,7 +37,7 @@ pub enum HttpFault {
 }
 
 impl fmt::Display for HttpFault {
-    ghost output = { λ fault. Some (fault_text fault) };
+    ghost output = { λ fault. Some (fault_word fault) };
 
     fn fmt<W: fmt::Write>(&self, f: &mut fmt::Formatter<W>) -> fmt::Result {
         f.write_str(match self {

@@ -10,7 +10,8 @@ ghost use Rattle.mds_request.specs.Head.{values_of};
 ghost use Rattle.mds_request.specs.Plan.{is_post};
 ghost use Rattle.mds_request.specs.Fields.{AreFieldValues, IsLengthOf};
 
-use crate::{Aim, HttpFault};
+use crate::target::method_of;
+use crate::{Aim, HttpFault, Method};
 use httparse::spans::HeaderSpan;
 use mds_core::Key;
 use mds_table::MAX_BYTES;
@@ -106,7 +107,7 @@ pub(crate) fn body_length(
         (map (header_bytes bytes.now) headers.now)) result }
     ensures few { IfOk result (λ len. len ≤ max_bytes) }
 {
-    if matches!(aim, Aim::One(_) | Aim::History(_) | Aim::Rows) {
+    if method_of(aim) == Method::Get {
         return Ok(0);
     }
     match look_up(bytes, headers, "content-length") {

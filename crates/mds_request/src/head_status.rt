@@ -115,7 +115,7 @@ fn judge_head(face: &Face, bytes: &[u8], spans: &RequestSpans, headers: &[Header
         return HeadStatus::Rejected(HttpFault::NotFound);
     };
     let allow = method_of(&aim);
-    if spans.method.of(bytes) != allow.as_bytes() {
+    if spans.method.of(bytes) != allow.name().as_bytes() {
         return HeadStatus::Rejected(HttpFault::MethodNotAllowed { allow });
     }
     match body_length(&aim, bytes, headers) {

@@ -16,6 +16,7 @@ mod fault;
 mod field;
 mod head_status;
 pub mod laws;
+mod method;
 mod plan;
 mod target;
 
@@ -23,4 +24,5 @@ pub use aim::Aim;
 pub use face::Face;
 pub use fault::HttpFault;
 pub use head_status::{Head, HeadStatus, MAX_FIELDS, MAX_HEAD};
+pub use method::Method;
 pub use plan::{Plan, plan_of};

@@ -3,7 +3,7 @@ ghost use Rattle.std.specs.Prelude.{◌≡◌, ◌≢◌, ◌≤◌, length, tru
 ghost use Rattle.mds_table.specs.Json.{max_bytes};
 ghost use Rattle.mds_batch.specs.Items.{IsVehicleItem, IsEventItem};
 ghost use Rattle.mds_batch.specs.declared.batch.BatchFault.TheVariants.{Memory, TooLong};
-ghost use Rattle.mds_request.specs.Asked.{asked_in, fault_in, Vehicles, Events};
+ghost use Rattle.mds_request.specs.Asked.{asked_in, Vehicles, Events};
 ghost use Rattle.mds_request.specs.Plan.{is_post, body_fault, IsBatch, IsAsked, IsPlan};
 ghost use Rattle.mds_request.specs.HeadStatus.{HoldsBody};
 
@@ -31,7 +31,7 @@ pub enum Plan {
 
 fn fault_of(fault: BatchFault) -> Result<HttpFault, AllocError>
     requires { fault ≢ TooLong }
-    ensures told { IfOk result (λ told. body_fault fault ≡ Some (fault_in told)) }
+    ensures told { IfOk result (λ told. body_fault fault ≡ Some told) }
     ensures memory { OnErr result (fault ≡ Memory) }
 {
     match fault {

@@ -6,7 +6,7 @@ ghost use Rattle.mds_request.specs.Routes.{piece, key_in, aim_in};
 ghost use Rattle.mds_request.specs.Plan.{method_for};
 
 use crate::aim::Route;
-use crate::{Aim, Face};
+use crate::{Aim, Face, Method};
 use mds_core::Key;
 use uuid::Uuid;
 
@@ -57,11 +57,11 @@ pub(crate) fn aim_of(face: &Face, target: &str) -> Option<Aim<Key>>
     }
 }
 
-pub(crate) fn method_of(aim: &Aim<Key>) -> &'static str
-    ensures { result.now ≡ method_for (Some aim.now) }
+pub(crate) fn method_of(aim: &Aim<Key>) -> Method
+    ensures { result ≡ method_for (Some aim.now) }
 {
     match aim {
-        Aim::Vehicles | Aim::Events => "POST",
-        Aim::One(_) | Aim::History(_) | Aim::Rows => "GET",
+        Aim::Vehicles | Aim::Events => Method::Post,
+        Aim::One(_) | Aim::History(_) | Aim::Rows => Method::Get,
     }
 }

@@ -8,8 +8,10 @@ use Rattle.mds_core.specs.Reported.{Reported}
 use Rattle.mds_core.specs.Refusal.{refusal_word}
 use Rattle.mds_batch.specs.declared.item.ItemFault.{ItemFault}
 use Rattle.mds_batch.specs.Asking.{vehicle_fault, event_fault}
-use Rattle.mds_request.specs.Asked.{Asked, Fixed, Vehicles, Events, One, History, Rows, Fault, fault_word}
-use Rattle.mds_request.specs.Asked.{BadHead, TransferEncoding, NotFound, MethodNotAllowed, LengthRequired, BadLength, TooLong, CutShort, NotJson, NotList, TooMany}
+use Rattle.mds_request.specs.declared.fault.HttpFault.{HttpFault}
+use Rattle.mds_request.specs.declared.fault.HttpFault.TheVariants.{BadHead, TransferEncoding, NotFound, MethodNotAllowed, LengthRequired, BadLength, TooLong, CutShort, NotJson, NotList, TooMany}
+use Rattle.mds_request.specs.declared.method.Method.{Method}
+use Rattle.mds_request.specs.Asked.{Asked, Fixed, Vehicles, Events, One, History, Rows, fault_word}
 use Rattle.mds_response.specs.Found.{Finding, replies_in, standing_in, events_in, tables_in, accepted_in}
 use Rattle.mds_response.specs.Verdicts.{verdicts, failures_from}
 use Rattle.mds_response.specs.Json.{standing_text}
@@ -18,7 +20,7 @@ use Rattle.mds_response.specs.Head.{Answer}
 use Rattle.mds_response.specs.declared.failure.Cause.{Cause}
 
 -- the status of a fault (RFC 9110, section 15)
-abbrev pub fault_status : Fault → ℕ
+abbrev pub fault_status : HttpFault → ℕ
 fault_status BadHead = 400
 fault_status TransferEncoding = 501
 fault_status NotFound = 404
@@ -32,12 +34,12 @@ fault_status NotList = 400
 fault_status TooMany = 400
 
 -- the route's method, where another one was asked for
-abbrev pub allow_in : Fault → Option (List ℕ)
+abbrev pub allow_in : HttpFault → Option Method
 allow_in (MethodNotAllowed allow) = Some allow
 allow_in fault = None
 
 -- the route's method, where what was asked for is a fault that tells it
-abbrev pub allow_for : Asked → Option (List ℕ)
+abbrev pub allow_for : Asked → Option Method
 allow_for (Fixed fault) = allow_in fault
 allow_for asked = None
 
@@ -55,7 +57,7 @@ abbrev pub is_unregistered : Content
 is_unregistered = record { status = 404; body = fault_body (refusal_word Unregistered) }
 
 -- a fault
-abbrev pub fault_content : Fault → Content
+abbrev pub fault_content : HttpFault → Content
 fault_content fault = record { status = fault_status fault; body = fault_body (fault_word fault) }
 
 -- a POST of so many items, of which this is said in turn, and so many are accepted: something is said of each, or the

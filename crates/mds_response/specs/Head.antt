@@ -2,11 +2,13 @@
 -- CR and LF.
 use Rattle.std.specs.Prelude.{ℕ, List, [], ◌++◌, length, codes, decimal, Option, Some, None}
 use Rattle.http.specs.StatusCode.{status_text}
+use Rattle.mds_request.specs.declared.method.Method.{Method}
+use Rattle.mds_request.specs.Method.{method_name}
 
 -- an answer: its status, the method of the route where another one was asked for, and its body
 pub record Answer : Type 0 where
   pub status : ℕ
-  pub allow : Option (List ℕ)
+  pub allow : Option Method
   pub body : List ℕ
 
 -- the status line, with the status's phrase
@@ -26,9 +28,9 @@ abbrev pub close_line : List ℕ
 close_line = codes "connection: close\r\n"
 
 -- the field that names the route's method, where another one was asked for
-abbrev pub allow_line : Option (List ℕ) → List ℕ
+abbrev pub allow_line : Option Method → List ℕ
 allow_line None = []
-allow_line (Some method) = codes "allow: " ++ (method ++ codes "\r\n")
+allow_line (Some method) = codes "allow: " ++ (method_name method ++ codes "\r\n")
 
 -- all bytes of an answer
 abbrev pub answer_text : Answer → List ℕ

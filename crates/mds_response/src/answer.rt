@@ -1,5 +1,5 @@
 //! Answers.
-ghost use Rattle.std.specs.Prelude.{◌≡◌, IfOk, option_map};
+ghost use Rattle.std.specs.Prelude.{◌≡◌, IfOk};
 ghost use Rattle.mds_request.specs.Asked.{asked_in};
 ghost use Rattle.mds_response.specs.Found.{finding_in};
 ghost use Rattle.mds_response.specs.Head.{answer_text};
@@ -9,7 +9,7 @@ use crate::Found;
 use crate::body::body_of;
 use crate::head::whole_answer;
 use crate::status::status_of;
-use mds_request::{HttpFault, Plan};
+use mds_request::{HttpFault, Method, Plan};
 use std::alloc::{AllocError, Global};
 
 /// The bytes of the answer to what was asked for, by what was found: a head, an empty line and a body.
@@ -28,11 +28,11 @@ pub fn bytes_of(alloc: Global, plan: &Plan, found: &Found) -> Result<Vec<u8>, Al
     whole_answer(alloc, status_of(plan, found), allow_of(plan), &body)
 }
 
-fn allow_of(plan: &Plan) -> Option<&str>
-    ensures { option_map (λ method. method.now) result ≡ allow_for (asked_in plan.now) }
+fn allow_of(plan: &Plan) -> Option<Method>
+    ensures { result ≡ allow_for (asked_in plan.now) }
 {
     match plan {
-        Plan::Fixed(HttpFault::MethodNotAllowed { allow }) => Some(allow),
+        Plan::Fixed(HttpFault::MethodNotAllowed { allow }) => Some(*allow),
         _ => None,
     }
 }

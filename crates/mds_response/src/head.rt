@@ -1,8 +1,9 @@
 //! The whole text of an answer.
-ghost use Rattle.std.specs.Prelude.{◌≡◌, ◌++◌, IfOk, OnOk, option_map, string_bytes};
+ghost use Rattle.std.specs.Prelude.{◌≡◌, ◌++◌, IfOk, OnOk, string_bytes};
 ghost use Rattle.mds_response.specs.Head.{allow_line, answer_text, memory_text, not_kept_text};
 
 use http::StatusCode;
+use mds_request::Method;
 use std::alloc::{AllocError, Global};
 use std::fmt::Write as _;
 
@@ -35,12 +36,12 @@ pub fn not_kept_bytes() -> &'static [u8]
 pub(crate) fn whole_answer(
     alloc: Global,
     status: StatusCode,
-    allow: Option<&str>,
+    allow: Option<Method>,
     body: &str,
 ) -> Result<Vec<u8>, AllocError>
     ensures { IfOk result (λ bytes. bytes.items ≡ answer_text record {
       status = status;
-      allow = option_map (λ method. method.now) allow.entry;
+      allow = allow;
       body = body.now;
     }) }
 {
@@ -57,9 +58,9 @@ pub(crate) fn whole_answer(
 }
 
 /// RFC 9110, section 10.2.1.
-fn add_allow(text: &mut String, allow: Option<&str>) -> Result<(), AllocError>
+fn add_allow(text: &mut String, allow: Option<Method>) -> Result<(), AllocError>
     ensures { OnOk result (string_bytes text.new
-        ≡ string_bytes text.old ++ allow_line (option_map (λ method. method.now) allow.entry)) }
+        ≡ string_bytes text.old ++ allow_line allow) }
 {
     match allow {
         Some(method) => write!(text, "allow: {method}\r\n"),

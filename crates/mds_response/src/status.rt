@@ -1,6 +1,6 @@
 //! The statuses of answers (RFC 9110, section 15).
 ghost use Rattle.std.specs.Prelude.{◌≡◌, map, Bool, if◌then◌else◌};
-ghost use Rattle.mds_request.specs.Asked.{asked_in, fault_in};
+ghost use Rattle.mds_request.specs.Asked.{asked_in};
 ghost use Rattle.mds_response.specs.Found.{finding_in};
 ghost use Rattle.mds_response.specs.Answer.{answer_to, batch_content, fault_status};
 
@@ -26,7 +26,7 @@ pub fn status_of(plan: &Plan, found: &Found) -> StatusCode
 }
 
 fn fault_status(fault: &HttpFault) -> StatusCode
-    ensures { result ≡ fault_status (fault_in fault.now) }
+    ensures { result ≡ fault_status fault.now }
 {
     match fault {
         HttpFault::NotFound => StatusCode::NOT_FOUND,

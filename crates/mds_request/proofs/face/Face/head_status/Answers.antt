@@ -18,7 +18,7 @@ returns-in-Ok-Partial-clause-status c =
     let bytes = head_bytes c.args.front.now c.min.result c.min.ensures in
     let none = rw c.in-Ok-Partial.field-0-is at c.in-Ok-Partial.ensures.partial in
     let unfinished = rw c.in-Ok-Partial.field-0-is at c.in-Ok-Partial.ensures.unfinished in
-    (λ head has. subst HasNoRequest bytes none head has.rest has.reads, subst MayBecomeRequest bytes unfinished)
+    (subst HasNoRequest bytes none, subst MayBecomeRequest bytes unfinished)
 
 pub returns-in-Err-clause-status : goal.returns-in-Err-clause-status
 returns-in-Err-clause-status c = never_head c.args.front.now _ (head_bytes c.args.front.now c.min.result c.min.ensures) c.in-Err.ensures.no_room
