@@ -15,15 +15,15 @@ pub gains_nothing : (most : ℕ) (a b : Option (List ℕ)) (held : List ℕ) →
 gains_nothing most a b held lost = ([], omega arith, sym (append-nil held), lost)
 
 -- a call that gave some bytes, for which there was no memory
-pub loses_given : (most : ℕ) (a b : Option (List ℕ)) (held grown given : List ℕ) → 0 < length given → length given ≤ most → grown ≡ held → Consumes a b given
-    → StopsAt Memory most a b held grown
-loses_given most a b held grown given some fits same lost = ([], given, some, omega (arith, fits), same ∙ sym (append-nil held), lost)
+pub loses_given : (room most : ℕ) (a b : Option (List ℕ)) (held grown given : List ℕ) → 0 < length given → length given ≤ room → length given ≤ most → grown ≡ held
+    → Consumes a b given → StopsAt Memory room most a b held grown
+loses_given room most a b held grown given some few fits same lost = ([], given, some, few, omega (arith, fits), same ∙ sym (append-nil held), lost)
 
 -- what was read when reading stopped
-pub stop_loses : (fault : ReadError) (most : ℕ) (a b : Option (List ℕ)) (held grown : List ℕ) → StopsAt fault most a b held grown → ConsumesUpTo most a b
-stop_loses Device most a b held grown stop = (stop.0, stop.1, stop.3)
-stop_loses TooManyTurns most a b held grown stop = (stop.0, stop.1, stop.3)
-stop_loses Memory most a b held grown stop = (stop.0 ++ stop.1, rw length-append stop.3, stop.5)
+pub stop_loses : (fault : ReadError) (room most : ℕ) (a b : Option (List ℕ)) (held grown : List ℕ) → StopsAt fault room most a b held grown → ConsumesUpTo most a b
+stop_loses Device room most a b held grown stop = (stop.0, stop.1, stop.3)
+stop_loses TooManyTurns room most a b held grown stop = (stop.0, stop.1, stop.3)
+stop_loses Memory room most a b held grown stop = (stop.0 ++ stop.1, rw length-append stop.4, stop.6)
 
 -- what was read when it didn't
 pub gains_lose : (most : ℕ) (a b : Option (List ℕ)) (held grown : List ℕ) → Gains most a b held grown → ConsumesUpTo most a b
@@ -38,15 +38,15 @@ gains_then limit a b c held grown all p q =
     (p.0 ++ q.0, joined, q.2 ∙ ap (λ l. l ++ q.0) p.2 ∙ append_assoc held p.0 q.0, Consumes-trans a b c p.0 q.0 p.3 q.3)
 
 -- reading that stopped after others
-pub stops_then : (fault : ReadError) (limit : ℕ) (a b c : Option (List ℕ)) (held grown all : List ℕ) → Gains (limit - length held) a b held grown
-    → StopsAt fault (limit - length grown) b c grown all → StopsAt fault (limit - length held) a c held all
-stops_then Device limit a b c held grown all p q = gains_then limit a b c held grown all p q
-stops_then TooManyTurns limit a b c held grown all p q = gains_then limit a b c held grown all p q
-stops_then Memory limit a b c held grown all p q =
+pub stops_then : (fault : ReadError) (room limit : ℕ) (a b c : Option (List ℕ)) (held grown all : List ℕ) → Gains (limit - length held) a b held grown
+    → StopsAt fault room (limit - length grown) b c grown all → StopsAt fault room (limit - length held) a c held all
+stops_then Device room limit a b c held grown all p q = gains_then limit a b c held grown all p q
+stops_then TooManyTurns room limit a b c held grown all p q = gains_then limit a b c held grown all p q
+stops_then Memory room limit a b c held grown all p q =
     let counted : length grown ≡ length held + length p.0 = ap length p.2 ∙ length-append held p.0 in
-    let joined : length (p.0 ++ q.0) + length q.1 ≤ limit - length held = rw length-append (omega (arith, p.1, q.2, q.3)) in
-    let whole : Consumes a c ((p.0 ++ q.0) ++ q.1) = rw append_assoc (Consumes-trans a b c p.0 (q.0 ++ q.1) p.3 q.5) in
-    (p.0 ++ q.0, q.1, q.2, joined, q.4 ∙ ap (λ l. l ++ q.0) p.2 ∙ append_assoc held p.0 q.0, whole)
+    let joined : length (p.0 ++ q.0) + length q.1 ≤ limit - length held = rw length-append (omega (arith, p.1, q.2, q.4)) in
+    let whole : Consumes a c ((p.0 ++ q.0) ++ q.1) = rw append_assoc (Consumes-trans a b c p.0 (q.0 ++ q.1) p.3 q.6) in
+    (p.0 ++ q.0, q.1, q.2, q.3, joined, q.5 ∙ ap (λ l. l ++ q.0) p.2 ∙ append_assoc held p.0 q.0, whole)
 
 -- a list within the limit is all up to the limit
 take_whole : (limit : ℕ) (bytes : List ℕ) → length bytes ≤ limit → take limit bytes ≡ bytes

@@ -1,5 +1,5 @@
 //! Lines that go out page by page.
-ghost use Rattle.std.specs.Prelude.{◌≡◌, ◌++◌, ◌<◌, ◌≤◌, [], string_bytes, string_len};
+ghost use Rattle.std.specs.Prelude.{◌≡◌, ◌++◌, ◌<◌, ◌≤◌, [], length, string_bytes, string_len};
 ghost use Rattle.std.specs.Prelude.{IsErrOf, OnOk, OnErr, IfErr, IfSome};
 ghost use Rattle.std.specs.Io.KnownBytes.{Appends, Keeps};
 ghost use Rattle.mds_io.specs.Page.{AppendsFront, Passes, with_newline};
@@ -46,6 +46,12 @@ pub fn add_line<W: Write, D: Display>(
         → Keeps (W.contents writer.old) (W.contents writer.new) }
     ensures device { IsErrOf result PrintError.Device → PAGE_BYTES ≤ string_len page.new }
     ensures short { OnOk result (string_len page.new < PAGE_BYTES) }
+    ensures waits { OnOk result (IfSome (D.output line.now) (λ text.
+        length (string_bytes page.old ++ with_newline text) < PAGE_BYTES
+        → string_bytes page.new ≡ string_bytes page.old ++ with_newline text)) }
+    ensures goes { OnOk result (IfSome (D.output line.now) (λ text.
+        PAGE_BYTES ≤ length (string_bytes page.old ++ with_newline text)
+        → string_bytes page.new ≡ [])) }
 {
     if writeln!(page, "{line}").is_err() {
         return Err(PrintError::Memory);
@@ -74,6 +80,8 @@ pub fn end_page<W: Write, D: Display>(
     ensures err { OnErr result (IfSome (D.output line.now) (λ text.
         AppendsFront (W.contents writer.old) (W.contents writer.new)
         (string_bytes page.old ++ with_newline text))) }
+    ensures memory { IsErrOf result PrintError.Memory
+        → Keeps (W.contents writer.old) (W.contents writer.new) }
 {
     if writeln!(page, "{line}").is_err() {
         return Err(PrintError::Memory);

@@ -76,7 +76,8 @@ pub fn read_up_to<R: Read>(
         (R.remaining reader.old) (R.remaining reader.new) bytes.old.items bytes.new.items) }
     ensures whole { OnOk result (length bytes.new.items < limit
         → IsAtEnd (R.remaining reader.new)) }
-    ensures err { IfErr result (λ fault. StopsAt fault (limit - length bytes.old.items)
+    ensures err { IfErr result (λ fault. StopsAt fault (length room.old)
+        (limit - length bytes.old.items)
         (R.remaining reader.old) (R.remaining reader.new) bytes.old.items bytes.new.items) }
     ensures short { OnErr result (length bytes.new.items < limit) }
     ensures counted { calls.new ≤ calls.old }
@@ -115,7 +116,8 @@ pub fn read_more<R: Read>(
     ensures end { IfOk result (λ is_end. MatchBool is_end
         (IsAtEnd (R.remaining reader.new) × (bytes.new.items ≡ bytes.old.items))
         (length bytes.old.items < length bytes.new.items)) }
-    ensures err { IfErr result (λ fault. StopsAt fault (limit - length bytes.old.items)
+    ensures err { IfErr result (λ fault. StopsAt fault (length room.old)
+        (limit - length bytes.old.items)
         (R.remaining reader.old) (R.remaining reader.new) bytes.old.items bytes.new.items) }
     ensures kept { OnErr result (bytes.new.items ≡ bytes.old.items) }
     ensures counted { calls.new ≤ calls.old }

@@ -8,4 +8,4 @@ returns-in-Err-clause-err g c =
     wanted_or_not c.in-Err.error (λ wanted. inl (c.read_problem.ensures.memory wanted)) (λ other. inr (c.read_problem.ensures.read other))
 
 pub returns-in-Err-clause-no_further : goal.returns-in-Err-clause-no_further
-returns-in-Err-clause-no_further g c = let lost = c.in-Err.ensures.err in stop_loses _ _ _ _ _ _ lost.1
+returns-in-Err-clause-no_further g c = let lost = c.in-Err.ensures.err in stop_loses _ _ _ _ _ _ _ lost.2

@@ -33,7 +33,7 @@ pub returns-in_err-read_more-clause-no_further : goal.returns-in_err-read_more-c
 returns-in_err-read_more-clause-no_further g c =
     let before = c.loop-left.invariant.fed in
     let here = c.loop-left in
-    let lost = stop_loses c.in_err-read_more.field-0.0 (here.left - length c.clear.new.self.items) (g.R.Read.remaining here.reader)
+    let lost = stop_loses c.in_err-read_more.field-0.0 _ (here.left - length c.clear.new.self.items) (g.R.Read.remaining here.reader)
     (g.R.Read.remaining c.read_more.new.reader) c.clear.new.self.items c.read_more.new.bytes.items c.in_err-read_more.ensures.err in
     (before.0 ++ lost.0, rw length-append (omega (arith, before.2, lost.1)), Consumes-trans _ _ _ before.0 lost.0 before.1 lost.2)
 

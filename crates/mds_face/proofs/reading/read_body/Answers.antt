@@ -13,7 +13,7 @@ returns-in_default g c = record {
 }
 
 pub returns-in_err-read_up_to-clause-lost : goal.returns-in_err-read_up_to-clause-lost
-returns-in_err-read_up_to-clause-lost g c = rw c.in-Complete.is (stop_loses _ _ _ _ _ _ c.in_err-read_up_to.ensures.err)
+returns-in_err-read_up_to-clause-lost g c = rw c.in-Complete.is (stop_loses _ _ _ _ _ _ _ c.in_err-read_up_to.ensures.err)
 
 pub returns-clause-status : goal.returns-clause-status
 returns-clause-status g c =

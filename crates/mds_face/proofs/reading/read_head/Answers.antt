@@ -14,7 +14,7 @@ loop-reader-preserved g c =
 pub returns-in_err-read_more-clause-lost : goal.returns-in_err-read_more-clause-lost
 returns-in_err-read_more-clause-lost g c =
     let lost : ConsumesUpTo 16384 (g.R.Read.remaining c.args.reader.now) (g.R.Read.remaining c.read_more.new.reader) =
-    loses_next _ _ _ _ _ c.loop-reader.invariant.few c.loop-reader.invariant.taken (stop_loses _ _ _ _ _ _ c.in_err-read_more.ensures.err) in
+    loses_next _ _ _ _ _ c.loop-reader.invariant.few c.loop-reader.invariant.taken (stop_loses _ _ _ _ _ _ _ c.in_err-read_more.ensures.err) in
     search rules
 
 pub returns-then-branch-clause-status : goal.returns-then-branch-clause-status

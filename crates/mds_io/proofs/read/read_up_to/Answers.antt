@@ -5,9 +5,9 @@ use Rattle.mds_io.proofs.read.read_up_to.Goals as goal
 
 pub returns-in_err-read_more-clause-err : goal.returns-in_err-read_more-clause-err
 returns-in_err-read_more-clause-err g c =
-    let stop : StopsAt c.in_err-read_more.field-0.0 (c.args.limit - length c.args.bytes.now.items) (g.R.Read.remaining c.args.reader.now)
+    let stop : StopsAt c.in_err-read_more.field-0.0 (length c.args.room.now) (c.args.limit - length c.args.bytes.now.items) (g.R.Read.remaining c.args.reader.now)
     (g.R.Read.remaining c.read_more.new.reader) c.args.bytes.now.items c.read_more.new.bytes.items =
-    stops_then _ _ _ _ _ _ _ _ c.loop-reader.invariant.gained c.in_err-read_more.ensures.err in
+    stops_then _ _ _ _ _ _ _ _ _ c.loop-reader.invariant.gained (rw c.loop-reader.invariant.same_room at c.in_err-read_more.ensures.err) in
     search rules
 
 pub returns-then-branch-clause-ok : goal.returns-then-branch-clause-ok
