@@ -52,6 +52,12 @@ pub still_all : {X : Type 0} (all j k : ℕ) → X ⊎ (all ≤ j) → j ≤ k �
 still_all all j k (inl x) less = inl x
 still_all all j k (inr is) less = inr (omega arith)
 
+-- what stayed or became this, and then did so again
+pub stays_or_is : {A : Type 0} (first second third this : A) → (second ≡ first) ⊎ (second ≡ this) → (third ≡ second) ⊎ (third ≡ this) → (third ≡ first) ⊎ (third ≡ this)
+stays_or_is first second third this was (inr is) = inr is
+stays_or_is first second third this (inl same) (inl stays) = inl (stays ∙ same)
+stays_or_is first second third this (inr is) (inl stays) = inr (stays ∙ is)
+
 -- the bytes held grew, and then again
 pub grows_then : (a b c : Option (List ℕ)) (held grown all : List ℕ) → Grows a b held grown → Grows b c grown all → Grows a c held all
 grows_then a b c held grown all p q =

@@ -1,12 +1,12 @@
 -- Slots, one of which changes.
-use Rattle.std.proofs.Common.{◌≡◌, ℕ, zero, suc, ◌+◌, ◌-◌, ◌<◌, ◌≤◌, min, List, [], ◌∷◌, ◌++◌, length, get_or, sum_by, All, Option, Some, None, is_some, cond, refl, sym, ap, ◌∙◌, subst, arith, length-append}
+use Rattle.std.proofs.Common.{◌≡◌, ℕ, zero, suc, ◌+◌, ◌-◌, ◌<◌, ◌≤◌, min, List, [], ◌∷◌, ◌++◌, length, get_or, sum_by, All, Option, Some, None, IfSome, is_some, true, false, cond, refl, sym, ap, ◌∙◌, subst, arith, length-append}
 use Rattle.std.specs.Prelude.{slice_set, vec_len}
 use Rattle.std.proofs.lemmas.List.{length-set}
 use Rattle.std.proofs.lemmas.List.Elements.{All-set, All-weaker, All-push}
 use Rattle.std.proofs.lemmas.List.Sums.{sum_by-set, sum_by_push}
 use Rattle.std.proofs.lemmas.Option.{none-some, same_Some, slice_get_within, get_or_from_slice_get}
 use Rattle.mds_waiting.specs.declared.waiter.Waiter.{Waiter}
-use Rattle.mds_waiting.specs.Waiting.{HasRoom, HasTime, IsKept, IsVacant, max_held, max_waiting, weight}
+use Rattle.mds_waiting.specs.Waiting.{HasLeft, HasRoom, HasTime, HaveLeftFor, IsKept, IsVacant, max_held, max_waiting, weight}
 
 module _ {S : Type 0} where
   -- one for a slot that has a connection
@@ -132,3 +132,9 @@ module _ {S : Type 0} where
       → IsKept slots count holding soonest → All (HasTime time) slots → IsKept slots count holding time
   IsKept-time slots count holding soonest time kept punctual =
       record { few = kept.few; many = kept.many; counted = kept.counted; bounded = kept.bounded; punctual = punctual }
+
+  -- where one more has left, so many and one have
+  pub one_more_left : (n count : ℕ) (old mid new : List (Option (Waiter S))) (found : Option (Waiter S)) → is_some found ≡ true → HaveLeftFor n count old mid
+      → IfSome found (HasLeft mid new) → IfSome found (λ waiter. HasRoom mid count → ⊥) → (more : ℕ) × HaveLeftFor more count old new
+  one_more_left n count old mid new None is had left needed = let no : false ≡ true = is in cc
+  one_more_left n count old mid new (Some waiter) is had left needed = (suc n, (mid, waiter, had, needed, left))

@@ -1,5 +1,5 @@
 -- Connections that wait in numbered slots: how much they hold, and when their times are over.
-use Rattle.std.specs.Prelude.{◌≡◌, ◌⊎◌, ℕ, ◌+◌, ◌<◌, ◌≤◌, min, List, [], ◌∷◌, ◌++◌, length, sum_by, count_by, is_some, slice_get, slice_set, All, Option, Some, None, IsSome, vec_len}
+use Rattle.std.specs.Prelude.{◌≡◌, ◌⊎◌, ℕ, zero, suc, ◌+◌, ◌<◌, ◌≤◌, min, List, [], ◌∷◌, ◌++◌, length, sum_by, count_by, is_some, slice_get, slice_set, All, Option, Some, None, IsSome, vec_len}
 use Rattle.std.specs.Option.{ForSome}
 use Rattle.mds_waiting.specs.declared.waiter.Waiter.{Waiter}
 
@@ -95,9 +95,20 @@ module _ {S : Type 0} where
   abbrev pub LeavesEldestBefore : ℕ → List (Option (Waiter S)) → List (Option (Waiter S)) → Type 0
   LeavesEldestBefore time old new = (key : ℕ) × IsEldestBefore time old key × (new ≡ slice_set old key None)
 
-  -- the same connections wait, or all but the eldest of them
-  abbrev pub SameOrLeavesEldest : List (Option (Waiter S)) → List (Option (Waiter S)) → ℕ → Type 0
-  SameOrLeavesEldest old new key = SameWaiters old new ⊎ LeavesEldest old new
+  -- the same connections wait, or, where each key had one, all but the eldest of them
+  abbrev pub LeavesKey : List (Option (Waiter S)) → List (Option (Waiter S)) → Type 0
+  LeavesKey old new = SameWaiters old new ⊎ (IsFull old × LeavesEldest old new)
+
+  -- so many have left, one after the other: each was the eldest that held bytes, and there was no room for so many more
+  abbrev pub HaveLeftFor : ℕ → ℕ → List (Option (Waiter S)) → List (Option (Waiter S)) → Type 0
+  HaveLeftFor zero count old new = new ≡ old
+  HaveLeftFor (suc n) count old new = (before : List (Option (Waiter S))) × (waiter : Waiter S)
+      × HaveLeftFor n count old before × (HasRoom before count → ⊥) × HasLeft before new waiter
+
+  -- connections have left for one more that holds so many bytes: where room was wanting, and then where a key was
+  abbrev pub MakesWay : ℕ → List (Option (Waiter S)) → List (Option (Waiter S)) → Type 0
+  MakesWay count old new = (n : ℕ) × (roomy : List (Option (Waiter S)))
+      × HaveLeftFor n count old roomy × LeavesKey roomy new
 
   -- what is kept of the slots: how many connections they have, how much these hold, which is in bounds, and a time before which
   -- nobody's is over

@@ -1,6 +1,6 @@
 //! Who leaves where one more connection is to wait.
-ghost use Rattle.std.specs.Prelude.{◌≡◌, All, IsTrue, IfSome, None, true, false};
-ghost use Rattle.mds_waiting.specs.Waiting.{HasBegunSince, HasRoom, IsVacant, LeavesEldestBefore, SameOrLeavesEldest};
+ghost use Rattle.std.specs.Prelude.{◌≡◌, ℕ, All, IsTrue, IfSome, None, true, false};
+ghost use Rattle.mds_waiting.specs.Waiting.{HasBegunSince, HasRoom, HaveLeftFor, IsVacant, LeavesEldestBefore, LeavesKey, MakesWay};
 
 use crate::waiting::{MAX_WAITING, Waiting};
 use std::alloc::AllocError;
@@ -11,7 +11,8 @@ impl<S: Drop> Waiting<S> {
     pub fn key_for(&mut self, count: usize) -> Option<usize>
         ensures vacant { IfSome result (IsVacant self.new) }
         ensures room { IfSome result (λ _. HasRoom self.new count) }
-        ensures others { HasRoom self.old count → IfSome result (SameOrLeavesEldest self.old self.new) }
+        ensures others { HasRoom self.old count → LeavesKey self.old self.new }
+        ensures left { MakesWay count self.old self.new }
     {
         if !self.has_room(count) {
             self.clear_room(count);
@@ -22,7 +23,9 @@ impl<S: Drop> Waiting<S> {
     }
 
     /// Lets go of the eldest ones that hold bytes, one after the other, until there is room for so many more.
-    fn clear_room(&mut self, count: usize) {
+    fn clear_room(&mut self, count: usize)
+        ensures { (n : ℕ) × HaveLeftFor n count self.old self.new }
+    {
         for _ in 0..=MAX_WAITING {
             if self.make_room(count).is_none() {
                 return;
@@ -32,7 +35,7 @@ impl<S: Drop> Waiting<S> {
 
     /// A key that no connection has: the eldest connection leaves where each key has one. `None` for want of memory.
     fn clear_key(&mut self) -> Option<usize>
-        ensures { IfSome result (SameOrLeavesEldest self.old self.new) }
+        ensures { LeavesKey self.old self.new }
     {
         match self.vacancy() {
             Ok(Some(key)) => return Some(key),

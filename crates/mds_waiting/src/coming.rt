@@ -1,5 +1,5 @@
 //! A request that comes: as soon as how many bytes are there it is whole, and a look for further ones.
-ghost use Rattle.std.specs.Prelude.{◌≡◌, ◌≢◌, ◌<◌, ◌≤◌, ◌+◌, ◌++◌, drop, length, max, IfSome, None, Some, false};
+ghost use Rattle.std.specs.Prelude.{◌≡◌, ◌≢◌, ◌⊎◌, ◌<◌, ◌≤◌, ◌+◌, ◌++◌, drop, length, max, IfSome, None, Some, false};
 ghost use Rattle.std.specs.Io.KnownBytes.{Keeps};
 ghost use Rattle.mds_waiting.specs.Peers.{Grows};
 ghost use Rattle.mds_request.specs.Head.{max_head};
@@ -54,6 +54,7 @@ impl<S: Peer> Coming<S> {
         ensures sent { Keeps (S.sent self.old.peer) (S.sent self.new.peer) }
         ensures bound { length bytes.new.items ≤ max (length bytes.old.items) max_request }
         ensures room { length room.new ≡ length room.old }
+        ensures part { (self.new.part ≡ self.old.part) ⊎ (self.new.part ≡ Part.Request) }
     {
         for _ in 0..MAX_CALLS {
             if let Some(look) = self.look_once(face, bytes, room) {
@@ -73,6 +74,7 @@ impl<S: Peer> Coming<S> {
         ensures sent { Keeps (S.sent self.old.peer) (S.sent self.new.peer) }
         ensures bound { length bytes.new.items ≤ max (length bytes.old.items) max_request }
         ensures room { length room.new ≡ length room.old }
+        ensures part { (self.new.part ≡ self.old.part) ⊎ (self.new.part ≡ Part.Request) }
     {
         let asked = room.len().min(self.total.saturating_sub(bytes.len()));
         if asked == 0 {
@@ -96,6 +98,7 @@ impl<S: Peer> Coming<S> {
         ensures grows { result ≢ Look.Gone → bytes.new.items ≡ bytes.old.items ++ new.now }
         ensures bound { length bytes.new.items ≤ length bytes.old.items + length new.now }
         ensures peer { self.new.peer ≡ self.old.peer }
+        ensures part { (self.new.part ≡ self.old.part) ⊎ (self.new.part ≡ Part.Request) }
     {
         let from = bytes.len();
         if bytes.extend_from_slice(new).is_err() {
@@ -112,6 +115,7 @@ impl<S: Peer> Coming<S> {
         ensures whole { IfDone result (IsWhole bytes.now) }
         ensures head { IfDone result (BeginsWith bytes.now) }
         ensures peer { self.new.peer ≡ self.old.peer }
+        ensures part { (self.new.part ≡ self.old.part) ⊎ (self.new.part ≡ Part.Request) }
     {
         match self.judge(face, bytes) {
             Look::Waits => Look::Gone,
@@ -141,6 +145,7 @@ impl<S: Peer> Coming<S> {
         ensures whole { IfDone result (IsWhole bytes.now) }
         ensures head { IfDone result (BeginsWith bytes.now) }
         ensures peer { self.new.peer ≡ self.old.peer }
+        ensures part { (self.new.part ≡ self.old.part) ⊎ (self.new.part ≡ Part.Request) }
     {
         self.asked = bytes.len();
         let status = face.head_status(bytes);

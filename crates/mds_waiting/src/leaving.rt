@@ -1,6 +1,7 @@
 //! An answer that leaves, and the end of its connection behind it.
-ghost use Rattle.std.specs.Prelude.{◌≡◌, ◌⊎◌, ◌≤◌, length};
+ghost use Rattle.std.specs.Prelude.{◌≡◌, ◌⊎◌, ◌≤◌, length, IfSome};
 ghost use Rattle.std.specs.Io.KnownBytes.{Keeps};
+ghost use Rattle.mds_waiting.specs.Looks.{IfDone};
 ghost use Rattle.mds_waiting.specs.Peers.{SendsPart};
 
 use crate::look::{Look, MAX_CALLS};
@@ -50,6 +51,8 @@ impl<S: Peer> Leaving<S> {
             self.old.sent self.new.sent }
         ensures last { self.new.part ≡ Part.Last →
             (self.old.part ≡ Part.Last) ⊎ (length bytes.now ≤ self.new.sent) }
+        ensures part { (self.new.part ≡ self.old.part) ⊎ (self.new.part ≡ Part.Last) }
+        ensures never_done { IfDone result (λ _. ⊥) }
     {
         for _ in 0..MAX_CALLS {
             if let Some(look) = self.look_once(bytes) {
@@ -65,6 +68,8 @@ impl<S: Peer> Leaving<S> {
             self.old.sent self.new.sent }
         ensures last { self.new.part ≡ Part.Last →
             (self.old.part ≡ Part.Last) ⊎ (length bytes.now ≤ self.new.sent) }
+        ensures part { (self.new.part ≡ self.old.part) ⊎ (self.new.part ≡ Part.Last) }
+        ensures never_done { IfSome result (λ look. IfDone look (λ _. ⊥)) }
     {
         if self.part == Part::Last {
             return self.throw_away();
@@ -89,6 +94,8 @@ impl<S: Peer> Leaving<S> {
     fn end(&mut self) -> Option<Look>
         ensures sent { Keeps (S.sent self.old.peer) (S.sent self.new.peer) }
         ensures count { self.new.sent ≡ self.old.sent }
+        ensures part { (self.new.part ≡ self.old.part) ⊎ (self.new.part ≡ Part.Last) }
+        ensures never_done { IfSome result (λ look. IfDone look (λ _. ⊥)) }
     {
         if self.is_read && !matches!(receive(&mut self.peer, &mut [0u8; 1]), Came::Bytes(_)) {
             return Some(Look::Gone);
@@ -105,6 +112,7 @@ impl<S: Peer> Leaving<S> {
         ensures sent { Keeps (S.sent self.old.peer) (S.sent self.new.peer) }
         ensures count { self.new.sent ≡ self.old.sent }
         ensures part { self.new.part ≡ self.old.part }
+        ensures never_done { IfSome result (λ look. IfDone look (λ _. ⊥)) }
     {
         match receive(&mut self.peer, &mut [0u8; ROOM_BYTES]) {
             Came::Bytes(count) if count < self.left => {

@@ -164,6 +164,7 @@ impl<S> Waiting<S> {
     pub fn patience(&self, now: Option<u64>) -> u64
         ensures bound { result ≤ max_wait }
         ensures short { IfSome now (λ now. All (HasTime (now + result)) self.now ⊎ (result ≡ 0)) }
+        ensures unclocked { now ≡ None → result ≡ max_wait }
     {
         match now {
             Some(now) => self.soonest.saturating_sub(now).min(MAX_WAIT),

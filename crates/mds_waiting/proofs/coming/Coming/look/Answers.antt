@@ -1,7 +1,7 @@
 use Rattle.std.proofs.Common.{arith, ◌∙◌}
 use Rattle.std.proofs.KnownBytes.{Keeps-trans}
 use Rattle.std.proofs.lemmas.Option.{none-some, same_Some}
-use Rattle.mds_waiting.proofs.PeerLemmas.{grows_then}
+use Rattle.mds_waiting.proofs.PeerLemmas.{grows_then, stays_or_is}
 use Rattle.mds_waiting.proofs.coming.Coming.look.Goals as goal
 
 pub returns-in-Some-clause-grows : goal.returns-in-Some-clause-grows
@@ -16,5 +16,6 @@ loop-preserved g c = record {
   grows = grows_then _ _ _ _ _ _ c.loop.invariant.grows (c.in_default.ensures.grows (λ same. absurd (none-some _ same)));
   sent = Keeps-trans _ _ _ c.loop.invariant.sent c.look_once.ensures.sent;
   bound = omega (arith, c.loop.invariant.bound, c.look_once.ensures.bound);
+  part = stays_or_is _ _ _ _ c.loop.invariant.part c.look_once.ensures.part;
   room = c.look_once.ensures.room ∙ c.loop.invariant.room;
 }

@@ -6,5 +6,6 @@ use Rattle.mds_waiting.proofs.leaving.Leaving.look.Given as goal
 abbrev pub invariant-loop : goal.invariant-loop
 invariant-loop g l = record {
   sent : SendsPart (g.S.Peer.sent l.initial.self.peer) (g.S.Peer.sent l.self.peer) l.bytes l.initial.self.sent l.self.sent;
+  part : (l.self.part ≡ l.initial.self.part) ⊎ (l.self.part ≡ Last);
   last : l.self.part ≡ Last → (l.initial.self.part ≡ Last) ⊎ (length l.bytes ≤ l.self.sent);
 }
