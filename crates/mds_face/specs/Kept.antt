@@ -1,5 +1,5 @@
 -- What one connection does at a desk whose answers go out once what they rest on is recorded.
-use Rattle.std.specs.Prelude.{◌≡◌, ◌⊎◌, ℕ, ◌≤◌, List, length, take, Option, Some, None, Bool, true, false, MatchBool}
+use Rattle.std.specs.Prelude.{◌≡◌, ◌⊎◌, ℕ, ◌≤◌, List, length, take, Option, Some, None, Result, Ok, Err, Bool, true, false, MatchBool}
 use Rattle.std.specs.Io.KnownBytes.{Appends, Keeps}
 use Rattle.mds_table.specs.Tables.{Tables}
 use Rattle.mds_core.specs.declared.key.Key.{Key}
@@ -48,12 +48,12 @@ IsInstead keep.NotKept old new fault = (sent : ℕ) × (fault ≡ NotKept sent) 
 IsInstead keep.Lost old new fault = (fault ≡ Lost) × Keeps old new
 
 -- of a desk: as in `Serving`, and in which states all that its answers rest on is recorded, those about one vehicle or, with none
--- named, all, and where keeping leads
+-- named, all, and where keeping leads, by what it answers
 module _ {S : Type 0} (Calls : S → Request → Option Reply → S → Type 0) (GivesEvents : S → Key → Option (List Reported) → S → Type 0) (GivesRows : S → Tables → Type 0)
-    (IsKept : S → Option Key → Type 0) (KeepsDesk : S → S → Type 0) where
+    (IsKept : S → Option Key → Type 0) (KeepsDesk : S → Result (Unit {0}) KeepFault → S → Type 0) where
   -- what the answer rests on is recorded, if it rests on anything
   abbrev pub Leaves : Asked → S → S → Type 0
-  Leaves what middle new = MatchBool (is_of_history what) (KeepsDesk middle new × IsKept new (vehicle_of what)) (new ≡ middle)
+  Leaves what middle new = MatchBool (is_of_history what) (KeepsDesk middle (Ok tt) new × IsKept new (vehicle_of what)) (new ≡ middle)
 
   -- what is asked for was answered whole, once what the answer rests on was recorded
   pub record IsKeptAnswer (what : Asked) (old new : S) (written_old written_new : Option (List ℕ)) (served : Served) : Type 0 where
@@ -66,14 +66,14 @@ module _ {S : Type 0} (Calls : S → Request → Option Reply → S → Type 0) 
   IsKeptStop what old new written_old written_new (Serve serve.Read) = ⊥
   IsKeptStop what old new written_old written_new (Serve (serve.Memory sent)) =
       (middle : S) × StopsAsked Calls GivesEvents GivesRows what old middle written_old written_new (serve.Memory sent)
-      × ((new ≡ middle) ⊎ ((is_of_history what ≡ true) × KeepsDesk middle new))
+      × ((new ≡ middle) ⊎ ((is_of_history what ≡ true) × KeepsDesk middle (Err keep.Memory) new))
   IsKeptStop what old new written_old written_new (Serve fault) =
       (middle : S) × StopsAsked Calls GivesEvents GivesRows what old middle written_old written_new fault × Leaves what middle new
   IsKeptStop what old new written_old written_new (NotKept sent) =
-      (is_of_history what ≡ true) × ((found : Finding) × (middle : S) × Finds Calls GivesEvents GivesRows old what found middle × KeepsDesk middle new)
+      (is_of_history what ≡ true) × ((found : Finding) × (middle : S) × Finds Calls GivesEvents GivesRows old what found middle × KeepsDesk middle (Err keep.NotKept) new)
       × IsNotKeptAnswer written_old written_new sent
   IsKeptStop what old new written_old written_new Lost =
-      (is_of_history what ≡ true) × ((found : Finding) × (middle : S) × Finds Calls GivesEvents GivesRows old what found middle × KeepsDesk middle new)
+      (is_of_history what ≡ true) × ((found : Finding) × (middle : S) × Finds Calls GivesEvents GivesRows old what found middle × KeepsDesk middle (Err keep.Lost) new)
       × Keeps written_old written_new
 
   -- the request of a stream was answered whole

@@ -29,15 +29,16 @@ pub enum KeepFault {
 
 /// A desk that can see to it that what its answers rest on is recorded.
 pub trait KeptDesk: Desk {
-    ghost use Rattle.std.specs.Prelude.{OnOk, Option};
+    ghost use Rattle.std.specs.Prelude.{OnOk, Option, Result};
+    ghost use Rattle.mds_face.specs.declared.kept_desk.KeepFault.{KeepFault as Fault};
     ghost use Rattle.mds_core.specs.declared.key.Key.{Key as About};
 
     /// In this state all is recorded that answers about this vehicle rest on; with none named, all that any answer
     /// rests on.
     ghost is_kept: { Self → Option About → Type 0 };
 
-    /// Keeping may lead from the first state to the second, in which answers rest on the same.
-    ghost keeps: { Self → Self → Type 0 };
+    /// Keeping may answer this in the first state, and lead to the second, in which answers rest on the same.
+    ghost keeps: { Self → Result (Unit {0}) Fault → Self → Type 0 };
 
     /// Sees to it that all is recorded that its answers about a vehicle rest on, or, with none named, all of its answers.
     ///
@@ -46,7 +47,7 @@ pub trait KeptDesk: Desk {
     /// [`KeepFault`] says when each comes.
     fn keep(&mut self, about: Option<Key>) -> Result<(), KeepFault>
         ensures kept { OnOk result (is_kept self.new about) }
-        ensures keeps { keeps self.old self.new };
+        ensures keeps { keeps self.old result self.new };
 }
 
 /// Why a connection at such a desk wasn't answered whole.
@@ -157,7 +158,7 @@ fn answer_kept<W: Write, D: KeptDesk>(
 /// Where the answer doesn't rest on what was accepted, nothing is kept.
 fn keep_if<D: KeptDesk>(desk: &mut D, of_history: bool, about: Option<Key>) -> Result<(), KeepFault>
     ensures kept { OnOk result (of_history ≡ true → D.is_kept desk.new about) }
-    ensures keeps { MatchBool of_history (D.keeps desk.old desk.new) (desk.new ≡ desk.old) }
+    ensures keeps { MatchBool of_history (D.keeps desk.old result desk.new) (desk.new ≡ desk.old) }
     ensures none { of_history ≡ false → IsOk result }
 {
     if of_history {

@@ -18,6 +18,7 @@ use Rattle.mds_face.specs.declared.connection.ServeFault.TheVariants.{Read, Writ
 use Rattle.mds_face.specs.Asking.{registration_of, report_in}
 use Rattle.mds_face.specs.Desk.{AreCalls}
 use Rattle.mds_face.specs.Serving.{Finds, FindsNoMemory, StopsAsked, StopsUnread}
+use Rattle.mds_face.specs.declared.kept_desk.KeepFault.{KeepFault}
 use Rattle.mds_face.specs.declared.kept_desk.KeptFault.{KeptFault}
 use Rattle.mds_face.specs.declared.kept_desk.KeptFault.TheVariants.{Serve, NotKept, Lost}
 use Rattle.mds_face.specs.Kept.{IsKeptStop, IsServedKept, Leaves, StopsKept}
@@ -66,13 +67,14 @@ module _ {S : Type 0} (Calls : S → Request → Option Reply → S → Type 0) 
   stops_unread_grow (TooManyTurns sent) old new written written_new stops = same_grows old new stops.0
 
   -- besides, of a desk that sees to it that what its answers rest on is recorded
-  module _ (IsKept : S → Option Key → Type 0) (KeepsDesk : S → S → Type 0) (kept : (old new : S) → KeepsDesk old new → Grows old new) where
+  module _ (IsKept : S → Option Key → Type 0) (KeepsDesk : S → Result (Unit {0}) KeepFault → S → Type 0)
+      (kept : (old new : S) (answer : Result (Unit {0}) KeepFault) → KeepsDesk old answer new → Grows old new) where
     pub leaves_grow : (what : Asked) (old new : S) → Leaves Calls GivesEvents GivesRows IsKept KeepsDesk what old new → Grows old new
     leaves_grow (asked.Fixed fault) old new leaves = same_grows old new leaves
-    leaves_grow (asked.Vehicles items) old new leaves = kept old new leaves.0
-    leaves_grow (asked.Events items) old new leaves = kept old new leaves.0
-    leaves_grow (asked.One key) old new leaves = kept old new leaves.0
-    leaves_grow (asked.History key) old new leaves = kept old new leaves.0
+    leaves_grow (asked.Vehicles items) old new leaves = kept old new _ leaves.0
+    leaves_grow (asked.Events items) old new leaves = kept old new _ leaves.0
+    leaves_grow (asked.One key) old new leaves = kept old new _ leaves.0
+    leaves_grow (asked.History key) old new leaves = kept old new _ leaves.0
     leaves_grow asked.Rows old new leaves = same_grows old new leaves
 
     pub served_kept_grows : (input : Option (List ℕ)) (old new : S) (written written_new : Option (List ℕ)) (served : Served)
@@ -88,13 +90,13 @@ module _ {S : Type 0} (Calls : S → Request → Option Reply → S → Type 0) 
         twice old stops.0 new (stops_asked_grow what (Write sent) old stops.0 written written_new stops.1) (leaves_grow what stops.0 new stops.2)
     kept_stop_grows what (Serve (Memory sent)) old new written written_new stops =
         twice old stops.0 new (stops_asked_grow what (Memory sent) old stops.0 written written_new stops.1)
-        (elim stops.2 [ inl same ↦ same_grows stops.0 new same | inr held ↦ kept stops.0 new held.1 ])
+        (elim stops.2 [ inl same ↦ same_grows stops.0 new same | inr held ↦ kept stops.0 new _ held.1 ])
     kept_stop_grows what (Serve (TooManyTurns sent)) old new written written_new stops =
         twice old stops.0 new (stops_asked_grow what (TooManyTurns sent) old stops.0 written written_new stops.1) (leaves_grow what stops.0 new stops.2)
     kept_stop_grows what (NotKept sent) old new written written_new stops =
-        let put = stops.1 in twice old put.1 new (finds_grow what put.0 old put.1 put.2) (kept put.1 new put.3)
+        let put = stops.1 in twice old put.1 new (finds_grow what put.0 old put.1 put.2) (kept put.1 new _ put.3)
     kept_stop_grows what Lost old new written written_new stops =
-        let put = stops.1 in twice old put.1 new (finds_grow what put.0 old put.1 put.2) (kept put.1 new put.3)
+        let put = stops.1 in twice old put.1 new (finds_grow what put.0 old put.1 put.2) (kept put.1 new _ put.3)
 
     pub stops_kept_grow : (input : Option (List ℕ)) (fault : KeptFault) (old new : S) (written written_new : Option (List ℕ))
         → StopsKept Calls GivesEvents GivesRows IsKept KeepsDesk input old new written written_new fault → Grows old new

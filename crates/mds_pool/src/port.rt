@@ -12,6 +12,10 @@ use std::io::{Read, Write};
 pub struct PortFault;
 
 impl fmt::Display for PortFault {
+    ghost use Rattle.std.specs.Prelude.{Some, codes};
+
+    ghost output = { λ fault. Some (codes "no further connection can be taken") };
+
     fn fmt<W: fmt::Write>(&self, f: &mut fmt::Formatter<W>) -> fmt::Result {
         f.write_str("no further connection can be taken")
     }

@@ -58,7 +58,7 @@ impl<R: Wait, L: ShardLedger, M: ShardLedger, K: Recorder<L, M>> KeptDesk
 
     ghost is_kept = { λ own about. K.covers own.receipt.now about own.desk.seat.now };
 
-    ghost keeps = { λ old new. new.desk ≡ old.desk };
+    ghost keeps = { λ old answer new. new.desk ≡ old.desk };
 
     fn keep(&mut self, about: Option<Key>) -> Result<(), KeepFault> {
         commit_seat(

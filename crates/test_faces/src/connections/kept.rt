@@ -57,7 +57,7 @@ impl KeptDesk for Recorded {
 
     ghost is_kept = { λ desk _. IsOk desk.end };
 
-    ghost keeps = { λ old new. new.fleet ≡ old.fleet };
+    ghost keeps = { λ old answer new. new.fleet ≡ old.fleet };
 
     fn keep(&mut self, _about: Option<Key>) -> Result<(), KeepFault> {
         self.end
