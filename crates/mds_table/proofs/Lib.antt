@@ -16,3 +16,6 @@ pub mod InForce
 pub mod OneTimed
 pub mod TimedReading
 pub mod ItemsRead
+pub mod Growing
+pub mod Put
+pub mod Laid

@@ -17,7 +17,7 @@ use Rattle.mds_table.specs.Moves.{moves_cmp, HasKindAt, HasGapAt, AreMoves}
 use Rattle.mds_table.proofs.RowOrder.{same_name}
 use Rattle.mds_table.proofs.Ascending.{sorted, inserted, none, insert_adds}
 
-moves_cmp_total : IsTotalOrder moves_cmp
+pub moves_cmp_total : IsTotalOrder moves_cmp
 moves_cmp_total = on_total (λ m. m.kind) nat_list_cmp_total
 
 -- what a binary search tells

@@ -15,3 +15,4 @@ pub mod TimedRead
 pub mod Entry
 pub mod Mask
 pub mod Moves
+pub mod RowSet

@@ -14,6 +14,7 @@ pub mod mask;
 mod moves;
 mod profile;
 mod row;
+mod row_set;
 mod state;
 mod table;
 mod table_file;

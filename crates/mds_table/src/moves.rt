@@ -1,21 +1,23 @@
 //! The rows of a table by their types: for each type and state, the states that its rows lead to.
-ghost use Rattle.std.specs.Prelude.{◌≡◌, ◌++◌, ◌∷◌, [], List, true, IfOk, OnOk, MatchResult};
+ghost use Rattle.std.specs.Prelude.{◌≡◌, ◌⊎◌, ℕ, ◌++◌, ◌∷◌, [], List, true, Contains, IfOk, OnOk, MatchResult};
 ghost use Rattle.mds_table.specs.declared.row.Row.{Row};
+ghost use Rattle.mds_table.specs.declared.moves.Moves.{Moves};
 ghost use Rattle.mds_table.specs.Row.{ascends, in_order};
 ghost use Rattle.mds_table.specs.Mask.{IsMask, AreMasks};
-ghost use Rattle.mds_table.specs.Moves.{moves_cmp, AreMoves, HasKindAt, HasGapAt};
+ghost use Rattle.mds_table.specs.Moves.{moves_cmp, AreMoves, HasKind, HasKindAt, HasGapAt, GrowsBy, IsRowOf, IsRowOfMask};
+ghost use Rattle.mds_table.specs.Entry.{Adds};
 
-use crate::mask::{Mask, bit_of};
-use crate::row::has_row_of;
+use crate::mask::{self, Mask, bit_of};
+use crate::row::{add_row, has_row_of};
 use crate::{Row, State, TypeName};
 use std::alloc::{AllocError, Global};
 
 /// Where the events of a type may lead.
 #[derive(Debug, Drop)]
 pub(crate) struct Moves {
-    kind: TypeName,
+    pub kind: TypeName,
     /// The states that its rows lead to, from each state by code.
-    masks: [Mask; State::COUNT],
+    pub masks: [Mask; State::COUNT],
 }
 
 pub(crate) fn moves_of(alloc: Global, rows: &[Row]) -> Result<Vec<Moves>, AllocError>
@@ -38,6 +40,82 @@ pub(crate) fn masks_among(moves: &[Moves], kind: &TypeName) -> [Mask; State::COU
         Ok(at) => moves[at].masks,
         Err(_) => [0; State::COUNT],
     }
+}
+
+/// The type's rows are now those of the masks.
+pub(crate) fn put_masks(
+    moves: &mut Vec<Moves>,
+    kind: &TypeName,
+    masks: [Mask; State::COUNT],
+) -> Result<(), AllocError>
+    requires { ascends moves_cmp moves.old.items ≡ true }
+    ensures moves { OnOk result ((rows more : List Row) → AreMoves rows rows moves.old.items
+        → GrowsBy rows more kind.now → AreMasks more kind.now masks
+        → AreMoves more more moves.new.items) }
+    ensures kinds { OnOk result ((m : Moves) → Contains moves.new.items m
+        → HasKind moves.old.items m.kind ⊎ (m.kind ≡ kind.now)) }
+{
+    let of_kind = Moves {
+        kind: kind.copy(),
+        masks,
+    };
+    match place_of(moves, kind) {
+        Ok(at) => moves[at] = of_kind,
+        Err(at) => moves.insert(at, of_kind)?,
+    }
+    Ok(())
+}
+
+/// The rows of the moves, of which there may be so many.
+pub(crate) fn rows_of(alloc: Global, moves: &[Moves], count: usize) -> Result<Vec<Row>, AllocError>
+    ensures { IfOk result (λ rows. (all : List Row)
+        → in_order all ≡ true → AreMoves all all moves.now → rows.items ≡ all) }
+{
+    let mut rows = Vec::with_capacity(alloc, count)?;
+    for of_kind in moves {
+        add_rows_of(&mut rows, of_kind, &State::ALL)?;
+    }
+    Ok(rows)
+}
+
+fn add_rows_of(rows: &mut Vec<Row>, moves: &Moves, states: &[State]) -> Result<(), AllocError>
+    requires { in_order rows.old.items ≡ true }
+    ensures order { OnOk result (in_order rows.new.items ≡ true) }
+    ensures rows { OnOk result (Adds rows.old.items rows.new.items
+        (λ row. Contains states.now row.from × IsRowOf moves.now row)) }
+{
+    for from in states {
+        let mask = moves.masks[usize::from(from.code())];
+        add_rows_of_mask(rows, *from, &moves.kind, mask, &State::ALL)?;
+    }
+    Ok(())
+}
+
+fn add_rows_of_mask(
+    rows: &mut Vec<Row>,
+    from: State,
+    kind: &TypeName,
+    mask: Mask,
+    states: &[State],
+) -> Result<(), AllocError>
+    requires { in_order rows.old.items ≡ true }
+    ensures order { OnOk result (in_order rows.new.items ≡ true) }
+    ensures rows { OnOk result (Adds rows.old.items rows.new.items
+        (λ row. Contains states.now row.to × IsRowOfMask from kind.now mask row)) }
+{
+    for to in states {
+        if mask::has(mask, *to) {
+            add_row(
+                rows,
+                Row {
+                    from,
+                    kind: kind.copy(),
+                    to: *to,
+                },
+            )?;
+        }
+    }
+    Ok(())
 }
 
 fn place_of(moves: &[Moves], kind: &TypeName) -> Result<usize, usize>

@@ -1,14 +1,16 @@
 //! Tables of allowed transitions.
-ghost use Rattle.std.specs.Prelude.{◌≡◌, ◌↔◌, true, IsTrue, IfOk, IfErr, Contains, length, map};
+ghost use Rattle.std.specs.Prelude.{◌≡◌, ◌↔◌, true, IsTrue, IfOk, IfErr, List, Contains, length, map};
 ghost use Rattle.mds_table.specs.Row.{row_of, in_order};
 ghost use Rattle.mds_table.specs.Mask.{AreMasks};
 ghost use Rattle.mds_table.specs.Profile.{profile_rows};
 ghost use Rattle.mds_table.specs.TableFile.{AreTableOf, HasTable, HasFault};
 ghost use Rattle.mds_table.specs.Entry.{HasFaultIn};
+ghost use Rattle.mds_table.specs.RowSet.{AreSet};
 ghost use Rattle.serde_json.specs.View.{view};
 
 use crate::mask::Mask;
 use crate::moves::{Moves, masks_among, moves_of};
+use crate::row_set::RowSet;
 use crate::{Row, State, TableFault, TypeName, mask, profile, table_file};
 use serde_json::Value;
 use std::alloc::{AllocError, Global};
@@ -61,16 +63,16 @@ impl Table {
         ensures table { IfOk result (λ table. HasTable text.now table) }
         ensures fault { IfErr result (λ fault. HasFault text.now fault) }
     {
-        let rows = table_file::rows_in_file(alloc, text)?;
-        Ok(Table::of_rows(alloc, rows)?)
+        let set = table_file::set_in_file(alloc, text)?;
+        Ok(Table::of_set(alloc, set)?)
     }
 
     pub(crate) fn of_entries(alloc: Global, entries: &[Value]) -> Result<Table, TableFault>
         ensures table { IfOk result (λ table. AreTableOf (map view entries.now) table) }
         ensures fault { IfErr result (λ fault. HasFaultIn (map view entries.now) fault) }
     {
-        let rows = table_file::rows_of_entries(alloc, entries)?;
-        Ok(Table::of_rows(alloc, rows)?)
+        let set = table_file::set_of_entries(alloc, entries)?;
+        Ok(Table::of_set(alloc, set)?)
     }
 
     /// Whether the table has the row by which an event of this type leads from the one state to the other.
@@ -121,6 +123,15 @@ impl Table {
         ensures { IfOk result (λ table. table ≡ self.now) }
     {
         Table::of_rows(alloc, self.rows(alloc)?)
+    }
+
+    fn of_set(alloc: Global, set: RowSet) -> Result<Table, AllocError>
+        requires { (rows : List Row) × AreSet rows set }
+        ensures { IfOk result (λ table. (rows : List Row) → AreSet rows set → table ≡ rows) }
+    {
+        let rows = set.rows(alloc)?;
+        let RowSet { moves, count: _ } = set;
+        Ok(Table { rows, moves })
     }
 
     fn of_rows(alloc: Global, rows: Vec<Row>) -> Result<Table, AllocError>

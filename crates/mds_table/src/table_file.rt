@@ -1,16 +1,14 @@
 //! Table files: JSON texts that stand for the rows of a table, in the form that [`crate::Table::from_json`] tells.
-ghost use Rattle.std.specs.Prelude.{◌≡◌, ℕ, List, map, option_map, true, Some, IfOk, IfErr, OnOk, Contains};
+ghost use Rattle.std.specs.Prelude.{◌≡◌, List, map, option_map, Some, IfOk, IfErr};
 ghost use Rattle.serde_json.specs.View.{view};
-ghost use Rattle.mds_table.specs.Row.{ascends, in_order};
+ghost use Rattle.mds_table.specs.declared.row.Row.{Row};
+ghost use Rattle.mds_table.specs.RowSet.{AreSet};
 ghost use Rattle.mds_table.specs.TableFile.{entries_in, AreTableOf, HasTable, HasFault, fault_text};
-ghost use Rattle.mds_table.specs.Entry.{HasRow, IsRowTo, Adds, HasFaultIn};
-ghost use Rattle.std.specs.Ordering.{nat_cmp};
-ghost use Rattle.std.specs.Cmp.Lexicographic.{slice_cmp};
+ghost use Rattle.mds_table.specs.Entry.{HasFaultIn};
 
 use crate::entry::Entry;
 use crate::json::{TextFault, value_of};
-use crate::row::add_row;
-use crate::{Row, State, TypeName};
+use crate::row_set::RowSet;
 use serde_json::Value;
 use std::alloc::{AllocError, Global};
 use std::error::Error;
@@ -88,15 +86,15 @@ impl fmt::Display for TableFault {
     }
 }
 
-pub(crate) fn rows_in_file(alloc: Global, text: &[u8]) -> Result<Vec<Row>, TableFault>
-    ensures rows { IfOk result (λ rows. HasTable text.now rows.items) }
+pub(crate) fn set_in_file(alloc: Global, text: &[u8]) -> Result<RowSet, TableFault>
+    ensures rows { IfOk result (λ set. (rows : List Row) × HasTable text.now rows × AreSet rows set) }
     ensures fault { IfErr result (λ fault. HasFault text.now fault) }
 {
     let value = value_of(alloc, text)?;
     let Some(entries) = entries_of(&value) else {
         return Err(TableFault::NotRows);
     };
-    rows_of_entries(alloc, entries)
+    set_of_entries(alloc, entries)
 }
 
 pub(crate) fn entries_of(file: &Value) -> Option<&[Value]>
@@ -105,92 +103,26 @@ pub(crate) fn entries_of(file: &Value) -> Option<&[Value]>
     Some(file.get("rows")?.as_array()?.as_slice())
 }
 
-pub(crate) fn rows_of_entries(alloc: Global, entries: &[Value]) -> Result<Vec<Row>, TableFault>
-    ensures rows { IfOk result (λ rows. AreTableOf (map view entries.now) rows.items) }
-    ensures order { IfOk result (λ rows. in_order rows.items ≡ true) }
+pub(crate) fn set_of_entries(alloc: Global, entries: &[Value]) -> Result<RowSet, TableFault>
+    ensures rows { IfOk result (λ set.
+        (rows : List Row) × AreTableOf (map view entries.now) rows × AreSet rows set) }
     ensures fault { IfErr result (λ fault. HasFaultIn (map view entries.now) fault) }
 {
     if entries.is_empty() {
         return Err(TableFault::Empty);
     }
-    let mut rows = Vec::new(alloc);
-    let mut kinds = Vec::new(alloc);
+    let mut set = RowSet::new(alloc);
     for (at, value) in entries.iter().enumerate() {
         let Some(entry) = Entry::of_value(value) else {
             return Err(TableFault::BadRow(at));
         };
-        add_rows(&mut rows, &entry)?;
-        if rows.len() > MAX_ROWS {
+        set.add(&entry)?;
+        if set.count > MAX_ROWS {
             return Err(TableFault::TooManyRows);
         }
-        add_kind(&mut kinds, entry.kind)?;
-        if kinds.len() > MAX_TABLE_TYPES {
+        if set.moves.len() > MAX_TABLE_TYPES {
             return Err(TableFault::TooManyTypes);
         }
     }
-    Ok(rows)
-}
-
-fn add_kind(kinds: &mut Vec<TypeName>, kind: TypeName) -> Result<(), AllocError>
-    requires { ascends (slice_cmp nat_cmp) kinds.old.items ≡ true }
-    ensures order { OnOk result (ascends (slice_cmp nat_cmp) kinds.new.items ≡ true) }
-    ensures kinds { OnOk result (Adds kinds.old.items kinds.new.items (λ other. other ≡ kind)) }
-{
-    let found = kinds.binary_search(&kind);
-    if let Err(at) = found {
-        kinds.insert(at, kind)?;
-    }
-    Ok(())
-}
-
-fn add_rows(rows: &mut Vec<Row>, entry: &Entry) -> Result<(), AllocError>
-    requires { in_order rows.old.items ≡ true }
-    ensures order { OnOk result (in_order rows.new.items ≡ true) }
-    ensures rows { OnOk result (Adds rows.old.items rows.new.items (HasRow entry.now)) }
-{
-    add_rows_from_each(rows, &State::ALL, entry)
-}
-
-fn add_rows_from_each(
-    rows: &mut Vec<Row>,
-    states: &[State],
-    entry: &Entry,
-) -> Result<(), AllocError>
-    requires { in_order rows.old.items ≡ true }
-    ensures order { OnOk result (in_order rows.new.items ≡ true) }
-    ensures rows { OnOk result (Adds rows.old.items rows.new.items
-        (λ row. Contains states.now row.from × HasRow entry.now row)) }
-{
-    for from in states {
-        if entry.from.has(*from) {
-            add_rows_from(rows, *from, entry, &State::ALL)?;
-        }
-    }
-    Ok(())
-}
-
-fn add_rows_from(
-    rows: &mut Vec<Row>,
-    from: State,
-    entry: &Entry,
-    states: &[State],
-) -> Result<(), AllocError>
-    requires { in_order rows.old.items ≡ true }
-    ensures order { OnOk result (in_order rows.new.items ≡ true) }
-    ensures rows { OnOk result (Adds rows.old.items rows.new.items
-        (IsRowTo from entry.now states.now)) }
-{
-    for to in states {
-        if entry.to.has(*to) {
-            add_row(
-                rows,
-                Row {
-                    from,
-                    kind: entry.kind.copy(),
-                    to: *to,
-                },
-            )?;
-        }
-    }
-    Ok(())
+    Ok(set)
 }
