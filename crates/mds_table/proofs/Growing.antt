@@ -1,5 +1,5 @@
 -- Rows in order to which a row is added at its place, and tallies that say so.
-use Rattle.std.proofs.Common.{◌≡◌, ◌↔◌, ◌⊎◌, ℕ, suc, zero, ◌+◌, ◌<◌, ◌≤◌, List, [], ◌∷◌, length, true, false, Contains, slice_set, bit_or, get_or, refl, sym, ◌∙◌, ap, subst, inl, inr, ⊎_elim, arith, ◌^◌, ◌||◌}
+use Rattle.std.proofs.Common.{◌≡◌, ◌↔◌, ℕ, suc, zero, ◌+◌, ◌<◌, ◌≤◌, List, [], ◌∷◌, length, true, false, Contains, slice_set, bit_or, get_or, refl, sym, ◌∙◌, ap, subst, inl, inr, ⊎_elim, arith, ◌^◌}
 use Rattle.std.specs.List.{insert, AllWithin}
 use Rattle.std.specs.declared.cmp.Ordering.{Ordering}
 use Rattle.std.specs.declared.cmp.Ordering.TheVariants.{Less, Equal, Greater}
@@ -18,7 +18,7 @@ use Rattle.mds_table.specs.RowLaws.{row_cmp_total}
 use Rattle.mds_table.specs.Mask.{has_bit, mask_from, AreMasks}
 use Rattle.mds_table.specs.TableFile.{max_rows}
 use Rattle.mds_table.specs.Entry.{Adds}
-use Rattle.mds_table.specs.RowSet.{IsCountOf, AreTallied, Grows}
+use Rattle.mds_table.specs.RowSet.{IsCountOf, Grows}
 use Rattle.mds_table.proofs.Ascending.{Contains-tail, head_or_tail, inserted, insert_adds, nothing_added}
 use Rattle.mds_table.proofs.Bits.{has_bit-or, has_bit-same, has_bit-one}
 use Rattle.mds_table.proofs.OneTable.{before_all, rest_ascends}

@@ -1,7 +1,5 @@
 -- Rows of moves, which are laid out, and those of a set.
-use Rattle.std.proofs.Common.{◌≡◌, ◌⊎◌, ℕ, ◌+◌, ◌<◌, ◌≤◌, List, [], ◌∷◌, ◌++◌, length, map, true, false, get_or, Contains, refl, sym, ◌∙◌, ap, subst, inl, inr, ⊎_elim, arith}
-use Rattle.std.specs.Ordering.{nat_cmp}
-use Rattle.std.specs.Cmp.Lexicographic.{slice_cmp}
+use Rattle.std.proofs.Common.{◌≡◌, ◌⊎◌, ℕ, ◌<◌, ◌≤◌, List, [], ◌∷◌, ◌++◌, length, map, true, false, get_or, Contains, refl, sym, ◌∙◌, ap, subst, inl, inr, ⊎_elim, arith}
 use Rattle.std.proofs.lemmas.List.{get_or-map, length-map, get_or_default}
 use Rattle.std.proofs.lemmas.List.Elements.{Contains-append_left, Contains-push, Contains-push_cases}
 use Rattle.mds_table.specs.declared.state.State.{State}
@@ -12,7 +10,7 @@ use Rattle.mds_table.specs.Row.{row_of, in_order}
 use Rattle.mds_table.specs.RowLaws.{row_cmp_total}
 use Rattle.mds_table.specs.Mask.{has_bit, mask_from}
 use Rattle.mds_table.specs.Moves.{AreMoves, GrowsBy, IsRowOf, IsRowOfAny, IsRowOfMask, HasKind}
-use Rattle.mds_table.specs.TableFile.{AreRowsOf, AreTypesOf, AreGood, max_rows}
+use Rattle.mds_table.specs.TableFile.{AreTypesOf, max_rows}
 use Rattle.mds_table.specs.Entry.{Adds}
 use Rattle.mds_table.specs.RowSet.{IsCountOf, AreSet}
 use Rattle.mds_table.proofs.Adding.{added_both, added_as, among_all, every_state}

@@ -1,8 +1,7 @@
-use Rattle.std.proofs.Common.{take, get_or, slice_index_or, refl, subst}
-use Rattle.std.proofs.lemmas.List.{take_more, take_all}
+use Rattle.std.proofs.Common.{take, get_or, slice_index_or, refl}
+use Rattle.std.proofs.lemmas.List.{take_more}
 use Rattle.mds_table.specs.declared.state.State.TheVariants.{Removed}
-use Rattle.mds_table.specs.Entry.{Adds}
-use Rattle.mds_table.proofs.Laid.{IsRowOfFrom, from_more}
+use Rattle.mds_table.proofs.Laid.{from_more}
 use Rattle.mds_table.proofs.moves.add_rows_of.Goals as goal
 
 pub loop-from-preserved : goal.loop-from-preserved

@@ -1,9 +1,9 @@
-use Rattle.std.proofs.Common.{take, get_or, sym, ◌∙◌, ap, subst, arith}
+use Rattle.std.proofs.Common.{take, get_or, sym, ◌∙◌, ap, subst}
 use Rattle.std.proofs.lemmas.List.{take_more, take_all}
 use Rattle.mds_table.specs.declared.state.State.TheVariants.{Removed}
 use Rattle.mds_table.specs.Row.{row_of}
 use Rattle.mds_table.specs.Entry.{Adds}
-use Rattle.mds_table.proofs.Laid.{IsRowOfMaskTo, none_added, to_more, to_passed}
+use Rattle.mds_table.proofs.Laid.{IsRowOfMaskTo, to_more, to_passed}
 use Rattle.mds_table.proofs.moves.add_rows_of_mask.Goals as goal
 use Rattle.mds_table.proofs.moves.add_rows_of_mask.Goals.{then-has+in_ok-add_row, else-has}
 

@@ -1,8 +1,8 @@
-use Rattle.std.proofs.Common.{[], take, get_or, sym, subst, arith}
+use Rattle.std.proofs.Common.{[], take, subst}
 use Rattle.std.proofs.lemmas.List.{take_more, take_all}
 use Rattle.mds_table.specs.Moves.{IsRowOfAny}
 use Rattle.mds_table.specs.Entry.{Adds}
-use Rattle.mds_table.proofs.Laid.{none_added, any_more, laid}
+use Rattle.mds_table.proofs.Laid.{any_more, laid}
 use Rattle.mds_table.proofs.moves.rows_of.Goals as goal
 
 pub loop-of_kind-preserved : goal.loop-of_kind-preserved
