@@ -19,7 +19,8 @@ use std::io;
 use std::sync::atomic::{AtomicU32, Ordering};
 use std::sync::{Mutex, Wait};
 
-/// How many new connections are taken before those that wait are looked at, and how many looks are made then.
+/// How many new connections are taken before those that wait are looked at, how many looks are made then, and how often a worker
+/// waits first, once there was none to take.
 const TURNS: u32 = 16;
 
 /// How many pauses are made at most for want of open files: 30 seconds of them.
@@ -74,17 +75,29 @@ impl<S: System, R: Wait + Copy> WaitingPort<S, R> {
 
     /// One step on the way to the next connection whose request is whole: it, if it is there.
     fn step(&self, pauses: &mut u32) -> Result<Option<Ends<S::Peer>>, PortFault> {
-        let turn = self.turn.fetch_add(1, Ordering::SeqCst) % (2 * TURNS);
-        if TURNS <= turn {
-            match self.look_after(0) {
+        if let Some(longest) = self.next_wait() {
+            match self.look_after(longest) {
                 Looked::Whole(ends) => return Ok(Some(ends)),
                 Looked::Other => return Ok(None),
-                Looked::New | Looked::Nothing => self.turn.store(0, Ordering::SeqCst),
+                Looked::New | Looked::Nothing if longest == 0 => {
+                    self.turn.store(0, Ordering::SeqCst);
+                }
+                Looked::New | Looked::Nothing => {}
             }
         }
         match self.system.take() {
             Ok(peer) => Ok(self.look_at_new(peer)),
             Err(error) => self.go_on_after(&error, pauses),
+        }
+    }
+
+    /// How long the next step waits for one that is ready, in milliseconds, before it takes a new one. `None` where it takes one
+    /// at once. To ask for one where there is none costs several times as much as to be told that there is one.
+    fn next_wait(&self) -> Option<u64> {
+        match self.turn.fetch_add(1, Ordering::SeqCst) / TURNS % 3 {
+            0 => None,
+            1 => Some(0),
+            _ => Some(MAX_WAIT),
         }
     }
 
@@ -95,12 +108,7 @@ impl<S: System, R: Wait + Copy> WaitingPort<S, R> {
         pauses: &mut u32,
     ) -> Result<Option<Ends<S::Peer>>, PortFault> {
         match retry_of(error) {
-            Retry::OnceReady => {
-                self.turn.store(0, Ordering::SeqCst);
-                if let Looked::Whole(ends) = self.look_after(MAX_WAIT) {
-                    return Ok(Some(ends));
-                }
-            }
+            Retry::OnceReady => self.turn.store(2 * TURNS, Ordering::SeqCst),
             Retry::AtOnce => {}
             Retry::Later => self.system.pause(),
             Retry::ForAWhile => return self.go_on_without_files(pauses),
