@@ -75,17 +75,29 @@ impl<S: System, R: Wait + Copy> WaitingPort<S, R> {
 
     /// One step on the way to the next connection whose request is whole: it, if it is there.
     fn step(&self, pauses: &mut u32) -> Result<Option<Ends<S::Peer>>, PortFault> {
-        if let Some(longest) = self.next_wait() {
-            match self.look_after(longest) {
-                Looked::Whole(ends) => return Ok(Some(ends)),
-                Looked::Other => return Ok(None),
-                Looked::New | Looked::Nothing if longest == 0 => {
-                    self.turn.store(0, Ordering::SeqCst);
-                }
-                Looked::New | Looked::Nothing => {}
+        let Some(longest) = self.next_wait() else {
+            return self.go_on_with(self.system.take(), pauses);
+        };
+        match self.look_after(longest) {
+            Looked::Whole(ends) => return Ok(Some(ends)),
+            Looked::Other => return Ok(None),
+            Looked::New | Looked::Nothing if longest == 0 => {
+                self.turn.store(0, Ordering::SeqCst);
             }
+            Looked::New | Looked::Nothing => {}
         }
-        match self.system.take() {
+        let taken = self.system.take();
+        self.system.ask_for_new();
+        self.go_on_with(taken, pauses)
+    }
+
+    /// Goes on with a new connection, or with why none could be taken.
+    fn go_on_with(
+        &self,
+        taken: io::Result<S::Peer>,
+        pauses: &mut u32,
+    ) -> Result<Option<Ends<S::Peer>>, PortFault> {
+        match taken {
             Ok(peer) => Ok(self.look_at_new(peer)),
             Err(error) => self.go_on_after(&error, pauses),
         }
@@ -122,7 +134,9 @@ impl<S: System, R: Wait + Copy> WaitingPort<S, R> {
     /// where there is none, a pause is made, so often at most.
     fn go_on_without_files(&self, pauses: &mut u32) -> Result<Option<Ends<S::Peer>>, PortFault> {
         let before = self.system.now().unwrap_or(u64::MAX);
-        match self.look_after(MAX_WAIT) {
+        let looked = self.look_after(MAX_WAIT);
+        self.system.ask_for_new();
+        match looked {
             Looked::Whole(ends) => return Ok(Some(ends)),
             Looked::New if self.let_eldest_go(before) => {}
             Looked::New if *pauses < MAX_PAUSES => {

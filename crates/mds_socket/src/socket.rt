@@ -79,6 +79,10 @@ impl<R: Clock + Copy> System for Sockets<R> {
         self.watch.ask(peer, ready, for_sending)
     }
 
+    fn ask_for_new(&self) {
+        self.watch.ask_for_new(&self.listener);
+    }
+
     fn wait(&self, millis: u64) -> Option<Ready> {
         self.watch.wait(millis)
     }

@@ -29,6 +29,9 @@ pub trait System: Drop {
     /// Asks when this side of a connection is next ready, which is told once, and for what: whether the system can be asked.
     fn ask(&self, peer: &mut Self::Peer, ready: Ready, for_sending: bool) -> bool;
 
+    /// Asks when a new connection is next there, which is told once, to one worker. That one asks again, once it has taken it.
+    fn ask_for_new(&self);
+
     /// Waits until something is ready, for so many milliseconds at most: one thing that is, if any. What is told may be over.
     fn wait(&self, millis: u64) -> Option<Ready>;
 

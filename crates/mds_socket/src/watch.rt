@@ -65,22 +65,27 @@ impl Watch {
         })
     }
 
-    /// Asks about the socket that listens, for as long as a connection waits there.
+    /// Asks when a connection waits at the socket that listens, which is told once.
     ///
     /// # Errors
     ///
     /// What the system answers where it can't be asked about it.
     pub(crate) fn begin(&self, listener: &TcpListener) -> io::Result<()> {
-        if self.control(
-            EPOLL_CTL_ADD,
-            listener.as_raw_fd(),
-            EPOLLIN,
-            Ready::Listener,
-        ) {
+        if self.listen(EPOLL_CTL_ADD, listener) {
             Ok(())
         } else {
             Err(io::Error::from(ErrorKind::Other))
         }
+    }
+
+    /// Asks that again, where it was told.
+    pub(crate) fn ask_for_new(&self, listener: &TcpListener) {
+        let _ = self.listen(EPOLL_CTL_MOD, listener);
+    }
+
+    fn listen(&self, how: i32, listener: &TcpListener) -> bool {
+        let what = EPOLLIN | EPOLLONESHOT;
+        self.control(how, listener.as_raw_fd(), what, Ready::Listener)
     }
 
     /// Asks no longer about the socket that listens.

@@ -6,7 +6,7 @@ use mds_socket::{Ready, System, WaitingPort};
 use std::alloc::{AllocError, Global};
 use std::io::{self, ErrorKind, Read, Write};
 use std::sync::Wait;
-use std::sync::atomic::{AtomicU64, AtomicUsize, Ordering};
+use std::sync::atomic::{AtomicBool, AtomicU64, AtomicUsize, Ordering};
 use test_fixtures::rows;
 
 /// What the system does at the next call that takes a connection or waits, and that it is an answer to.
@@ -36,6 +36,8 @@ struct PlayedSystem {
     most: usize,
     asked: AtomicUsize,
     pauses: AtomicUsize,
+    /// Whether a new connection is told, which is told once.
+    asks_for_new: AtomicBool,
 }
 
 impl PlayedSystem {
@@ -48,6 +50,7 @@ impl PlayedSystem {
             most,
             asked: AtomicUsize::new(0),
             pauses: AtomicUsize::new(0),
+            asks_for_new: AtomicBool::new(true),
         }
     }
 
@@ -59,6 +62,12 @@ impl PlayedSystem {
     /// That was done.
     fn go_on(&self) {
         self.at.fetch_add(1, Ordering::SeqCst);
+    }
+
+    /// A new connection, where it is asked for.
+    fn new_one(&self) -> Option<Ready> {
+        let is_asked = self.asks_for_new.swap(false, Ordering::SeqCst);
+        is_asked.then_some(Ready::Listener)
     }
 }
 
@@ -98,8 +107,16 @@ impl System for PlayedSystem {
         self.asked.fetch_add(1, Ordering::SeqCst) < self.most
     }
 
+    fn ask_for_new(&self) {
+        self.asks_for_new.store(true, Ordering::SeqCst);
+    }
+
     fn wait(&self, _millis: u64) -> Option<Ready> {
         match self.turn() {
+            Some(Turn::Tells(Ready::Listener)) => {
+                self.go_on();
+                self.new_one()
+            }
             Some(Turn::Tells(ready)) => {
                 self.go_on();
                 Some(ready)
@@ -108,7 +125,7 @@ impl System for PlayedSystem {
                 self.go_on();
                 None
             }
-            Some(Turn::Lacks) => Some(Ready::Listener),
+            Some(Turn::Lacks) => self.new_one(),
             Some(Turn::Comes(_) | Turn::Fails(_)) | None => None,
         }
     }
