@@ -5,3 +5,4 @@ pub mod Histories
 pub mod RunLaws
 pub mod OfTheirKind
 pub mod Blanks
+pub mod ListedEvents

@@ -6,6 +6,7 @@ pub use Rattle.mds_table.specs.Tables
 pub mod Position
 pub mod Reported
 pub mod EventTypes
+pub mod EventList
 pub mod EventFault
 pub mod History
 pub mod Known

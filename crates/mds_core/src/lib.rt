@@ -8,6 +8,7 @@
 mod answers;
 mod decision;
 mod event;
+mod event_list;
 mod event_name;
 mod event_types;
 mod fleet;
@@ -22,6 +23,7 @@ mod runs;
 pub use answers::answer;
 pub use decision::{Known, decide, decide_event};
 pub use event::{Event, EventFault, MAX_EVENT_TYPES};
+pub use event_list::{EventList, EventRef};
 pub use event_name::EventName;
 pub use fleet::Fleet;
 pub use key::Key;
