@@ -15,11 +15,12 @@ ghost use Rattle.mds_log.specs.Log.{requests};
 
 use crate::gathered::Account;
 use crate::listing::{events_in, list_in};
+use crate::pieces::TakesPieces;
 use crate::seat::Parts;
 use crate::settling::{Closing, count_all, retire_all};
 use crate::slot::shard_of;
 use crate::{Blank, Copies, Gathered, Keep, Part, Progress, Seat, ShardLedger, Slot};
-use mds_core::{Event, Key, Outcome, Reply, Request};
+use mds_core::{Event, EventList, Key, Outcome, Reply, Request};
 use mds_log::{Front, Marks};
 use mds_settle::Note;
 use mds_shard::Shard;
@@ -490,6 +491,39 @@ impl<L: ShardLedger, M: ShardLedger> Book<L, M> {
             (option_map (λ events. events.items) found) seat.new) }
         ensures unchanged { OnErr result (seat.new ≡ seat.old) }
     {
+        self.list_for(rt, alloc, seat, key)
+    }
+
+    /// As [`Book::seat_events`], in a list that takes little memory.
+    ///
+    /// # Errors
+    ///
+    /// Those of [`Book::seat_events`]; the seat is as it was then.
+    pub fn seat_list<R: Wait>(
+        &self,
+        rt: &R,
+        alloc: Global,
+        seat: &mut Seat<L, M>,
+        key: &Key,
+    ) -> Result<Option<EventList>, AllocError>
+        ensures listed { IfOk result (λ found. IsListed self.now.tables seat.old key.now
+            (option_map (λ list. list.events) found) seat.new) }
+        ensures unchanged { OnErr result (seat.new ≡ seat.old) }
+    {
+        self.list_for(rt, alloc, seat, key)
+    }
+
+    fn list_for<R: Wait, E: TakesPieces>(
+        &self,
+        rt: &R,
+        alloc: Global,
+        seat: &mut Seat<L, M>,
+        key: &Key,
+    ) -> Result<Option<E>, AllocError>
+        ensures listed { IfOk result (λ found. IsListed self.now.tables seat.old key.now
+            (option_map E.events found) seat.new) }
+        ensures unchanged { OnErr result (seat.new ≡ seat.old) }
+    {
         if shard_of(key) == 0 {
             self.list_first(rt, alloc, seat, key)
         } else {
@@ -497,32 +531,32 @@ impl<L: ShardLedger, M: ShardLedger> Book<L, M> {
         }
     }
 
-    fn list_first<R: Wait>(
+    fn list_first<R: Wait, E: TakesPieces>(
         &self,
         rt: &R,
         alloc: Global,
         seat: &mut Seat<L, M>,
         key: &Key,
-    ) -> Result<Option<Vec<Event>>, AllocError>
+    ) -> Result<Option<E>, AllocError>
         requires { number_of key.now ≡ 0 }
         ensures listed { IfOk result (λ found. IsListed self.now.tables seat.old key.now
-            (option_map (λ events. events.items) found) seat.new) }
+            (option_map E.events found) seat.new) }
         ensures unchanged { OnErr result (seat.new ≡ seat.old) }
     {
         let found = list_in(rt, alloc, &self.first, &mut seat.first, key)?;
         Ok(found)
     }
 
-    fn list_second<R: Wait>(
+    fn list_second<R: Wait, E: TakesPieces>(
         &self,
         rt: &R,
         alloc: Global,
         seat: &mut Seat<L, M>,
         key: &Key,
-    ) -> Result<Option<Vec<Event>>, AllocError>
+    ) -> Result<Option<E>, AllocError>
         requires { number_of key.now ≡ 1 }
         ensures listed { IfOk result (λ found. IsListed self.now.tables seat.old key.now
-            (option_map (λ events. events.items) found) seat.new) }
+            (option_map E.events found) seat.new) }
         ensures unchanged { OnErr result (seat.new ≡ seat.old) }
     {
         let found = list_in(rt, alloc, &self.second, &mut seat.second, key)?;

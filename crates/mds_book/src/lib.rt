@@ -9,6 +9,7 @@ mod copies;
 mod gathered;
 pub mod laws;
 mod listing;
+mod pieces;
 mod progress;
 mod seat;
 mod settling;

@@ -13,6 +13,7 @@ ghost use Rattle.mds_book.specs.Sights.{IsSeenWhole, next_turn};
 ghost use Rattle.mds_book.specs.Books.{GivesEvents};
 ghost use Rattle.mds_book.specs.Listing.{IsBegun};
 
+use crate::pieces::TakesPieces;
 use crate::{Part, ShardLedger, Slot};
 use mds_core::{Event, Key};
 use mds_log::Front;
@@ -22,24 +23,28 @@ use std::sync::{Mutex, Wait};
 
 /// A list that begins.
 #[derive(Drop)]
-struct Listing {
+struct Listing<E> {
     /// The place of the vehicle's last request.
     last: usize,
     /// Room for all its events.
-    events: Vec<Event>,
+    events: E,
     /// Room for a piece of them.
     piece: Vec<Event>,
 }
 
-fn begin(alloc: Global, shard: &Shard, key: &Key) -> Result<Option<Listing>, AllocError>
-    ensures some { IfOk result (λ listing. IfSome listing (IsBegun shard.now.history key.now)) }
+fn begin<E: TakesPieces>(
+    alloc: Global,
+    shard: &Shard,
+    key: &Key,
+) -> Result<Option<Listing<E>>, AllocError>
+    ensures some { IfOk result (λ listing. IfSome listing (IsBegun E.events E.room shard.now.history key.now)) }
     ensures none { IfOk result (λ listing.
         IfNone listing (events_told shard.now.history key.now ≡ None)) }
 {
     let Some(start) = shard.walk_start(key) else {
         return Ok(None);
     };
-    let events = Vec::with_capacity(alloc, start.events)?;
+    let events = E::with_room(alloc, start.events)?;
     let piece = Vec::with_capacity(alloc, MAX_STEPS)?;
     Ok(Some(Listing {
         last: start.last,
@@ -48,18 +53,18 @@ fn begin(alloc: Global, shard: &Shard, key: &Key) -> Result<Option<Listing>, All
     }))
 }
 
-fn begin_seen<R: Wait, L: ShardLedger, const N: usize>(
+fn begin_seen<R: Wait, L: ShardLedger, E: TakesPieces, const N: usize>(
     rt: &R,
     alloc: Global,
     slot: &Mutex<Slot<L, N>>,
     part: &mut Part<L>,
     key: &Key,
-) -> Result<Option<Listing>, AllocError>
+) -> Result<Option<Listing<E>>, AllocError>
     ensures seen { IfOk result (λ listing. IsPrefix part.old.sight.seen part.new.sight.seen) }
     ensures lawful { IfOk result (λ listing. IsLawful L.tables (requests part.new.sight.seen)) }
     ensures of_shard { IfOk result (λ listing. AreOfShard N (requests part.new.sight.seen)) }
     ensures some { IfOk result (λ listing.
-        IfSome listing (IsBegun (requests part.new.sight.seen) key.now)) }
+        IfSome listing (IsBegun E.events E.room (requests part.new.sight.seen) key.now)) }
     ensures none { IfOk result (λ listing.
         IfNone listing (events_told (requests part.new.sight.seen) key.now ≡ None)) }
     ensures turn { IfOk result (λ listing.
@@ -75,15 +80,15 @@ fn begin_seen<R: Wait, L: ShardLedger, const N: usize>(
 }
 
 /// For no seat: it shows a front of its own what the shard has accepted.
-fn begin_unseated<R: Wait, L: ShardLedger, const N: usize>(
+fn begin_unseated<R: Wait, L: ShardLedger, E: TakesPieces, const N: usize>(
     rt: &R,
     alloc: Global,
     slot: &Mutex<Slot<L, N>>,
     key: &Key,
-) -> Result<(Front<L>, Option<Listing>), AllocError>
+) -> Result<(Front<L>, Option<Listing<E>>), AllocError>
     ensures lawful { IfOk result (λ begun. IsLawful L.tables (requests begun.0)) }
     ensures of_shard { IfOk result (λ begun. AreOfShard N (requests begun.0)) }
-    ensures some { IfOk result (λ begun. IfSome begun.1 (IsBegun (requests begun.0) key.now)) }
+    ensures some { IfOk result (λ begun. IfSome begun.1 (IsBegun E.events E.room (requests begun.0) key.now)) }
     ensures none { IfOk result (λ begun.
         IfNone begun.1 (events_told (requests begun.0) key.now ≡ None)) }
 {
@@ -113,15 +118,15 @@ fn copy_piece<R: Wait, L: ShardLedger, const N: usize>(
     slot.lock(rt).walk_back(seen, from, piece)
 }
 
-fn finish<R: Wait, L: ShardLedger, const N: usize>(
+fn finish<R: Wait, L: ShardLedger, E: TakesPieces, const N: usize>(
     rt: &R,
     slot: &Mutex<Slot<L, N>>,
     seen: &Front<L>,
-    listing: Listing,
-) -> Vec<Event>
-    requires { (key : Told) × IsBegun (requests seen.now) key listing }
-    ensures { (key : Told) → IsBegun (requests seen.now) key listing
-        → Some result.items ≡ events_told (requests seen.now) key }
+    listing: Listing<E>,
+) -> E
+    requires { (key : Told) × IsBegun E.events E.room (requests seen.now) key listing }
+    ensures { (key : Told) → IsBegun E.events E.room (requests seen.now) key listing
+        → Some (E.events result) ≡ events_told (requests seen.now) key }
 {
     let Listing {
         last,
@@ -131,23 +136,21 @@ fn finish<R: Wait, L: ShardLedger, const N: usize>(
     let mut at = Some(last);
     while let Some(place) = at {
         at = copy_piece(rt, slot, seen, place, &mut piece);
-        let Ok(()) = events.extend_from_slice(&piece) else {
-            unreachable!();
-        };
+        events.add(&piece);
     }
-    events.reverse();
+    events.turn_round();
     events
 }
 
-pub(crate) fn events_in<R: Wait, L: ShardLedger, const N: usize>(
+pub(crate) fn events_in<R: Wait, L: ShardLedger, E: TakesPieces, const N: usize>(
     rt: &R,
     alloc: Global,
     slot: &Mutex<Slot<L, N>>,
     key: &Key,
-) -> Result<Option<Vec<Event>>, AllocError>
+) -> Result<Option<E>, AllocError>
     requires { number_of key.now ≡ N }
     ensures { IfOk result (λ found.
-        GivesEvents L.tables key.now (option_map (λ events. events.items) found)) }
+        GivesEvents L.tables key.now (option_map E.events found)) }
 {
     let (seen, listing) = begin_unseated(rt, alloc, slot, key)?;
     match listing {
@@ -156,16 +159,16 @@ pub(crate) fn events_in<R: Wait, L: ShardLedger, const N: usize>(
     }
 }
 
-pub(crate) fn list_in<R: Wait, L: ShardLedger, const N: usize>(
+pub(crate) fn list_in<R: Wait, L: ShardLedger, E: TakesPieces, const N: usize>(
     rt: &R,
     alloc: Global,
     slot: &Mutex<Slot<L, N>>,
     part: &mut Part<L>,
     key: &Key,
-) -> Result<Option<Vec<Event>>, AllocError>
+) -> Result<Option<E>, AllocError>
     requires { number_of key.now ≡ N }
     ensures listed { IfOk result (λ found. IsSeenWhole L.tables N part.old.sight.seen key.now
-        (option_map (λ events. events.items) found) part.new.sight.seen) }
+        (option_map E.events found) part.new.sight.seen) }
     ensures turn { IfOk result (λ found. part.new.sight.turns ≡ next_turn part.old.sight.turns) }
     ensures count { part.new.count ≡ part.old.count }
     ensures mark { part.new.mark ≡ part.old.mark }

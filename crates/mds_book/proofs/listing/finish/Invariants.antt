@@ -1,4 +1,4 @@
-use Rattle.std.proofs.Common.{◌≤◌}
+use Rattle.std.proofs.Common.{◌≤◌, ◌+◌, length}
 use Rattle.std.specs.Vec.{vec_capacity}
 use Rattle.mds_core.specs.declared.key.Key.{Key}
 use Rattle.mds_log.specs.Log.{requests}
@@ -10,8 +10,9 @@ use Rattle.mds_book.proofs.listing.finish.Given as goal
 -- the walk goes on, and there is room for what it finds
 abbrev pub invariant-loop-at : goal.invariant-loop-at
 invariant-loop-at g l = record {
-  walk : (key : Key) → IsBegun (requests l.seen) key l.fn.listing → IsWalkOf (requests l.seen) key l.at l.events.items;
-  room : vec_capacity l.fn.listing.events ≤ vec_capacity l.events;
+  walk : (key : Key) → IsBegun g.E.TakesPieces.events g.E.TakesPieces.room (requests l.seen) key l.fn.listing
+      → IsWalkOf (requests l.seen) key l.at (g.E.TakesPieces.events l.events);
+  room : g.E.TakesPieces.room l.fn.listing.events ≤ g.E.TakesPieces.room l.events + length (g.E.TakesPieces.events l.events);
   piece : MAX_STEPS ≤ vec_capacity l.piece;
 }
 
