@@ -28,7 +28,7 @@ abbrev pub finding_in : Found → Finding
 finding_in found.Nothing = Nothing
 finding_in (found.Replies replies) = Replies replies.items
 finding_in (found.One reply) = One reply
-finding_in (found.History events) = History (option_map (λ events. events.items) events)
+finding_in (found.History list) = History (option_map (λ list. list.events) list)
 finding_in (found.Rows listed) = Rows (tables_of listed.items)
 
 -- the replies to items: none where something else was found

@@ -32,11 +32,14 @@ abbrev pub allow_line : Option Method → List ℕ
 allow_line None = []
 allow_line (Some method) = codes "allow: " ++ (method_name method ++ codes "\r\n")
 
+-- all that stands before a body of so many bytes: the status line, the fields and the empty line
+abbrev pub head_text : ℕ → Option Method → ℕ → List ℕ
+head_text status allow count =
+    status_line status ++ type_line ++ length_line count ++ close_line ++ allow_line allow ++ codes "\r\n"
+
 -- all bytes of an answer
 abbrev pub answer_text : Answer → List ℕ
-answer_text answer =
-    status_line answer.status ++ type_line ++ length_line (length answer.body) ++ close_line ++ allow_line answer.allow
-    ++ codes "\r\n" ++ answer.body
+answer_text answer = head_text answer.status answer.allow (length answer.body) ++ answer.body
 
 -- all bytes of the answer where there is no memory for one: it has no body
 abbrev pub memory_text : List ℕ

@@ -25,7 +25,7 @@ pub fn bytes_of(alloc: Global, plan: &Plan, found: &Found) -> Result<Vec<u8>, Al
         ≡ answer_text (answer_to (asked_in plan.now) (finding_in found.now))) }
 {
     let body = body_of(alloc, plan, found)?;
-    whole_answer(alloc, status_of(plan, found), allow_of(plan), &body)
+    whole_answer(alloc, status_of(plan, found), allow_of(plan), body)
 }
 
 fn allow_of(plan: &Plan) -> Option<Method>

@@ -1,8 +1,9 @@
 //! The bodies of answers.
-ghost use Rattle.std.specs.Prelude.{◌≡◌, IfOk, IfSome, map, option_map, string_bytes};
+ghost use Rattle.std.specs.Prelude.{◌≡◌, ◌++◌, IfOk, OnOk, IfSome, map, option_map, string_bytes};
 ghost use Rattle.mds_request.specs.Asked.{asked_in};
+ghost use Rattle.mds_texts.specs.Json.{with_commas, event_text};
 ghost use Rattle.mds_response.specs.Found.{finding_in, tables_of};
-ghost use Rattle.mds_response.specs.Bodies.{fault_body, tables_body};
+ghost use Rattle.mds_response.specs.Bodies.{fault_body, events_body, tables_body};
 ghost use Rattle.mds_response.specs.Answer.{answer_to, batch_content, look_content, events_content};
 
 use crate::Found;
@@ -10,12 +11,12 @@ use crate::batch::{answered_items, failures_of};
 use crate::found::accepted;
 use crate::json::StandingText;
 use mds_batch::BatchItem;
-use mds_core::{Event, Key, Refusal, Reply, Standing};
+use mds_core::{Event, EventList, Key, Refusal, Reply, Standing};
 use mds_request::Plan;
 use mds_table::Row;
-use mds_texts::Commas;
+use mds_texts::{Commas, Text};
 use std::alloc::{AllocError, Global};
-use std::fmt::Display;
+use std::fmt::{Display, Write as _};
 
 pub(crate) fn body_of(alloc: Global, plan: &Plan, found: &Found) -> Result<String, AllocError>
     ensures { IfOk result (λ body. string_bytes body
@@ -69,17 +70,53 @@ fn look_body(alloc: Global, key: &Key, seen: Option<Standing>) -> Result<String,
     }
 }
 
-fn events_body(alloc: Global, events: Option<&[Event]>) -> Result<String, AllocError>
+fn events_body(alloc: Global, events: Option<&EventList>) -> Result<String, AllocError>
     ensures { IfOk result (λ body. string_bytes body
-        ≡ (events_content (option_map (λ events. events.now) events.entry)).body) }
+        ≡ (events_content (option_map (λ list. list.now.events) events.entry)).body) }
 {
     match events {
-        Some(items) => {
-            let events = Commas { items };
-            format!(in alloc; "{{\"events\":[{events}]}}")
-        }
+        Some(list) => list_body(alloc, list),
         None => fault_body(alloc, &Refusal::Unregistered),
     }
+}
+
+fn list_body(alloc: Global, list: &EventList) -> Result<String, AllocError>
+    ensures { IfOk result (λ body. string_bytes body ≡ events_body list.now.events) }
+{
+    let mut text = String::new(alloc);
+    text.push_str("{\"events\":[")?;
+    add_events(&mut text, list)?;
+    text.push_str("]}")?;
+    Ok(text)
+}
+
+/// One event after the other takes the place of the one before: most of its 2,200 bytes are room for further types.
+fn add_events(text: &mut String, list: &EventList) -> Result<(), AllocError>
+    ensures { OnOk result (string_bytes text.new
+        ≡ string_bytes text.old ++ with_commas event_text list.now.events) }
+{
+    let Some(first) = list.get(0) else {
+        return Ok(());
+    };
+    let mut event = first.copy();
+    add_event(text, &event)?;
+    for at in 1..list.len() {
+        let Some(next) = list.get(at) else {
+            unreachable!();
+        };
+        next.copy_to(&mut event);
+        text.push_str(",")?;
+        add_event(text, &event)?;
+    }
+    Ok(())
+}
+
+fn add_event(text: &mut String, event: &Event) -> Result<(), AllocError>
+    ensures { OnOk result (string_bytes text.new
+        ≡ string_bytes text.old ++ event_text event.now) }
+{
+    let event = Text { value: event };
+    write!(text, "{event}")
 }
 
 /// Of one table its rows alone.

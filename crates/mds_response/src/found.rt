@@ -2,7 +2,7 @@
 ghost use Rattle.std.specs.Prelude.{◌≡◌, option_map};
 ghost use Rattle.mds_response.specs.Found.{finding_in, replies_in, standing_seen, standing_in, events_in, tables_in, tables_of, accepted_in};
 
-use mds_core::{Event, Outcome, Reply, Standing};
+use mds_core::{EventList, Outcome, Reply, Standing};
 use mds_table::Row;
 
 /// What a desk found of what a request asks for.
@@ -15,7 +15,7 @@ pub enum Found {
     /// The reply to a look at a vehicle.
     One(Reply),
     /// The accepted events of a vehicle, or `None` where it isn't registered.
-    History(Option<Vec<Event>>),
+    History(Option<EventList>),
     /// The tables in order of time: each one's starting time, in milliseconds since the Unix epoch, and its rows.
     Rows(Vec<(u64, Vec<Row>)>),
 }
@@ -46,11 +46,11 @@ impl Found {
         }
     }
 
-    pub(crate) fn events(&self) -> Option<&[Event]>
-        ensures { option_map (λ events. events.now) result ≡ events_in (finding_in self.now) }
+    pub(crate) fn events(&self) -> Option<&EventList>
+        ensures { option_map (λ list. list.now.events) result ≡ events_in (finding_in self.now) }
     {
         match self {
-            Found::History(Some(events)) => Some(events),
+            Found::History(Some(list)) => Some(list),
             _ => None,
         }
     }

@@ -1,6 +1,6 @@
 //! The whole text of an answer.
 ghost use Rattle.std.specs.Prelude.{◌≡◌, ◌++◌, IfOk, OnOk, string_bytes};
-ghost use Rattle.mds_response.specs.Head.{allow_line, answer_text, memory_text, not_kept_text};
+ghost use Rattle.mds_response.specs.Head.{allow_line, head_text, answer_text, memory_text, not_kept_text};
 
 use http::StatusCode;
 use mds_request::Method;
@@ -32,29 +32,42 @@ pub fn not_kept_bytes() -> &'static [u8]
     NOT_KEPT_ANSWER.as_bytes()
 }
 
-/// Where another method was asked for than the route's, `allow` is the route's.
+/// Where another method was asked for than the route's, `allow` is the route's. The head is put before the body where the body
+/// lies, so that a long body isn't copied to a second place.
 pub(crate) fn whole_answer(
     alloc: Global,
     status: StatusCode,
     allow: Option<Method>,
-    body: &str,
+    mut body: String,
 ) -> Result<Vec<u8>, AllocError>
     ensures { IfOk result (λ bytes. bytes.items ≡ answer_text record {
       status = status;
       allow = allow;
-      body = body.now;
+      body = string_bytes body;
     }) }
 {
-    let length = body.len();
-    let mut text = String::with_capacity(alloc, length.saturating_add(HEAD_ROOM))?;
+    let head = head_of(alloc, status, allow, body.len())?;
+    body.insert_str(0, &head)?;
+    Ok(body.into_bytes())
+}
+
+fn head_of(
+    alloc: Global,
+    status: StatusCode,
+    allow: Option<Method>,
+    length: usize,
+) -> Result<String, AllocError>
+    ensures { IfOk result (λ head. string_bytes head
+        ≡ head_text status allow length) }
+{
+    let mut text = String::with_capacity(alloc, HEAD_ROOM)?;
     write!(text, "HTTP/1.1 {status}\r\n")?;
     text.push_str("content-type: application/json\r\n")?;
     write!(text, "content-length: {length}\r\n")?;
     text.push_str("connection: close\r\n")?;
     add_allow(&mut text, allow)?;
     text.push_str("\r\n")?;
-    text.push_str(body)?;
-    Ok(text.into_bytes())
+    Ok(text)
 }
 
 /// RFC 9110, section 10.2.1.

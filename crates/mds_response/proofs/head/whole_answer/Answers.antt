@@ -3,15 +3,4 @@ use Rattle.mds_response.proofs.head.whole_answer.Goals as goal
 
 pub returns : goal.returns
 returns c =
-    rw (
-      c.into_bytes.ensures.value,
-      c.in_ok-push_str-4.ensures.bytes,
-      c.in_ok-push_str-3.ensures.bytes,
-      c.in_ok-add_allow.ensures,
-      c.in_ok-push_str-2.ensures.bytes,
-      c.in_ok-write-2.ensures.bytes,
-      c.in_ok-push_str.ensures.bytes,
-      c.in_ok-write.ensures.bytes,
-      c.in_ok-text.ensures.bytes,
-    )
-    refl
+    rw (c.into_bytes.ensures.value, c.in_ok-insert_str.ensures.bytes, c.deref.ensures, c.in_ok-head.ensures, c.len.ensures, c.args.body.bytes.ok.0) refl
