@@ -31,8 +31,8 @@ PLANTED = [
     ),
     (
         "mds_response/body.rt",
-        "Some(items) => {",
-        "Some(items) if items.len() > 65_535 => Err(AllocError), Some(items) => {",
+        "Some(list) => list_body",
+        "Some(list) if list.len() > 65_535 => Err(AllocError), Some(list) => list_body",
     ),
     (
         "mds_face/asking.rt",

@@ -16,6 +16,7 @@ TESTED = {
     ("mds_table", "test_rules", "a_text_is_read_after_a_refused_growth"): ["json::value_of"],
     ("mds_steps", "test_rules", "least_chain_succeeds_after_a_refused_growth"): ["least_chain"],
     ("mds_core", "test_rules", "fleet_calls_succeed_after_a_refused_growth"): ["Fleet::step", "Fleet::events", "run"],
+    ("mds_core", "test_rules", "a_list_of_events_grows_after_a_refused_growth"): ["EventList::with_room", "EventList::push"],
     ("mds_shard", "test_shards", "step_succeeds_after_a_refused_growth"): ["Shard::step", "Shard::events"],
     ("mds_roster", "test_shards", "a_roster_takes_after_a_refused_growth"): ["Roster::take"],
     ("mds_book", "test_books", "calls_succeed_after_a_refused_growth"): [
@@ -25,6 +26,7 @@ TESTED = {
         "Book::copy_second",
         "Book::vehicle_events",
         "Book::seat_events",
+        "Book::seat_list",
     ],
     ("mds_book", "test_books", "slot_steps_after_a_refused_growth"): ["Slot::step"],
     ("mds_follow", "test_follow", "journals_come_to_their_ends_after_a_refused_growth"): [
@@ -58,7 +60,12 @@ TESTED = {
     ("mds_face", "test_faces", "calls_stand_after_a_refused_growth"): ["serve_one"],
     ("mds_face", "test_faces", "kept_answers_go_out_after_a_refused_growth"): ["serve_kept", "serve_whole"],
     ("mds_face", "test_faces", "a_batch_is_read_after_a_refused_growth"): ["read_plan"],
-    ("mds_face", "test_faces", "a_seat_answers_after_a_refused_growth"): ["Desk::call", "Desk::events", "Desk::rows"],
+    ("mds_face", "test_faces", "a_seat_answers_after_a_refused_growth"): [
+        "Desk::call",
+        "Desk::events",
+        "Desk::event_list",
+        "Desk::rows",
+    ],
     ("mds_pool", "test_edge", "workers_serve_after_a_refused_growth"): ["serve"],
     ("mds_pool", "test_edge", "a_book_is_settled_after_a_refused_growth"): ["serve_and_settle"],
     ("mds_pool", "test_edge", "a_book_is_served_over_its_journal_after_a_refused_growth"): [
@@ -157,6 +164,20 @@ QUIET = {
         "Position::new",
         "Position::lat",
         "Position::lng",
+    ],
+    ("mds_core", "test_rules", "lists_of_events_are_told_of_with_every_growth_refused"): [
+        "EventList::new",
+        "EventList::len",
+        "EventList::reverse",
+        "EventList::get",
+        "EventRef::key",
+        "EventRef::id",
+        "EventRef::state",
+        "EventRef::types",
+        "EventRef::time",
+        "EventRef::position",
+        "EventRef::copy",
+        "EventRef::copy_to",
     ],
     ("mds_core", "test_rules", "looks_are_answered_with_every_growth_refused"): [
         "Fleet::open",

@@ -1,4 +1,4 @@
-"""How much memory connections take that wait, and bodies that never end, and the stack of the first thread."""
+"""How much memory connections take that wait, bodies that never end, and a long list, and the stack of the first thread."""
 
 import contextlib
 import os
@@ -7,11 +7,12 @@ import select
 import time
 from pathlib import Path
 
-from cases.replays import A, batch, history
-from harness.case import MAX_BYTES, padded
+from cases.replays import A, P, batch, history
+from harness.case import MAX_BYTES, MAX_ITEMS, padded
 from harness.counting import ROOT, Unwell
 from harness.texts import differing
 from model.http import error
+from serving.connections import SMALL_ROOM
 from serving.crowds import many_open_files
 from serving.http import EMPTY, Exchange, done, look, registered
 from serving.looking import Looks
@@ -36,6 +37,10 @@ ENDLESS = 64
 """Clients that each send all of the longest body but its last byte: four times as much as the server holds."""
 EVENTS = 1000
 """How many events a batch has."""
+LISTED = 100_000
+"""How many events of one vehicle are listed."""
+MOST_OF_LIST = 2.2
+"""How many times as much memory as its text the list may take, until the last byte of it is sent."""
 LEAST_STACK = 256 * 2**10
 """How many bytes of stack the first thread has at least once the server listens."""
 BUSY = 60
@@ -147,6 +152,27 @@ def endless_bodies(program, env, times):
         yield from server.drain()
 
 
+def long_list(program):
+    """All events of one vehicle, for a client that reads nothing before the whole answer is laid out."""
+    with Server(program, LISTED // MAX_ITEMS + 4) as server:
+        yield from talk_over(server, registered(A))
+        for front in range(0, LISTED, MAX_ITEMS):
+            events = batch(history(A, front, front + MAX_ITEMS))
+            yield from talk_over(server, Exchange(post("/events", events), done(MAX_ITEMS)))
+        server.count()
+        server.forget_most_memory()
+        before = server.memory()
+        with connect(server.port, room=SMALL_ROOM) as reading:
+            reading.sendall(get(f"/vehicles/{P}/{A}/events"))
+            select.select([reading], [], [], BUSY)
+            length = sum(map(len, iter(lambda: reading.recv(1 << 20), b"")))
+        times = (server.most_memory() - before) / length
+        print(f"a list of {LISTED} events: {times:.2f} times its {length / 2**20:.1f} MiB", flush=True)
+        if times > MOST_OF_LIST or length < 200 * LISTED:
+            yield f"a list takes {times:.2f} times its {length} bytes, in place of {MOST_OF_LIST}"
+        yield from server.end()
+
+
 def stack_of_the_first_thread(program):
     """The first thread, which works too, has a stack that grows, and can't where memory ends: so it has what a worker needs once
     the server listens."""
@@ -163,4 +189,4 @@ def stack_of_the_first_thread(program):
         yield from server.end()
 
 
-MEMORY = [memory_of_waiting, bodies_that_never_end, stack_of_the_first_thread]
+MEMORY = [memory_of_waiting, bodies_that_never_end, long_list, stack_of_the_first_thread]

@@ -111,8 +111,12 @@ class Server:
         return self.bytes_of("VmRSS")
 
     def most_memory(self):
-        """How many bytes it held at most."""
+        """How many bytes it held at most, since it began or that was forgotten."""
         return self.bytes_of("VmHWM")
+
+    def forget_most_memory(self):
+        """From now on the most memory is that of what comes."""
+        Path(f"/proc/{self.child.pid}/clear_refs").write_text("5")
 
     def bytes_of(self, name):
         status = Path(f"/proc/{self.child.pid}/status").read_text()

@@ -143,7 +143,7 @@ pub(crate) fn find<D: Desk>(alloc: Global, desk: &mut D, plan: &Plan) -> Result<
         Plan::Vehicles(items) => Ok(Found::Replies(ask_all(alloc, desk, items)?)),
         Plan::Events(items) => Ok(Found::Replies(ask_all(alloc, desk, items)?)),
         Plan::One(key) => Ok(Found::One(desk.call(&Request::Look(*key))?)),
-        Plan::History(key) => Ok(Found::History(desk.events(key)?)),
+        Plan::History(key) => Ok(Found::History(desk.event_list(key)?)),
         Plan::Rows => Ok(Found::Rows(desk.rows()?)),
     }
 }

@@ -8,7 +8,7 @@ ghost use Rattle.mds_face.specs.Desk.{FleetCalls};
 ghost use Rattle.mds_face.specs.Seats.{SeatCalls};
 
 use mds_book::{Book, Seat, ShardLedger};
-use mds_core::{Event, Fleet, Key, Reply, Request};
+use mds_core::{Event, EventList, Fleet, Key, Reply, Request};
 use mds_table::{Row, Tables};
 use std::alloc::{AllocError, Global};
 use std::sync::Wait;
@@ -53,6 +53,16 @@ pub trait Desk {
             gives_events self.old key.now (option_map (λ v. v.items) events) self.new) }
         ensures unchanged { OnErr result (self.new ≡ self.old) };
 
+    /// As [`Desk::events`], in a list that takes little memory.
+    ///
+    /// # Errors
+    ///
+    /// Those of [`Desk::events`]; the desk is as it was then.
+    fn event_list(&mut self, key: &Key) -> Result<Option<EventList>, AllocError>
+        ensures list { IfOk result (λ list.
+            gives_events self.old key.now (option_map (λ l. l.events) list) self.new) }
+        ensures unchanged { OnErr result (self.new ≡ self.old) };
+
     /// The tables in order of time: each one's starting time, in milliseconds since the Unix epoch, and its rows in their
     /// order. They leave the desk as it was.
     ///
@@ -92,9 +102,27 @@ impl Desk for Fleet {
         Fleet::events(self, self.allocator(), key)
     }
 
+    fn event_list(&mut self, key: &Key) -> Result<Option<EventList>, AllocError> {
+        let alloc = self.allocator();
+        match Fleet::events(self, alloc, key)? {
+            Some(events) => Ok(Some(list_of(alloc, &events)?)),
+            None => Ok(None),
+        }
+    }
+
     fn rows(&mut self) -> Result<Vec<(u64, Vec<Row>)>, AllocError> {
         listed(self.allocator(), self.tables())
     }
+}
+
+fn list_of(alloc: Global, events: &[Event]) -> Result<EventList, AllocError>
+    ensures { IfOk result (λ list. list.events ≡ events.now) }
+{
+    let mut list = EventList::new(alloc);
+    for event in events {
+        list.push(event)?;
+    }
+    Ok(list)
 }
 
 fn listed(alloc: Global, tables: &Tables) -> Result<Vec<(u64, Vec<Row>)>, AllocError>
@@ -150,6 +178,10 @@ impl<R: Wait, L: ShardLedger, M: ShardLedger> Desk for SeatDesk<'_, R, L, M> {
 
     fn events(&mut self, key: &Key) -> Result<Option<Vec<Event>>, AllocError> {
         self.book.seat_events(self.rt, self.alloc, self.seat, key)
+    }
+
+    fn event_list(&mut self, key: &Key) -> Result<Option<EventList>, AllocError> {
+        self.book.seat_list(self.rt, self.alloc, self.seat, key)
     }
 
     fn rows(&mut self) -> Result<Vec<(u64, Vec<Row>)>, AllocError> {

@@ -3,7 +3,7 @@ ghost use Rattle.std.specs.Prelude.{◌≡◌, OnOk};
 
 use crate::Recorder;
 use mds_book::{Book, Seat, ShardLedger};
-use mds_core::{Event, Key, Reply, Request};
+use mds_core::{Event, EventList, Key, Reply, Request};
 use mds_face::{Desk, KeepFault, KeptDesk, SeatDesk};
 use mds_table::Row;
 use std::alloc::AllocError;
@@ -45,6 +45,10 @@ impl<R: Wait, L: ShardLedger, M: ShardLedger, K: Recorder<L, M>> Desk
 
     fn events(&mut self, key: &Key) -> Result<Option<Vec<Event>>, AllocError> {
         self.desk.events(key)
+    }
+
+    fn event_list(&mut self, key: &Key) -> Result<Option<EventList>, AllocError> {
+        self.desk.event_list(key)
     }
 
     fn rows(&mut self) -> Result<Vec<(u64, Vec<Row>)>, AllocError> {

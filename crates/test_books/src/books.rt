@@ -185,7 +185,8 @@ fn are_same(one: &Option<Vec<Event>>, other: &Option<Vec<Event>>) -> bool {
     }
 }
 
-/// How many events a vehicle has, if it is registered. A list for the seat has the same as one for nobody.
+/// How many events a vehicle has, if it is registered. A list for the seat has the same as one for nobody, and as many as the
+/// one that takes little memory.
 fn events_of<L: ShardLedger, M: ShardLedger, R: Wait>(
     rt: &R,
     alloc: Global,
@@ -195,10 +196,12 @@ fn events_of<L: ShardLedger, M: ShardLedger, R: Wait>(
 ) -> Result<Option<usize>, Lack> {
     let listed = again!(book.seat_events(rt, alloc, seat, &key(device)))?;
     let events = again!(listed_beside(rt, alloc, book, device))?;
-    if !are_same(&listed, &events) {
+    let list = again!(book.seat_list(rt, alloc, seat, &key(device)))?;
+    let count = events.as_ref().map(|events| events.len());
+    if !are_same(&listed, &events) || list.map(|list| list.len()) != count {
         return Err(Lack::Case);
     }
-    Ok(events.map(|events| events.len()))
+    Ok(count)
 }
 
 /// What a book tells without memory.

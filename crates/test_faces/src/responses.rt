@@ -4,7 +4,7 @@ use crate::cases::{
     answer_text, tables_of,
 };
 use mds_batch::{EventItem, EventItems, ItemFault, Member, TakesItems};
-use mds_core::{Event, Outcome, Position, Refusal, Reply};
+use mds_core::{Event, EventList, Outcome, Position, Refusal, Reply};
 use mds_request::{HttpFault, Plan};
 use mds_response::{Found, bytes_of, memory_bytes, status_of};
 use mds_table::State;
@@ -116,17 +116,23 @@ fn tables(alloc: Global) -> Result<(Plan, Found), Lack> {
     Ok((Plan::Rows, Found::Rows(listed)))
 }
 
+/// The two events of A.
+fn two_events(alloc: Global) -> Result<EventList, Lack> {
+    let mut list = EventList::new(alloc);
+    again!(list.push(&first_event()?))?;
+    again!(list.push(&last_event()?))?;
+    Ok(list)
+}
+
 /// What is asked for, and what is found.
 fn asked_and_found(alloc: Global, case: Case) -> Result<(Plan, Found), Lack> {
     Ok(match case {
         Case::Fault(fault) => (Plan::Fixed(fault), Found::Nothing),
         Case::Events(items) => (events(alloc, items)?, replies(alloc, items)?),
-        Case::History => {
-            let mut events = Vec::new(alloc);
-            pushed(&mut events, first_event()?)?;
-            pushed(&mut events, last_event()?)?;
-            (Plan::History(key(A)), Found::History(Some(events)))
-        }
+        Case::History => (
+            Plan::History(key(A)),
+            Found::History(Some(two_events(alloc)?)),
+        ),
         Case::Rows => tables(alloc)?,
     })
 }

@@ -1,4 +1,5 @@
-//! The machine: the worked cases, its events, growths that are refused, and calls that take no memory.
+//! The machine: the worked cases, its events, lists of them, growths that are refused, and calls that take no memory.
+mod event_lists;
 mod events;
 mod fleets;
 mod refused;

@@ -5,7 +5,7 @@ use super::answers::fleet_over;
 use super::{Peer, answer_of, answered, peer_of};
 use crate::cases::{Answer, LACKING_AT_2, PROFILE, THREE, answer_text};
 use mds_batch::BatchItems;
-use mds_core::{Event, Fleet, Key, Reply, Request};
+use mds_core::{Event, EventList, Fleet, Key, Reply, Request};
 use mds_face::{Desk, Face, Plan, ServeFault, Served, read_plan, serve_one};
 use mds_table::{Row, State};
 use std::alloc::{AllocError, Global};
@@ -57,6 +57,10 @@ impl Desk for Wanting<'_> {
     }
 
     fn events(&mut self, _key: &Key) -> Result<Option<Vec<Event>>, AllocError> {
+        Err(AllocError)
+    }
+
+    fn event_list(&mut self, _key: &Key) -> Result<Option<EventList>, AllocError> {
         Err(AllocError)
     }
 

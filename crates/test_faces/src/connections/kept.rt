@@ -3,7 +3,7 @@ use super::answers::{BOTH_REGISTER, fleet_over};
 use super::growths::register;
 use super::peer_of;
 use crate::cases::{Answer, NO_ROUTE, PROFILE, answer_text};
-use mds_core::{Event, Fleet, Key, Reply, Request};
+use mds_core::{Event, EventList, Fleet, Key, Reply, Request};
 use mds_face::{
     Desk, Face, Head, KeepFault, KeptDesk, KeptFault, ServeFault, Served, memory_bytes,
     not_kept_bytes, serve_kept, serve_whole,
@@ -45,6 +45,10 @@ impl Desk for Recorded {
 
     fn events(&mut self, key: &Key) -> Result<Option<Vec<Event>>, AllocError> {
         Desk::events(&mut self.fleet, key)
+    }
+
+    fn event_list(&mut self, key: &Key) -> Result<Option<EventList>, AllocError> {
+        self.fleet.event_list(key)
     }
 
     fn rows(&mut self) -> Result<Vec<(u64, Vec<Row>)>, AllocError> {

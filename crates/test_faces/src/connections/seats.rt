@@ -21,17 +21,21 @@ fn reply_to<D: Desk>(desk: &mut D, asked: &Ask) -> Result<Reply, Lack> {
     Ok(again!(desk.call(&request))?)
 }
 
-/// What a desk tells: two replies, how many events A has then, and the start of the last table with the number of its rows.
-type Told = ([Reply; 2], Option<usize>, Option<(u64, usize)>);
+/// What a desk tells: two replies, how many events A has then, by each kind of list, and the start of the last table with the
+/// number of its rows.
+type Told = ([Reply; 2], [Option<usize>; 2], Option<(u64, usize)>);
 
 /// What a desk tells of a registration of A and its first event, each call made again where there was no memory.
 fn told_at<D: Desk>(desk: &mut D) -> Result<Told, Lack> {
     let first = reply_to(desk, &Ask::Register(A))?;
     let second = reply_to(desk, &Ask::Report(A, E1, &["wake"], State::Available, 1000))?;
-    let events = again!(desk.events(&key(A)))?;
+    let counts = [
+        again!(desk.events(&key(A)))?.map(|events| events.len()),
+        again!(desk.event_list(&key(A)))?.map(|list| list.len()),
+    ];
     let tables = again!(desk.rows())?;
     let last = tables.last().map(|last| (last.0, last.1.len()));
-    Ok(([first, second], events.map(|events| events.len()), last))
+    Ok(([first, second], counts, last))
 }
 
 /// What a desk over the two tables is to tell.
@@ -40,7 +44,7 @@ fn whole() -> Told {
         place,
         outcome: Outcome::Done,
     };
-    ([done(0), done(1)], Some(1), Some((2000, 1)))
+    ([done(0), done(1)], [Some(1), Some(1)], Some((2000, 1)))
 }
 
 /// What a fleet over the two tables tells.
