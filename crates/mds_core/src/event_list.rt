@@ -116,6 +116,28 @@ impl EventList {
         })
     }
 
+    /// Makes room for so many further events, whatever their types.
+    ///
+    /// # Errors
+    ///
+    /// `AllocError` where there is no memory for them; the list is as it was then.
+    pub fn reserve(&mut self, count: usize) -> Result<(), AllocError>
+        ensures events { self.new.events ≡ self.old.events }
+        ensures room { OnOk result (count ≤ self.new.room) }
+        ensures unchanged { OnErr result (self.new ≡ self.old) }
+    {
+        if count <= self.room {
+            return Ok(());
+        }
+        let Some(names) = count.checked_mul(MAX_EVENT_TYPES) else {
+            return Err(AllocError);
+        };
+        self.kept.reserve(count)?;
+        self.names.reserve(names)?;
+        self.room = count;
+        Ok(())
+    }
+
     /// How many events there are.
     pub fn len(&self) -> usize
         ensures { result ≡ length self.now.events }
@@ -144,6 +166,19 @@ impl EventList {
         };
         self.room = self.room.saturating_sub(1);
         Ok(())
+    }
+
+    /// Adds an event for which there is room.
+    pub fn push_reserved(&mut self, event: &Event)
+        requires { 1 ≤ self.old.room }
+        ensures { self.new ≡ record {
+          events = self.old.events ++ event.now ∷ [];
+          room = self.old.room - 1;
+        } }
+    {
+        let Ok(()) = self.push(event) else {
+            unreachable!();
+        };
     }
 
     /// Turns the order of the events round.
@@ -188,7 +223,7 @@ impl<'a> Model for EventRef<'a> {
     ghost invariant = { λ event. MayBeReported event.types.now event.kept.now.time };
 }
 
-impl EventRef<'_> {
+impl<'a> EventRef<'a> {
     /// The vehicle.
     pub fn key(&self) -> &Key
         ensures { result.now ≡ self.now.key }
@@ -211,7 +246,7 @@ impl EventRef<'_> {
     }
 
     /// The types of the event, 1 to [`MAX_EVENT_TYPES`], in their order.
-    pub fn types(&self) -> &[TypeName]
+    pub fn types(&self) -> &'a [TypeName]
         ensures types { result.now ≡ self.now.types }
         ensures some { 1 ≤ length result.now }
         ensures few { length result.now ≤ max_event_types }
