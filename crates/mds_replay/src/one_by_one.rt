@@ -57,13 +57,14 @@ impl Replayer {
         }
     }
 
-    /// Takes the next item, and judges it by the items before it.
+    /// Takes the next item, and judges it by the items before it. It answers the verdict.
     ///
     /// # Errors
     ///
     /// `AllocError` where there is no memory for what is kept of the item. The replayer is then as it was, and may be given
     /// the item again.
-    pub fn take(&mut self, item: &EventItem) -> Result<(), AllocError>
+    pub fn take(&mut self, item: &EventItem) -> Result<Verdict, AllocError>
+        ensures judged { IfOk result (λ line. self.new.lines ≡ self.old.lines ++ line ∷ []) }
         ensures took { OnOk result ((items : List Item) → Took items self.old
             → length items < usize.MAX → Took (items ++ item.now ∷ []) self.new) }
         ensures kept { OnErr result (self.new ≡ self.old) }
@@ -80,7 +81,7 @@ impl Replayer {
             item,
         )?;
         self.lines.push_reserved(line);
-        Ok(())
+        Ok(line)
     }
 
     /// The report of the items that were taken: they end here.
@@ -99,6 +100,13 @@ impl Replayer {
         let vehicles = ends_of(alloc, &self.vehicles)?;
         Ok(report_of(self.lines, vehicles))
     }
+
+    /// The tables, of a replay whose report isn't asked for.
+    pub fn into_tables(self) -> Tables
+        ensures { result ≡ self.tables }
+    {
+        self.tables
+    }
 }
 
 /// It judges each item as it comes.
@@ -110,6 +118,7 @@ impl TakesItems for Replayer {
     ghost took = { TookSince };
 
     fn take(&mut self, item: &EventItem) -> Result<(), AllocError> {
-        self.take(item)
+        self.take(item)?;
+        Ok(())
     }
 }
