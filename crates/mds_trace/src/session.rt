@@ -7,9 +7,9 @@ ghost use Rattle.mds_trace.specs.declared.session_fault.SessionFault.TheVariants
 ghost use Rattle.mds_trace.specs.Session.{held_at, state_at, AreOpenFrom, IsPlace, types_at, AreSets, present_rows, IsStep, ArePossible, KeepsEvents, IsFirstLater, IsPresentChain, IsFaultOf};
 
 use crate::SessionFault;
-use crate::session_events::{check_events, first_reporting, held_at, time_at, types_at};
+use crate::session_events::{check_events, first_reporting, held_at, list_of, time_at, types_at};
 use arrayvec::ArrayVec;
-use mds_core::{Event, MAX_EVENT_TYPES};
+use mds_core::{Event, EventList, MAX_EVENT_TYPES};
 use mds_steps::{StateSet, forward, least_chain};
 use mds_table::{State, Table, Tables, TypeName};
 use std::alloc::{AllocError, Global};
@@ -64,7 +64,7 @@ type Sets = ArrayVec<StateSet, { MAX_PLACES }>;
 pub struct Session {
     tables: Tables,
     opening: State,
-    events: Vec<Event>,
+    events: EventList,
     place: Place,
     /// Those in the present event, up to the present place. A step adds one, and a step back takes it away.
     sets: Sets,
@@ -92,12 +92,12 @@ impl Model for Session {
     ghost view = { λ session. record {
       tables = session.tables;
       opening = session.opening;
-      events = session.events.items;
+      events = session.events.events;
       place = session.place;
     } };
 
     ghost invariant = { λ session.
-        IsWalk session.tables session.opening session.events.items session.place session.sets.items };
+        IsWalk session.tables session.opening session.events.events session.place session.sets.items };
 }
 
 impl Session {
@@ -108,7 +108,7 @@ impl Session {
     /// The fault of the first faulty event: `BadOrder` where it is of another vehicle than the first, has the identifier
     /// of an earlier one, or is earlier than the one before; else `Unlawful` where no chain leads from the state held
     /// before it to the state that it reports, by the table in force at the event's time. `Memory` where there is none
-    /// to compare identifiers.
+    /// to compare identifiers, or to keep the events.
     pub fn open(
         alloc: Global,
         tables: Tables,
@@ -127,7 +127,22 @@ impl Session {
             fault ≢ Memory → AreOpenFrom tables opening events.items → ⊥) }
     {
         check_events(alloc, &tables, opening, &events)?;
-        Ok(Session {
+        let list = list_of(alloc, &events)?;
+        Ok(Session::over(tables, opening, list))
+    }
+
+    /// A session over the events of a list, which stands before the first of them; this state is held there. It takes no
+    /// memory.
+    pub fn over(tables: Tables, opening: State, events: EventList) -> Session
+        requires { AreOpenFrom tables opening events.events }
+        ensures { result ≡ record {
+          tables = tables;
+          opening = opening;
+          events = events.events;
+          place = record { event = 0; passed = 0 };
+        } }
+    {
+        Session {
             tables,
             opening,
             events,
@@ -136,7 +151,7 @@ impl Session {
                 passed: 0,
             },
             sets: sets_before(opening),
-        })
+        }
     }
 
     /// Where the session stands.

@@ -1,18 +1,18 @@
 //! The events of a session: what stands at a place, and whether a session over them may be opened.
-ghost use Rattle.std.specs.Prelude.{◌≡◌, ◌↔◌, ◌≤◌, ◌++◌, List, [], ◌∷◌, length, IsTrue, IfOk, IfErr, OnOk};
+ghost use Rattle.std.specs.Prelude.{◌≡◌, ◌↔◌, ◌<◌, ◌≤◌, ◌++◌, List, [], ◌∷◌, length, IsTrue, IfOk, IfErr, IfSome, OnOk};
 ghost use Rattle.mds_core.specs.Reported.{Reported, max_event_types};
 ghost use Rattle.mds_trace.specs.Session.{held_at, time_at, types_at, identifiers_of, AreOpenFrom, AreInOrder, IsNewAfter, ComesNext, FollowsOn, IsFirstReporting, IsFaultOf};
 
 use crate::SessionFault;
 use indexmap::IndexSet;
-use mds_core::Event;
+use mds_core::{Event, EventList};
 use mds_steps::admit;
 use mds_table::{State, Tables, TypeName};
 use std::alloc::{AllocError, Global};
 use uuid::Uuid;
 
-pub fn held_at(opening: State, events: &[Event], at: usize) -> State
-    ensures { result ≡ held_at opening events.now at }
+pub fn held_at(opening: State, events: &EventList, at: usize) -> State
+    ensures { result ≡ held_at opening events.now.events at }
 {
     if at == 0 {
         return opening;
@@ -23,8 +23,8 @@ pub fn held_at(opening: State, events: &[Event], at: usize) -> State
     }
 }
 
-pub fn types_at(events: &[Event], at: usize) -> &[TypeName]
-    ensures types { result.now ≡ types_at events.now at }
+pub fn types_at(events: &EventList, at: usize) -> &[TypeName]
+    ensures types { result.now ≡ types_at events.now.events at }
     ensures few { length result.now ≤ max_event_types }
 {
     match events.get(at) {
@@ -34,8 +34,8 @@ pub fn types_at(events: &[Event], at: usize) -> &[TypeName]
 }
 
 /// 0 past the last event, where no type asks for a row.
-pub fn time_at(events: &[Event], at: usize) -> u64
-    ensures { result ≡ time_at events.now at }
+pub fn time_at(events: &EventList, at: usize) -> u64
+    ensures { result ≡ time_at events.now.events at }
 {
     match events.get(at) {
         Some(event) => event.time(),
@@ -60,11 +60,11 @@ pub fn check_events(
     ensures fault { IfErr result (IsFaultOf tables.now opening events.now) }
 {
     let mut seen = IndexSet::with_capacity(alloc, events.len())?;
+    let mut held = opening;
     for (at, event) in events.iter().enumerate() {
         if !keeps_order(&mut seen, &events[..at], event)? {
             return Err(SessionFault::BadOrder { event: at });
         }
-        let held = held_at(opening, events, at);
         let table = tables.at(event.time());
         if let Err(none) = admit(table, held, event.types(), event.state()) {
             return Err(SessionFault::Unlawful {
@@ -72,6 +72,7 @@ pub fn check_events(
                 at: none.at,
             });
         }
+        held = event.state();
     }
     Ok(())
 }
@@ -113,13 +114,26 @@ fn comes_next(last: &Event, event: &Event) -> bool
     last.key() == event.key() && last.time() <= event.time()
 }
 
-pub fn first_reporting(events: &[Event], from: usize, state: State) -> Option<usize>
-    ensures { IsFirstReporting events.now from state result }
+pub fn first_reporting(events: &EventList, from: usize, state: State) -> Option<usize>
+    ensures first { IsFirstReporting events.now.events from state result }
+    ensures within { IfSome result (λ at. at < usize.MAX) }
 {
     for at in from..events.len() {
-        if events[at].state() == state {
-            return Some(at);
+        match events.get(at) {
+            Some(event) if event.state() == state => return Some(at),
+            _ => {}
         }
     }
     None
+}
+
+/// A list of these events.
+pub fn list_of(alloc: Global, events: &[Event]) -> Result<EventList, AllocError>
+    ensures { IfOk result (λ list. list.events ≡ events.now) }
+{
+    let mut list = EventList::new(alloc);
+    for event in events {
+        list.push(event)?;
+    }
+    Ok(list)
 }

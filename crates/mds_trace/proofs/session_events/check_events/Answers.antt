@@ -3,7 +3,7 @@ use Rattle.std.proofs.lemmas.Bool.{true≢false}
 use Rattle.std.proofs.lemmas.Option.{slice_get_read}
 use Rattle.mds_core.specs.Reported.{Reported}
 use Rattle.mds_trace.specs.Session.{AreInOrder, identifiers_of}
-use Rattle.mds_trace.proofs.SessionLemmas.{open_more, take_push}
+use Rattle.mds_trace.proofs.SessionLemmas.{held_after, open_more, take_push}
 use Rattle.mds_trace.proofs.session_events.check_events.Goals as goal
 use Rattle.mds_trace.proofs.session_events.check_events.Goals.{In_ok-keeps_order}
 
@@ -28,7 +28,7 @@ returns-then-not-branch-clause-fault c =
 pub returns-in-Err-clause-fault : goal.returns-in-Err-clause-fault
 returns-in-Err-clause-fault c =
     let kept = in_order (goal.at.returns-in-Err-clause-fault c).In_ok-keeps_order in
-    let refused = rw (c.at-table.ensures, c.time.ensures.time, c.held_at-held.ensures, c.types.ensures.types, c.state.ensures) at c.in-Err.ensures.fault in (
+    let refused = rw (c.at-table.ensures, c.time.ensures.time, c.loop-at.invariant.held, c.types.ensures.types, c.state.ensures) at c.in-Err.ensures.fault in (
       c.loop-at.invariant.open_from,
       kept.0.0 c.if-not-branch.false,
       (c.index-events-at.result, at_place (goal.at.returns-in-Err-clause-fault c).In_ok-keeps_order, record { none = refused.0; place = refused.1 }),
@@ -37,8 +37,10 @@ returns-in-Err-clause-fault c =
 pub loop-at-preserved : goal.loop-at-preserved
 loop-at-preserved c =
     let kept = in_order (goal.at.loop-at-preserved c).In_ok-keeps_order in
-    let leads = rw (c.at-table.ensures, c.time.ensures.time, c.held_at-held.ensures, c.types.ensures.types, c.state.ensures) at (c.in_default.ensures.exact.0 refl) in record {
+    let leads = rw (c.at-table.ensures, c.time.ensures.time, c.loop-at.invariant.held, c.types.ensures.types, c.state.ensures) at (c.in_default.ensures.exact.0 refl) in record {
       open_from = open_more c.args.tables.now c.args.opening c.args.events.now c.loop-at.at c.index-events-at.result
           (at_place (goal.at.loop-at-preserved c).In_ok-keeps_order) c.loop-at.invariant.open_from (kept.0.0 c.if-not-branch.false) leads;
       seen = kept.1 c.if-not-branch.false;
+      held = c.state-held.ensures ∙ sym (held_after c.args.opening c.args.events.now c.loop-at.at c.index-events-at.result
+          (at_place (goal.at.loop-at-preserved c).In_ok-keeps_order));
     }

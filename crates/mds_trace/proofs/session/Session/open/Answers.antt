@@ -3,7 +3,6 @@ use Rattle.std.proofs.lemmas.Result.{IfErr-weaker}
 use Rattle.mds_trace.specs.declared.session_fault.SessionFault.TheVariants.{Memory}
 use Rattle.mds_trace.specs.Session.{AreOpenFrom, IsFaultOf}
 use Rattle.mds_trace.proofs.SessionLemmas.{not_open}
-use Rattle.mds_trace.proofs.Passed.{none_passed}
 use Rattle.mds_trace.proofs.session.Session.open.Goals as goal
 
 pub returns-in_err-check_events-clause-refused : goal.returns-in_err-check_events-clause-refused
@@ -12,10 +11,3 @@ returns-in_err-check_events-clause-refused c =
     IfErr-weaker c.from_residual.result (IsFaultOf c.args.tables c.args.opening c.args.events.items)
     (λ fault. fault ≢ Memory → AreOpenFrom c.args.tables c.args.opening c.args.events.items → ⊥)
     (λ fault is. not_open c.args.tables c.args.opening c.args.events.items fault is) fault
-
-pub invariant_of-result : goal.invariant_of-result
-invariant_of-result c = record {
-  open_from = search rules;
-  within = search rules;
-  kept = rw c.sets_before.ensures (none_passed _ _ _);
-}

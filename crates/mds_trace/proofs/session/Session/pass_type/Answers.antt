@@ -8,6 +8,6 @@ invariant_of-self c =
     let more = rw (← c.self.view_is) at c.requires in record {
       open_from = walk.open_from;
       within = record { event = walk.within.event; passed = omega (arith, more) };
-      kept = rw c.push.ensures.items (one_further _ _ _ _ _ _ _ walk.kept (rw c.deref-2.ensures.0 at c.index-deref-passed.is)
-          (rw (c.present_table.ensures, ← c.self.view_is, c.types_at-types.ensures.types, c.deref.ensures.value) at c.forward-next.ensures));
+      kept = rw c.push.ensures.items (one_further _ _ _ _ _ _ _ walk.kept (rw c.deref.ensures.0 at c.index-deref-passed.is)
+          (rw (c.present_table.ensures, ← c.self.view_is, c.types_at-types.ensures.types) at c.forward-next.ensures));
     }

@@ -6,5 +6,5 @@ pub invariant_of-self : goal.invariant_of-self
 invariant_of-self c = record {
   open_from = c.self.invariant.open_from;
   within = search rules;
-  kept = rw (c.sets_before-self-inside.ensures, c.held_at.ensures, c.deref.ensures.value) (none_passed _ _ _);
+  kept = rw (c.sets_before-self-inside.ensures, c.held_at.ensures) (none_passed _ _ _);
 }
