@@ -13,5 +13,5 @@ mod walk;
 pub use input::{MAX_SCRIPT, ScriptBytes, ScriptEnd, read_script};
 pub use line::CountsLine;
 pub use script::{Move, ScriptCommand, script_of};
-pub use vehicle::{VehicleEvents, vehicle_events};
+pub use vehicle::{VehicleReplay, VehicleSession};
 pub use walk::{print_start, print_walk};
