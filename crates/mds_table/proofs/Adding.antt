@@ -1,9 +1,7 @@
 -- Lists that grow by the rows of a table file.
-use Rattle.std.proofs.Common.{◌≡◌, ℕ, List, [], ◌∷◌, ◌++◌, Option, Some, None, IsSome, option_and_then, get_or, true, false, codes, refl, sym, ◌∙◌, ap, subst, inl, inr, ⊎_elim, ◌⊎◌, arith}
+use Rattle.std.proofs.Common.{◌≡◌, List, [], ◌∷◌, ◌++◌, Option, Some, None, IsSome, option_and_then, get_or, true, false, codes, refl, sym, ◌∙◌, ap, subst, inl, inr, ⊎_elim, ◌⊎◌, arith}
 use Rattle.std.specs.List.{Contains}
 use Rattle.std.specs.Option.{IsSomeAnd}
-use Rattle.std.specs.Ordering.{nat_cmp}
-use Rattle.std.specs.Cmp.Lexicographic.{slice_cmp}
 use Rattle.std.proofs.lemmas.List.Elements.{Contains-append_left, Contains-push, Contains-push_cases}
 use Rattle.std.proofs.lemmas.List.{get_or-map, length-map}
 use Rattle.serde_json.specs.Data.{Data, null}
@@ -12,9 +10,9 @@ use Rattle.mds_table.specs.declared.state.State.{State}
 use Rattle.mds_table.specs.declared.state.State.TheVariants.{Removed, Available, NonOperational, Reserved, OnTrip, Elsewhere, NonContactable, Missing, InDepot}
 use Rattle.mds_table.specs.declared.row.Row.{Row}
 use Rattle.mds_table.specs.declared.entry.Entry.{Entry}
-use Rattle.mds_table.specs.Row.{row_of, ascends, in_order}
+use Rattle.mds_table.specs.Row.{row_of, in_order}
 use Rattle.mds_table.specs.Json.{state_in, type_name_in}
-use Rattle.mds_table.specs.TableFile.{listed, Lists, ListsStates, IsType, IsRowEntry, StandsFor, AreRowsOf, AreTypesOf}
+use Rattle.mds_table.specs.TableFile.{listed, Lists, ListsStates, IsType, IsRowEntry, StandsFor, AreRowsOf}
 use Rattle.mds_table.specs.Entry.{is_marked, HasRow, IsEntryOf, IsRowTo, Adds}
 
 -- what is added in two steps
@@ -114,22 +112,6 @@ rows_more values value entry is rows order added = record {
       (λ earlier. added.keeps row (rows.all row (any.0, earlier, any.2)))
       (λ here. added.adds row (is.has row (subst (λ d. StandsFor d row) (sym here) any.2)))
       (Contains-push_cases values value any.0 any.1);
-}
-
--- the types of these
-pub types_more : {old new : List Row} {kinds more : List (List ℕ)} (entry : Entry) → (row : Row) × HasRow entry row
-    → AreTypesOf old kinds → Adds old new (HasRow entry) → ascends (slice_cmp nat_cmp) more ≡ true → Adds kinds more (λ kind. kind ≡ entry.kind)
-    → AreTypesOf new more
-types_more entry some types rows order added = record {
-  order = order;
-  none_else = λ kind there. ⊎_elim
-      (λ old. let row = types.none_else kind old in (row.0, rows.keeps row.0 row.1, row.2))
-      (λ is. (some.0, rows.adds some.0 some.1, some.1.kind ∙ sym is))
-      (added.none_else kind there);
-  all = λ row there. ⊎_elim
-      (λ old. added.keeps row.kind (types.all row old))
-      (λ has. added.adds row.kind has.kind)
-      (rows.none_else row there);
 }
 
 -- what is named

@@ -19,7 +19,7 @@ use Rattle.mds_table.specs.Mask.{has_bit, mask_from, AreMasks}
 use Rattle.mds_table.specs.TableFile.{max_rows}
 use Rattle.mds_table.specs.Entry.{Adds}
 use Rattle.mds_table.specs.RowSet.{IsCountOf, Grows}
-use Rattle.mds_table.proofs.Ascending.{Contains-tail, head_or_tail, inserted, insert_adds, nothing_added}
+use Rattle.mds_table.proofs.Ascending.{Contains-tail, head_or_tail, inserted, insert_adds}
 use Rattle.mds_table.proofs.Bits.{has_bit-or, has_bit-same, has_bit-one}
 use Rattle.mds_table.proofs.OneTable.{before_all, rest_ascends}
 use Rattle.mds_table.proofs.RowOrder.{same_row_by_cmp}
@@ -145,11 +145,6 @@ row_grown kind from to old new full lacks masks counts rows are =
       },
       more.2,
     )
-
--- a row that the tally has
-pub row_known : (kind : List ℕ) (from to : State) (tally : Tally) → has_bit (mask_from tally.masks from) to ≡ true
-    → Grows kind tally tally (λ row. row ≡ row_of from kind to)
-row_known kind from to tally has rows are = (rows, are, nothing_added rows (row_of from kind to) ((are.masks from to).0 has))
 
 pub grows_both : {P Q R : Row → Type 0} (kind : List ℕ) (old mid new : Tally) → Grows kind old mid P → Grows kind mid new Q
     → ((rows front more : List Row) → Adds rows front P → Adds front more Q → Adds rows more R) → Grows kind old new R

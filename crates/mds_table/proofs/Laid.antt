@@ -17,10 +17,6 @@ use Rattle.mds_table.proofs.Adding.{added_both, added_as, among_all, every_state
 use Rattle.mds_table.proofs.OneTable.{same_members}
 use Rattle.mds_table.proofs.Put.{ascends_kinds}
 
--- nothing is added of which nothing holds
-pub none_added : {X : Type 0} {P : X → Type 0} (xs : List X) → ((x : X) → P x → ⊥) → Adds xs xs P
-none_added xs none = record { keeps = λ x there. there; adds = λ x is. absurd (none x is); none_else = λ x there. inl there }
-
 -- rows of a type, from a state, to some states
 abbrev pub IsRowOfMaskTo : State → List ℕ → ℕ → List State → Row → Type 0
 IsRowOfMaskTo from kind mask states row = Contains states row.to × IsRowOfMask from kind mask row

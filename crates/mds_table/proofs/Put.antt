@@ -113,13 +113,6 @@ put_in rows more moves m kind at named gap are grows masks =
     }
 
 -- no other type comes in
-pub kinds_there : (moves : List Moves) (m : Moves) (kind : List ℕ) (at : ℕ) → m.kind ≡ kind → HasKindAt moves kind at
-    → (x : Moves) → Contains (slice_set moves at m) x → HasKind moves x.kind ⊎ (x.kind ≡ kind)
-kinds_there moves m kind at named place x there = ⊎_elim
-    (λ is. inr (ap (λ y. y.kind) is ∙ named))
-    (λ old. inl (x, (old.0, old.2, old.3), refl))
-    (put_or_there moves at m x place.within there)
-
 pub kinds_in : (moves : List Moves) (m : Moves) (kind : List ℕ) (at : ℕ) → m.kind ≡ kind
     → (x : Moves) → Contains (insert moves at m) x → HasKind moves x.kind ⊎ (x.kind ≡ kind)
 kinds_in moves m kind at named x there = ⊎_elim
