@@ -28,7 +28,7 @@ class Edit:
     file: Path
     changes: tuple
     functions: frozenset
-    """Each as the path of its module, the type of its `impl` or no text, and its name."""
+    """Each by the path below the crate by which a check tells of it."""
 
     @property
     def label(self):
@@ -49,32 +49,63 @@ def changes_in(text):
 
 def named_in(text):
     """The functions that an edit names by a line `# breaks: module::function`, as an edit of a constant does."""
-    for path in re.findall(r"^# breaks: (\S+)$", text, re.M):
-        module, _, name = path.rpartition("::")
-        yield module, "", name
+    return re.findall(r"^# breaks: (\S+)$", text, re.M)
 
 
-def type_of(words):
-    """The type in the head of an `impl`, without its parameters."""
+def last_word(text):
+    return re.search(r"(\w+)\s*$", text).group(1)
+
+
+def plain_head(words):
+    """The head of an `impl` or a `trait` without its parameters: the trait, if there is one, and the type."""
     words = re.sub(r"<[^<>]*(?:<[^<>]*>[^<>]*)*>", "", words)
-    return re.search(r"(\w+)\s*$", words.split(" where ")[0]).group(1)
+    trait, _, kind = words.split(" where ")[0].rpartition(" for ")
+    return last_word(trait) if trait else "", last_word(kind)
 
 
-def function_at(path, text, place):
-    """The function around a place of a source."""
+def around(text, place):
+    """The head of the `impl` or `trait` around a place of a source, or no text, and the name of the function there."""
     found = [it for it in FUNCTION.finditer(text) if it.start() <= place]
     if not found:
         return None
     block = next((it for it in BLOCK.finditer(text) if it.start() < found[-1].start() < it.end()), None)
-    module = "::".join(part for part in Path(path).with_suffix("").parts[1:] if part not in ("lib", "main"))
-    return module, type_of(block["words"]) if block else "", found[-1]["name"]
+    return block["words"] if block else "", found[-1]["name"]
+
+
+def module_of(path):
+    return "::".join(part for part in Path(path).with_suffix("").parts[1:] if part not in ("lib", "main"))
+
+
+def function_at(path, text, place):
+    """The function around a place of a source: the path of its module, the type of its `impl` or no text, and its name."""
+    found = around(text, place)
+    return found and (module_of(path), plain_head(found[0])[1] if found[0] else "", found[1])
+
+
+def home_of(crate, kind):
+    """The module of a type of a crate, if one alone declares it."""
+    folder, declared = ROOT / "crates" / crate, re.compile(rf"\b(?:struct|enum|trait) {kind}\b")
+    homes = [module_of(it.relative_to(folder)) for it in folder.glob("src/**/*.rt") if declared.search(it.read_text())]
+    return homes[0] if len(homes) == 1 else None
+
+
+def told_as(crate, path, text, place):
+    """The name by which a check tells of the function around a place of a source. A method stands below its type, in the type's
+    module. One of a trait stands in the module of its `impl`, and the type's name goes on with the trait's, without a space. What
+    arguments the two have isn't said here, so where they have any an edit names the function."""
+    found = around(text, place)
+    if not found:
+        return None
+    trait, kind = plain_head(found[0]) if found[0] else ("", "")
+    module = module_of(path) if trait or not kind else home_of(crate, kind) or module_of(path)
+    return "::".join(filter(None, (module, kind + trait, found[1])))
 
 
 def functions_of(crate, changes):
     for change in changes:
         text = (ROOT / "crates" / crate / change.path).read_text()
         place = text.find(change.old)
-        function = function_at(change.path, text, place) if place >= 0 else None
+        function = told_as(crate, change.path, text, place) if place >= 0 else None
         if function:
             yield function
 

@@ -1,12 +1,7 @@
-"""Rounds: edits of a crate that are made together, each of other functions, and one check of the crate with them."""
+"""Rounds: edits of a crate that are made together, each of other functions, and one check of these functions."""
 
-import os
 import re
-import shutil
-import subprocess
-import tempfile
 from dataclasses import dataclass, field
-from pathlib import Path
 
 from editing.bodies import applied
 from harness.counting import ROOT
@@ -16,7 +11,6 @@ OPEN = re.compile(r"^note: \S+: it is not proved that")
 WRONG_ANSWER = re.compile(r"^\./proofs/(\S+)/\w+\.antt:\S+ error: (.*)$", re.M)
 GONE = re.compile(r"has no field|is not in scope|has no `|was not admitted")
 """What is said of an answer that names what an edit took away. That an answer doesn't fit the new text says nothing of the contract."""
-NO_SOURCE = ("out", "must-fail")
 
 
 @dataclass
@@ -47,45 +41,6 @@ def rounds_of(crate, edits):
             if not found[-1].takes(edit, folder):
                 raise ValueError(f"{edit.label}: its text isn't in its file exactly once")
     return found
-
-
-def below(crate, uses):
-    """The crates of the repository below a crate."""
-    found = set()
-    for it in uses[crate]:
-        if it in uses:
-            found |= {it, *below(it, uses)}
-    return found
-
-
-def uses_of():
-    """What each crate of the repository stands on, by crates.txt."""
-    lines = [line.partition(":") for line in (ROOT / "crates.txt").read_text().splitlines() if line[:1] not in ("", "#")]
-    return {name.split()[0]: words.split() for name, _, words in lines}
-
-
-def linked(one, other):
-    """Gives a file that a check only replaces a second name; others are copied."""
-    if str(one).endswith(".oantt") or "rlib" in Path(one).parts:
-        try:
-            return os.link(one, other)
-        except OSError:
-            pass
-    return shutil.copy2(one, other)
-
-
-def lay(crates, uses, given, folder, libraries=frozenset()):
-    """Lays out a repository of these crates alone: their sources, and what checks of `given` left of them. Of those that only serve as
-    libraries, what was built is enough."""
-    lines = [f"{name}: {' '.join(uses[name])}\n" for name in uses if name in crates]
-    (folder / "crates.txt").write_text("".join(lines))
-    shutil.copy(ROOT / "HANDLES", folder)
-    for name in crates:
-        to = folder / "crates" / name
-        shutil.copytree(ROOT / "crates" / name, to, ignore=shutil.ignore_patterns(*NO_SOURCE))
-        left = "out/rlib" if name in libraries else "out"
-        if (given / "crates" / name / left).exists():
-            shutil.copytree(given / "crates" / name / left, to / left, symlinks=True, copy_function=linked)
 
 
 def is_own(verdict, is_open):
@@ -119,38 +74,17 @@ def unproved(said):
 
 
 def is_function(told, function):
-    """Whether a check's name of a function, or of a closure in one, is this one's. A method's type stands before the name of its
-    trait, without a space."""
-    module, kind, name = function
-    parts, path = told.split("::"), [*filter(None, module.split("::"))]
-    return parts[: len(path)] == path and name in parts and kind in told
-
-
-def checked(crate, texts, uses, given, kept=None):
-    """What a check says of a crate with these texts, over what checks of `given` left. Checks in one repository wait for one another,
-    so this one has a room of its own. Given a repository `kept`, it also builds the crate's library, and leaves all in that one."""
-    with tempfile.TemporaryDirectory(prefix="edits-") as room:
-        libraries = below(crate, uses)
-        lay({crate, *libraries}, uses, given, Path(room), libraries)
-        folder = Path(room) / "crates" / crate
-        for path, text in texts.items():
-            (folder / path).write_text(text)
-        words = ["rt", "check", "--jobs", "1"]
-        told = {"stdout": subprocess.PIPE, "stderr": subprocess.STDOUT, "text": True}
-        said = subprocess.run(words, cwd=folder, stdin=subprocess.DEVNULL, **told).stdout
-        if kept:
-            subprocess.run(["rt", "lib"], cwd=folder, stdin=subprocess.DEVNULL, capture_output=True)
-            shutil.copytree(folder / "out", kept / "crates" / crate / "out", symlinks=True, copy_function=linked, dirs_exist_ok=True)
-        return said
+    """Whether a check's name of a function, or of a closure in one, is this one's."""
+    return f"{told}::".startswith(f"{function}::")
 
 
 def complaints(edit, said):
     """What is wrong with an edit, by what a check of its round said."""
     own = unproved(said)
-    if not re.search(r"^logic=", said, re.M):
+    if not re.search(r"^only=", said, re.M):
         yield f"it wasn't checked: {next((line for line in said.splitlines() if 'error' in line), said[-300:])}"
     elif not any(is_function(it, function) for it in own for function in edit.functions):
-        names = ", ".join("::".join(filter(None, it)) for it in sorted(edit.functions))
+        names = ", ".join(sorted(edit.functions))
         yield f"not refused: {names} is proved with it, or not proved only because of what it calls or of names that it took away"
 
 
@@ -162,11 +96,12 @@ def left_of(it, edits):
         yield from rounds_of(it.crate, share)
 
 
-def outcomes(it, uses, given, told=None):
-    """Each edit of a round, and what is wrong with it. One that isn't refused is tried again without those that were: goals that wait
-    for a callee's proof aren't looked at where the callee is edited too. What a check says is kept in a folder `told`, if there is
-    one."""
-    said = checked(it.crate, it.texts, uses, given)
+def outcomes(it, bench, told=None):
+    """Each edit of a round, and what is wrong with it, by a check of the functions that the round turns, and of those that they call.
+    An edit that isn't refused is tried again without those that were: goals that wait for a callee's proof aren't looked at where the
+    callee is edited too. What a check says is kept in a folder `told`, if there is one."""
+    turned = sorted(set().union(*(edit.functions for edit in it.edits)))
+    said = bench.say("check", it.crate, it.texts, *(word for name in turned for word in ("--only", name)))
     if told:
         told.mkdir(parents=True, exist_ok=True)
         (told / f"{it.crate}-{len(it.edits)}-{it.edits[0].file.stem}.txt").write_text(said)
@@ -176,4 +111,4 @@ def outcomes(it, uses, given, told=None):
         return
     yield from ((edit, wrong) for edit, wrong in found if not wrong)
     for again in left_of(it, [edit for edit, wrong in found if wrong]):
-        yield from outcomes(again, uses, given, told)
+        yield from outcomes(again, bench, told)

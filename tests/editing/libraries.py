@@ -1,0 +1,117 @@
+"""What the check of a crate stands on: the libraries that `rt` left in the repository, where they are as new as their sources."""
+
+import functools
+import os
+import shutil
+import subprocess
+import tempfile
+from pathlib import Path
+
+from harness.counting import ROOT
+
+SOURCES = ("src", "specs", "proofs")
+
+
+@functools.cache
+def kit():
+    """The folder of `rt` with its prover and its libraries."""
+    return Path(subprocess.run(["rt", "doc"], capture_output=True, text=True, check=True).stdout.strip()).parent
+
+
+@functools.cache
+def uses_of():
+    """What each crate of the repository stands on, by crates.txt."""
+    lines = [line.partition(":") for line in (ROOT / "crates.txt").read_text().splitlines() if line[:1] not in ("", "#")]
+    return {name.split()[0]: words.split() for name, _, words in lines}
+
+
+def own_libraries(crate):
+    """The crates of the repository that a crate names."""
+    return [it for it in uses_of()[crate] if it in uses_of()]
+
+
+def below(crate):
+    """The crates of the repository below a crate."""
+    return {it for name in own_libraries(crate) for it in (name, *below(name))}
+
+
+def is_program(crate):
+    return (ROOT / "crates" / crate / "src/main.rt").exists()
+
+
+def left_by_proof(crate):
+    """The file that stands once the crate is proved: a part of its library, or its program."""
+    out = ROOT / "crates" / crate / "out"
+    return out / crate if is_program(crate) else out / "rlib" / f"{crate}.rlib" / "format"
+
+
+@functools.cache
+def is_proved(crate):
+    """Whether `rt` proved the crate since its sources and those of the crates below it were changed."""
+    left, folder = left_by_proof(crate), ROOT / "crates" / crate
+    if not left.exists() or not all(is_proved(it) for it in own_libraries(crate)):
+        return False
+    read = [path for part in SOURCES if (folder / part).exists() for path in (folder / part, *(folder / part).rglob("*"))]
+    read += [left_by_proof(it) for it in own_libraries(crate)]
+    return left.stat().st_mtime >= max(it.stat().st_mtime for it in read)
+
+
+def linked(one, other):
+    """Gives a file that a check only replaces a second name; others are copied."""
+    if str(one).endswith(".oantt"):
+        try:
+            return os.link(one, other)
+        except OSError:
+            pass
+    return shutil.copy2(one, other)
+
+
+class Bench:
+    """A room for checks: what they keep of each crate, and the libraries that have to be built there."""
+
+    def __init__(self, room):
+        self.room = Path(room)
+
+    def library(self, crate):
+        if is_proved(crate):
+            return left_by_proof(crate).parent
+        return self.room / "rlib" / f"{crate}.rlib"
+
+    def kept(self, crate):
+        """What checks of the crate keep for the next, which begins with what `rt check` kept of it."""
+        folder, left = self.room / "kept" / crate, ROOT / "crates" / crate / "out/incremental"
+        if not folder.exists() and left.exists():
+            shutil.copytree(left, folder, symlinks=True, copy_function=linked)
+        folder.mkdir(parents=True, exist_ok=True)
+        return folder
+
+    def words(self, crate):
+        """The words of a check of the crate, by one processor."""
+        of_kit = ["std", *(it for it in uses_of()[crate] if it not in uses_of())]
+        found = {it: kit() / "rlibs" / f"{it}.rlib" for it in of_kit} | {it: self.library(it) for it in own_libraries(crate)}
+        words = ["--crate-name", crate, "src/main.rt" if is_program(crate) else "src/lib.rt"]
+        for name, library in found.items():
+            words += ["--extern", f"{name}={library}"]
+        for folder in {kit() / "rlibs", *(self.library(it).parent for it in below(crate))}:
+            words += ["-L", f"dependency={folder}"]
+        words += ["--antt-project", kit() / "rattle/logic/antt-project.json", "--logic-built", kit() / "logic_built"]
+        return [*words, "--links", f"{crate}=", "--jobs", "1", "--incremental", self.kept(crate)]
+
+    def say(self, verb, crate, texts, *more):
+        """What a check or a build says of a copy of the crate with these texts."""
+        with tempfile.TemporaryDirectory(prefix="edits-") as room:
+            for part in SOURCES:
+                if (ROOT / "crates" / crate / part).exists():
+                    shutil.copytree(ROOT / "crates" / crate / part, Path(room) / part)
+            for path, text in texts.items():
+                (Path(room) / path).write_text(text)
+            words = [kit() / "bin/rattle", verb, *self.words(crate), *more]
+            told = {"stdout": subprocess.PIPE, "stderr": subprocess.STDOUT, "text": True, "errors": "replace"}
+            return subprocess.run(words, cwd=room, stdin=subprocess.DEVNULL, **told).stdout
+
+    def prove(self, crate):
+        """What a proof of the crate as it stands says, which builds its library too."""
+        if is_program(crate):
+            return self.say("check", crate, {})
+        self.library(crate).parent.mkdir(exist_ok=True)
+        return self.say("build", crate, {}, "--statements", "-o", self.library(crate))
