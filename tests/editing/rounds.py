@@ -74,8 +74,9 @@ def unproved(said):
 
 
 def is_function(told, function):
-    """Whether a check's name of a function, or of a closure in one, is this one's."""
-    return f"{told}::".startswith(f"{function}::")
+    """Whether a check's name of a function is this one's, or that of a closure in it, which has a part `fn` too."""
+    parts, path = [it for it in told.split("::") if it != "fn"], function.split("::")
+    return parts[: len(path)] == path
 
 
 def complaints(edit, said):
