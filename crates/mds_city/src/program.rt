@@ -193,7 +193,7 @@ fn carry_out<
             let table = file_if_named(files, table);
             let options = options_of(any, lines, workers);
             if is_standard_input(file) {
-                let file = open_file(file, input);
+                let file = source_of(file, input);
                 return replay_to(rt, alloc, table, file, options, out, faults);
             }
             replay_to(rt, alloc, table, file_of(files, file), options, out, faults)
@@ -251,7 +251,7 @@ fn list_vehicles<R: RandomSource, O: Opens, I: Read + Drop, W: Write, E: Write>(
 {
     let table = file_if_named(files, table);
     if is_standard_input(path) {
-        let file = open_file(path, input);
+        let file = source_of(path, input);
         return vehicles_to(rt, alloc, table, file, out, faults);
     }
     vehicles_to(rt, alloc, table, file_of(files, path), out, faults)
@@ -285,7 +285,7 @@ fn is_standard_input(file: &str) -> bool
     file == "-"
 }
 
-fn open_file<'a, R: Read + Drop>(path: &'a str, reader: R) -> Source<'a, R>
+fn source_of<'a, R: Read + Drop>(path: &'a str, reader: R) -> Source<'a, R>
     ensures path { result.path.now ≡ path.now }
     ensures reader { result.reader ≡ Some reader }
 {

@@ -11,14 +11,14 @@ returns-then-is_standard_input g c =
     let out = g.W.Write.contents in
     let faults = g.E.Write.contents in
     let came = subst
-    (λ (options : ReplayOptions). CameToReplay options bytes c.file_if_named-table-in-Replay.result g.I.Read.remaining c.open_file-file.result c.replay_to.result
+    (λ (options : ReplayOptions). CameToReplay options bytes c.file_if_named-table-in-Replay.result g.I.Read.remaining c.source_of-file.result c.replay_to.result
     (out c.args.out.now) (out c.replay_to.new.out) (faults c.args.faults.now) (faults c.replay_to.new.faults))
     c.options_of-options.ensures c.replay_to.ensures in
     subst
     (λ (command : Command). Carries g.O.Opens.opens c.args.files.now g.O.Listens.listens g.O.OpensJournals.opens_journal bytes g.I.Read.remaining c.args.input command c.replay_to.result
     (out c.args.out.now) (out c.replay_to.new.out) (faults c.args.faults.now) (faults c.replay_to.new.faults))
     (sym c.in-Replay.is)
-    (c.file_if_named-table-in-Replay.result, search rules, inl (search rules, c.open_file-file.result, c.open_file-file.ensures.path, c.open_file-file.ensures.reader, came))
+    (c.file_if_named-table-in-Replay.result, search rules, inl (search rules, c.source_of-file.result, c.source_of-file.ensures.path, c.source_of-file.ensures.reader, came))
 
 pub returns-else-is_standard_input : goal.returns-else-is_standard_input
 returns-else-is_standard_input g c =
