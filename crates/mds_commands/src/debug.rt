@@ -1,23 +1,24 @@
 //! The debugger's command.
-ghost use Rattle.std.specs.Prelude.{◌≡◌, ◌≢◌, ◌⊎◌, IfOk, IfErr, OnOk, MatchOption};
+ghost use Rattle.std.specs.Prelude.{◌≡◌, ◌≢◌, ◌⊎◌, List, IfOk, IfErr, OnOk, MatchOption};
 ghost use Rattle.uuid.specs.Text.{parsed};
 ghost use Rattle.mds_core.specs.declared.key.Key.{Key as Vehicle};
+ghost use Rattle.mds_batch.specs.declared.item.EventItem.{EventItem as Item};
 ghost use Rattle.mds_trace.specs.Walk.{Walk};
 ghost use Rattle.mds_debugger.specs.declared.line.CountsLine.{CountsLine as Counts};
-ghost use Rattle.mds_trace.specs.Session.{AreOpenFrom};
 ghost use Rattle.mds_debugger.specs.Vehicle.{told_of};
+ghost use Rattle.mds_commands.specs.Source.{HasItemsIn, ExplainsFile};
 ghost use Rattle.mds_commands.specs.Debug.{Debugs, DebugWentOut, ExplainsDebug, HasSession, IsNamed, IsOpened, IsOther, Shown, StopsShowing, TellsDebug, debug_status_of};
 
 use crate::commands::status_on;
 use crate::problem::{Problem, tell};
-use crate::source::{Source, items_in, tables_in};
+use crate::source::{Form, Source, each_item_in, tables_in};
 use crate::status::Status;
-use mds_batch::EventItem;
-use mds_core::{Event, Key};
-use mds_debugger::{CountsLine, print_start, print_walk, read_script, script_of, vehicle_events};
+use mds_core::Key;
+use mds_debugger::{
+    VehicleReplay, VehicleSession, print_start, print_walk, read_script, script_of,
+};
 use mds_io::{MAX_CALLS, PrintError, write_all_of};
-use mds_table::{State, Tables};
-use mds_trace::{Opening, Session, SessionFault, replay};
+use mds_table::Tables;
 use std::alloc::{AllocError, Global};
 use std::io::{Read, Write};
 use uuid::Uuid;
@@ -163,19 +164,12 @@ fn debug_into<'a, T: Read + Drop, R: Read + Drop, I: Read, W: Write>(
     Ok(refused)
 }
 
-/// A session over a vehicle's accepted events, and how many of its events were accepted and refused.
-#[derive(Drop)]
-struct Opened {
-    session: Session,
-    counts: CountsLine,
-}
-
 fn session_on<'a, T: Read + Drop, R: Read + Drop>(
     alloc: Global,
     table: Option<Source<'a, T>>,
     file: Source<'a, R>,
     named: Named<'a>,
-) -> Result<Opened, DebugProblem<'a>>
+) -> Result<VehicleSession, DebugProblem<'a>>
     ensures ok { IfOk result (λ opened. HasSession T.remaining table.entry R.remaining file.entry
         named.entry opened.session opened.counts) }
     ensures err { IfErr result (λ problem. ExplainsDebug T.remaining table.entry R.remaining
@@ -186,54 +180,37 @@ fn session_on<'a, T: Read + Drop, R: Read + Drop>(
         return Err(DebugProblem::BadIdentifier);
     };
     let tables = tables_in(alloc, table)?;
-    let items = items_in(alloc, file)?;
-    match open_on(alloc, tables, &items, key)? {
+    match open_on(alloc, tables, file, key)? {
         Some(opened) => Ok(opened),
         None => Err(DebugProblem::NotInFile),
     }
 }
 
-fn open_on(
+/// The items are replayed as they are read: of each but the vehicle's accepted events nothing is kept.
+fn open_on<'a, R: Read + Drop>(
     alloc: Global,
     tables: Tables,
-    items: &[EventItem],
+    file: Source<'a, R>,
     key: Key,
-) -> Result<Option<Opened>, AllocError>
-    ensures { IfOk result (λ found. MatchOption found (told_of key items.now ≡ 0)
-        (λ opened. IsOpened tables items.now key opened.session opened.counts)) }
+) -> Result<Option<VehicleSession>, Problem<'a>>
+    ensures ok { IfOk result (λ found. (items : List Item)
+        × HasItemsIn Form.Batch R.remaining file.entry items
+        × MatchOption found (told_of key items ≡ 0)
+        (λ opened. IsOpened tables items key opened.session opened.counts)) }
+    ensures err { IfErr result (ExplainsFile Form.Batch R.remaining file.entry) }
 {
-    let report = replay(alloc, tables.copy(alloc)?, items, Opening::Removed)?;
-    let told = vehicle_events(alloc, items, &report.lines, key)?;
-    let counts = CountsLine {
-        events: told.accepted.len(),
-        refused: told.refused,
-    };
-    if counts.events == 0 && counts.refused == 0 {
+    let mut replay = VehicleReplay::open(alloc, tables, key);
+    each_item_in(alloc, file, &mut replay)?;
+    let opened = replay.finish();
+    if opened.counts.events == 0 && opened.counts.refused == 0 {
         return Ok(None);
     }
-    let session = session_of(alloc, tables, told.accepted)?;
-    Ok(Some(Opened { session, counts }))
-}
-
-fn session_of(alloc: Global, tables: Tables, events: Vec<Event>) -> Result<Session, AllocError>
-    requires { AreOpenFrom tables State.Removed events.items }
-    ensures { IfOk result (λ session. session ≡ record {
-      tables = tables;
-      opening = State.Removed;
-      events = events.items;
-      place = record { event = 0; passed = 0 };
-    }) }
-{
-    match Session::open(alloc, tables, State::Removed, events) {
-        Ok(session) => Ok(session),
-        Err(SessionFault::Memory) => Err(AllocError),
-        Err(_) => unreachable!(),
-    }
+    Ok(Some(opened))
 }
 
 fn show<'a, I: Read, W: Write>(
     alloc: Global,
-    opened: Opened,
+    opened: VehicleSession,
     script: &mut I,
     out: &mut W,
 ) -> Result<(), DebugProblem<'a>>
