@@ -1,7 +1,11 @@
 """The debugger: scripts, and what they print of a session."""
 
+import re
 import select
 import subprocess
+import tempfile
+from contextlib import contextmanager
+from pathlib import Path
 
 from cases.replays import A, ANY_RUNS, B, P, batch, event, history, turn
 from cases.tables import ONE_ROW
@@ -109,25 +113,55 @@ def long_sessions():
     yield debugged(script, found + inside + chain, batch(last), (MANY, 0), name="run to the last event")
 
 
-def starts_before_its_script(program):
-    """The first two lines come before anything of standard input does, which is read then."""
-    words = [program, "debug", str(EXAMPLE.with_suffix(".json")), P, A]
+def start_of(child, length):
+    """What a process printed, up to so many bytes, or as long as it prints some within ten seconds."""
+    found = b""
+    while len(found) < length and select.select([child.stdout], [], [], 10)[0]:
+        piece = child.stdout.read(1000)
+        if not piece:
+            break
+        found += piece
+    return found
+
+
+@contextmanager
+def begun(program, file, counts):
+    """The debugger on the first vehicle of a file, before it reads a script, and what is wrong with its first two lines."""
+    words = [program, "debug", str(file), P, A]
     child = subprocess.Popen(words, stdin=subprocess.PIPE, stdout=subprocess.PIPE, bufsize=0)
     try:
-        found, wanted = b"", f"events 2 refused 0\n{START}".encode()
-        while len(found) < len(wanted) and select.select([child.stdout], [], [], 10)[0]:
-            piece = child.stdout.read(1000)
-            if not piece:
-                break
-            found += piece
-        if found != wanted:
-            yield f"{found!r}, in place of {wanted!r}, before anything of standard input"
-        rest, _ = child.communicate(b"step\n", timeout=60)
-        if (child.returncode, rest) != (0, STEPPED.encode()):
-            yield f"status {child.returncode} and {rest!r} behind `step`"
+        wanted = ("events {} refused {}\n".format(*counts) + START).encode()
+        found = start_of(child, len(wanted))
+        yield child, [] if found == wanted else [f"{found!r}, in place of {wanted!r}, before anything of standard input"]
     finally:
         child.kill()
         child.communicate()
+
+
+def starts_before_its_script(program):
+    """The first two lines come before anything of standard input does, which is read then."""
+    with begun(program, EXAMPLE.with_suffix(".json"), (2, 0)) as (child, wrong):
+        yield from wrong
+        rest, _ = child.communicate(b"step\n", timeout=60)
+        if (child.returncode, rest) != (0, STEPPED.encode()):
+            yield f"status {child.returncode} and {rest!r} behind `step`"
+
+
+MOST_HELD = 30_000_000
+"""How many bytes the debugger holds at most over as many events of a vehicle as there may be."""
+
+
+def holds_little(program):
+    """The debugger holds no more of a file of as many events of a vehicle as there may be."""
+    with tempfile.TemporaryDirectory() as folder:
+        file = Path(folder) / "events.json"
+        file.write_text(batch(history(A, 0, MAX_ITEMS)))
+        with begun(program, file, (MAX_ITEMS, 0)) as (child, wrong):
+            yield from wrong
+            status = Path(f"/proc/{child.pid}/status").read_text()
+            held = 1024 * int(re.search(r"^VmHWM:\s*(\d+) kB$", status, re.M)[1])
+            if held > MOST_HELD:
+                yield f"{held} bytes held, past {MOST_HELD}, over {MAX_ITEMS} events of a vehicle"
 
 
 def faults():

@@ -52,7 +52,7 @@ TESTED = {
     ("mds_trace", "test_replays", "session_succeeds_after_a_refused_growth"): ["Session::open", "Session::chain"],
     ("mds_trace", "test_replays", "lines_are_replayed_after_a_refused_growth"): ["LineReplay::feed", "LineReplay::finish"],
     ("mds_debugger", "test_replays", "a_script_is_read_after_a_refused_growth"): ["read_script", "script_of"],
-    ("mds_debugger", "test_replays", "a_start_is_printed_after_a_refused_growth"): ["vehicle_events", "print_start"],
+    ("mds_debugger", "test_replays", "a_start_is_printed_after_a_refused_growth"): ["print_start"],
     ("mds_debugger", "test_replays", "a_walk_is_printed_after_a_refused_growth"): ["print_walk"],
     ("mds_commands", "test_replays", "tables_are_had_after_a_refused_growth"): ["tables_in"],
     ("mds_request", "test_faces", "call_succeeds_after_a_refused_growth"): ["Face::open", "plan_of", "HeadStatus::plan"],
@@ -106,6 +106,7 @@ WITHOUT = ["mds_table::Tables::new", "mds_io::flush_page"]
 """Calls that take no memory, though their fault is a type that could tell of a lack: that of calls beside them."""
 
 WITHIN = {
+    "mds_core::EventList::reserve": "mds_debugger::print_start",
     "mds_face::KeptDesk::keep": "mds_face::serve_kept",
     "mds_request::Head::plan": "mds_face::serve_whole",
     "mds_follow::Record::append": "mds_follow::SharedFollower::commit",

@@ -1,17 +1,14 @@
 //! The debugger's readers and writers that fail, and its calls where memory is wanting.
-use crate::told::{Told, items_of};
-use mds_core::Refusal;
+use mds_batch::{BatchFault, each_event};
 use mds_debugger::{
-    CountsLine, Move, ScriptCommand, ScriptEnd, VehicleEvents, print_start, print_walk,
-    read_script, script_of, vehicle_events,
+    Move, ScriptCommand, ScriptEnd, VehicleReplay, VehicleSession, print_start, print_walk,
+    read_script, script_of,
 };
 use mds_io::PrintError;
-use mds_table::State::{Available, OnTrip, Removed};
-use mds_trace::{Session, SessionFault, Verdict};
+use mds_table::State::Removed;
 use std::alloc::{AllocError, Global};
 use test_fixtures::{
-    A, B, E1, E2, ENDS, Expects, FAILS, Lack, Last, PAUSES, Stream, again, fence, key, profile,
-    rows,
+    A, ENDS, Expects, FAILS, Lack, Last, PAUSES, Stream, again, fence, key, profile, rows,
 };
 
 /// What is read of a stream: how many bytes, how many are left, the number of calls, and how reading ends.
@@ -84,31 +81,20 @@ fn a_script_is_read_after_a_refused_growth(rt: HostRuntime) {
     assert_eq!(rt; again!(is_read(rt.alloc())), Ok(true));
 }
 
-/// Two events of A, of which the second comes too soon, between one of B.
-const TOLD: &[Told] = &[
-    Told(A, E1, &["provider_drop_off"], Available, 1000),
-    Told(B, E1, &["provider_drop_off"], Available, 1000),
-    Told(A, E2, &["trip_start"], OnTrip, 999),
-];
-
-/// What a replay says of them.
-const VERDICTS: &[Verdict] = &[
-    Verdict::Accepted(Available),
-    Verdict::Accepted(Available),
-    Verdict::Refused(Refusal::Late { last: 1000 }),
-];
+/// Two events of A, of which the second comes too soon, between them one of B, and an item that is none.
+const EVENTS: &str = r#"[
+{"provider_id":"00000000-0000-4000-8000-000000000001","device_id":"00000000-0000-4000-8000-00000000000a","event_id":"00000000-0000-4000-8000-0000000000e1","vehicle_state":"available","event_types":["provider_drop_off"],"timestamp":1000},
+{"provider_id":"00000000-0000-4000-8000-000000000001","device_id":"00000000-0000-4000-8000-00000000000b","event_id":"00000000-0000-4000-8000-0000000000e1","vehicle_state":"available","event_types":["provider_drop_off"],"timestamp":1000},
+7,
+{"provider_id":"00000000-0000-4000-8000-000000000001","device_id":"00000000-0000-4000-8000-00000000000a","event_id":"00000000-0000-4000-8000-0000000000e2","vehicle_state":"on_trip","event_types":["trip_start"],"timestamp":999}
+]"#;
 
 /// A session over the event of A that was accepted, and what is counted.
-fn opened(alloc: Global) -> Result<(Session, CountsLine), Lack> {
-    let items = items_of(alloc, TOLD)?;
-    let VehicleEvents { accepted, refused } = vehicle_events(alloc, &items, VERDICTS, key(A))?;
-    let counts = CountsLine {
-        events: accepted.len(),
-        refused,
-    };
-    match Session::open(alloc, profile(alloc)?, Removed, accepted) {
-        Ok(session) => Ok((session, counts)),
-        Err(SessionFault::Memory) => Err(Lack::Memory),
+fn opened(alloc: Global) -> Result<VehicleSession, Lack> {
+    let mut replay = VehicleReplay::open(alloc, profile(alloc)?, key(A));
+    match each_event(alloc, EVENTS.as_bytes(), &mut replay) {
+        Ok(()) => Ok(replay.finish()),
+        Err(BatchFault::Memory) => Err(Lack::Memory),
         Err(_) => Err(Lack::Case),
     }
 }
@@ -126,7 +112,7 @@ fn printed(end: Result<(), PrintError>, writer: &Expects<'_>) -> Result<Printed,
 
 /// The printing of a session's start.
 fn started(alloc: Global) -> Result<Printed, Lack> {
-    let (session, counts) = opened(alloc)?;
+    let VehicleSession { session, counts } = opened(alloc)?;
     let mut writer = Expects {
         rest: b"events 1 refused 1\n0 0 removed possible removed\n",
     };
@@ -136,7 +122,7 @@ fn started(alloc: Global) -> Result<Printed, Lack> {
 
 /// The printing of what a script does in a new session.
 fn walked(alloc: Global, script: &[Said], rest: &'static [u8]) -> Result<Printed, Lack> {
-    let (mut session, _) = opened(alloc)?;
+    let mut session = opened(alloc)?.session;
     let mut writer = Expects { rest };
     let end = print_walk(alloc, &mut writer, &mut session, script);
     printed(end, &writer)
@@ -188,7 +174,7 @@ fn misread_and_quit(
     alloc: Global,
     lines: &[(&[u8], Said)],
 ) -> Result<(Option<usize>, Result<(), PrintError>), Lack> {
-    let (mut session, _) = opened(alloc)?;
+    let mut session = opened(alloc)?.session;
     let mut writer = Expects { rest: b"" };
     let _begun = fence(alloc);
     let misread = first_misread(lines);
