@@ -82,11 +82,11 @@ def function_at(path, text, place):
     return found and (module_of(path), plain_head(found[0])[1] if found[0] else "", found[1])
 
 
-def home_of(crate, kind):
-    """The module of a type of a crate, if one alone declares it."""
+def home_of(crate, kind, path):
+    """The module of a type of a crate, or that of this file where no single one declares it."""
     folder, declared = ROOT / "crates" / crate, re.compile(rf"\b(?:struct|enum|trait) {kind}\b")
     homes = [module_of(it.relative_to(folder)) for it in folder.glob("src/**/*.rt") if declared.search(it.read_text())]
-    return homes[0] if len(homes) == 1 else None
+    return homes[0] if len(homes) == 1 else module_of(path)
 
 
 def told_as(crate, path, text, place):
@@ -97,7 +97,7 @@ def told_as(crate, path, text, place):
     if not found:
         return None
     trait, kind = plain_head(found[0]) if found[0] else ("", "")
-    module = module_of(path) if trait or not kind else home_of(crate, kind) or module_of(path)
+    module = home_of(crate, kind, path) if kind and not trait else module_of(path)
     return "::".join(filter(None, (module, kind + trait, found[1])))
 
 

@@ -114,4 +114,4 @@ class Bench:
         if is_program(crate):
             return self.say("check", crate, {})
         self.library(crate).parent.mkdir(exist_ok=True)
-        return self.say("build", crate, {}, "--statements", "-o", self.library(crate))
+        return self.say("build", crate, {}, "-o", self.library(crate))
