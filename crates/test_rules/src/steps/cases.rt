@@ -10,8 +10,8 @@ use test_fixtures::rows;
 pub enum Asked {
     /// From the state held to the state reported: where an event gets stuck, or `None` where it's admitted.
     Admit(State, State, Option<usize>),
-    /// The same: the least chain, or no states where there is none.
-    Chain(State, State, &'static [State]),
+    /// The same: the least chain, or `None` where there is none.
+    Chain(State, State, Option<&'static [State]>),
     /// The states held, and those that may follow.
     Forward(&'static [State], &'static [State]),
     /// The state reported, and the states that may have been held.
@@ -47,18 +47,19 @@ pub const PROFILED: &[Case] = rows! {
     (ENDS_LOW, 2, Admit(OnTrip, NonOperational, None)),
     (ENDS_LOW, 2, Forward(&[OnTrip], &[NonOperational])),
     (ENDS_LOW, 2, Openings(NonOperational, &[OnTrip])),
-    (ENDS_LOW, 2, Chain(OnTrip, NonOperational, &[OnTrip, Available, NonOperational])),
+    (ENDS_LOW, 2, Chain(OnTrip, NonOperational, Some(&[OnTrip, Available, NonOperational]))),
     // a vehicle is heard of again, and its trip ends
     (BACK_AND_ENDS, 2, Admit(NonContactable, Available, None)),
     (BACK_AND_ENDS, 1, Forward(&[NonContactable], &[Removed, Available, NonOperational, Reserved, OnTrip, Elsewhere])),
     (BACK_AND_ENDS, 2, Forward(&[NonContactable], &[Available])),
-    (BACK_AND_ENDS, 2, Chain(NonContactable, Available, &[NonContactable, OnTrip, Available])),
+    (BACK_AND_ENDS, 2, Chain(NonContactable, Available, Some(&[NonContactable, OnTrip, Available]))),
     // it's heard of again, and lost again
     (BACK_AND_LOST, 2, Admit(NonContactable, NonContactable, None)),
-    (BACK_AND_LOST, 2, Chain(NonContactable, NonContactable, &[NonContactable, Removed, NonContactable])),
+    (BACK_AND_LOST, 2, Chain(NonContactable, NonContactable, Some(&[NonContactable, Removed, NonContactable]))),
+    (["comms_lost"; 2], 1, Openings(NonContactable, &[Removed, Available, NonOperational, Reserved, OnTrip, Elsewhere])),
     // the order of types matters
     (CHARGED_AND_LOW, 2, Admit(Available, Available, Some(0))),
-    (CHARGED_AND_LOW, 2, Chain(Available, Available, &[])),
+    (CHARGED_AND_LOW, 2, Chain(Available, Available, None)),
     (LOW_AND_CHARGED, 2, Admit(Available, Available, None)),
     // a type twice, and once
     (LOW_TWICE, 2, Admit(Available, NonOperational, Some(1))),
@@ -110,7 +111,7 @@ const THERE_AND_BACK: &[State] = rows! {
 };
 
 /// Over the table of the depot.
-pub const STORED: &[Case] = &[
+pub const STORED: &[Case] = rows! {
     (WAKE_AND_STORE, 2, Admit(Removed, InDepot, None)),
     (WAKE_AND_STORE, 2, Openings(InDepot, &[Removed])),
     (STORE_TWICE, 1, Openings(InDepot, &[Available])),
@@ -118,8 +119,8 @@ pub const STORED: &[Case] = &[
     (GO_AND_STORE, 64, Admit(InDepot, InDepot, None)),
     (GO_AND_STORE, 64, Forward(&[InDepot], &[InDepot])),
     (GO_AND_STORE, 64, Openings(InDepot, &[InDepot])),
-    (GO_AND_STORE, 64, Chain(InDepot, InDepot, THERE_AND_BACK)),
-    (GO_AND_STORE, 64, Chain(InDepot, Available, &[])),
+    (GO_AND_STORE, 64, Chain(InDepot, InDepot, Some(THERE_AND_BACK))),
+    (GO_AND_STORE, 64, Chain(InDepot, Available, None)),
     (GO_TWICE, 2, Admit(InDepot, Available, Some(1))),
     (GO_TWICE, 2, Stuck(&State::ALL, 1)),
-];
+};

@@ -29,7 +29,7 @@ fn is_answer(
         }
         Asked::Chain(held, reported, states) => {
             let found = least_chain(alloc, table, *held, types, *reported)?;
-            found.unwrap_or(Vec::new(alloc)).as_slice() == *states
+            found.as_deref() == *states
         }
         Asked::Forward(held, states) => {
             forward(table, &set_of(held), types).states().as_slice() == *states
