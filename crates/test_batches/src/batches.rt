@@ -1,4 +1,5 @@
 //! Batches: a value from outside, and that each call can succeed. More values are asked of the built program.
+mod edges;
 mod quiet;
 mod single;
 mod takers;
@@ -13,16 +14,14 @@ use std::alloc::{AllocError, Global};
 pub use takers::Few;
 use test_fixtures::{A, E1, again, event_of, key};
 
-/// How many items a text lists and the fault of the first, or why it lists none.
+/// How many items of a text have the fault of the first, and that fault; or why it lists none.
 type First = Result<(usize, Option<ItemFault>), BatchFault>;
 
 fn first_of<I: BatchItem + Drop>(read: Result<Vec<I>, BatchFault>) -> First {
     let items = read?;
-    let fault = match items.first() {
-        Some(item) => item.fault(),
-        None => None,
-    };
-    Ok((items.len(), fault))
+    let fault = items.first().and_then(|item| item.fault());
+    let count = items.iter().filter(|item| item.fault() == fault).count();
+    Ok((count, fault))
 }
 
 fn first_kept(read: Result<EventItems, BatchFault>) -> First {
@@ -86,8 +85,9 @@ fn registrations(rt: HostRuntime) {
     assert_eq!(rt; are_registered(rt.alloc()), Ok(true));
 }
 
-/// Two items, of which one is at fault.
-pub const TWO_ITEMS: &[u8] = br#"[{"provider_id":"00000000-0000-4000-8000-000000000001"},7]"#;
+/// Two items without a device.
+pub const TWO_ITEMS: &[u8] =
+    br#"[{"provider_id":"00000000-0000-4000-8000-000000000001"},{"provider_id":"00000000-0000-4000-8000-000000000001"}]"#;
 
 /// Each call, made again where its growth is refused (by `tests/refused-growths`).
 #[test]

@@ -1,6 +1,6 @@
 //! A text of one item.
 use super::{EVENT, report};
-use mds_batch::{BatchFault, EventItem, ItemReader, read_item};
+use mds_batch::{BatchFault, EventItem, ItemFault, ItemReader, read_item};
 use std::alloc::Global;
 use test_fixtures::again;
 
@@ -31,4 +31,11 @@ fn are_read_again(alloc: Global) -> bool {
 #[test]
 fn an_item_is_read_after_a_refused_growth(rt: HostRuntime) {
     assert!(rt; are_read_again(rt.alloc()));
+}
+
+#[test]
+fn texts_of_no_object(rt: HostRuntime) {
+    let read = [read_item(rt.alloc(), b"[]"), read_item(rt.alloc(), b"")];
+    let fault = EventItem::Fault(ItemFault::NotObject);
+    assert_eq!(rt; read, [Ok(fault), Err(BatchFault::NotJson)]);
 }
