@@ -15,7 +15,10 @@ PASSED_ON = {
     "mds_follow/restart.rt": {"refill": ["book.call"]},
     "mds_io/page.rt": {"add_line": ["writeln!"], "end_page": ["writeln!"]},
     "mds_io/read.rt": {"read_more": ["bytes.extend_from_slice"]},
-    "mds_core/event_list.rt": {"EventList::with_room": ["count.checked_mul"]},
+    "mds_core/event_list.rt": {
+        "EventList::with_room": ["count.checked_mul"],
+        "EventList::reserve": ["count.checked_mul"],
+    },
     "mds_entries/entry.rt": {"EntryReader::text_of": ["lay_out"]},
     "mds_journal/all.rt": {"read_lines": ["lines.push"]},
     "mds_journal/group.rt": {"Group::push": ["add_line"]},
