@@ -5,19 +5,19 @@ use std::alloc::Global;
 use test_fixtures::{A, B, DROP_OFF, E0, E1, Lack, again, event_of, fence};
 
 /// An event of A, and one of B with two types.
-fn two_events() -> Option<[Event; 2]> {
+fn two_events() -> Option<(Event, Event)> {
     let low = &["battery_low", "comms_lost"];
-    Some([
+    Some((
         event_of(A, E0, DROP_OFF, State::Available, 1000, None)?,
         event_of(B, E1, low, State::NonContactable, 2000, None)?,
-    ])
+    ))
 }
 
 /// The two in a list that had room for one, each call made again where its growth is refused.
-fn list_of(alloc: Global, events: &[Event; 2]) -> Result<EventList, Lack> {
+fn list_of(alloc: Global, first: &Event, second: &Event) -> Result<EventList, Lack> {
     let mut list = again!(EventList::with_room(alloc, 1))?;
-    again!(list.push(&events[0]))?;
-    again!(list.push(&events[1]))?;
+    again!(list.push(first))?;
+    again!(list.push(second))?;
     Ok(list)
 }
 
@@ -31,8 +31,8 @@ fn types_at(list: &EventList, at: usize) -> usize {
 
 /// How many events the list of the two has, and how many types each of them.
 fn counts(alloc: Global) -> Result<(usize, [usize; 2]), Lack> {
-    let events = two_events().ok_or(Lack::Case)?;
-    let list = list_of(alloc, &events)?;
+    let (first, second) = two_events().ok_or(Lack::Case)?;
+    let list = list_of(alloc, &first, &second)?;
     Ok((list.len(), [types_at(&list, 0), types_at(&list, 1)]))
 }
 
@@ -57,14 +57,14 @@ fn is_at(list: &EventList, at: usize, event: &Event, other: &Event) -> bool {
 
 /// How many events a new list has; and of the list of the two, turned round, whether each event is at its place.
 fn told_of(alloc: Global) -> Result<(usize, [bool; 2]), Lack> {
-    let events = two_events().ok_or(Lack::Case)?;
-    let mut list = list_of(alloc, &events)?;
+    let (first, second) = two_events().ok_or(Lack::Case)?;
+    let mut list = list_of(alloc, &first, &second)?;
     let _begun = fence(alloc);
     let none = EventList::new(alloc).len();
     list.reverse();
     let found = [
-        is_at(&list, 0, &events[1], &events[0]),
-        is_at(&list, 1, &events[0], &events[1]),
+        is_at(&list, 0, &second, &first),
+        is_at(&list, 1, &first, &second),
     ];
     let _ended = fence(alloc);
     Ok((none, found))
