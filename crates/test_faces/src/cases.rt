@@ -6,13 +6,13 @@ use test_fixtures::{Lack, again, profile_again};
 /// An answer: what stands in the status line behind the version, and the body.
 pub type Answer = (&'static str, &'static str);
 
-const BAD: &str = "400 Bad Request";
+pub const BAD: &str = "400 Bad Request";
 
 pub const BAD_HEAD: Answer = (BAD, r#"{"error":"bad_head"}"#);
 
 pub const CUT_SHORT: Answer = (BAD, r#"{"error":"cut_short"}"#);
 
-const NONE: &str = "404 Not Found";
+pub const NONE: &str = "404 Not Found";
 
 pub const NO_ROUTE: Answer = (NONE, r#"{"error":"not_found"}"#);
 
