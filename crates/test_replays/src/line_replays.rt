@@ -76,6 +76,19 @@ fn worked_streams(rt: HostRuntime) {
     assert_eq!(rt; first_other(rt.alloc(), STREAMS), Ok(None));
 }
 
+/// The faults of a replay whose second line is none: at that line, behind it, and at the end.
+fn told_again(alloc: Global) -> Result<[Option<LineFault>; 3], AllocError> {
+    let mut replay = opened(alloc, Opening::Removed)?;
+    let first = replay.feed(b"7\n{\n").err();
+    let again = replay.feed(b"7\n").err();
+    Ok([first, again, replay.finish().err()])
+}
+
+#[test]
+fn a_fault_is_told_again(rt: HostRuntime) {
+    assert_eq!(rt; told_again(rt.alloc()), Ok([Some(SECOND); 3]));
+}
+
 /// How a replay that takes in no byte goes, between two fences.
 fn begun(alloc: Global) -> Result<Result<(), LineFault>, AllocError> {
     let tables = profile(alloc)?;
