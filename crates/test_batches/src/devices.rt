@@ -142,8 +142,7 @@ fn lines_share_a_write(rt: HostRuntime) {
     assert_eq!(rt; shared_page(rt.alloc()), Ok([(0, 65_532), (65_538, 0)]));
 }
 
-/// What two kinds of reads give behind three bytes, each made again where its growth is refused, which leaves the bytes as they
-/// were.
+/// What two kinds of reads give behind three bytes, each made again where its growth is refused, which leaves all as it was.
 fn read_again(alloc: Global) -> Result<Vec<u8>, ReadError> {
     let mut bytes = Vec::new(alloc);
     let mut room = [0u8; 4];

@@ -62,8 +62,7 @@ struct End {
     rows: usize,
 }
 
-/// All that a book tells: how many events A, B and C have, and what its shards and its seats, one behind the other, hold in
-/// the end.
+/// All that a book tells: how many events A, B and C have, and what its shards and its seats, in turn, hold at last.
 #[derive(Drop)]
 struct Told {
     shown: Shown,
@@ -470,8 +469,7 @@ fn told_anew<R: Threads + Wait + RandomSource + Sync>(
     told_in::<Brand, Brand, R>(rt, alloc, tables, asking, hashers, first, second)
 }
 
-/// What a book over the profile tells, of so many seats that note what is accepted. It is opened again where there was no
-/// memory.
+/// What a book over the profile tells, of so many seats that note what is accepted. It is opened again for want of memory.
 fn told_again<R: Threads + Wait + RandomSource + Sync>(
     rt: &R,
     alloc: Global,

@@ -265,8 +265,7 @@ fn answers_leave_as_their_clients_take_them(rt: HostRuntime) {
     assert_eq!(rt; other_answer(), None);
 }
 
-/// Writes five bytes in two pieces to a client: how many bytes it was sent, how many are kept for it, and whether all is there, in
-/// order.
+/// Writes five bytes in two pieces to a client: how many bytes it was sent, how many are kept, and whether all are in order.
 fn written(alloc: Global, acts: &'static [Act]) -> io::Result<(usize, usize, bool)> {
     let mut outgoing = Outgoing::new(alloc, Played::new(acts));
     outgoing.write_all(b"123")?;

@@ -234,8 +234,7 @@ const CASES: &[Case] = rows! {
 /// How many bytes the requests have that have no route. They aren't handed on whole.
 const WITHOUT_ROUTE: usize = 18;
 
-/// Takes a connection, answers it and ends it: how many bytes its request has. `None` where none was taken, or it was handed on
-/// otherwise.
+/// Takes a connection, answers it and ends it: how many bytes its request has. `None` where none was taken, or not as it came.
 fn taken<R: Wait + Copy>(port: &WaitingPort<PlayedSystem, R>) -> Option<usize> {
     let (mut input, mut output) = port.accept().ok()?;
     let is_whole = port.whole_of(&input).is_some();

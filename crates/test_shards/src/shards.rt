@@ -1,5 +1,4 @@
-//! What no clause says: the worked cases, that each call can succeed, and that a shard with many vehicles does what a
-//! fleet does.
+//! What no clause says: the worked cases, that each call can succeed, and that a shard of many vehicles is as a fleet.
 mod cases;
 mod many;
 mod refused;

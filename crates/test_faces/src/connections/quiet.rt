@@ -34,8 +34,7 @@ fn faults_of(alloc: Global, face: &Face, fleet: &mut Fleet, mut peer: Peer) -> F
 const EVENTS: &[u8] =
     b"GET /vehicles/00000000-0000-4000-8000-000000000001/00000000-0000-4000-8000-00000000000a/events HTTP/1.1\r\n\r\n";
 
-/// What is told between two fences: outcomes, faults, what a GET of events is answered, and whether the desk gives no
-/// rows.
+/// What is told between two fences: outcomes, faults, what a GET of events is answered, and whether no rows are given.
 type Quiet = (Result<([Outcome; 2], bool), AllocError>, Faults, Told, bool);
 
 /// What is to be told, where the growths are refused or not.

@@ -80,8 +80,7 @@ fn a_shard_after_a_first_event(rt: HostRuntime) {
     assert_eq!(rt; told_after(&rt, rt.alloc(), FIRST_EVENT), Ok(told));
 }
 
-/// C's changes of three tables, after A's of all: two of them at the end of the first one's time, and one past all
-/// starts.
+/// C's changes of three tables, after A's of all: two of them where the first one's time ends, one past all starts.
 const AFTER_TURNS: &[Step] = rows! {
     (Register(C), 65, Done),
     (Report(C, E0, &["wake"], Available, 2999), 66, Done),
