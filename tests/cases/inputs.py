@@ -7,7 +7,7 @@ from cases.serve import NO_CONNECTION, SERVED
 from cases.tables import ONE_ROW, ONE_ROW_PRINTED, PROFILE, table_printed
 from cases.vehicles import journal, listed, not_a_journal, registered
 from harness.building import no_random_numbers
-from harness.case import OPEN, RANDOM, SOME, Case, cannot_read, not_a_batch, not_a_table, told
+from harness.case import NO_STREAMS, OPEN, OUTPUT, RANDOM, SOME, Case, cannot_read, not_a_batch, not_a_table, told
 from harness.running import differences, label, outcome
 
 SECONDS = 60
@@ -41,6 +41,8 @@ def unread():
     for words in (f"debug events.json {P} x", f"debug - {P} x"):
         yield Case(words, status=2, faults=BAD, files=FILES)
     yield Case(f"debug events.json {P} {B}", status=1, faults=NOBODY, files=FILES)
+    for stdout in NO_STREAMS:
+        yield told(f"debug events.json {P} {A}", OUTPUT, files=FILES, stdout=stdout)
 
 
 def input_that_stays_open(program):
