@@ -28,6 +28,8 @@ def not_a_journal(fault):
 WOKEN = event(A, "e1", "provider_drop_off", "available", 1000)
 RESERVED = event(A, "e2", "reservation_start", "reserved", 2000)
 NEW = (registered(A),)
+LONG = "x" * (MAX_BYTES + 1)
+"""No request, and too long for a line."""
 # The lines behind the form's, and what is printed of them: a vehicle's device, its state, and how many events it has.
 TAKEN = [
     ((), []),
@@ -54,6 +56,9 @@ FAULTS = [
     ((*NEW, WOKEN, "{", RESERVED), "bad_line 3"),
     ((padded(registered(A), MAX_BYTES + 1),), "too_long 1"),
     ((*NEW, padded(WOKEN, MAX_BYTES + 1)), "too_long 2"),
+    ((LONG,), "too_long 1"),
+    ((*NEW, LONG, RESERVED), "too_long 2"),
+    ((*NEW, RESERVED, LONG), "refused 2"),
 ]
 # Files whose first line that counts, if there is one, isn't the form's.
 NO_FORM = [
@@ -85,7 +90,7 @@ def journals():
         yield listed(journal(*texts, end="#" + ROOM), vehicles)
         yield listed("", vehicles, words="vehicles -", given=journal(*texts))
     # behind a gate that isn't open, and in a line that was cut off, nothing counts
-    for end in (f"#{WOKEN}\n {RESERVED}\n", "\n", "x {\n", f" {WOKEN}", " {", f" {WOKEN[:-1]}"):
+    for end in (f"#{WOKEN}\n {RESERVED}\n", "\n", "x {\n", f" {WOKEN}", " {", f" {WOKEN[:-1]}", f"#{LONG}", f" {LONG[1:]}"):
         yield listed(journal(*NEW, end=end), [(A, "removed", 0)])
     wake = event(A, "e1", "wake", "available", 1000)
     for words in ("vehicles journal --table table.json", "vehicles --table=table.json -- journal"):
@@ -100,8 +105,12 @@ def journal_faults():
     for text in NO_FORM:
         yield told("vehicles journal", not_a_journal("form"), files={"journal": text})
         yield told("vehicles -", not_a_journal("form"), given=text)
-    long_form = journal(form=padded(FORM, MAX_BYTES + 1))
-    yield told("vehicles journal", not_a_journal("too_long 0"), files={"journal": long_form})
+    for form in (padded(FORM, MAX_BYTES + 1), LONG):
+        yield told("vehicles journal", not_a_journal("too_long 0"), files={"journal": journal(form=form)})
+    # a line is too long also where it was cut off, and it doesn't count where its gate is closed
+    for text, fault in ((f" {LONG}", "too_long 0"), (f"#{LONG}", "form"), (f" {LONG[1:]}", "form")):
+        yield told("vehicles journal", not_a_journal(fault), files={"journal": text})
+    yield told("vehicles journal", not_a_journal("too_long 2"), files={"journal": journal(*NEW, end=f" {LONG}")})
     yield told("vehicles nowhere", cannot_read("nowhere"))
     yield told("vehicles nowhere --table no-table", cannot_read("no-table"))
     yield told("vehicles journal", cannot_read("journal"), files={"journal": FOLDER})

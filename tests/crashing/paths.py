@@ -8,7 +8,7 @@ from pathlib import Path
 
 from cases.replays import event
 from cases.tables import ONE_ROW
-from cases.vehicles import FORM, journal, not_a_journal, registered
+from cases.vehicles import FORM, LONG, journal, not_a_journal, registered
 from crashing.files import AT_REST, counted, listed_by, vehicles_text
 from crashing.recording import Recording
 from crashing.reports import device_at, registering
@@ -150,6 +150,10 @@ def files_that_are_none(program):
         (journal(new, DROPPED, DROPPED), "refused 3"),
         (journal(new, DROPPED, registered(OTHER), RESERVED, WAKE), "refused 5"),
         (journal(new, new), "refused 2"),
+        (journal(form=LONG), "too_long 0"),
+        (journal(new, LONG, RESERVED), "too_long 2"),
+        (journal(DROPPED, LONG), "refused 1"),
+        (journal(new, end=f" {LONG}"), "too_long 2"),
     ):
         yield from refused(program, text.encode(), not_a_journal(fault))
     yield from refused(program, journal(new, DROPPED).encode(), not_a_journal("refused 2"), table=ONE_ROW)
