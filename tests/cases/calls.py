@@ -12,14 +12,16 @@ from cases.debugging import BAD, EVENTS, MAX_SCRIPT, NOBODY, SECOND, START, UNKN
 from cases.replays import A, B, P, batch, event, identifier, item
 from cases.streams import LONG, LONG_FILES
 from cases.tables import ONE_ROW, ONE_ROW_PRINTED, PROFILE, table_printed
-from cases.vehicles import journal, registered
+from cases.vehicles import journal, listed, not_a_journal, registered
 from harness.building import Counting
-from harness.case import MAX_BYTES, OUTPUT, Case, cannot_read, not_a_batch, not_a_table
+from harness.case import MAX_BYTES, OUTPUT, Case, cannot_read, not_a_batch, not_a_table, padded, told
 from harness.running import differences, outcome
 
 MOST_CALLS = 5000000
 EVERY = MOST_CALLS // 5
 """Of so many calls one moves a byte, and the others are interrupted."""
+IN_A_ROW = 1000
+"""Of a journal so many reads are made that are interrupted in a row."""
 INPUT, OUT, FAULTS, FILE = range(4)
 """The descriptors of the standard streams, and of the first file that is opened."""
 MOVED = MOST_CALLS // EVERY
@@ -49,6 +51,7 @@ WRITES = [
     ("replay missing.json", FAULTS, (3, "", cannot_read("missing.json")[:MOVED])),
     (f"debug events.json {P} {B}", FAULTS, (1, "", NOBODY[:MOVED])),
     (f"debug events.json {P} x", FAULTS, (2, "", BAD[:MOVED])),
+    ("vehicles faulty", FAULTS, (3, "", not_a_journal("form")[:MOVED])),
 ]
 
 
@@ -74,6 +77,20 @@ def interrupted_calls(program):
     with ThreadPoolExecutor(os.cpu_count()) as pool:
         for wrong in pool.map(lambda it: interrupted(program, *it), runs):
             yield from wrong
+
+
+def interrupted_in_a_row(program):
+    """A journal is given up after 1000 reads in a row that are interrupted. Where one of them isn't, all of it is read, also by
+    more than 5000000 calls."""
+    text = journal(padded(registered(A), MOST_CALLS // IN_A_ROW))
+    for name, on in (("journal", FILE), ("-", INPUT)):
+        whole = listed(text, [(A, "removed", 0)], words=f"vehicles {name}", given=text)
+        given_up = told(whole.words, cannot_read(name), files=whole.files, given=text)
+        for case, every, wanted in ((whole, IN_A_ROW, IN_A_ROW * len(text)), (given_up, IN_A_ROW + 1, IN_A_ROW)):
+            wrong, counts = counted(program, case, on, every)
+            if counts.reads != wanted:
+                wrong.append(f"{counts}, in place of {wanted} reads")
+            yield from (f"{case.words}, one read in {every} gives a byte: {complaint}" for complaint in wrong)
 
 
 LONGER = 100000
@@ -114,6 +131,27 @@ def read_so_far(program):
         if (counts.bytes, counts.ends) != wanted:
             wrong.append(f"{counts.bytes} bytes were read, and {counts.ends} ends met, in place of {wanted}")
         yield from (f"{words}: {complaint}" for complaint in wrong)
+
+
+# What comes to an end before the file on a descriptor is looked at: that of a table is opened first.
+BEHIND = [
+    (f"debug events.json {P} x", FILE, (2, "", BAD)),
+    (f"debug events.json {P} x --table table.json", FILE, (2, "", BAD)),
+    (f"debug events.json {P} x --table table.json", FILE + 1, (2, "", BAD)),
+    *[
+        (f"{words} --table faulty", FILE + 1, (3, "", not_a_table("not_json")))
+        for words in ("replay events.json", "replay --lines events.json", f"debug events.json {P} {A}", "vehicles journal")
+    ],
+]
+
+
+def unread_files(program):
+    """Of a file nothing is read behind a problem that is looked for first."""
+    for words, on, (status, out, faults) in BEHIND:
+        wrong, counts = counted(program, Case(words, status=status, out=out, faults=faults, files=FILES), on)
+        if counts.reads != 0:
+            wrong.append(f"{counts}, and nothing was to be read on descriptor {on}")
+        yield from (f"{words}: {text}" for text in wrong)
 
 
 WORKERS = (1, 2, 4, 5, 64)
@@ -172,4 +210,4 @@ def into_a_file(program, words, folder, given, room):
     return ran.returncode, out.read_bytes(), ran.stderr
 
 
-CALLS = [interrupted_calls, read_so_far, threads_of_workers, output_that_is_full]
+CALLS = [interrupted_calls, interrupted_in_a_row, read_so_far, unread_files, threads_of_workers, output_that_is_full]
