@@ -3,7 +3,8 @@
 from cases.batches import batches, items
 from cases.calls import CALLS
 from cases.commands import commands, examples, orders, paths, spaced_paths, wrong_words
-from cases.debugging import faults, holds_little, long_sessions, scripts, starts_before_its_script
+from cases.debugging import faults, holds_little, long_sessions, reads_no_script_before_its_start, scripts
+from cases.debugging import starts_before_its_script
 from cases.depot import depots
 from cases.helps import help_asked_for
 from cases.inputs import input_that_stays_open
@@ -52,5 +53,13 @@ SUBJECTS = [
     outputs_of_serve,
 ]
 """What yields cases."""
-INTERPLAYS = [starts_before_its_script, holds_little, input_that_stays_open, output_that_ends_midway, *CALLS, *PICTURED]
+INTERPLAYS = [
+    starts_before_its_script,
+    reads_no_script_before_its_start,
+    holds_little,
+    input_that_stays_open,
+    output_that_ends_midway,
+    *CALLS,
+    *PICTURED,
+]
 """What runs the program by itself, or a tool, and says what is wrong."""

@@ -1,5 +1,6 @@
 """The debugger: scripts, and what they print of a session."""
 
+import os
 import re
 import select
 import subprocess
@@ -9,7 +10,8 @@ from pathlib import Path
 
 from cases.replays import A, ANY_RUNS, B, P, batch, event, history, turn
 from cases.tables import ONE_ROW
-from harness.case import CLOSED, FOLDER, MAX_BYTES, MAX_ITEMS, NO_STREAMS, OUTPUT, Case
+from harness.building import Refusal
+from harness.case import CLOSED, FOLDER, MAX_BYTES, MAX_ITEMS, NO_MEMORY, NO_STREAMS, OUTPUT, Case
 from harness.case import cannot_read, not_a_batch, not_a_table, told
 from harness.counting import ROOT
 
@@ -145,6 +147,36 @@ def starts_before_its_script(program):
         rest, _ = child.communicate(b"step\n", timeout=60)
         if (child.returncode, rest) != (0, STEPPED.encode()):
             yield f"status {child.returncode} and {rest!r} behind `step`"
+
+
+MOST_GROWTHS = 1000
+"""More growths of memory than the debugger makes over two events."""
+
+
+def without_memory(program, folder, number):
+    """The debugger with the growth of this number refused: whether it came to that, its end, and how many bytes of its script it
+    read."""
+    with Refusal(number) as refusal, open(Path(folder, "script")) as script:
+        ran = subprocess.run([program, *WORDS], cwd=folder, env=refusal.env, stdin=script, capture_output=True, timeout=60)
+        read = os.lseek(script.fileno(), 0, os.SEEK_CUR)
+        return refusal.came(), (ran.returncode, ran.stdout.decode(), ran.stderr.decode()), read
+
+
+def reads_no_script_before_its_start(program):
+    """Whichever growth is refused: unless the first two lines go out, nothing of the script is read, and nothing printed. Each way
+    to end comes by some growth."""
+    start, script, found = "events 2 refused 0\n" + START, "next\n", set()
+    with tempfile.TemporaryDirectory() as folder:
+        Path(folder, "events.json").write_text(EVENTS)
+        Path(folder, "script").write_text(script)
+        for number in range(1, MOST_GROWTHS):
+            came, *end = without_memory(program, folder, number)
+            found.add(tuple(end))
+            if not came:
+                break
+    wanted = {((4, "", NO_MEMORY), 0), ((4, start, NO_MEMORY), len(script)), ((0, start + SECOND, ""), len(script))}
+    yield from (f"{end}, and {read} bytes of the script read" for end, read in sorted(found - wanted))
+    yield from (f"no growth has {end}, and {read} bytes of the script read" for end, read in sorted(wanted - found))
 
 
 MOST_HELD = 30_000_000
