@@ -13,11 +13,12 @@ use Rattle.mds_replay.specs.Replay.{AreVerdicts, accepted_of, prior_of}
 use Rattle.mds_trace.specs.Walk.{Walk}
 use Rattle.mds_debugger.specs.declared.line.CountsLine.{CountsLine}
 use Rattle.mds_debugger.specs.declared.script.ScriptCommand.{ScriptCommand}
-use Rattle.mds_debugger.specs.Input.{IsRead}
+use Rattle.mds_debugger.specs.Input.{IsRead, max_script}
 use Rattle.mds_debugger.specs.Printed.{PrintsStart, PrintsScript, PrintsFront}
 use Rattle.mds_debugger.specs.Script.{IsScript}
 use Rattle.mds_debugger.specs.Vehicle.{told_of}
 use Rattle.mds_io.specs.Page.{AppendsFront, AppendsUpTo, with_newline}
+use Rattle.mds_io.specs.Read.{ConsumesUpTo}
 use Rattle.mds_io.specs.declared.page.PrintError.{PrintError}
 use Rattle.mds_io.specs.declared.page.PrintError.TheVariants as write
 use Rattle.mds_commands.specs.declared.commands.ReplayOptions.{ReplayOptions}
@@ -80,20 +81,23 @@ abbrev pub WalksFront : PrintError → Walk → Option (List ℕ) → Option (Li
 WalksFront fault walk input input_new old new =
     (bytes : List ℕ) × IsRead input input_new bytes × (script : List (Option ScriptCommand)) × IsScript bytes script × PrintsFront fault walk script old new
 
--- the same behind a session's start; for want of memory maybe before a script was read
+-- the same behind a session's start; for want of memory maybe nothing, however far the script was read
 abbrev pub FollowsFront : PrintError → Walk → Option (List ℕ) → Option (List ℕ) → Option (List ℕ) → Option (List ℕ) → Type 0
 FollowsFront write.Device walk input input_new old new = WalksFront write.Device walk input input_new old new
-FollowsFront write.Memory walk input input_new old new = Keeps old new ⊎ WalksFront write.Memory walk input input_new old new
+FollowsFront write.Memory walk input input_new old new =
+    (ConsumesUpTo max_script input input_new × Keeps old new) ⊎ WalksFront write.Memory walk input input_new old new
 
 -- the start of a session went out, and then a front of what the script that was read prints
 abbrev pub DebugsPart : PrintError → Walk → CountsLine → Option (List ℕ) → Option (List ℕ) → Option (List ℕ) → Option (List ℕ) → Type 0
 DebugsPart fault walk counts input input_new old new =
     (start : List ℕ) × PrintsStart walk counts start × (middle : Option (List ℕ)) × Appends old middle start × FollowsFront fault walk input input_new middle new
 
--- a front of what a session's start and a script print went out, where showing it stopped so
+-- a front of what a session's start and a script print went out, where showing it stopped so; until the start is out nothing of the
+-- script is read
 abbrev pub DebugsFront : PrintError → Walk → CountsLine → Option (List ℕ) → Option (List ℕ) → Option (List ℕ) → Option (List ℕ) → Type 0
 DebugsFront fault walk counts input input_new old new =
-    ((start : List ℕ) × PrintsStart walk counts start × AppendsFront old new start) ⊎ DebugsPart fault walk counts input input_new old new
+    (Consumes input input_new [] × (start : List ℕ) × PrintsStart walk counts start × AppendsFront old new start)
+    ⊎ DebugsPart fault walk counts input input_new old new
 
 -- the problem is a fault of showing a session, of which a front went out
 abbrev pub StopsShowing : DebugProblem → Walk → CountsLine → Option (List ℕ) → Option (List ℕ) → Option (List ℕ) → Option (List ℕ) → Type 0
@@ -126,11 +130,12 @@ module _ {T R : Type 0} (table_bytes : T → Option (List ℕ)) (table : Option 
   DebugPrintsFront fault input input_new old new =
       (walk : Walk) × (counts : CountsLine) × HasSession walk counts × DebugsFront fault walk counts input input_new old new
 
-  -- what went out before a problem: a front where the output failed or memory was wanting; else nothing, and nothing of the
-  -- script was read
+  -- what went out before a problem: a front where the output failed, and maybe where memory was wanting; else nothing, and
+  -- nothing of the script was read
   abbrev pub DebugWentOut : DebugProblem → Option (List ℕ) → Option (List ℕ) → Option (List ℕ) → Option (List ℕ) → Type 0
   DebugWentOut (Other problem.Output) input input_new old new = DebugPrintsFront write.Device input input_new old new
-  DebugWentOut (Other problem.Memory) input input_new old new = Keeps old new ⊎ DebugPrintsFront write.Memory input input_new old new
+  DebugWentOut (Other problem.Memory) input input_new old new =
+      (Consumes input input_new [] × Keeps old new) ⊎ DebugPrintsFront write.Memory input input_new old new
   DebugWentOut problem input input_new old new = Consumes input input_new [] × Keeps old new
 
   -- the session was shown, as the script that was read says, and the status tells whether an event of the vehicle was refused

@@ -27,12 +27,12 @@ module _ {T R : Type 0} (table_bytes : T → Option (List ℕ)) (table : Option 
       → DebugWentOut table_bytes table file_bytes file named (Other Memory) input input_new old new
   out_before BadIdentifier input input_new old new other out = absurd other
   out_before NotInFile input input_new old new other out = absurd other
-  out_before (Other (CannotRead path)) input input_new old new other out = inl out.1
-  out_before (Other (NotATable fault)) input input_new old new other out = inl out.1
-  out_before (Other (NotABatch fault)) input input_new old new other out = inl out.1
-  out_before (Other (NotLines fault)) input input_new old new other out = inl out.1
-  out_before (Other Socket) input input_new old new other out = inl out.1
-  out_before (Other Random) input input_new old new other out = inl out.1
+  out_before (Other (CannotRead path)) input input_new old new other out = inl out
+  out_before (Other (NotATable fault)) input input_new old new other out = inl out
+  out_before (Other (NotABatch fault)) input input_new old new other out = inl out
+  out_before (Other (NotLines fault)) input input_new old new other out = inl out
+  out_before (Other Socket) input input_new old new other out = inl out
+  out_before (Other Random) input input_new old new other out = inl out
   out_before (Other Output) input input_new old new other out = inr (out.0, out.1, out.2, weaker out.0 out.1 input input_new old new out.3)
   out_before (Other Memory) input input_new old new other out = out
 

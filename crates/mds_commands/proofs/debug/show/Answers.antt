@@ -1,5 +1,5 @@
 use Rattle.std.proofs.Common.{◌≤◌, ◌∙◌, ℕ, List, Option, length, inl, inr, refl, ap, sym, subst}
-use Rattle.std.proofs.KnownBytes.{Appends-trans, Keeps-refl}
+use Rattle.std.proofs.KnownBytes.{Appends-trans, Consumes-nil, Keeps-refl}
 use Rattle.mds_io.specs.declared.page.PrintError.{PrintError}
 use Rattle.mds_io.specs.declared.page.PrintError.TheVariants as write
 use Rattle.mds_debugger.specs.Input.{max_script}
@@ -18,22 +18,25 @@ behind write.Memory walk input input_new old new front = inr front
 
 pub returns-in_err-print_start-clause-err : goal.returns-in_err-print_start-clause-err
 returns-in_err-print_start-clause-err g c =
-    passed_on _ _ _ c.from_residual.ensures.1 (c.in_err-print_start.field-0.0, refl, inl c.in_err-print_start.ensures.err)
+    let front = c.in_err-print_start.ensures.err in
+    passed_on _ _ _ c.from_residual.ensures.1
+    (c.in_err-print_start.field-0.0, refl, inl (Consumes-nil (g.I.Read.remaining c.args.script.now), front.0, front.1, front.2))
 
 pub returns-in_err-script-clause-err : goal.returns-in_err-script-clause-err
 returns-in_err-script-clause-err g c =
     let started = g.W.Write.contents c.print_start.new.writer in
     let start = c.in_ok-print_start.ensures.ok in
     let part : DebugsPart write.Memory c.args.opened.session c.args.opened.counts (g.I.Read.remaining c.args.script.now) (g.I.Read.remaining c.read_script.new.reader) (g.W.Write.contents c.args.out.now) started =
-    (start.0, start.1, started, start.2, inl (Keeps-refl started)) in
+    (start.0, start.1, started, start.2, inl (c.in_err-script.ensures.lost, Keeps-refl started)) in
     passed_on _ _ _ c.from_residual-in_err-script.ensures.1 (write.Memory, refl, inr part)
 
 pub returns-in_err-commands-clause-err : goal.returns-in_err-commands-clause-err
 returns-in_err-commands-clause-err g c =
     let started = g.W.Write.contents c.print_start.new.writer in
     let start = c.in_ok-print_start.ensures.ok in
+    let short = subst (λ count. count ≤ max_script) (sym (sym (ap length c.deref.ensures.value) ∙ c.deref.ensures.len)) c.in_ok-script.ensures.short in
     let part : DebugsPart write.Memory c.args.opened.session c.args.opened.counts (g.I.Read.remaining c.args.script.now) (g.I.Read.remaining c.read_script.new.reader) (g.W.Write.contents c.args.out.now) started =
-    (start.0, start.1, started, start.2, inl (Keeps-refl started)) in
+    (start.0, start.1, started, start.2, inl ((c.in_ok-script.script.bytes.items, short, c.in_ok-script.ensures.taken), Keeps-refl started)) in
     passed_on _ _ _ c.from_residual-in_err-commands.ensures.1 (write.Memory, refl, inr part)
 
 pub returns-in_err-print_walk-clause-err : goal.returns-in_err-print_walk-clause-err
