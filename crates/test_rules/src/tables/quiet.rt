@@ -1,14 +1,14 @@
 //! The calls that take no memory, while each growth is refused (by `tests/refused-growths`).
 use mds_table::json::{self, value_of};
-use mds_table::mask::{bit_of, has};
+use mds_table::mask::{Mask, bit_of, has};
 use mds_table::{Row, State, Table, Tables, TypeName};
 use serde_json::Value;
 use std::alloc::Global;
 use test_fixtures::{Lack, fence};
 
 /// Of tables, the first of which lets removed vehicles go by the type that the value names: how many there are, and how many
-/// rows the first has; the time that the value is, and when the first starts; and whether a vehicle goes.
-type Told = ([usize; 2], [Option<u64>; 2], bool);
+/// rows the first has; the time that the value is, and when the first starts; whether a vehicle goes; and the type's masks.
+type Told = ([usize; 2], [Option<u64>; 2], bool, [Mask; State::COUNT]);
 
 fn told(list: Vec<(u64, Table)>, value: &Value) -> Option<Told> {
     let tables = Tables::new(list).ok()?;
@@ -23,7 +23,7 @@ fn told(list: Vec<(u64, Table)>, value: &Value) -> Option<Told> {
     .copy();
     let goes = table.has_row(row.from, &row.kind, row.to) && has(masks[0], row.to);
     let numbers = [tables.len(), table.row_count()];
-    Some((numbers, [json::time_of(value), Some(start)], goes))
+    Some((numbers, [json::time_of(value), Some(start)], goes, masks))
 }
 
 /// The state of a name, its code and its bit, and whether a type has the state's name, and the value names no state.
@@ -49,7 +49,7 @@ fn both_told(alloc: Global, text: &[u8]) -> Result<Option<(Told, (State, u8, u16
 
 #[test]
 fn tables_are_told_of_with_every_growth_refused(rt: HostRuntime) {
-    let tables = ([1, 74], [None, Some(0)], true);
+    let tables = ([1, 74], [None, Some(0)], true, [2, 0, 0, 0, 0, 0, 0, 0, 0]);
     let state = (State::OnTrip, 4, 16, true);
     let found = both_told(rt.alloc(), br#""provider_drop_off""#);
     assert_eq!(rt; found, Ok(Some((tables, state))));
