@@ -42,6 +42,10 @@ differs name k other = read (bytes_eq name k) refl where
   read true is = absurd (other ((bytes_eq-Decides name k).0 is))
   read false is = refl
 
+-- and one that is found to be the same is this one
+pub same_name : (name k : List ℕ) → bytes_eq name k ≡ true → name ≡ k
+same_name name k = (bytes_eq-Decides name k).0
+
 -- a position's members once one was put, slot by slot
 pub location_put : (name : List ℕ) (value : Data) (found : Members) (old new : LocationFields) → HoldsLocation found old
     → IsPut whole_number_in (codes "lat") name value (found_in old.lat) (found_in new.lat) → IsPut whole_number_in (codes "lng") name value (found_in old.lng) (found_in new.lng)

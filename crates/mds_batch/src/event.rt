@@ -143,15 +143,18 @@ impl Fields for EventFields {
     ghost holds = { HoldsEvent };
 
     fn take(&mut self, name: &str, tokens: &mut Tokens<'_>, depth: usize) -> Result<(), ReadFault> {
-        match name {
-            "event_id" => self.id = Slot::of(read_uuid(tokens, depth)?),
-            "vehicle_state" => self.state = Slot::of(read_state(tokens, depth)?),
-            "event_types" => {
-                self.has_types = Slot::of(read_types(&mut self.types, tokens, depth)?);
-            }
-            "timestamp" => self.time = Slot::of(read_time(tokens, depth)?),
-            "location_e7" => self.position = Slot::of(read_position(tokens, depth)?),
-            _ => self.vehicle.take(name, tokens, depth)?,
+        if Member::EventId.is_named(name) {
+            self.id = Slot::of(read_uuid(tokens, depth)?);
+        } else if Member::VehicleState.is_named(name) {
+            self.state = Slot::of(read_state(tokens, depth)?);
+        } else if Member::EventTypes.is_named(name) {
+            self.has_types = Slot::of(read_types(&mut self.types, tokens, depth)?);
+        } else if Member::Timestamp.is_named(name) {
+            self.time = Slot::of(read_time(tokens, depth)?);
+        } else if Member::LocationE7.is_named(name) {
+            self.position = Slot::of(read_position(tokens, depth)?);
+        } else {
+            self.vehicle.take(name, tokens, depth)?;
         }
         Ok(())
     }

@@ -38,12 +38,12 @@ impl Fields for VehicleFields {
     ghost holds = { HoldsVehicle };
 
     fn take(&mut self, name: &str, tokens: &mut Tokens<'_>, depth: usize) -> Result<(), ReadFault> {
-        match name {
-            "provider_id" => self.provider = Slot::of(read_uuid(tokens, depth)?),
-            "device_id" => self.device = Slot::of(read_uuid(tokens, depth)?),
-            _ => {
-                pass(tokens, depth)?;
-            }
+        if Member::ProviderId.is_named(name) {
+            self.provider = Slot::of(read_uuid(tokens, depth)?);
+        } else if Member::DeviceId.is_named(name) {
+            self.device = Slot::of(read_uuid(tokens, depth)?);
+        } else {
+            pass(tokens, depth)?;
         }
         Ok(())
     }
