@@ -18,6 +18,10 @@ use mds_texts::{Commas, Text};
 use std::alloc::{AllocError, Global};
 use std::fmt::{Display, Write as _};
 
+/// Room for a short body, and for the head that is put before it. A text that begins without room moves several times as it
+/// grows.
+const ANSWER_ROOM: usize = 512;
+
 pub(crate) fn body_of(alloc: Global, plan: &Plan, found: &Found) -> Result<String, AllocError>
     ensures { IfOk result (λ body. string_bytes body
         ≡ (answer_to (asked_in plan.now) (finding_in found.now)).body) }
@@ -55,7 +59,12 @@ fn batch_body<I: BatchItem>(
     let found = failures_of(alloc, items, replies)?;
     let failures = Commas { items: &found };
     let success = accepted(replies);
-    format!(in alloc; "{{\"failures\":[{failures}],\"success\":{success},\"total\":{total}}}")
+    let mut text = String::with_capacity(alloc, ANSWER_ROOM)?;
+    write!(
+        text,
+        "{{\"failures\":[{failures}],\"success\":{success},\"total\":{total}}}"
+    )?;
+    Ok(text)
 }
 
 fn look_body(alloc: Global, key: &Key, seen: Option<Standing>) -> Result<String, AllocError>
@@ -63,8 +72,10 @@ fn look_body(alloc: Global, key: &Key, seen: Option<Standing>) -> Result<String,
 {
     match seen {
         Some(standing) => {
-            let text = StandingText { key, standing };
-            format!(in alloc; "{text}")
+            let standing = StandingText { key, standing };
+            let mut text = String::with_capacity(alloc, ANSWER_ROOM)?;
+            write!(text, "{standing}")?;
+            Ok(text)
         }
         None => fault_body(alloc, &Refusal::Unregistered),
     }
