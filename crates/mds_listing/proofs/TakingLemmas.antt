@@ -125,7 +125,7 @@ pub form_fault : (tables : Tables) (known kept : Option (List ℕ)) (error : Tak
 form_fault tables known kept Memory keeps why = tt
 form_fault tables known kept Read keeps why = tt
 form_fault tables known kept (Fault Form) keeps (inl none) = inl (held_of (λ bytes. recovered bytes ≡ []) known kept keeps none)
-form_fault tables known kept (Fault Form) keeps (inr other) = inr (other.0, other.1, handed_out known kept other.1 other.0 keeps other.2, other.3)
+form_fault tables known kept (Fault Form) keeps (inr other) = inr (other.0, other.1, handed_out known kept other.1 other.0 keeps other.2, other.3, other.4)
 form_fault tables known kept (Fault (TooLong line)) keeps why = inl (why.0, held_of (IsTooLong max_bytes) known kept keeps why.1)
 form_fault tables known kept (Fault (BadLine line)) keeps why = absurd why
 form_fault tables known kept (Fault (Refused line)) keeps why = absurd why

@@ -1,5 +1,5 @@
 -- What the lines of a journal tell.
-use Rattle.std.specs.Prelude.{◌≡◌, ◌≢◌, ◌⊎◌, ℕ, ◌+◌, List, ◌∷◌, ◌++◌, length, Option, Some, None, IfSome}
+use Rattle.std.specs.Prelude.{◌≡◌, ◌≢◌, ◌≤◌, ◌⊎◌, ℕ, ◌+◌, List, ◌∷◌, ◌++◌, length, Option, Some, None, IfSome}
 use Rattle.std.specs.List.{AllZip}
 use Rattle.mds_table.specs.Json.{max_bytes}
 use Rattle.mds_table.specs.Tables.{Tables}
@@ -58,17 +58,20 @@ AreTexts known texts = IfSome known (λ bytes. recovered bytes ≡ texts)
 abbrev pub IsTaken : Option (List ℕ) → List Request → Type 0
 IsTaken known history = (entries : List (List ℕ)) × AreTexts known (form_line ∷ entries) × AllZip Tells entries history
 
--- the next line tells no request
+-- the next line isn't too long, and tells no request
 abbrev pub TellsNone : Option (List ℕ) → Type 0
-TellsNone known = (text : List ℕ) × (left : Option (List ℕ)) × HandsOut known text left × ((request : Request) → Tells text request → ⊥)
+TellsNone known =
+    (text : List ℕ) × (left : Option (List ℕ)) × HandsOut known text left × (length text ≤ max_bytes) × ((request : Request) → Tells text request → ⊥)
 
 -- the next line has too many bytes
 abbrev pub HasLongLine : Option (List ℕ) → Type 0
 HasLongLine known = IfSome known (IsTooLong max_bytes)
 
--- there is no first line, or one that names another form
+-- there is no first line, or one that isn't too long, and names another form
 abbrev pub HasOtherForm : Option (List ℕ) → Type 0
-HasOtherForm known = StandsForNothing known ⊎ ((text : List ℕ) × (left : Option (List ℕ)) × HandsOut known text left × (text ≢ form_line))
+HasOtherForm known =
+    StandsForNothing known
+    ⊎ ((text : List ℕ) × (left : Option (List ℕ)) × HandsOut known text left × (length text ≤ max_bytes) × (text ≢ form_line))
 
 -- the next line tells a request that isn't accepted after whichever history the roster is of
 abbrev pub TellsRefused : Option (List ℕ) → Roster → Type 0
