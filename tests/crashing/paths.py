@@ -168,6 +168,17 @@ def before_the_port(program):
         yield from refused(program, REGISTERED.encode(), SOCKET, port=port)
 
 
+def behind_the_table(program):
+    """A table file that is none is told of before the journal is opened or made: no file is there then, and one that is none isn't
+    told of."""
+    fault = not_a_table("not_rows")
+    yield from refused(program, b"no journal", fault, table="[]")
+    with tempfile.TemporaryDirectory() as folder:
+        yield from not_started(program, Path(folder, "journal"), fault, table="[]")
+        if os.listdir(folder):
+            yield f"there are {os.listdir(folder)}"
+
+
 def without_random_numbers(program):
     """Where the system gives no random numbers that is told, behind the table file, and before the file is opened or made, or the
     port asked for: no file is there then, an empty or a torn one stays as it is, and one that is none, is a folder or that another
@@ -237,6 +248,7 @@ PATHS = [
     one_server_at_a_time,
     files_that_are_none,
     before_the_port,
+    behind_the_table,
     without_random_numbers,
     too_much_behind_the_lines,
     files_that_are_begun,
