@@ -1,6 +1,6 @@
 //! The connections that wait.
-ghost use Rattle.std.specs.Prelude.{◌≡◌, ◌↔◌, ◌⊎◌, ◌+◌, ◌<◌, ◌≤◌, [], All, count_by, is_some, IsSome, IsSomeAnd, IsTrue, IfNone, IfOk, IfSome, Some, None, slice_index_or, slice_set, vec_len};
-ghost use Rattle.mds_waiting.specs.Waiting.{HasBegunSince, HasLeft, HasRoom, HasTime, HoldsFewer, IsEldest, IsEldestBefore, IsFull, IsInTime, IsLate, IsOver, IsVacant, SameWaiters, held, max_held, max_wait, weight};
+ghost use Rattle.std.specs.Prelude.{◌≡◌, ◌↔◌, ◌⊎◌, ◌+◌, ◌<◌, ◌≤◌, [], All, count_by, is_some, IsSome, IsSomeAnd, IsTrue, IfNone, IfOk, IfSome, OnErr, Some, None, length, slice_index_or, slice_set, vec_len};
+ghost use Rattle.mds_waiting.specs.Waiting.{HasBegunSince, HasLeft, HasRoom, HasTime, HoldsFewer, IsEldest, IsEldestBefore, IsFull, IsInTime, IsLate, IsOver, IsVacant, SameWaiters, held, max_held, max_wait, max_waiting, weight};
 
 use crate::least::{Found, Order, least};
 use crate::waiter::{MAX_HELD, Waiter, counted};
@@ -87,6 +87,7 @@ impl<S> Waiting<S> {
         S: Drop,
         ensures vacant { IfOk result (λ found. IfSome found (IsVacant self.new)) }
         ensures full { IfOk result (λ found. IfNone found (IsFull self.new)) }
+        ensures memory { OnErr result (length self.old < max_waiting) }
         ensures same { SameWaiters self.old self.new }
     {
         if let Some(key) = self.spare.pop()

@@ -1,8 +1,9 @@
 use Rattle.std.proofs.Common.{ℕ}
-use Rattle.mds_waiting.specs.Waiting.{HaveLeftFor}
+use Rattle.mds_waiting.specs.Waiting.{HaveLeftFor, held}
 use Rattle.mds_waiting.proofs.waiting.Waiting.clear_room.Given as goal
 
 abbrev pub invariant-loop : goal.invariant-loop
-invariant-loop g l = record {
-  left : (n : ℕ) × HaveLeftFor n l.count l.initial.self l.self;
-}
+invariant-loop g l = (n : ℕ) × HaveLeftFor n l.count l.initial.self l.self
+
+abbrev pub decreases-loop : goal.decreases-loop
+decreases-loop g l = held l.self
