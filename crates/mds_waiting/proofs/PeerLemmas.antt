@@ -1,5 +1,5 @@
 -- What calls at the other side of a connection do, one after the other.
-use Rattle.std.proofs.Common.{◌≡◌, ◌⊎◌, inl, inr, ℕ, ◌-◌, ◌≤◌, List, [], ◌++◌, length, take, drop, None, Some, refl, sym, ap, ◌∙◌, subst, arith, append-nil, append_assoc, length-drop, take-append-drop}
+use Rattle.std.proofs.Common.{◌≡◌, ◌⊎◌, inl, inr, ℕ, ◌-◌, ◌≤◌, List, [], ◌++◌, length, take, drop, None, Some, refl, sym, ap, ◌∙◌, subst, arith, append-nil, append_assoc, length-append, length-drop, take-append-drop}
 use Rattle.std.proofs.Math.Seq.{drop-drop, take-add, take-length}
 use Rattle.std.specs.Prelude.{Option}
 use Rattle.std.specs.Io.KnownBytes.{Appends, Consumes, append_known}
@@ -7,7 +7,7 @@ use Rattle.std.proofs.KnownBytes.{Appends-nil, Appends-trans, Consumes-nil, Cons
 use Rattle.mds_waiting.specs.declared.look.Look.{Look}
 use Rattle.mds_waiting.specs.declared.look.Look.TheVariants.{Done, Waits, Gone}
 use Rattle.mds_waiting.specs.Looks.{IfDone, IsWholeOrEnded}
-use Rattle.mds_waiting.specs.Peers.{Grows, SendsPart}
+use Rattle.mds_waiting.specs.Peers.{Grows, SendsPart, TakesOf}
 use Rattle.mds_waiting.specs.Requests.{IsWhole}
 
 -- what was kept behind what was sent goes on to be, with more behind it
@@ -57,6 +57,16 @@ pub stays_or_is : {A : Type 0} (first second third this : A) → (second ≡ fir
 stays_or_is first second third this was (inr is) = inr is
 stays_or_is first second third this (inl same) (inl stays) = inl (stays ∙ same)
 stays_or_is first second third this (inr is) (inl stays) = inr (stays ∙ is)
+
+-- what became this, or stayed what it was, is this where it was this
+pub stays_last : {A : Type 0} (first second this : A) → first ≡ this → (second ≡ first) ⊎ (second ≡ this) → second ≡ this
+stays_last first second this was (inl same) = same ∙ was
+stays_last first second this was (inr is) = is
+
+-- some bytes were taken, and then more
+pub takes_of_join : (a b c : Option (List ℕ)) (most between left : ℕ) → TakesOf a b most between → TakesOf b c between left → TakesOf a c most left
+takes_of_join a b c most between left p q =
+    (p.0 ++ q.0, omega (arith, p.1, q.1, length-append p.0 q.0), Consumes-trans a b c p.0 q.0 p.2 q.2)
 
 -- the bytes held grew, and then again
 pub grows_then : (a b c : Option (List ℕ)) (held grown all : List ℕ) → Grows a b held grown → Grows b c grown all → Grows a c held all

@@ -17,6 +17,10 @@ call_millis Request = 30_000
 call_millis Answer = 30_000
 call_millis Last = 2_000
 
+-- how many bytes that a client sends behind its answer are thrown away at most: 16 MiB
+abbrev pub max_last : ℕ
+max_last = 16_777_216
+
 -- the last time that a clock tells
 abbrev pub last_time : ℕ
 last_time = 18_446_744_073_709_551_615

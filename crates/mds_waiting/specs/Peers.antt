@@ -1,5 +1,5 @@
 -- What calls at the other side of a connection do to the bytes that are known.
-use Rattle.std.specs.Prelude.{◌≡◌, ℕ, ◌-◌, ◌<◌, ◌≤◌, ◌==◌, List, [], ◌++◌, length, max, take, drop, Option, ⊤, if◌then◌else◌}
+use Rattle.std.specs.Prelude.{◌≡◌, ℕ, ◌+◌, ◌-◌, ◌<◌, ◌≤◌, ◌==◌, List, [], ◌++◌, length, max, take, drop, Option, ⊤, if◌then◌else◌}
 use Rattle.std.specs.Io.KnownBytes.{Appends, Consumes, IsAtEnd, Keeps}
 use Rattle.mds_waiting.specs.declared.peer.Came.{Came}
 use Rattle.mds_waiting.specs.declared.peer.Came.TheVariants.{Bytes, Ended, Nothing, Lost}
@@ -32,6 +32,10 @@ Sends Lost old new bytes = Keeps old new
 -- those that the other side was sent grew by the bytes of these from the one place on, up to the other
 abbrev pub SendsPart : Option (List ℕ) → Option (List ℕ) → List ℕ → ℕ → ℕ → Type 0
 SendsPart old new bytes from to = (from ≤ to) × (to ≤ max from (length bytes)) × Appends old new (take (to - from) (drop from bytes))
+
+-- some of what the other side gives was taken, so many bytes at most might be, and so many still may
+abbrev pub TakesOf : Option (List ℕ) → Option (List ℕ) → ℕ → ℕ → Type 0
+TakesOf old new most left = (more : List ℕ) × (length more + left ≤ most) × Consumes old new more
 
 -- the bytes held grew by what the other side gave
 abbrev pub Grows : Option (List ℕ) → Option (List ℕ) → List ℕ → List ℕ → Type 0

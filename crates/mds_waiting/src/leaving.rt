@@ -1,8 +1,9 @@
 //! An answer that leaves, and the end of its connection behind it.
-ghost use Rattle.std.specs.Prelude.{◌≡◌, ◌⊎◌, ◌≤◌, length, IfSome};
+ghost use Rattle.std.specs.Prelude.{◌≡◌, ◌≢◌, ◌⊎◌, ◌≤◌, length, IfSome, Some};
 ghost use Rattle.std.specs.Io.KnownBytes.{Keeps};
+ghost use Rattle.mds_waiting.specs.Limits.{max_last};
 ghost use Rattle.mds_waiting.specs.Looks.{IfDone};
-ghost use Rattle.mds_waiting.specs.Peers.{SendsPart};
+ghost use Rattle.mds_waiting.specs.Peers.{SendsPart, TakesOf};
 
 use crate::look::{Look, MAX_CALLS};
 use crate::part::Part;
@@ -35,6 +36,7 @@ impl<S: Peer> Leaving<S> {
         ensures peer { result.peer ≡ peer }
         ensures sent { result.sent ≡ 0 }
         ensures part { result.part ≡ Part.Answer }
+        ensures left { result.left ≡ max_last }
     {
         Leaving {
             peer,
@@ -52,6 +54,8 @@ impl<S: Peer> Leaving<S> {
         ensures last { self.new.part ≡ Part.Last →
             (self.old.part ≡ Part.Last) ⊎ (length bytes.now ≤ self.new.sent) }
         ensures part { (self.new.part ≡ self.old.part) ⊎ (self.new.part ≡ Part.Last) }
+        ensures thrown { self.old.part ≡ Part.Last → result ≢ Look.Gone →
+            TakesOf (S.coming self.old.peer) (S.coming self.new.peer) self.old.left self.new.left }
         ensures never_done { IfDone result (λ _. ⊥) }
     {
         for _ in 0..MAX_CALLS {
@@ -69,6 +73,8 @@ impl<S: Peer> Leaving<S> {
         ensures last { self.new.part ≡ Part.Last →
             (self.old.part ≡ Part.Last) ⊎ (length bytes.now ≤ self.new.sent) }
         ensures part { (self.new.part ≡ self.old.part) ⊎ (self.new.part ≡ Part.Last) }
+        ensures thrown { self.old.part ≡ Part.Last → result ≢ Some Look.Gone →
+            TakesOf (S.coming self.old.peer) (S.coming self.new.peer) self.old.left self.new.left }
         ensures never_done { IfSome result (λ look. IfDone look (λ _. ⊥)) }
     {
         if self.part == Part::Last {
@@ -112,6 +118,8 @@ impl<S: Peer> Leaving<S> {
         ensures sent { Keeps (S.sent self.old.peer) (S.sent self.new.peer) }
         ensures count { self.new.sent ≡ self.old.sent }
         ensures part { self.new.part ≡ self.old.part }
+        ensures thrown { result ≢ Some Look.Gone →
+            TakesOf (S.coming self.old.peer) (S.coming self.new.peer) self.old.left self.new.left }
         ensures never_done { IfSome result (λ look. IfDone look (λ _. ⊥)) }
     {
         match receive(&mut self.peer, &mut [0u8; ROOM_BYTES]) {
