@@ -77,9 +77,9 @@ impl Peer for Played {
 
 const HEAD: &[u8] = b"POST /events HTTP/1.1\r\ncontent-length: 4\r\n\r\n";
 
-const LOST: Act = Act::Fails(ErrorKind::ConnectionReset);
+pub(crate) const LOST: Act = Act::Fails(ErrorKind::ConnectionReset);
 
-const LATER: Act = Act::Fails(ErrorKind::WouldBlock);
+pub(crate) const LATER: Act = Act::Fails(ErrorKind::WouldBlock);
 
 /// What one look came to. Of a head only how many bytes it and its body have are told.
 #[derive(Clone, Copy, PartialEq, Eq)]

@@ -1,5 +1,5 @@
 //! A port over a system that is played: who comes to it, what it is told of, and its clock.
-use crate::peers::{Act, Played};
+use crate::peers::{Act, LATER, LOST, Played};
 use mds_pool::{Ending, Port};
 use mds_request::Face;
 use mds_socket::{Ready, System, WaitingPort};
@@ -18,8 +18,8 @@ enum Turn {
     Fails(i32),
     /// It tells this.
     Tells(Ready),
-    /// It tells nothing.
-    Silent,
+    /// It tells nothing, and so many milliseconds go by.
+    After(u64),
     /// A connection comes, and from now on no file is left for one.
     Lacks,
 }
@@ -29,9 +29,9 @@ enum Turn {
 struct PlayedSystem {
     turns: &'static [Turn],
     at: AtomicUsize,
-    /// How many milliseconds go by from one reading of the clock to the next, if it tells any.
+    /// How many milliseconds go by from one reading of the clock to the next, if it tells any; and the time at the next one.
     pace: Option<u64>,
-    readings: AtomicU64,
+    time: AtomicU64,
     /// How often it can be asked, and was.
     most: usize,
     asked: AtomicUsize,
@@ -46,7 +46,7 @@ impl PlayedSystem {
             turns,
             at: AtomicUsize::new(0),
             pace,
-            readings: AtomicU64::new(0),
+            time: AtomicU64::new(0),
             most,
             asked: AtomicUsize::new(0),
             pauses: AtomicUsize::new(0),
@@ -71,9 +71,7 @@ impl PlayedSystem {
     }
 }
 
-/// EAGAIN, EMFILE, ENOMEM, ENOBUFS, ECONNABORTED and EBADF, by Linux's numbers.
-const NONE_THERE: i32 = 11;
-
+/// EMFILE, ENOMEM, ENOBUFS and ECONNABORTED, by Linux's numbers.
 const NO_FILE: i32 = 24;
 
 const NO_MEMORY: i32 = 12;
@@ -81,8 +79,6 @@ const NO_MEMORY: i32 = 12;
 const NO_BUFFERS: i32 = 105;
 
 const ABORTED: i32 = 103;
-
-const OVER: i32 = 9;
 
 impl System for PlayedSystem {
     type Peer = Played;
@@ -97,9 +93,9 @@ impl System for PlayedSystem {
                 self.go_on();
                 Err(io::Error::from_raw_os_error(number))
             }
-            Some(Turn::Tells(_) | Turn::Silent) => Err(io::Error::from_raw_os_error(NONE_THERE)),
+            Some(Turn::Tells(_) | Turn::After(_)) => Err(io::Error::from(ErrorKind::WouldBlock)),
             Some(Turn::Lacks) => Err(io::Error::from_raw_os_error(NO_FILE)),
-            None => Err(io::Error::from_raw_os_error(OVER)),
+            None => Err(io::Error::from(ErrorKind::InvalidInput)),
         }
     }
 
@@ -121,8 +117,9 @@ impl System for PlayedSystem {
                 self.go_on();
                 Some(ready)
             }
-            Some(Turn::Silent) => {
+            Some(Turn::After(millis)) => {
                 self.go_on();
+                self.time.fetch_add(millis, Ordering::SeqCst);
                 None
             }
             Some(Turn::Lacks) => self.new_one(),
@@ -131,8 +128,8 @@ impl System for PlayedSystem {
     }
 
     fn now(&self) -> Option<u64> {
-        let readings = self.readings.fetch_add(1, Ordering::SeqCst);
-        self.pace.map(|pace| pace.saturating_mul(readings))
+        let pace = self.pace?;
+        Some(self.time.fetch_add(pace, Ordering::SeqCst))
     }
 
     fn pause(&self) {
@@ -148,15 +145,8 @@ impl System for PlayedSystem {
 /// the others never come, if it is let go.
 const WHOLE: &[Act] = &[Act::Gives(b"GET / HTTP/1.1\r\n\r\n"), Act::Takes(8)];
 
-const PART: &[Act] = &[
-    Act::Gives(b"GET /"),
-    Act::Gives(b"table HTTP/1.1\r\n\r\n"),
-    Act::Takes(8),
-];
-
-const LATER: Act = Act::Fails(ErrorKind::WouldBlock);
-
-const LOST: Act = Act::Fails(ErrorKind::ConnectionReset);
+const PART: &[Act] =
+    rows! { Act::Gives(b"GET /"), Act::Gives(b"table HTTP/1.1\r\n\r\n"), Act::Takes(8) };
 
 /// What a system does, its clock, and how often it can be asked; how many bytes the requests have that are handed out, and how often it
 /// was asked and a pause was made.
@@ -168,25 +158,25 @@ const SLOW: &[Act] = &[Act::Gives(b"GET / HTTP/1.1\r\n\r\n"), Act::Takes(2)];
 
 const CUT: &[Act] = &[Act::Gives(b"GET /"), LOST];
 
-const IN_BODY: &[Act] = &[
-    Act::Gives(b"POST /events HTTP/1.1\r\ncontent-length: 4\r\n\r\n"),
-    Act::Gives(b"12"),
-    LOST,
-];
+const IN_BODY: &[Act] =
+    rows! { Act::Gives(b"POST /events HTTP/1.1\r\ncontent-length: 4\r\n\r\n"), Act::Gives(b"12"), LOST };
 
-const IN_ANSWER: &[Act] = &[
-    Act::Gives(b"GET / HTTP/1.1\r\n\r\n"),
-    Act::Takes(2),
-    LATER,
-    LOST,
-];
+const IN_ANSWER: &[Act] =
+    rows! { Act::Gives(b"GET / HTTP/1.1\r\n\r\n"), Act::Takes(2), LATER, LOST };
 
-const LATE: &[Act] = &[
-    Act::Gives(b"GET /"),
-    LATER,
-    Act::Gives(b"table HTTP/1.1\r\n\r\n"),
-    Act::Takes(8),
-];
+const LATE: &[Act] =
+    rows! { Act::Gives(b"GET /"), LATER, Act::Gives(b"table HTTP/1.1\r\n\r\n"), Act::Takes(8) };
+
+/// Clients whose head comes in two pieces, and then half of the body; that take a byte now and then; and that send one more once
+/// they have the answer.
+const PIECES: &[Act] =
+    rows! { Act::Gives(b"POST /events HTTP/1.1\r\n"), Act::Gives(b"content-length: 4\r\n\r\n"), Act::Gives(b"12") };
+
+const SPARING: &[Act] =
+    rows! { Act::Gives(b"GET / HTTP/1.1\r\n\r\n"), Act::Takes(2), LATER, Act::Takes(1), LATER, Act::Takes(1), LATER };
+
+const LINGERING: &[Act] =
+    rows! { Act::Gives(b"GET / HTTP/1.1\r\n\r\n"), Act::Takes(2), LATER, Act::Takes(3), Act::Gives(b"x"), LATER };
 
 const CASES: &[Case] = rows! {
     // A request is there when its connection is taken; of another one the rest comes later.
@@ -203,7 +193,7 @@ const CASES: &[Case] = rows! {
     ], Some(0), 9, [23, 18], [1, 1]),
     // None waits that could be let go: 30 seconds of pauses are made. No connection is there: none is.
     (&[Turn::Lacks], Some(1), 9, [0, 0], [0, 300]),
-    (&[Turn::Fails(NO_FILE), Turn::Silent, Turn::Comes(WHOLE)], Some(1), 9, [18, 0], [0, 0]),
+    (&[Turn::Fails(NO_FILE), Turn::After(0), Turn::Comes(WHOLE)], Some(1), 9, [18, 0], [0, 0]),
     // No memory is left for one more connection; or it was lost before it was taken.
     (&[Turn::Fails(NO_MEMORY), Turn::Fails(NO_BUFFERS), Turn::Fails(ABORTED), Turn::Comes(WHOLE)],
         Some(1), 9, [18, 0], [0, 2]),
@@ -216,9 +206,21 @@ const CASES: &[Case] = rows! {
     (&[Turn::Comes(IN_ANSWER), Turn::Tells(Ready::Leaving(0)), Turn::Comes(WHOLE)], Some(1), 9, [18, 18], [1, 0]),
     // The clock fails: who waits is let go, and a request that is there is handed out.
     (&[Turn::Comes(PART), Turn::Tells(Ready::Coming(0)), Turn::Comes(WHOLE)], None, 9, [18, 0], [1, 0]),
-    // A head isn't there after 10 seconds: its connection is let go.
-    (&[Turn::Comes(PART), Turn::Silent, Turn::Silent, Turn::Tells(Ready::Coming(0)), Turn::Comes(WHOLE)],
-        Some(4_000), 9, [18, 0], [1, 0]),
+    // A head isn't there after 10 seconds, and a request, whose head came late, after 60: its connection is let go.
+    (&[Turn::Comes(PART), Turn::After(10_000), Turn::Tells(Ready::Coming(0)), Turn::Comes(WHOLE)], Some(0), 9, [18, 0], [1, 0]),
+    (&[
+        Turn::Comes(PIECES), Turn::After(9_000), Turn::Tells(Ready::Coming(0)), Turn::After(25_000), Turn::Tells(Ready::Coming(0)),
+        Turn::After(26_000), Turn::Tells(Ready::Coming(0)), Turn::Comes(WHOLE),
+    ], Some(0), 9, [18, 0], [3, 0]),
+    // An answer isn't taken whole after 60 seconds, though some of it was at 20 and 40; of one that was, after 15, the end has 2 more.
+    (&[
+        Turn::Comes(SPARING), Turn::After(20_000), Turn::Tells(Ready::Leaving(0)), Turn::After(20_000), Turn::Tells(Ready::Leaving(0)),
+        Turn::After(20_000), Turn::Tells(Ready::Leaving(0)), Turn::Comes(WHOLE), Turn::After(60_000),
+    ], Some(0), 9, [18, 18], [3, 0]),
+    (&[
+        Turn::Comes(LINGERING), Turn::After(15_000), Turn::Tells(Ready::Leaving(0)), Turn::After(1_000),
+        Turn::Tells(Ready::Leaving(0)), Turn::Comes(WHOLE), Turn::After(60_000),
+    ], Some(0), 9, [18, 18], [3, 0]),
     // What is told is over: nobody waits there, nothing came, and no connection can be taken.
     (&[
         Turn::Tells(Ready::Coming(7)), Turn::Tells(Ready::Leaving(3)), Turn::Tells(Ready::Listener),
