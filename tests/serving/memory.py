@@ -1,4 +1,5 @@
-"""How much memory connections take that wait, bodies that never end, and a long list, and the stack of the first thread."""
+"""How much memory connections take that wait, bodies that never end, and a long list, who is let go where more come than may wait,
+and the stack of the first thread."""
 
 import contextlib
 import os
@@ -14,6 +15,7 @@ from harness.counting import ROOT, Unwell
 from harness.texts import differing
 from model.http import error
 from serving.connections import SMALL_ROOM
+from serving.connections import long_list as vehicle_of_long_list
 from serving.crowds import many_open_files
 from serving.http import EMPTY, Exchange, done, look, registered
 from serving.looking import Looks
@@ -22,8 +24,11 @@ from serving.talking import talk_over
 from serving.wire import connect, get, post, read_all
 
 WAITING = 4096
-FRONT = post("/events", padded("[]", 4000))[:1000]
-"""What each of them sends of its request."""
+REQUEST = post("/events", padded("[]", 4000))
+FRONT, REST = REQUEST[:1000], REQUEST[1000:]
+"""What each of them sends of its request, and what it lacks."""
+ELDEST = 16
+"""How many of them may come first, by the server's clock."""
 MOST_BESIDE = 8 * 2**20
 """How many bytes connections that wait may take beside what they sent."""
 WORKERS, EACH = 4, 1000
@@ -91,8 +96,27 @@ def closed(opened):
     return len(poll.poll(0))
 
 
+def closed_in_time(opened):
+    """How many of them the server has closed, once it has closed any, or had time for it."""
+    end = time.monotonic() + BUSY
+    while not closed(opened) and time.monotonic() < end:
+        time.sleep(0.1)
+    return closed(opened)
+
+
+def one_more(server, opened):
+    """What is wrong where one more connection comes than may wait: the eldest is closed, and the newest is answered."""
+    with connections(server.port, 1, FRONT) as newest:
+        taken_in(server)
+        if closed_in_time([*opened, *newest]) != 1 or not closed(opened[:ELDEST]):
+            yield f"for one more {closed(opened)} were closed, {closed(opened[:ELDEST])} of the first, {closed(newest)} of the newest"
+            return
+        newest[0].sendall(REST)
+        yield from differing(read_all(newest[0]), EMPTY)
+
+
 def memory_of_waiting(program):
-    """As many connections as may wait, each with some bytes of its request."""
+    """As many connections as may wait, each with some bytes of its request, and one more."""
     many_open_files(OPEN_FILES)
     with Server(program, EACH, workers=WORKERS) as server, Looks(server, look(A, "removed", 0, None)) as looks:
         yield from talk_over(server, registered(A))
@@ -106,6 +130,7 @@ def memory_of_waiting(program):
                 yield f"{beside} bytes beside those of {WAITING} connections, in place of {MOST_BESIDE}"
             if closed(opened):
                 yield f"{closed(opened)} connections that wait were closed"
+            yield from one_more(server, opened)
             yield from looks.once()
         yield from looks.judged(f"{WAITING} connections that wait")
         yield from server.drain()
@@ -153,6 +178,24 @@ def endless_bodies(program, env, times):
         yield from server.drain()
 
 
+def answers_that_nobody_reads(program):
+    """Lists, three times as much as the server holds of answers, whose clients read nothing: it lets go of the one that came first,
+    and the one that came last has its list whole."""
+    asked = get(f"/vehicles/{P}/{A}/events")
+    with Server(program, EACH, workers=WORKERS) as server, contextlib.ExitStack() as opened:
+        yield from vehicle_of_long_list(server, A)
+        whole = server.ask(asked)
+        readers = [opened.enter_context(connect(server.port, room=SMALL_ROOM)) for _ in range(3 * MOST_HELD // len(whole))]
+        for reader in readers:
+            reader.sendall(asked)
+            reader.recv(1, MSG_PEEK)  # the answers leave in this order
+        yield from differing(read_all(readers[-1]), whole)
+        if read_all(readers[0], gone=True) == whole:
+            yield f"the first of {len(readers)} lists of {len(whole)} bytes was held"
+        opened.close()
+        yield from server.drain()
+
+
 def long_list(program):
     """All events of one vehicle, for a client that reads nothing before the whole answer is laid out."""
     with Server(program, LISTED // MAX_ITEMS + 4) as server:
@@ -191,4 +234,4 @@ def stack_of_the_first_thread(program):
         yield from server.end()
 
 
-MEMORY = [memory_of_waiting, bodies_that_never_end, long_list, stack_of_the_first_thread]
+MEMORY = [memory_of_waiting, bodies_that_never_end, answers_that_nobody_reads, long_list, stack_of_the_first_thread]
