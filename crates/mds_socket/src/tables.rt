@@ -1,4 +1,7 @@
 //! The connections that wait: those whose requests come, and those whose answers leave.
+ghost use Rattle.std.specs.Prelude.{◌≡◌, vec_len};
+ghost use Rattle.mds_waiting.specs.Waiting.{Joins};
+
 use crate::system::{Ready, System};
 use mds_waiting::{Coming, Leaving, Part, Peer, Waiter, Waiting};
 use std::alloc::Global;
@@ -38,7 +41,10 @@ impl<P: Peer> Tables<P> {
         &mut self,
         system: &S,
         mut waiter: Waiter<Coming<P>>,
-    ) {
+    )
+        ensures joins { Joins (vec_len waiter.bytes) self.old.coming self.new.coming }
+        ensures leaving { self.new.leaving ≡ self.old.leaving }
+    {
         let Some(key) = self.coming.key_for(waiter.bytes.len()) else {
             return;
         };
@@ -52,7 +58,10 @@ impl<P: Peer> Tables<P> {
         &mut self,
         system: &S,
         mut waiter: Waiter<Leaving<P>>,
-    ) {
+    )
+        ensures joins { Joins (vec_len waiter.bytes) self.old.leaving self.new.leaving }
+        ensures coming { self.new.coming ≡ self.old.coming }
+    {
         let for_sending = waiter.state.part == Part::Answer;
         let Some(key) = self.leaving.key_for(waiter.bytes.len()) else {
             return;

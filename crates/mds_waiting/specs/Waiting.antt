@@ -110,6 +110,13 @@ module _ {S : Type 0} where
   MakesWay count old new = (n : ℕ) × (roomy : List (Option (Waiter S)))
       × HaveLeftFor n count old roomy × LeavesKey roomy new
 
+  -- one more came, which holds so many bytes: there is room for it once others left for it, and a key, unless memory was wanting
+  -- for one more slot; it waits under the key, or was let go behind them
+  abbrev pub Joins : ℕ → List (Option (Waiter S)) → List (Option (Waiter S)) → Type 0
+  Joins count old new = (cleared : List (Option (Waiter S))) × MakesWay count old cleared × HasRoom cleared count
+      × (((length old < max_waiting) × (new ≡ cleared)) ⊎ ((key : ℕ) × IsVacant cleared key
+      × ((new ≡ cleared) ⊎ ((waiter : Waiter S) × (new ≡ slice_set cleared key (Some waiter))))))
+
   -- what is kept of the slots: how many connections they have, how much these hold, which is in bounds, and a time before which
   -- nobody's is over
   pub record IsKept (slots : List (Option (Waiter S))) (count holding soonest : ℕ) : Type 0 where
