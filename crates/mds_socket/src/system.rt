@@ -29,7 +29,8 @@ pub trait System: Drop {
     /// Asks when this side of a connection is next ready, which is told once, and for what: whether the system can be asked.
     fn ask(&self, peer: &mut Self::Peer, ready: Ready, for_sending: bool) -> bool;
 
-    /// Asks when a new connection is next there, which is told once, to one worker. That one asks again, once it has taken it.
+    /// Asks about new connections: one that is there is told, and so are those that come, each to one worker. Those that come before
+    /// a worker has heard of them may be told as one. So who is told takes one, and asks again.
     fn ask_for_new(&self);
 
     /// Waits until something is ready, for so many milliseconds at most: one thing that is, if any. What is told may be over.

@@ -1,6 +1,8 @@
 //! Which sockets are ready, as the system tells it (epoll(7)).
 use crate::system::Ready;
-use libc::net::{EPOLL_CTL_ADD, EPOLL_CTL_DEL, EPOLL_CTL_MOD, EPOLLIN, EPOLLONESHOT, EPOLLOUT};
+use libc::net::{
+    EPOLL_CTL_ADD, EPOLL_CTL_DEL, EPOLL_CTL_MOD, EPOLLET, EPOLLIN, EPOLLONESHOT, EPOLLOUT,
+};
 use mds_waiting::{MAX_WAITING, Peer};
 use mio::Poll;
 use os::{EpollEvent, epoll_ctl, epoll_wait};
@@ -65,7 +67,7 @@ impl Watch {
         })
     }
 
-    /// Asks when a connection waits at the socket that listens, which is told once.
+    /// Asks about the connections that come to the socket that listens.
     ///
     /// # Errors
     ///
@@ -78,13 +80,18 @@ impl Watch {
         }
     }
 
-    /// Asks that again, where it was told.
+    /// Asks that again, behind one that was told and taken.
     pub(crate) fn ask_for_new(&self, listener: &TcpListener) {
         let _ = self.listen(EPOLL_CTL_MOD, listener);
     }
 
+    /// Asks about the socket that listens. Each connection that comes wakes a worker at once: none waits until an earlier one is
+    /// taken. But the system tells of the socket, not of a connection, and only of a change (EPOLLET). Of connections that come
+    /// before the first worker looks, only that worker is told, and the others that were woken sleep on. So it asks again once it
+    /// has taken one, and the system tells at once where more are there. While a connection is there, then, either the socket is
+    /// next to be told, or somebody who was told will ask again: none is left untold.
     fn listen(&self, how: i32, listener: &TcpListener) -> bool {
-        let what = EPOLLIN | EPOLLONESHOT;
+        let what = EPOLLIN | EPOLLET;
         self.control(how, listener.as_raw_fd(), what, Ready::Listener)
     }
 
