@@ -1,5 +1,6 @@
 -- What is kept of a value while it is read, and of which members or items it is kept.
-use Rattle.std.specs.Prelude.{◌≡◌, ◌≤◌, ◌++◌, codes, ℕ, ℤ, List, length, Bool, true, false, Option, Some, None, option_map, option_and_then}
+use Rattle.std.specs.Prelude.{◌≡◌, ◌≤◌, ◌++◌, codes, ℕ, ℤ, List, length, Bool, true}
+use Rattle.std.specs.Prelude.{false, Option, Some, None, option_map, option_and_then}
 use Rattle.serde_json.specs.Data.{Data, Members}
 use Rattle.serde_json.specs.Find.{get_member, as_number, as_i64}
 use Rattle.mds_core.specs.Reported.{max_event_types}
@@ -9,7 +10,9 @@ use Rattle.mds_batch.specs.declared.location.LocationFields.{LocationFields}
 use Rattle.mds_batch.specs.declared.types.TypeList.{TypeList}
 use Rattle.mds_batch.specs.declared.vehicle.VehicleFields.{VehicleFields}
 use Rattle.mds_batch.specs.declared.event.EventFields.{EventFields}
-use Rattle.mds_batch.specs.declared.member.Member.TheVariants.{ProviderId, DeviceId, EventId, VehicleState, EventTypes, Timestamp, LocationE7}
+use Rattle.mds_batch.specs.declared.member.Member.TheVariants.{ProviderId, DeviceId, EventId}
+use Rattle.mds_batch.specs.declared.member.Member.TheVariants.{VehicleState, EventTypes}
+use Rattle.mds_batch.specs.declared.member.Member.TheVariants.{Timestamp, LocationE7}
 use Rattle.mds_batch.specs.Member.{member_name}
 use Rattle.mds_batch.specs.Forms.{uuid_in, types_in, all_types, few_types}
 use Rattle.mds_batch.specs.Items.{position_or_null}
@@ -24,7 +27,8 @@ pub record HoldsLocation (found : Members) (fields : LocationFields) : Type 0 wh
   pub lat : found_in fields.lat ≡ option_map whole_number_in (get_member (codes "lat") found)
   pub lng : found_in fields.lng ≡ option_map whole_number_in (get_member (codes "lng") found)
 
--- the items of a list of types: its names are theirs, or no list that begins with them is one of few types
+-- the items of a list of types: its names are theirs, or no list that begins with them is one of
+-- few types
 abbrev pub AreNamesOf : Bool → List Data → List (List ℕ) → Type 0
 AreNamesOf true items names = (all_types items ≡ Some names) × (length items ≤ max_event_types)
 AreNamesOf false items names = (more : List Data) → few_types (items ++ more) ≡ None
@@ -38,14 +42,18 @@ types_found there list = option_map (option_map (λ is. list.names.items)) (foun
 
 -- the members of a registration
 pub record HoldsVehicle (found : Members) (fields : VehicleFields) : Type 0 where
-  pub provider : found_in fields.provider ≡ option_map uuid_in (get_member (member_name ProviderId) found)
+  pub provider : found_in fields.provider
+      ≡ option_map uuid_in (get_member (member_name ProviderId) found)
   pub device : found_in fields.device ≡ option_map uuid_in (get_member (member_name DeviceId) found)
 
 -- the members of an event
 pub record HoldsEvent (found : Members) (fields : EventFields) : Type 0 where
   pub vehicle : HoldsVehicle found fields.vehicle
   pub id : found_in fields.id ≡ option_map uuid_in (get_member (member_name EventId) found)
-  pub state : found_in fields.state ≡ option_map state_in (get_member (member_name VehicleState) found)
-  pub types : types_found fields.has_types fields.types ≡ option_map types_in (get_member (member_name EventTypes) found)
+  pub state : found_in fields.state
+      ≡ option_map state_in (get_member (member_name VehicleState) found)
+  pub types : types_found fields.has_types fields.types
+      ≡ option_map types_in (get_member (member_name EventTypes) found)
   pub time : found_in fields.time ≡ option_map time_in (get_member (member_name Timestamp) found)
-  pub position : found_in fields.position ≡ option_map position_or_null (get_member (member_name LocationE7) found)
+  pub position : found_in fields.position
+      ≡ option_map position_or_null (get_member (member_name LocationE7) found)

@@ -1,5 +1,6 @@
 -- What a value of a batch stands for: a vehicle's key, an event, or what is wrong with it.
-use Rattle.std.specs.Prelude.{◌≡◌, codes, ℕ, List, [], ◌∷◌, ◌++◌, Bool, Option, Some, None, is_some, is_none, option_map, option_and_then, find, if◌then◌else◌}
+use Rattle.std.specs.Prelude.{◌≡◌, codes, ℕ, List, [], ◌∷◌, ◌++◌, Bool, Option, Some, None}
+use Rattle.std.specs.Prelude.{is_some, is_none, option_map, option_and_then, find, if◌then◌else◌}
 use Rattle.serde_json.specs.Data.{Data}
 use Rattle.serde_json.specs.Find.{get, as_null, as_object}
 use Rattle.mds_table.specs.Json.{state_in, time_in}
@@ -7,7 +8,9 @@ use Rattle.mds_core.specs.declared.key.Key.{Key}
 use Rattle.mds_core.specs.declared.position.Position.{Position}
 use Rattle.mds_core.specs.Reported.{Reported}
 use Rattle.mds_batch.specs.declared.member.Member.{Member}
-use Rattle.mds_batch.specs.declared.member.Member.TheVariants.{ProviderId, DeviceId, EventId, VehicleState, EventTypes, Timestamp, LocationE7}
+use Rattle.mds_batch.specs.declared.member.Member.TheVariants.{ProviderId, DeviceId, EventId}
+use Rattle.mds_batch.specs.declared.member.Member.TheVariants.{VehicleState, EventTypes}
+use Rattle.mds_batch.specs.declared.member.Member.TheVariants.{Timestamp, LocationE7}
 use Rattle.mds_batch.specs.declared.item.ItemFault.{ItemFault}
 use Rattle.mds_batch.specs.declared.item.ItemFault.TheVariants.{NotObject, Missing, Bad}
 use Rattle.mds_batch.specs.declared.item.VehicleItem.{VehicleItem}
@@ -23,11 +26,14 @@ member_in member form value = option_and_then form (get (member_name member) val
 
 -- the position that the value of a member gives: none where it is null
 abbrev pub position_or_null : Data → Option (Option Position)
-position_or_null value = if is_some (as_null value) then Some None else option_map Some (position_of value)
+position_or_null value =
+    if is_some (as_null value) then Some None else option_map Some (position_of value)
 
 -- the position of an event: none where the member isn't there
 abbrev pub position_in : Data → Option (Option Position)
-position_in value = if is_some (get (member_name LocationE7) value) then member_in LocationE7 position_or_null value else Some None
+position_in value =
+    if is_some (get (member_name LocationE7) value) then member_in LocationE7 position_or_null value
+    else Some None
 
 -- the vehicle that a value is about
 pub record IsKeyOf (value : Data) (key : Key) : Type 0 where
@@ -64,11 +70,15 @@ is_faulty value LocationE7 = is_none (position_in value)
 
 -- what is wrong with a faulty member: it is bad where it is there, and else missing
 abbrev pub fault_at : Data → Member → ItemFault
-fault_at value member = if is_some (get (member_name member) value) then Bad member else Missing member
+fault_at value member =
+    if is_some (get (member_name member) value) then Bad member else Missing member
 
--- what is wrong with a value, if anything is: it is no object, or what is wrong with the first faulty one of the members asked for
+-- what is wrong with a value, if anything is: it is no object, or what is wrong with the first
+-- faulty one of the members asked for
 abbrev pub fault_of : List Member → Data → Option ItemFault
-fault_of asked value = if is_some (as_object value) then option_map (fault_at value) (find (is_faulty value) asked) else Some NotObject
+fault_of asked value =
+    if is_some (as_object value) then option_map (fault_at value) (find (is_faulty value) asked)
+    else Some NotObject
 
 -- the vehicle or the fault that a value of a batch is
 unfoldable pub IsVehicleItem : Data → VehicleItem → Type 0
@@ -89,5 +99,6 @@ item_fault_word (Bad member) = codes "bad_param"
 -- the words for a fault: its own, and the name of the member that is at fault
 abbrev pub item_fault_text : ItemFault → List ℕ
 item_fault_text NotObject = item_fault_word NotObject
-item_fault_text (Missing member) = item_fault_word (Missing member) ++ codes " " ++ member_name member
+item_fault_text (Missing member) =
+    item_fault_word (Missing member) ++ codes " " ++ member_name member
 item_fault_text (Bad member) = item_fault_word (Bad member) ++ codes " " ++ member_name member

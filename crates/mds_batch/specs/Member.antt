@@ -1,7 +1,9 @@
 -- The members of an item.
 use Rattle.std.specs.Prelude.{ℕ, List, codes}
 use Rattle.mds_batch.specs.declared.member.Member.{Member}
-use Rattle.mds_batch.specs.declared.member.Member.TheVariants.{ProviderId, DeviceId, EventId, VehicleState, EventTypes, Timestamp, LocationE7}
+use Rattle.mds_batch.specs.declared.member.Member.TheVariants.{ProviderId, DeviceId, EventId}
+use Rattle.mds_batch.specs.declared.member.Member.TheVariants.{VehicleState, EventTypes}
+use Rattle.mds_batch.specs.declared.member.Member.TheVariants.{Timestamp, LocationE7}
 
 -- the name of a member, as a text of JSON has it
 abbrev pub member_name : Member → List ℕ

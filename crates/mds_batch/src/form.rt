@@ -13,7 +13,8 @@ use uuid::Uuid;
 /// A UUID in one of its text forms (RFC 9562).
 pub(crate) fn read_uuid(tokens: &mut Tokens<'_>, depth: usize) -> Result<Option<Uuid>, ReadFault>
     ensures read { IfOk result (Reads uuid_in depth tokens.old tokens.new) }
-    ensures fault { IfErr result (λ fault. (fault ≡ not_json) × (value_at depth tokens.old ≡ None)) }
+    ensures fault { IfErr result
+        (λ fault. (fault ≡ not_json) × (value_at depth tokens.old ≡ None)) }
 {
     Ok(match pass(tokens, depth)? {
         Head::Text(text) => Uuid::try_parse(text).ok(),
@@ -23,7 +24,8 @@ pub(crate) fn read_uuid(tokens: &mut Tokens<'_>, depth: usize) -> Result<Option<
 
 pub(crate) fn read_state(tokens: &mut Tokens<'_>, depth: usize) -> Result<Option<State>, ReadFault>
     ensures read { IfOk result (Reads state_in depth tokens.old tokens.new) }
-    ensures fault { IfErr result (λ fault. (fault ≡ not_json) × (value_at depth tokens.old ≡ None)) }
+    ensures fault { IfErr result
+        (λ fault. (fault ≡ not_json) × (value_at depth tokens.old ≡ None)) }
 {
     Ok(match pass(tokens, depth)? {
         Head::Text(text) => State::of_name(text),
@@ -36,7 +38,8 @@ pub(crate) fn read_type_name(
     depth: usize,
 ) -> Result<Option<TypeName>, ReadFault>
     ensures read { IfOk result (Reads type_name_in depth tokens.old tokens.new) }
-    ensures fault { IfErr result (λ fault. (fault ≡ not_json) × (value_at depth tokens.old ≡ None)) }
+    ensures fault { IfErr result
+        (λ fault. (fault ≡ not_json) × (value_at depth tokens.old ≡ None)) }
 {
     Ok(match pass(tokens, depth)? {
         Head::Text(text) => TypeName::new(text).ok(),
@@ -47,7 +50,8 @@ pub(crate) fn read_type_name(
 /// In milliseconds since the Unix epoch.
 pub(crate) fn read_time(tokens: &mut Tokens<'_>, depth: usize) -> Result<Option<u64>, ReadFault>
     ensures read { IfOk result (Reads time_in depth tokens.old tokens.new) }
-    ensures fault { IfErr result (λ fault. (fault ≡ not_json) × (value_at depth tokens.old ≡ None)) }
+    ensures fault { IfErr result
+        (λ fault. (fault ≡ not_json) × (value_at depth tokens.old ≡ None)) }
 {
     Ok(match pass(tokens, depth)? {
         Head::Number(number) => number.as_u64().filter(|time| *time <= MAX_TIME),
@@ -58,7 +62,8 @@ pub(crate) fn read_time(tokens: &mut Tokens<'_>, depth: usize) -> Result<Option<
 pub(crate) fn read_whole(tokens: &mut Tokens<'_>, depth: usize) -> Result<Option<i64>, ReadFault>
     ensures read { IfOk result (Reads (λ value. option_and_then as_i64 (as_number value)) depth
         tokens.old tokens.new) }
-    ensures fault { IfErr result (λ fault. (fault ≡ not_json) × (value_at depth tokens.old ≡ None)) }
+    ensures fault { IfErr result
+        (λ fault. (fault ≡ not_json) × (value_at depth tokens.old ≡ None)) }
 {
     Ok(match pass(tokens, depth)? {
         Head::Number(number) => number.as_i64(),

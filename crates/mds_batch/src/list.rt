@@ -147,8 +147,8 @@ impl<F: ItemFields + Drop> ItemList<F> {
 impl<F: ItemFields + Drop, T: TakesItems<Item = F::Item>> Sequence<T> for ItemList<F> {
     ghost use Rattle.mds_batch.specs.Listed.{HoldsItems};
 
-    ghost holds = { λ before values list taker.
-        HoldsItems F.is_item (λ items. T.took before items taker) values list.count list.is_too_long };
+    ghost holds = { λ before values list taker. HoldsItems F.is_item
+        (λ items. T.took before items taker) values list.count list.is_too_long };
 
     fn take(
         &mut self,

@@ -30,7 +30,8 @@ impl LocationFields {
     }
 
     fn position(&self) -> Option<Position>
-        ensures { (found : Members) → HoldsLocation found self.now → result ≡ position_of (object found) }
+        ensures { (found : Members) → HoldsLocation found self.now
+            → result ≡ position_of (object found) }
     {
         match (self.lat, self.lng) {
             (Slot::Good(lat), Slot::Good(lng)) => Position::new(lat, lng),

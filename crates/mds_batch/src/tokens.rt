@@ -64,7 +64,8 @@ pub(crate) enum Head<'a> {
 /// each of them nests one level less.
 pub(crate) fn begin<'a>(tokens: &mut Tokens<'a>, depth: usize) -> Result<Head<'a>, ReadFault>
     ensures begun { IfOk result (λ head. HasBegun depth tokens.old head tokens.new) }
-    ensures fault { IfErr result (λ fault. (fault ≡ not_json) × (value_at depth tokens.old ≡ None)) }
+    ensures fault { IfErr result
+        (λ fault. (fault ≡ not_json) × (value_at depth tokens.old ≡ None)) }
 {
     match tokens.next().ok_or(ReadFault::NotJson)? {
         Token::Null => Ok(Head::Null),
@@ -90,7 +91,8 @@ pub(crate) fn begin<'a>(tokens: &mut Tokens<'a>, depth: usize) -> Result<Head<'a
 pub(crate) fn pass<'a>(tokens: &mut Tokens<'a>, depth: usize) -> Result<Head<'a>, ReadFault>
     ensures head { IfOk result (λ head. (value : Data)
         × (value_at depth tokens.old ≡ Some (value, tokens.new)) × IsHeadOf value head) }
-    ensures fault { IfErr result (λ fault. (fault ≡ not_json) × (value_at depth tokens.old ≡ None)) }
+    ensures fault { IfErr result
+        (λ fault. (fault ≡ not_json) × (value_at depth tokens.old ≡ None)) }
 {
     let head = begin(tokens, depth)?;
     match head {
@@ -106,7 +108,8 @@ pub(crate) fn pass<'a>(tokens: &mut Tokens<'a>, depth: usize) -> Result<Head<'a>
 pub(crate) fn pass_items(tokens: &mut Tokens<'_>, depth: usize) -> Result<(), ReadFault>
     ensures items { OnOk result ((items : Items)
         × (items_at depth tokens.old ≡ Some (items, tokens.new))) }
-    ensures fault { IfErr result (λ fault. (fault ≡ not_json) × (items_at depth tokens.old ≡ None)) }
+    ensures fault { IfErr result
+        (λ fault. (fault ≡ not_json) × (items_at depth tokens.old ≡ None)) }
 {
     while !tokens.take_end_array() {
         pass(tokens, depth)?;
@@ -119,7 +122,8 @@ pub(crate) fn pass_items(tokens: &mut Tokens<'_>, depth: usize) -> Result<(), Re
 pub(crate) fn pass_members(tokens: &mut Tokens<'_>, depth: usize) -> Result<(), ReadFault>
     ensures members { OnOk result ((members : Members)
         × (members_at depth tokens.old ≡ Some (members, tokens.new))) }
-    ensures fault { IfErr result (λ fault. (fault ≡ not_json) × (members_at depth tokens.old ≡ None)) }
+    ensures fault { IfErr result
+        (λ fault. (fault ≡ not_json) × (members_at depth tokens.old ≡ None)) }
 {
     while let Some(_) = tokens.next_key()? {
         pass(tokens, depth)?;
@@ -141,7 +145,8 @@ pub(crate) trait Fields {
     fn take(&mut self, name: &str, tokens: &mut Tokens<'_>, depth: usize) -> Result<(), ReadFault>
         ensures taken { OnOk result ((value : Data)
             × (value_at depth tokens.old ≡ Some (value, tokens.new))
-            × ((found : Members) → holds found self.old → holds (put name.now value found) self.new)) }
+            × ((found : Members) → holds found self.old
+            → holds (put name.now value found) self.new)) }
         ensures fault { result ≡ Err not_json → value_at depth tokens.old ≡ None };
 }
 

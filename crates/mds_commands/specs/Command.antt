@@ -6,7 +6,9 @@ use Rattle.mds_batch.specs.declared.item.EventItem.{EventItem}
 use Rattle.mds_replay.specs.declared.report.Report.{Report}
 use Rattle.mds_commands.specs.declared.source.Source.{Source}
 use Rattle.mds_commands.specs.declared.problem.Problem.{Problem}
-use Rattle.mds_commands.specs.declared.problem.Problem.TheVariants.{CannotRead, NotATable, NotABatch, NotLines, Socket, Random, Output, Memory}
+use Rattle.mds_commands.specs.declared.problem.Problem.TheVariants.{CannotRead, NotATable}
+use Rattle.mds_commands.specs.declared.problem.Problem.TheVariants.{NotABatch, NotLines, Socket}
+use Rattle.mds_commands.specs.declared.problem.Problem.TheVariants.{Random, Output, Memory}
 use Rattle.mds_commands.specs.declared.status.Status.{Status}
 use Rattle.mds_commands.specs.declared.status.Status.TheVariants.{Done, Refused}
 use Rattle.mds_io.specs.Page.{AppendsFront}
@@ -22,27 +24,35 @@ use Rattle.mds_commands.specs.Text.{report_text, table_text}
 abbrev pub status_on : ℕ → Status
 status_on refused = if refused == 0 then Done else Refused
 
--- of a replay: what is asked for, the known bytes of a table file's reader, the table file if one is given, and the same of the
--- file of events
-module _ {T R : Type 0} (options : ReplayOptions) (table_bytes : T → Option (List ℕ)) (table : Option (Source T)) (file_bytes : R → Option (List ℕ)) (file : Source R) where
-  -- the report of a replay of the file's items over the tables; with registrations before, its verdicts are the outcomes of the
-  -- machine's run
+-- of a replay: what is asked for, the known bytes of a table file's reader, the table file if one
+-- is given, and the same of the file of events
+module _ {T R : Type 0} (options : ReplayOptions) (table_bytes : T → Option (List ℕ))
+    (table : Option (Source T)) (file_bytes : R → Option (List ℕ)) (file : Source R) where
+  -- the report of a replay of the file's items over the tables; with registrations before, its
+  -- verdicts are the outcomes of the machine's run
   abbrev pub HasReport : Report → Type 0
   HasReport report =
-      (tables : Tables) × (items : List EventItem) × HasTablesIn table_bytes table tables × HasItemsIn options.form file_bytes file items
-      × IsReport options.opening tables items report × (options.opening ≡ opening.Removed → AreOutcomes tables items report.lines.items)
+      (tables : Tables) × (items : List EventItem) × HasTablesIn table_bytes table tables
+      × HasItemsIn options.form file_bytes file items × IsReport options.opening tables items report
+      × (options.opening ≡ opening.Removed → AreOutcomes tables items report.lines.items)
 
   -- the report's text went out; the status tells whether each item was accepted
   abbrev pub Replayed : Status → Option (List ℕ) → Option (List ℕ) → Type 0
-  Replayed status old new = (report : Report) × HasReport report × Appends old new (report_text options.opening report) × (status ≡ status_on report.refused)
+  Replayed status old new =
+      (report : Report) × HasReport report × Appends old new (report_text options.opening report)
+      × (status ≡ status_on report.refused)
 
   -- the tables were had, and then the problem is one of the file of events
   abbrev pub ExplainsEvents : Problem → Type 0
-  ExplainsEvents problem = (tables : Tables) × HasTablesIn table_bytes table tables × ExplainsFile options.form file_bytes file problem
+  ExplainsEvents problem =
+      (tables : Tables)
+      × HasTablesIn table_bytes table tables × ExplainsFile options.form file_bytes file problem
 
-  -- the problem's cause lies in the file that it names, if it names one; the table file is looked at first
+  -- the problem's cause lies in the file that it names, if it names one; the table file is looked
+  -- at first
   abbrev pub ExplainsReplay : Problem → Type 0
-  ExplainsReplay (CannotRead path) = ExplainsTable table_bytes table (CannotRead path) ⊎ ExplainsEvents (CannotRead path)
+  ExplainsReplay (CannotRead path) =
+      ExplainsTable table_bytes table (CannotRead path) ⊎ ExplainsEvents (CannotRead path)
   ExplainsReplay (NotATable fault) = ExplainsTable table_bytes table (NotATable fault)
   ExplainsReplay (NotABatch fault) = ExplainsEvents (NotABatch fault)
   ExplainsReplay (NotLines fault) = ExplainsEvents (NotLines fault)
@@ -53,9 +63,12 @@ module _ {T R : Type 0} (options : ReplayOptions) (table_bytes : T → Option (L
 
   -- a front of the report's text went out, and not all of it
   abbrev pub PrintsFront : Option (List ℕ) → Option (List ℕ) → Type 0
-  PrintsFront old new = (report : Report) × HasReport report × AppendsFront old new (report_text options.opening report)
+  PrintsFront old new =
+      (report : Report)
+      × HasReport report × AppendsFront old new (report_text options.opening report)
 
-  -- what went out before a problem: nothing where a file was at fault, a front of the report where the output was
+  -- what went out before a problem: nothing where a file was at fault, a front of the report where
+  -- the output was
   abbrev pub WentOut : Problem → Option (List ℕ) → Option (List ℕ) → Type 0
   WentOut (CannotRead path) old new = Keeps old new
   WentOut (NotATable fault) old new = Keeps old new
@@ -67,20 +80,25 @@ module _ {T R : Type 0} (options : ReplayOptions) (table_bytes : T → Option (L
   WentOut Memory old new = Keeps old new ⊎ PrintsFront old new
 
   -- a problem has this status, is explained, and was told
-  abbrev pub Told : Status → Option (List ℕ) → Option (List ℕ) → Option (List ℕ) → Option (List ℕ) → Type 0
+  abbrev pub Told : Status → Option (List ℕ) → Option (List ℕ)
+      → Option (List ℕ) → Option (List ℕ) → Type 0
   Told status old new faults_old faults_new =
-      (problem : Problem) × (status ≡ status_of problem) × ExplainsReplay problem × WentOut problem old new × Tells faults_old faults_new problem
+      (problem : Problem) × (status ≡ status_of problem) × ExplainsReplay problem
+      × WentOut problem old new × Tells faults_old faults_new problem
 
   -- what a replay came to: its report was printed and nothing was told, or a problem was told
-  abbrev pub CameToReplay : Status → Option (List ℕ) → Option (List ℕ) → Option (List ℕ) → Option (List ℕ) → Type 0
+  abbrev pub CameToReplay : Status → Option (List ℕ)
+      → Option (List ℕ) → Option (List ℕ) → Option (List ℕ) → Type 0
   CameToReplay status old new faults_old faults_new =
-      (Replayed status old new × Keeps faults_old faults_new) ⊎ Told status old new faults_old faults_new
+      (Replayed status old new × Keeps faults_old faults_new)
+      ⊎ Told status old new faults_old faults_new
 
 -- of a print of tables: the known bytes of its file's reader, and the file if one is given
 module _ {T : Type 0} (table_bytes : T → Option (List ℕ)) (table : Option (Source T)) where
   -- the tables' text went out
   abbrev pub Tabled : Option (List ℕ) → Option (List ℕ) → Type 0
-  Tabled old new = (tables : Tables) × HasTablesIn table_bytes table tables × Appends old new (table_text tables)
+  Tabled old new =
+      (tables : Tables) × HasTablesIn table_bytes table tables × Appends old new (table_text tables)
 
   -- the problem's cause lies in the file, if it is a fault of a file
   abbrev pub ExplainsPrint : Problem → Type 0
@@ -93,7 +111,8 @@ module _ {T : Type 0} (table_bytes : T → Option (List ℕ)) (table : Option (S
   ExplainsPrint Output = Unit {0}
   ExplainsPrint Memory = Unit {0}
 
-  -- what went out before a problem: nothing where the file was at fault, else a front of the tables' text
+  -- what went out before a problem: nothing where the file was at fault, else a front of the
+  -- tables' text
   abbrev pub TableWentOut : Problem → Option (List ℕ) → Option (List ℕ) → Type 0
   TableWentOut (CannotRead path) old new = Keeps old new
   TableWentOut (NotATable fault) old new = Keeps old new
@@ -101,15 +120,24 @@ module _ {T : Type 0} (table_bytes : T → Option (List ℕ)) (table : Option (S
   TableWentOut (NotLines fault) old new = Keeps old new
   TableWentOut Socket old new = ⊥
   TableWentOut Random old new = ⊥
-  TableWentOut Output old new = (tables : Tables) × HasTablesIn table_bytes table tables × AppendsFront old new (table_text tables)
-  TableWentOut Memory old new = Keeps old new ⊎ ((tables : Tables) × HasTablesIn table_bytes table tables × AppendsFront old new (table_text tables))
+  TableWentOut Output old new =
+      (tables : Tables)
+      × HasTablesIn table_bytes table tables × AppendsFront old new (table_text tables)
+  TableWentOut Memory old new =
+      Keeps old new
+      ⊎ ((tables : Tables)
+      × HasTablesIn table_bytes table tables × AppendsFront old new (table_text tables))
 
   -- a problem has this status, is explained, and was told
-  abbrev pub TableTold : Status → Option (List ℕ) → Option (List ℕ) → Option (List ℕ) → Option (List ℕ) → Type 0
+  abbrev pub TableTold : Status → Option (List ℕ) → Option (List ℕ)
+      → Option (List ℕ) → Option (List ℕ) → Type 0
   TableTold status old new faults_old faults_new =
-      (problem : Problem) × (status ≡ status_of problem) × ExplainsPrint problem × TableWentOut problem old new × Tells faults_old faults_new problem
+      (problem : Problem) × (status ≡ status_of problem) × ExplainsPrint problem
+      × TableWentOut problem old new × Tells faults_old faults_new problem
 
   -- what a print of tables came to: they were printed and nothing was told, or a problem was told
-  abbrev pub CameToTable : Status → Option (List ℕ) → Option (List ℕ) → Option (List ℕ) → Option (List ℕ) → Type 0
+  abbrev pub CameToTable : Status → Option (List ℕ)
+      → Option (List ℕ) → Option (List ℕ) → Option (List ℕ) → Type 0
   CameToTable status old new faults_old faults_new =
-      ((status ≡ Done) × Tabled old new × Keeps faults_old faults_new) ⊎ TableTold status old new faults_old faults_new
+      ((status ≡ Done) × Tabled old new × Keeps faults_old faults_new)
+      ⊎ TableTold status old new faults_old faults_new

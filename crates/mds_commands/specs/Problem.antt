@@ -14,7 +14,9 @@ use Rattle.mds_io.specs.declared.page.PrintError.{PrintError}
 use Rattle.mds_io.specs.declared.page.PrintError.TheVariants as write
 use Rattle.mds_commands.specs.declared.problem.Telling.{Telling}
 use Rattle.mds_commands.specs.declared.problem.Problem.{Problem}
-use Rattle.mds_commands.specs.declared.problem.Problem.TheVariants.{CannotRead, NotATable, NotABatch, NotLines, Socket, Random, Output, Memory}
+use Rattle.mds_commands.specs.declared.problem.Problem.TheVariants.{CannotRead, NotATable}
+use Rattle.mds_commands.specs.declared.problem.Problem.TheVariants.{NotABatch, NotLines, Socket}
+use Rattle.mds_commands.specs.declared.problem.Problem.TheVariants.{Random, Output, Memory}
 use Rattle.mds_commands.specs.declared.status.Status.{Status}
 use Rattle.mds_commands.specs.declared.status.Status.TheVariants.{Fault, NoMemory}
 use Rattle.mds_io.specs.Page.{AppendsUpTo, with_newline}
@@ -65,7 +67,8 @@ status_of Memory = NoMemory
 abbrev pub Tells : Option (List ℕ) → Option (List ℕ) → Problem → Type 0
 Tells old new problem = AppendsUpTo old new (with_newline (problem_text problem))
 
--- the problem has this status, and its line went out whole, or as many of its bytes as are told, fewer than all
+-- the problem has this status, and its line went out whole, or as many of its bytes as are told,
+-- fewer than all
 abbrev pub IsTelling : Option (List ℕ) → Option (List ℕ) → Problem → Telling → Type 0
 IsTelling old new problem telling =
     let line = with_newline (problem_text problem) in

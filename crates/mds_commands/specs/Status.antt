@@ -1,7 +1,8 @@
 -- How the program ends.
 use Rattle.std.specs.Prelude.{ℕ}
 use Rattle.mds_commands.specs.declared.status.Status.{Status}
-use Rattle.mds_commands.specs.declared.status.Status.TheVariants.{Done, Refused, BadWords, Fault, NoMemory, Torn}
+use Rattle.mds_commands.specs.declared.status.Status.TheVariants.{Done, Refused, BadWords}
+use Rattle.mds_commands.specs.declared.status.Status.TheVariants.{Fault, NoMemory, Torn}
 
 -- the number that the system is told
 abbrev pub code_of : Status → ℕ

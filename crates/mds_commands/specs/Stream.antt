@@ -11,7 +11,8 @@ use Rattle.mds_io.specs.Read.{HasFront}
 use Rattle.mds_commands.specs.declared.source.Source.{Source}
 use Rattle.mds_commands.specs.Source.{HasBytes, max_read}
 
--- where these bytes were fed, all of them are kept, or a fault that every stream has that begins with them
+-- where these bytes were fed, all of them are kept, or a fault that every stream has that begins
+-- with them
 abbrev pub IsFedAs : List ℕ → List ℕ → Option LineFault → Type 0
 IsFedAs bytes kept None = kept ≡ bytes
 IsFedAs bytes kept (Some fault) = IsFaultyWith bytes fault
@@ -25,5 +26,7 @@ abbrev pub IsFedFile : Option (List ℕ) → Fed → Type 0
 IsFedFile known stream = (bytes : List ℕ) × HasFront max_read known bytes × IsFed bytes stream
 
 -- the report of a replay of the items of the file's lines
-abbrev pub HasLineReport : {R : Type 0} → Opening → Tables → (R → Option (List ℕ)) → Source R → Report → Type 0
-HasLineReport opening tables remaining source report = (bytes : List ℕ) × HasBytes remaining source bytes × IsLineReport opening tables bytes report
+abbrev pub HasLineReport : {R : Type 0} → Opening → Tables
+    → (R → Option (List ℕ)) → Source R → Report → Type 0
+HasLineReport opening tables remaining source report =
+    (bytes : List ℕ) × HasBytes remaining source bytes × IsLineReport opening tables bytes report

@@ -1,5 +1,6 @@
 -- The lines that the program prints of a replay and of tables.
-use Rattle.std.specs.Prelude.{ℕ, ◌+◌, ◌==◌, List, [], ◌∷◌, ◌++◌, length, if◌then◌else◌, codes, decimal, Option, Some, None}
+use Rattle.std.specs.Prelude.{ℕ, ◌+◌, ◌==◌, List, [], ◌∷◌, ◌++◌, length}
+use Rattle.std.specs.Prelude.{if◌then◌else◌, codes, decimal, Option, Some, None}
 use Rattle.std.specs.List.{flat_map}
 use Rattle.uuid.specs.Text.{hyphenated_text, lower}
 use Rattle.mds_table.specs.declared.row.Row.{Row}
@@ -33,17 +34,20 @@ from_text Any openings = codes " from " ++ names_of openings
 -- the line of a vehicle: its key, what it holds, and how it may have opened
 abbrev pub vehicle_line : Opening → VehicleEnd → List ℕ
 vehicle_line opening end =
-    codes "vehicle " ++ hyphenated_text lower end.key.provider ++ codes " " ++ hyphenated_text lower end.key.device ++ codes " "
+    codes "vehicle " ++ hyphenated_text lower end.key.provider
+    ++ codes " " ++ hyphenated_text lower end.key.device ++ codes " "
     ++ held_text end.standing ++ from_text opening end.openings
 
 -- the last line
 abbrev pub total_line : ℕ → ℕ → List ℕ
-total_line accepted refused = codes "accepted " ++ decimal accepted ++ codes " refused " ++ decimal refused
+total_line accepted refused =
+    codes "accepted " ++ decimal accepted ++ codes " refused " ++ decimal refused
 
 -- the lines of items, of which the first has this index
 abbrev pub item_lines : ℕ → List Verdict → List ℕ
 item_lines index [] = []
-item_lines index (verdict ∷ rest) = with_newline (item_line index verdict) ++ item_lines (index + 1) rest
+item_lines index (verdict ∷ rest) =
+    with_newline (item_line index verdict) ++ item_lines (index + 1) rest
 
 -- a line for each vehicle
 abbrev pub vehicle_lines : Opening → List VehicleEnd → List ℕ
@@ -51,7 +55,9 @@ vehicle_lines opening ends = flat_map (λ end. with_newline (vehicle_line openin
 
 -- all that is printed of a replay: a line an item, a line a vehicle, and the totals
 abbrev pub report_text : Opening → Report → List ℕ
-report_text opening report = item_lines 0 report.lines.items ++ vehicle_lines opening report.vehicles.items ++ with_newline (total_line report.accepted report.refused)
+report_text opening report =
+    item_lines 0 report.lines.items ++ vehicle_lines opening report.vehicles.items
+    ++ with_newline (total_line report.accepted report.refused)
 
 -- the line of a row: its type, and the states that it leads from and to
 abbrev pub row_line : Row → List ℕ
@@ -73,7 +79,8 @@ rows_text rows = row_lines rows ++ with_newline (count_line (length rows))
 abbrev pub from_line : ℕ → List ℕ
 from_line start = codes "from " ++ decimal start
 
--- what stands before the rows of one of so many tables: that line, but nothing where the table is alone
+-- what stands before the rows of one of so many tables: that line, but nothing where the table is
+-- alone
 abbrev pub heading : ℕ → ℕ → List ℕ
 heading count start = if count == 1 then [] else with_newline (from_line start)
 

@@ -1,5 +1,6 @@
 -- How a script is read.
-use Rattle.std.specs.Prelude.{◌≡◌, ℕ, ◌≤◌, List, length, take, Option, Result, Ok, Err, IfSome, OnOk}
+use Rattle.std.specs.Prelude.{◌≡◌, ℕ, ◌≤◌, List, length, take}
+use Rattle.std.specs.Prelude.{Option, Result, Ok, Err, IfSome, OnOk}
 use Rattle.std.specs.Io.KnownBytes.{Consumes}
 use Rattle.std.specs.declared.alloc.AllocError.{AllocError}
 use Rattle.mds_debugger.specs.declared.input.ScriptEnd.{ScriptEnd}
@@ -26,10 +27,12 @@ EndsAs (Err Device) end = end ≡ Ok Broken
 EndsAs (Err TooManyTurns) end = end ≡ Ok Broken
 EndsAs (Err Memory) end = OnOk end ⊥
 
--- these bytes were read of a script, and reading ended so: they are what the reader lost, at most so many; where it ended whole
--- they are all that the reader had, or the first of that
+-- these bytes were read of a script, and reading ended so: they are what the reader lost, at most
+-- so many; where it ended whole they are all that the reader had, or the first of that
 abbrev pub IsReadTo : Option (List ℕ) → Option (List ℕ) → List ℕ → ScriptEnd → Type 0
-IsReadTo input input_new bytes end = Consumes input input_new bytes × (length bytes ≤ max_script) × (end ≡ Whole → HasScript input bytes)
+IsReadTo input input_new bytes end =
+    Consumes input input_new bytes × (length bytes ≤ max_script)
+    × (end ≡ Whole → HasScript input bytes)
 
 -- these bytes were read of a script: it is whole, or reading broke off
 abbrev pub IsRead : Option (List ℕ) → Option (List ℕ) → List ℕ → Type 0

@@ -27,12 +27,15 @@ abbrev pub IsCommandOf : List ℕ → Option ScriptCommand → Type 0
 IsCommandOf line (Some command) = line ≡ command_text command
 IsCommandOf line None = (command : ScriptCommand) → line ≢ command_text command
 
--- the lines of some bytes, without their line feeds: each has one, and the last may lack it where it isn't empty
+-- the lines of some bytes, without their line feeds: each has one, and the last may lack it where
+-- it isn't empty
 pub record AreLines (bytes : List ℕ) (lines : List (List ℕ)) : Type 0 where
   pub no_feed : All HasNoFeed lines
   pub joined : (bytes ≡ flat_map with_newline lines)
-      ⊎ ((front : List (List ℕ)) × (last : List ℕ) × (last ≢ []) × (lines ≡ front ++ last ∷ []) × (bytes ≡ flat_map with_newline front ++ last))
+      ⊎ ((front : List (List ℕ)) × (last : List ℕ)
+      × (last ≢ []) × (lines ≡ front ++ last ∷ []) × (bytes ≡ flat_map with_newline front ++ last))
 
 -- what the lines of some bytes say, one after the other
 abbrev pub IsScript : List ℕ → List (Option ScriptCommand) → Type 0
-IsScript bytes script = (lines : List (List ℕ)) × AreLines bytes lines × AllZip IsCommandOf lines script
+IsScript bytes script =
+    (lines : List (List ℕ)) × AreLines bytes lines × AllZip IsCommandOf lines script

@@ -18,16 +18,16 @@ is_event_of key (Fault fault) = false
 abbrev pub told_of : Key → List EventItem → ℕ
 told_of key items = count_by (is_event_of key) items
 
--- what contracts see of a replay that keeps the accepted events of one vehicle: these events, and how many others of the
--- vehicle were refused
+-- what contracts see of a replay that keeps the accepted events of one vehicle: these events, and
+-- how many others of the vehicle were refused
 pub record VehicleReplaying : Type 0 where
   pub replay : Replaying
   pub key : Key
   pub accepted : List Reported
   pub refused : ℕ
 
--- these are the items that it took, where each vehicle is registered first: it keeps the accepted events of its vehicle, and
--- each other event of the vehicle is counted
+-- these are the items that it took, where each vehicle is registered first: it keeps the accepted
+-- events of its vehicle, and each other event of the vehicle is counted
 pub record TookOf (items : List EventItem) (seen : VehicleReplaying) : Type 0 where
   pub opening : seen.replay.opening ≡ Removed
   pub replayed : Took items seen.replay
@@ -36,4 +36,5 @@ pub record TookOf (items : List EventItem) (seen : VehicleReplaying) : Type 0 wh
 
 -- since it was as before, it took these items; its tables and its vehicle stay
 abbrev pub TookSince : VehicleReplaying → List EventItem → VehicleReplaying → Type 0
-TookSince before items now = (now.replay.tables ≡ before.replay.tables) × (now.key ≡ before.key) × TookOf items now
+TookSince before items now =
+    (now.replay.tables ≡ before.replay.tables) × (now.key ≡ before.key) × TookOf items now

@@ -20,10 +20,13 @@ line_of (Register key) = Some (registration_text key)
 line_of (Report reported) = Some (event_text reported)
 line_of (Look key) = None
 
--- a line tells a request: it is an event, or it is none for want of its identifier, and a registration
+-- a line tells a request: it is an event, or it is none for want of its identifier, and a
+-- registration
 abbrev pub Tells : List ℕ → Request → Type 0
 Tells line (Report reported) = IsItemText IsEventItem line (event.Event reported)
-Tells line (Register key) = IsItemText IsEventItem line (event.Fault (Missing EventId)) × HasItems IsVehicleItem line (vehicle.Vehicle key ∷ [])
+Tells line (Register key) =
+    IsItemText IsEventItem line (event.Fault (Missing EventId))
+    × HasItems IsVehicleItem line (vehicle.Vehicle key ∷ [])
 Tells line (Look key) = ⊥
 
 -- why a line gives no request: it tells none; want of memory says nothing of it
@@ -32,9 +35,11 @@ IsFaultOfLine line BadLine = (request : Request) → Tells line request → ⊥
 IsFaultOfLine line NoLine = ⊥
 IsFaultOfLine line Memory = Unit {0}
 
--- why a request has no line: it is a look, or its text doesn't tell it; want of memory says nothing of it
+-- why a request has no line: it is a look, or its text doesn't tell it; want of memory says nothing
+-- of it
 abbrev pub IsFaultOfRequest : Request → EntryFault → Type 0
-IsFaultOfRequest request BadLine = (text : List ℕ) → line_of request ≡ Some text → Tells text request → ⊥
+IsFaultOfRequest request BadLine =
+    (text : List ℕ) → line_of request ≡ Some text → Tells text request → ⊥
 IsFaultOfRequest request NoLine = line_of request ≡ None
 IsFaultOfRequest request Memory = Unit {0}
 

@@ -5,4 +5,6 @@ use Rattle.mds_entries.specs.Entry.{Tells}
 
 -- a line tells one request
 abbrev pub LinesTellOneRequest : Type 0
-LinesTellOneRequest = (line : List ℕ) (request other : Request) → Tells line request → Tells line other → request ≡ other
+LinesTellOneRequest =
+    (line : List ℕ) (request other : Request)
+    → Tells line request → Tells line other → request ≡ other

@@ -196,7 +196,8 @@ fn only_vehicle(items: &[VehicleItem]) -> Option<Key>
 }
 
 fn lay_out(text: &mut String, request: &Request) -> Result<bool, AllocError>
-    ensures some { IfOk result (λ has. has ≡ true → line_of request.now ≡ Some (string_bytes text.new)) }
+    ensures some { IfOk result
+        (λ has. has ≡ true → line_of request.now ≡ Some (string_bytes text.new)) }
     ensures none { IfOk result (λ has. has ≡ false → line_of request.now ≡ None) }
 {
     text.clear();

@@ -1,7 +1,8 @@
 -- The words of faults.
 use Rattle.std.specs.Prelude.{ℕ, List, ◌++◌, codes, decimal}
 use Rattle.mds_face.specs.declared.connection.ServeFault.{ServeFault}
-use Rattle.mds_face.specs.declared.connection.ServeFault.TheVariants.{Read, Write, Memory, TooManyTurns}
+use Rattle.mds_face.specs.declared.connection.ServeFault.TheVariants.{Read, Write, Memory}
+use Rattle.mds_face.specs.declared.connection.ServeFault.TheVariants.{TooManyTurns}
 
 -- the word for a fault, and how many bytes were sent
 abbrev pub serve_fault_text : ServeFault → List ℕ

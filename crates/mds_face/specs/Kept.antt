@@ -1,5 +1,6 @@
 -- What one connection does at a desk whose answers go out once what they rest on is recorded.
-use Rattle.std.specs.Prelude.{◌≡◌, ◌⊎◌, ℕ, ◌≤◌, List, length, take, Option, Some, None, Result, Ok, Err, Bool, true, false, MatchBool}
+use Rattle.std.specs.Prelude.{◌≡◌, ◌⊎◌, ℕ, ◌≤◌, List, length, take, Option, Some}
+use Rattle.std.specs.Prelude.{None, Result, Ok, Err, Bool, true, false, MatchBool}
 use Rattle.std.specs.Io.KnownBytes.{Appends, Keeps}
 use Rattle.mds_table.specs.Tables.{Tables}
 use Rattle.mds_core.specs.declared.key.Key.{Key}
@@ -17,7 +18,8 @@ use Rattle.mds_face.specs.declared.kept_desk.KeepFault.{KeepFault}
 use Rattle.mds_face.specs.declared.kept_desk.KeepFault.TheVariants as keep
 use Rattle.mds_face.specs.declared.kept_desk.KeptFault.{KeptFault}
 use Rattle.mds_face.specs.declared.kept_desk.KeptFault.TheVariants.{Serve, NotKept, Lost}
-use Rattle.mds_face.specs.Serving.{Finds, IsAnsweredWhole, IsAsked, IsFixedAnswer, StopsAsked, StopsUnread}
+use Rattle.mds_face.specs.Serving.{Finds, IsAnsweredWhole, IsAsked}
+use Rattle.mds_face.specs.Serving.{IsFixedAnswer, StopsAsked, StopsUnread}
 
 -- the answer rests on what was accepted: a fault of the request doesn't, and the tables don't
 abbrev pub is_of_history : Asked → Bool
@@ -37,64 +39,89 @@ vehicle_of (asked.One key) = Some key
 vehicle_of (asked.History key) = Some key
 vehicle_of asked.Rows = None
 
--- so many bytes of the answer that says that something isn't recorded were written, all of them or fewer
+-- so many bytes of the answer that says that something isn't recorded were written, all of them or
+-- fewer
 abbrev pub IsNotKeptAnswer : Option (List ℕ) → Option (List ℕ) → ℕ → Type 0
-IsNotKeptAnswer old new sent = (sent ≤ length not_kept_text) × Appends old new (take sent not_kept_text)
+IsNotKeptAnswer old new sent =
+    (sent ≤ length not_kept_text) × Appends old new (take sent not_kept_text)
 
 -- what goes out in place of an answer, by why what it rests on isn't recorded
 abbrev pub IsInstead : KeepFault → Option (List ℕ) → Option (List ℕ) → KeptFault → Type 0
-IsInstead keep.Memory old new fault = (sent : ℕ) × (fault ≡ Serve (serve.Memory sent)) × IsFixedAnswer old new sent
-IsInstead keep.NotKept old new fault = (sent : ℕ) × (fault ≡ NotKept sent) × IsNotKeptAnswer old new sent
+IsInstead keep.Memory old new fault =
+    (sent : ℕ) × (fault ≡ Serve (serve.Memory sent)) × IsFixedAnswer old new sent
+IsInstead keep.NotKept old new fault =
+    (sent : ℕ) × (fault ≡ NotKept sent) × IsNotKeptAnswer old new sent
 IsInstead keep.Lost old new fault = (fault ≡ Lost) × Keeps old new
 
--- of a desk: as in `Serving`, and in which states all that its answers rest on is recorded, those about one vehicle or, with none
--- named, all, and where keeping leads, by what it answers
-module _ {S : Type 0} (Calls : S → Request → Option Reply → S → Type 0) (GivesEvents : S → Key → Option (List Reported) → S → Type 0) (GivesRows : S → Tables → Type 0)
-    (IsKept : S → Option Key → Type 0) (KeepsDesk : S → Result (Unit {0}) KeepFault → S → Type 0) where
+-- of a desk: as in `Serving`, and in which states all that its answers rest on is recorded, those
+-- about one vehicle or, with none named, all, and where keeping leads, by what it answers
+module _ {S : Type 0} (Calls : S → Request → Option Reply → S → Type 0)
+    (GivesEvents : S → Key → Option (List Reported) → S → Type 0) (GivesRows : S → Tables → Type 0)
+    (IsKept : S → Option Key → Type 0)
+    (KeepsDesk : S → Result (Unit {0}) KeepFault → S → Type 0) where
   -- what the answer rests on is recorded, if it rests on anything
   abbrev pub Leaves : Asked → S → S → Type 0
-  Leaves what middle new = MatchBool (is_of_history what) (KeepsDesk middle (Ok tt) new × IsKept new (vehicle_of what)) (new ≡ middle)
+  Leaves what middle new =
+      MatchBool (is_of_history what)
+      (KeepsDesk middle (Ok tt) new × IsKept new (vehicle_of what)) (new ≡ middle)
 
   -- what is asked for was answered whole, once what the answer rests on was recorded
-  pub record IsKeptAnswer (what : Asked) (old new : S) (written_old written_new : Option (List ℕ)) (served : Served) : Type 0 where
+  pub record IsKeptAnswer (what : Asked) (old new : S) (written_old written_new : Option (List ℕ))
+      (served : Served) : Type 0 where
     pub middle : S
-    pub answered : IsAnsweredWhole Calls GivesEvents GivesRows what old middle written_old written_new served
+    pub answered : IsAnsweredWhole Calls GivesEvents GivesRows
+        what old middle written_old written_new served
     pub leaves : Leaves what middle new
 
   -- why it wasn't, and what was done: nothing of the answer goes out before that
   abbrev pub IsKeptStop : Asked → S → S → Option (List ℕ) → Option (List ℕ) → KeptFault → Type 0
   IsKeptStop what old new written_old written_new (Serve serve.Read) = ⊥
   IsKeptStop what old new written_old written_new (Serve (serve.Memory sent)) =
-      (middle : S) × StopsAsked Calls GivesEvents GivesRows what old middle written_old written_new (serve.Memory sent)
+      (middle : S)
+      × StopsAsked Calls GivesEvents GivesRows what old
+      middle written_old written_new (serve.Memory sent)
       × ((new ≡ middle) ⊎ ((is_of_history what ≡ true) × KeepsDesk middle (Err keep.Memory) new))
   IsKeptStop what old new written_old written_new (Serve fault) =
-      (middle : S) × StopsAsked Calls GivesEvents GivesRows what old middle written_old written_new fault × Leaves what middle new
+      (middle : S)
+      × StopsAsked Calls GivesEvents GivesRows what old middle written_old written_new fault
+      × Leaves what middle new
   IsKeptStop what old new written_old written_new (NotKept sent) =
-      (is_of_history what ≡ true) × ((found : Finding) × (middle : S) × Finds Calls GivesEvents GivesRows old what found middle × KeepsDesk middle (Err keep.NotKept) new)
+      (is_of_history what ≡ true)
+      × ((found : Finding) × (middle : S) × Finds Calls GivesEvents GivesRows old what found middle
+      × KeepsDesk middle (Err keep.NotKept) new)
       × IsNotKeptAnswer written_old written_new sent
   IsKeptStop what old new written_old written_new Lost =
-      (is_of_history what ≡ true) × ((found : Finding) × (middle : S) × Finds Calls GivesEvents GivesRows old what found middle × KeepsDesk middle (Err keep.Lost) new)
+      (is_of_history what ≡ true)
+      × ((found : Finding) × (middle : S) × Finds Calls GivesEvents GivesRows old what found middle
+      × KeepsDesk middle (Err keep.Lost) new)
       × Keeps written_old written_new
 
   -- the request of a stream was answered whole
-  abbrev pub IsServedKept : Option (List ℕ) → S → S → Option (List ℕ) → Option (List ℕ) → Served → Type 0
+  abbrev pub IsServedKept : Option (List ℕ) → S → S
+      → Option (List ℕ) → Option (List ℕ) → Served → Type 0
   IsServedKept input old new written_old written_new served =
       (what : Asked) × IsAsked input what × IsKeptAnswer what old new written_old written_new served
 
   -- the connection stopped before it was known what its stream asks for
   abbrev pub StopsUnreadKept : S → S → Option (List ℕ) → Option (List ℕ) → KeptFault → Type 0
-  StopsUnreadKept old new written_old written_new (Serve fault) = StopsUnread Calls GivesEvents GivesRows old new written_old written_new fault
+  StopsUnreadKept old new written_old written_new (Serve fault) =
+      StopsUnread Calls GivesEvents GivesRows old new written_old written_new fault
   StopsUnreadKept old new written_old written_new (NotKept sent) = ⊥
   StopsUnreadKept old new written_old written_new Lost = ⊥
 
   -- or later
-  abbrev pub StopsKept : Option (List ℕ) → S → S → Option (List ℕ) → Option (List ℕ) → KeptFault → Type 0
+  abbrev pub StopsKept : Option (List ℕ) → S → S
+      → Option (List ℕ) → Option (List ℕ) → KeptFault → Type 0
   StopsKept input old new written_old written_new fault =
       StopsUnreadKept old new written_old written_new fault
-      ⊎ ((what : Asked) × IsAsked input what × IsKeptStop what old new written_old written_new fault)
+      ⊎ ((what : Asked)
+      × IsAsked input what × IsKeptStop what old new written_old written_new fault)
 
-  -- a request that is all there wasn't answered whole: there was no memory for its items, or it stopped later
+  -- a request that is all there wasn't answered whole: there was no memory for its items, or it
+  -- stopped later
   abbrev pub StopsWhole : List ℕ → S → S → Option (List ℕ) → Option (List ℕ) → KeptFault → Type 0
   StopsWhole request old new written_old written_new fault =
-      ((sent : ℕ) × (fault ≡ Serve (serve.Memory sent)) × (new ≡ old) × IsFixedAnswer written_old written_new sent)
-      ⊎ ((what : Asked) × IsPlan request what × IsKeptStop what old new written_old written_new fault)
+      ((sent : ℕ) × (fault ≡ Serve (serve.Memory sent))
+      × (new ≡ old) × IsFixedAnswer written_old written_new sent)
+      ⊎ ((what : Asked)
+      × IsPlan request what × IsKeptStop what old new written_old written_new fault)

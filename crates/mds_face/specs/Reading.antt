@@ -12,14 +12,19 @@ use Rattle.mds_request.specs.HeadStatus.{DeterminesPlan, IsHeadStatus}
 abbrev pub Grows : Option (List ℕ) → Option (List ℕ) → List ℕ → List ℕ → Type 0
 Grows old new held grown = (more : List ℕ) × (grown ≡ held ++ more) × Consumes old new more
 
--- the bytes read say what the whole stream asks for: nothing is left of it, or what is left doesn't matter
+-- the bytes read say what the whole stream asks for: nothing is left of it, or what is left doesn't
+-- matter
 abbrev pub IsEnough : Option (List ℕ) → List ℕ → Type 0
 IsEnough left bytes = IsAtEnd left ⊎ DeterminesPlan bytes
 
--- the reader lost no more than a head may have, or than its request has: a head without a fault, and its body
+-- the reader lost no more than a head may have, or than its request has: a head without a fault,
+-- and its body
 abbrev pub ReadsNoFurther : Option (List ℕ) → Option (List ℕ) → Type 0
-ReadsNoFurther old new = (bytes : List ℕ) × Consumes old new bytes
-    × ((length bytes ≤ max_head) ⊎ ((aim : Aim Key) × (start : ℕ) × (len : ℕ) × IsHeadStatus bytes (Complete aim start len) × (length bytes ≤ start + len)))
+ReadsNoFurther old new =
+    (bytes : List ℕ) × Consumes old new bytes
+    × ((length bytes ≤ max_head)
+    ⊎ ((aim : Aim Key) × (start : ℕ) × (len : ℕ)
+    × IsHeadStatus bytes (Complete aim start len) × (length bytes ≤ start + len)))
 
 -- how many bytes are yet wanting of a body that is announced
 abbrev pub wanted : HeadStatus → ℕ → ℕ

@@ -17,7 +17,8 @@ use Rattle.mds_response.specs.Head.{answer_text, memory_text}
 use Rattle.mds_response.specs.Answer.{answer_to}
 use Rattle.mds_face.specs.declared.connection.Served.{Served}
 use Rattle.mds_face.specs.declared.connection.ServeFault.{ServeFault}
-use Rattle.mds_face.specs.declared.connection.ServeFault.TheVariants.{Read, Write, Memory, TooManyTurns}
+use Rattle.mds_face.specs.declared.connection.ServeFault.TheVariants.{Read, Write, Memory}
+use Rattle.mds_face.specs.declared.connection.ServeFault.TheVariants.{TooManyTurns}
 use Rattle.mds_face.specs.Asking.{registration_of, report_in}
 use Rattle.mds_face.specs.Desk.{AreCalls}
 
@@ -40,15 +41,19 @@ IsUnwritten text old new (Write sent) = IsUnfinished text old new sent
 IsUnwritten text old new (Memory sent) = ⊥
 IsUnwritten text old new (TooManyTurns sent) = IsUnfinished text old new sent
 
--- of a desk: by which reply a request leads from a state to the next, by which events of a vehicle a question for them does, and
--- which tables it gives in a state
-module _ {S : Type 0} (Calls : S → Request → Option Reply → S → Type 0) (GivesEvents : S → Key → Option (List Reported) → S → Type 0) (GivesRows : S → Tables → Type 0) where
-  -- what is asked for is put to the desk, and this is found: a POST's items that aren't faults, one by one and in order, up to the
-  -- first that finds no memory; or what a GET looks at
+-- of a desk: by which reply a request leads from a state to the next, by which events of a vehicle
+-- a question for them does, and which tables it gives in a state
+module _ {S : Type 0} (Calls : S → Request → Option Reply → S → Type 0)
+    (GivesEvents : S → Key → Option (List Reported) → S → Type 0)
+    (GivesRows : S → Tables → Type 0) where
+  -- what is asked for is put to the desk, and this is found: a POST's items that aren't faults, one
+  -- by one and in order, up to the first that finds no memory; or what a GET looks at
   abbrev pub Finds : S → Asked → Finding → S → Type 0
   Finds old (asked.Fixed fault) finding.Nothing new = new ≡ old
-  Finds old (asked.Vehicles items) (finding.Replies replies) new = AreCalls Calls old (filter_map registration_of items) replies new
-  Finds old (asked.Events items) (finding.Replies replies) new = AreCalls Calls old (filter_map report_in items) replies new
+  Finds old (asked.Vehicles items) (finding.Replies replies) new =
+      AreCalls Calls old (filter_map registration_of items) replies new
+  Finds old (asked.Events items) (finding.Replies replies) new =
+      AreCalls Calls old (filter_map report_in items) replies new
   Finds old (asked.One key) (finding.One reply) new = Calls old (Look key) (Some reply) new
   Finds old (asked.History key) (finding.History events) new = GivesEvents old key events new
   Finds old asked.Rows (finding.Rows tables) new = GivesRows old tables × (new ≡ old)
@@ -61,7 +66,8 @@ module _ {S : Type 0} (Calls : S → Request → Option Reply → S → Type 0) 
   FindsNoMemory old what new = new ≡ old
 
   -- what is asked for was answered whole
-  pub record IsAnsweredWhole (what : Asked) (old new : S) (written_old written_new : Option (List ℕ)) (served : Served) : Type 0 where
+  pub record IsAnsweredWhole (what : Asked) (old new : S)
+      (written_old written_new : Option (List ℕ)) (served : Served) : Type 0 where
     pub found : Finding
     pub finds : Finds old what found new
     pub written : Appends written_old written_new (answer_text (answer_to what found))
@@ -69,33 +75,45 @@ module _ {S : Type 0} (Calls : S → Request → Option Reply → S → Type 0) 
     pub accepted : served.accepted ≡ accepted_in (replies_in found)
 
   -- what is asked for was put to the desk, and of the answer only so many bytes were written
-  pub record IsCutOff (what : Asked) (old new : S) (written_old written_new : Option (List ℕ)) (sent : ℕ) : Type 0 where
+  pub record IsCutOff (what : Asked) (old new : S) (written_old written_new : Option (List ℕ))
+      (sent : ℕ) : Type 0 where
     pub found : Finding
     pub finds : Finds old what found new
     pub written : IsUnfinished (answer_text (answer_to what found)) written_old written_new sent
 
-  -- what was done, and what was written, where a connection stops before it is known what is asked for
+  -- what was done, and what was written, where a connection stops before it is known what is asked
+  -- for
   abbrev pub StopsUnread : S → S → Option (List ℕ) → Option (List ℕ) → ServeFault → Type 0
   StopsUnread old new written_old written_new Read = (new ≡ old) × Keeps written_old written_new
   StopsUnread old new written_old written_new (Write sent) = ⊥
-  StopsUnread old new written_old written_new (Memory sent) = (new ≡ old) × IsFixedAnswer written_old written_new sent
-  StopsUnread old new written_old written_new (TooManyTurns sent) = (new ≡ old) × (sent ≡ 0) × Keeps written_old written_new
+  StopsUnread old new written_old written_new (Memory sent) =
+      (new ≡ old) × IsFixedAnswer written_old written_new sent
+  StopsUnread old new written_old written_new (TooManyTurns sent) =
+      (new ≡ old) × (sent ≡ 0) × Keeps written_old written_new
 
   -- the same where it stops later: what is asked for was put to the desk, or finds no memory
   abbrev pub StopsAsked : Asked → S → S → Option (List ℕ) → Option (List ℕ) → ServeFault → Type 0
   StopsAsked what old new written_old written_new Read = ⊥
-  StopsAsked what old new written_old written_new (Write sent) = IsCutOff what old new written_old written_new sent
+  StopsAsked what old new written_old written_new (Write sent) =
+      IsCutOff what old new written_old written_new sent
   StopsAsked what old new written_old written_new (Memory sent) =
-      (FindsNoMemory old what new ⊎ ((found : Finding) × Finds old what found new)) × IsFixedAnswer written_old written_new sent
-  StopsAsked what old new written_old written_new (TooManyTurns sent) = IsCutOff what old new written_old written_new sent
+      (FindsNoMemory old what new ⊎ ((found : Finding) × Finds old what found new))
+      × IsFixedAnswer written_old written_new sent
+  StopsAsked what old new written_old written_new (TooManyTurns sent) =
+      IsCutOff what old new written_old written_new sent
 
   -- the request of a stream was answered whole
-  abbrev pub IsServed : Option (List ℕ) → S → S → Option (List ℕ) → Option (List ℕ) → Served → Type 0
+  abbrev pub IsServed : Option (List ℕ) → S → S
+      → Option (List ℕ) → Option (List ℕ) → Served → Type 0
   IsServed input old new written_old written_new served =
-      (what : Asked) × IsAsked input what × IsAnsweredWhole what old new written_old written_new served
+      (what : Asked)
+      × IsAsked input what × IsAnsweredWhole what old new written_old written_new served
 
-  -- the connection stopped by a fault: before it was known what the request of its stream asks for, or later
-  abbrev pub Stops : Option (List ℕ) → S → S → Option (List ℕ) → Option (List ℕ) → ServeFault → Type 0
+  -- the connection stopped by a fault: before it was known what the request of its stream asks for,
+  -- or later
+  abbrev pub Stops : Option (List ℕ) → S → S → Option (List ℕ)
+      → Option (List ℕ) → ServeFault → Type 0
   Stops input old new written_old written_new fault =
       StopsUnread old new written_old written_new fault
-      ⊎ ((what : Asked) × IsAsked input what × StopsAsked what old new written_old written_new fault)
+      ⊎ ((what : Asked)
+      × IsAsked input what × StopsAsked what old new written_old written_new fault)

@@ -127,8 +127,8 @@ fn answer_kept<W: Write, D: KeptDesk>(
     desk: &mut D,
     plan: Plan,
 ) -> Result<Served, KeptFault>
-    ensures answered { IfOk result (IsKeptAnswer D.calls D.gives_events D.gives_rows D.is_kept D.keeps
-        (asked_in plan) desk.old desk.new (W.contents writer.old) (W.contents writer.new)) }
+    ensures answered { IfOk result (IsKeptAnswer D.calls D.gives_events D.gives_rows D.is_kept
+        D.keeps (asked_in plan) desk.old desk.new (W.contents writer.old) (W.contents writer.new)) }
     ensures stopped { IfErr result (IsKeptStop D.calls D.gives_events D.gives_rows D.is_kept D.keeps
         (asked_in plan) desk.old desk.new (W.contents writer.old) (W.contents writer.new)) }
 {

@@ -1,5 +1,6 @@
 -- The lines of a stream, on the whole stream, and the items that they are, or the first fault.
-use Rattle.std.specs.Prelude.{◌≡◌, ◌≢◌, ◌⊎◌, ℕ, ◌<◌, ◌≤◌, ◌+◌, Bool, false, not, ◌||◌, ◌==◌, List, [], ◌∷◌, ◌++◌, length, take, filter, flat_map, All}
+use Rattle.std.specs.Prelude.{◌≡◌, ◌≢◌, ◌⊎◌, ℕ, ◌<◌, ◌≤◌, ◌+◌, Bool, false, not, ◌||◌, ◌==◌}
+use Rattle.std.specs.Prelude.{List, [], ◌∷◌, ◌++◌, length, take, filter, flat_map, All}
 use Rattle.std.specs.List.{list_all, AllZip}
 use Rattle.mds_table.specs.declared.json.TextFault.TheVariants as text
 use Rattle.mds_table.specs.Json.{max_bytes, HasTextFault}
@@ -43,7 +44,8 @@ pub record BeginsWith (stream : List ℕ) (lines : List (List ℕ)) (rest : List
   pub joined : stream ≡ with_feeds lines ++ rest
   pub whole : All HasNoFeed lines
 
--- the items of the lines that have ended in some bytes: what is behind the last line feed isn't looked at
+-- the items of the lines that have ended in some bytes: what is behind the last line feed isn't
+-- looked at
 abbrev pub HasEndedItems : List ℕ → List EventItem → Type 0
 HasEndedItems bytes items =
     (lines : List (List ℕ)) × (rest : List ℕ) × BeginsWith bytes lines rest × HasNoFeed rest
@@ -55,12 +57,16 @@ HasLineItems stream items =
     (lines : List (List ℕ)) × (last : List ℕ) × BeginsWith stream lines last × HasNoFeed last
     × (length stream ≤ max_bytes) × HoldItems (lines ++ last ∷ []) items
 
--- the first line of some bytes, and the bytes behind its line feed; where there is none, it is the last line
+-- the first line of some bytes, and the bytes behind its line feed; where there is none, it is the
+-- last line
 abbrev pub IsFirstLine : List ℕ → List ℕ → List ℕ → Type 0
-IsFirstLine bytes line next = HasNoFeed line × ((bytes ≡ line ++ 10 ∷ next) ⊎ ((bytes ≡ line) × (next ≡ [])))
+IsFirstLine bytes line next =
+    HasNoFeed line × ((bytes ≡ line ++ 10 ∷ next) ⊎ ((bytes ≡ line) × (next ≡ [])))
 
--- the line of this number, from 0, isn't blank, and it and its line feed are within the limit; those before it hold these items
-pub record HasLineAt (stream : List ℕ) (at : ℕ) (items : List EventItem) (line : List ℕ) : Type 0 where
+-- the line of this number, from 0, isn't blank, and it and its line feed are within the limit;
+-- those before it hold these items
+pub record HasLineAt (stream : List ℕ) (at : ℕ) (items : List EventItem) (line : List ℕ)
+    : Type 0 where
   pub before : List (List ℕ)
   pub rest : List ℕ
   pub next : List ℕ
@@ -71,13 +77,16 @@ pub record HasLineAt (stream : List ℕ) (at : ℕ) (items : List EventItem) (li
   pub within : length stream ≤ max_bytes + length next
   pub filled : is_blank line ≡ false
 
--- the first fault: a line that is no JSON, an item too many, or a byte too many; at a line's end no JSON comes before too
--- many items. Want of memory says nothing of the stream
+-- the first fault: a line that is no JSON, an item too many, or a byte too many; at a line's end no
+-- JSON comes before too many items. Want of memory says nothing of the stream
 abbrev pub HasLineFault : List ℕ → LineFault → Type 0
 HasLineFault stream Memory = Unit {0}
-HasLineFault stream TooLong = (max_bytes < length stream) × ((items : List EventItem) × HasEndedItems (take max_bytes stream) items)
+HasLineFault stream TooLong =
+    (max_bytes < length stream)
+    × ((items : List EventItem) × HasEndedItems (take max_bytes stream) items)
 HasLineFault stream (NotJson at) =
-    (items : List EventItem) × (line : List ℕ) × HasLineAt stream at items line × HasTextFault line text.NotJson
+    (items : List EventItem) × (line : List ℕ)
+    × HasLineAt stream at items line × HasTextFault line text.NotJson
 HasLineFault stream TooMany =
     (at : ℕ) × (items : List EventItem) × (line : List ℕ) × HasLineAt stream at items line
     × ((item : EventItem) × IsItemLine line item) × (length items ≡ max_items)

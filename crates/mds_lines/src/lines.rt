@@ -73,7 +73,8 @@ impl Lines {
         ensures taken { (items : List Item)
             → AreRead bytes.now self.old.ended self.old.count self.old.taken items
             → (all : List Item) × TakesOn T.took items taker.old all taker.new
-            × OnOk result (AreRead (bytes.now ++ 10 ∷ []) self.new.ended self.new.count self.new.taken all) }
+            × OnOk result
+            (AreRead (bytes.now ++ 10 ∷ []) self.new.ended self.new.count self.new.taken all) }
         ensures fault { IfErr result (IsFaultyWith (bytes.now ++ 10 ∷ [])) }
     {
         self.take_last(bytes, taker)?;

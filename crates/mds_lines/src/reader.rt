@@ -62,9 +62,10 @@ impl LineReader {
         ensures fed { OnOk result
             (self.new ≡ record { bytes = self.old.bytes ++ piece.now; fault = None }) }
         // A taker that had taken the items of the lines before has taken those of all lines that have ended.
-        ensures taken { (before : T) (items : List Item) → HasEndedItems self.old.bytes items
-            → T.took before items taker.old
-            → (all : List Item) × T.took before all taker.new × OnOk result (HasEndedItems self.new.bytes all) }
+        ensures taken { (before : T) (items : List Item)
+            → HasEndedItems self.old.bytes items → T.took before items taker.old
+            → (all : List Item)
+            × T.took before all taker.new × OnOk result (HasEndedItems self.new.bytes all) }
         // Whatever the taker had taken, each line that has ended holds its item, and no byte is too many.
         ensures ended { OnOk result ((items : List Item) × HasEndedItems self.new.bytes items) }
         ensures whole { OnOk result (self.old.fault ≡ None) }
@@ -89,9 +90,10 @@ impl LineReader {
     ///
     /// The first fault of the stream.
     pub fn finish<T: TakesItems<Item = EventItem>>(self, taker: &mut T) -> Result<(), LineFault>
-        ensures taken { (before : T) (items : List Item) → HasEndedItems self.bytes items
-            → T.took before items taker.old
-            → (all : List Item) × T.took before all taker.new × OnOk result (HasLineItems self.bytes all) }
+        ensures taken { (before : T) (items : List Item)
+            → HasEndedItems self.bytes items → T.took before items taker.old
+            → (all : List Item)
+            × T.took before all taker.new × OnOk result (HasLineItems self.bytes all) }
         ensures whole { OnOk result (self.fault ≡ None) }
         ensures fault { IfErr result (HasLineFault self.bytes) }
         ensures again { (fault : Fault) → self.fault ≡ Some fault
@@ -111,10 +113,12 @@ fn take_last<T: TakesItems<Item = EventItem>>(
     taker: &mut T,
 ) -> Result<(), LineFault>
     requires short { length bytes.now ≤ max_bytes }
-    requires read { (items : List Item) × AreRead bytes.now lines.ended lines.count lines.taken items }
-    ensures taken { (items : List Item) → AreRead bytes.now lines.ended lines.count lines.taken items
-        → (all : List Item) × TakesOn T.took items taker.old all taker.new
-        × OnOk result (HasLineItems bytes.now all) }
+    requires read { (items : List Item)
+        × AreRead bytes.now lines.ended lines.count lines.taken items }
+    ensures taken { (items : List Item)
+        → AreRead bytes.now lines.ended lines.count lines.taken items
+        → (all : List Item)
+        × TakesOn T.took items taker.old all taker.new × OnOk result (HasLineItems bytes.now all) }
     ensures fault { IfErr result (HasLineFault bytes.now) }
 {
     lines.take_last(bytes, taker)?;
@@ -136,7 +140,8 @@ fn feed<T: TakesItems<Item = EventItem>>(
     ensures taken { (items : List Item)
         → AreRead bytes.old.items lines.old.ended lines.old.count lines.old.taken items
         → (all : List Item) × TakesOn T.took items taker.old all taker.new
-        × OnOk result (AreRead bytes.new.items lines.new.ended lines.new.count lines.new.taken all) }
+        × OnOk result
+        (AreRead bytes.new.items lines.new.ended lines.new.count lines.new.taken all) }
     ensures kept { IfErr result (IsFaultyWith bytes.new.items) }
     ensures fault { IfErr result (IsFaultyWith (bytes.old.items ++ piece.now)) }
 {

@@ -8,7 +8,9 @@ use Rattle.mds_io.specs.Page.{AppendsFront}
 use Rattle.mds_commands.specs.declared.source.Source.{Source}
 use Rattle.mds_commands.specs.declared.status.Status.{Status}
 use Rattle.mds_commands.specs.declared.status.Status.TheVariants.{Done}
-use Rattle.mds_commands.specs.declared.problem.Problem.TheVariants.{CannotRead, NotATable, NotABatch, NotLines, Socket, Random, Output, Memory}
+use Rattle.mds_commands.specs.declared.problem.Problem.TheVariants.{CannotRead, NotATable}
+use Rattle.mds_commands.specs.declared.problem.Problem.TheVariants.{NotABatch, NotLines, Socket}
+use Rattle.mds_commands.specs.declared.problem.Problem.TheVariants.{Random, Output, Memory}
 use Rattle.mds_commands.specs.Source.{HasTablesIn, ExplainsTable, IsOpen}
 use Rattle.mds_listing.specs.declared.problem.JournalProblem.{JournalProblem}
 use Rattle.mds_listing.specs.declared.problem.JournalProblem.TheVariants.{NotAJournal, Other}
@@ -19,12 +21,15 @@ use Rattle.mds_listing.specs.Text.{listing_text}
 
 -- the file was opened, and its lines tell this history
 abbrev pub IsTakenIn : {R : Type 0} → (R → Option (List ℕ)) → Source R → List Request → Type 0
-IsTakenIn {R} remaining source history = (reader : R) × (source.reader ≡ Some reader) × IsTaken (remaining reader) history
+IsTakenIn {R} remaining source history =
+    (reader : R) × (source.reader ≡ Some reader) × IsTaken (remaining reader) history
 
 -- why no roster over the tables was had of a file
-abbrev pub ExplainsJournal : {R : Type 0} → (R → Option (List ℕ)) → Source R → Tables → JournalProblem → Type 0
+abbrev pub ExplainsJournal : {R : Type 0} → (R → Option (List ℕ))
+    → Source R → Tables → JournalProblem → Type 0
 ExplainsJournal {R} remaining source tables (NotAJournal fault) =
-    (reader : R) × (source.reader ≡ Some reader) × IsJournalFault tables (remaining reader) (Fault fault)
+    (reader : R)
+    × (source.reader ≡ Some reader) × IsJournalFault tables (remaining reader) (Fault fault)
 ExplainsJournal remaining source tables (Other (CannotRead path)) = path.now ≡ source.path.now
 ExplainsJournal remaining source tables (Other Memory) = IsOpen source
 ExplainsJournal remaining source tables (Other (NotATable fault)) = ⊥
@@ -34,28 +39,38 @@ ExplainsJournal remaining source tables (Other Socket) = ⊥
 ExplainsJournal remaining source tables (Other Random) = ⊥
 ExplainsJournal remaining source tables (Other Output) = ⊥
 
--- of a listing: the known bytes of a table file's reader, the table file if one is given, and the same of the journal
-module _ {T R : Type 0} (table_bytes : T → Option (List ℕ)) (table : Option (Source T)) (file_bytes : R → Option (List ℕ)) (file : Source R) where
+-- of a listing: the known bytes of a table file's reader, the table file if one is given, and the
+-- same of the journal
+module _ {T R : Type 0} (table_bytes : T → Option (List ℕ)) (table : Option (Source T))
+    (file_bytes : R → Option (List ℕ)) (file : Source R) where
   -- the lines of the journal tell this history, which is lawful under the tables
   abbrev pub HasHistory : List Request → Type 0
-  HasHistory history = (tables : Tables) × HasTablesIn table_bytes table tables × IsTakenIn file_bytes file history × IsLawful tables history
+  HasHistory history =
+      (tables : Tables) × HasTablesIn table_bytes table tables
+      × IsTakenIn file_bytes file history × IsLawful tables history
 
   -- the listing of the journal's history went out
   abbrev pub Listed : Option (List ℕ) → Option (List ℕ) → Type 0
-  Listed old new = (history : List Request) × HasHistory history × Appends old new (listing_text history)
+  Listed old new =
+      (history : List Request) × HasHistory history × Appends old new (listing_text history)
 
   -- a front of it went out, and not all of it
   abbrev pub ListedFront : Option (List ℕ) → Option (List ℕ) → Type 0
-  ListedFront old new = (history : List Request) × HasHistory history × AppendsFront old new (listing_text history)
+  ListedFront old new =
+      (history : List Request) × HasHistory history × AppendsFront old new (listing_text history)
 
   -- the tables were had, and then the problem is one of the journal
   abbrev pub ExplainsRequests : JournalProblem → Type 0
-  ExplainsRequests problem = (tables : Tables) × HasTablesIn table_bytes table tables × ExplainsJournal file_bytes file tables problem
+  ExplainsRequests problem =
+      (tables : Tables)
+      × HasTablesIn table_bytes table tables × ExplainsJournal file_bytes file tables problem
 
-  -- the problem's cause lies in the file that it names, if it names one; the table file is looked at first
+  -- the problem's cause lies in the file that it names, if it names one; the table file is looked
+  -- at first
   abbrev pub ExplainsListing : JournalProblem → Type 0
   ExplainsListing (NotAJournal fault) = ExplainsRequests (NotAJournal fault)
-  ExplainsListing (Other (CannotRead path)) = ExplainsTable table_bytes table (CannotRead path) ⊎ ExplainsRequests (Other (CannotRead path))
+  ExplainsListing (Other (CannotRead path)) =
+      ExplainsTable table_bytes table (CannotRead path) ⊎ ExplainsRequests (Other (CannotRead path))
   ExplainsListing (Other (NotATable fault)) = ExplainsTable table_bytes table (NotATable fault)
   ExplainsListing (Other (NotABatch fault)) = ⊥
   ExplainsListing (Other (NotLines fault)) = ⊥
@@ -64,7 +79,8 @@ module _ {T R : Type 0} (table_bytes : T → Option (List ℕ)) (table : Option 
   ExplainsListing (Other Output) = Unit {0}
   ExplainsListing (Other Memory) = Unit {0}
 
-  -- what went out before a problem: nothing where a file was at fault, a front of the listing where the output was
+  -- what went out before a problem: nothing where a file was at fault, a front of the listing where
+  -- the output was
   abbrev pub ListingWentOut : JournalProblem → Option (List ℕ) → Option (List ℕ) → Type 0
   ListingWentOut (NotAJournal fault) old new = Keeps old new
   ListingWentOut (Other (CannotRead path)) old new = Keeps old new
@@ -77,12 +93,15 @@ module _ {T R : Type 0} (table_bytes : T → Option (List ℕ)) (table : Option 
   ListingWentOut (Other Memory) old new = Keeps old new ⊎ ListedFront old new
 
   -- a problem has this status, is explained, and was told
-  abbrev pub ListingTold : Status → Option (List ℕ) → Option (List ℕ) → Option (List ℕ) → Option (List ℕ) → Type 0
+  abbrev pub ListingTold : Status → Option (List ℕ)
+      → Option (List ℕ) → Option (List ℕ) → Option (List ℕ) → Type 0
   ListingTold status old new faults_old faults_new =
-      (problem : JournalProblem) × (status ≡ journal_status_of problem) × ExplainsListing problem × ListingWentOut problem old new
-      × TellsJournal faults_old faults_new problem
+      (problem : JournalProblem) × (status ≡ journal_status_of problem) × ExplainsListing problem
+      × ListingWentOut problem old new × TellsJournal faults_old faults_new problem
 
   -- what a listing came to: it was printed and nothing was told, or a problem was told
-  abbrev pub CameToListing : Status → Option (List ℕ) → Option (List ℕ) → Option (List ℕ) → Option (List ℕ) → Type 0
+  abbrev pub CameToListing : Status → Option (List ℕ)
+      → Option (List ℕ) → Option (List ℕ) → Option (List ℕ) → Type 0
   CameToListing status old new faults_old faults_new =
-      ((status ≡ Done) × Listed old new × Keeps faults_old faults_new) ⊎ ListingTold status old new faults_old faults_new
+      ((status ≡ Done) × Listed old new × Keeps faults_old faults_new)
+      ⊎ ListingTold status old new faults_old faults_new

@@ -15,5 +15,7 @@ journal_status_of (Other problem) = status_of problem
 
 -- what is said of the problem went out, or a front of it
 abbrev pub TellsJournal : Option (List ℕ) → Option (List ℕ) → JournalProblem → Type 0
-TellsJournal old new (NotAJournal fault) = AppendsUpTo old new (with_newline (codes "mds_city: not a journal: " ++ journal_fault_text fault))
+TellsJournal old new (NotAJournal fault) =
+    AppendsUpTo old new
+    (with_newline (codes "mds_city: not a journal: " ++ journal_fault_text fault))
 TellsJournal old new (Other problem) = Tells old new problem

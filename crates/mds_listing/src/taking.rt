@@ -100,11 +100,13 @@ fn take_all<R: Read>(
 ) -> Result<(), TakeError>
     requires stream { IsStream lines.old }
     requires limit { most_of lines.old ≡ max_bytes }
-    ensures ok { OnOk result ((tables : TableList) (known : Option (List ℕ)) → IsTakenSo tables known
-        (lines_given lines.old) (unread_of R.remaining lines.old) roster.old
+    ensures ok { OnOk result ((tables : TableList) (known : Option (List ℕ))
+        → IsTakenSo tables known (lines_given lines.old)
+        (unread_of R.remaining lines.old) roster.old
         → IsTakenBy tables known roster.new) }
     ensures fault { IfErr result (λ error. (tables : TableList) (known : Option (List ℕ))
-        → IsTakenSo tables known (lines_given lines.old) (unread_of R.remaining lines.old) roster.old
+        → IsTakenSo tables known (lines_given lines.old)
+        (unread_of R.remaining lines.old) roster.old
         → IsJournalFault tables known error) }
 {
     'requests: loop {

@@ -12,10 +12,12 @@ use Rattle.mds_replay.specs.declared.report.Opening.{Opening}
 use Rattle.mds_replay.specs.declared.report.Verdict.{Verdict}
 use Rattle.mds_replay.specs.declared.report.VehicleEnd.{VehicleEnd}
 use Rattle.mds_replay.specs.Items.{events_of, vehicles_of}
-use Rattle.mds_replay.specs.Replay.{prior_of, accepted_of, standing_after, AreOpeningsOf, AreVerdicts}
+use Rattle.mds_replay.specs.Replay.{prior_of, accepted_of, standing_after}
+use Rattle.mds_replay.specs.Replay.{AreOpeningsOf, AreVerdicts}
 
 -- this is what is kept of a vehicle with these accepted events
-pub record IsFollowed (opening : Opening) (tables : Tables) (key : Key) (prior : List Reported) (vehicle : Followed) : Type 0 where
+pub record IsFollowed (opening : Opening) (tables : Tables) (key : Key) (prior : List Reported)
+    (vehicle : Followed) : Type 0 where
   pub openings : AreOpeningsOf opening tables prior vehicle.openings
   pub standing : vehicle.standing ≡ standing_after opening key prior
 
@@ -28,22 +30,30 @@ abbrev pub AreApart : {K : Type 0} → (K → K → Bool) → List K → Type 0
 AreApart same [] = Unit {0}
 AreApart same (key ∷ keys) = (list_any (same key) keys ≡ false) × AreApart same keys
 
--- the entries of a map are those of these keys, in this order, and each value is one that its key may hold
+-- the entries of a map are those of these keys, in this order, and each value is one that its key
+-- may hold
 abbrev pub AreEntries : {K V : Type 0} → (K → V → Type 0) → List K → List (K × V) → Type 0
-AreEntries Holds keys entries = AllZip (λ key entry. (entry.0 ≡ key) × Holds key entry.1) keys entries
+AreEntries Holds keys entries =
+    AllZip (λ key entry. (entry.0 ≡ key) × Holds key entry.1) keys entries
 
 -- what names an event among all events
 abbrev pub name_of : Reported → EventName
 name_of event = record { key = event.key; id = event.id }
 
 -- this is what is kept of the vehicles that were mentioned, and the names of the accepted events
-pub record AreFollowed (opening : Opening) (tables : Tables) (mentioned : List Key) (accepted : List Reported) (entries : List (Key × Followed)) (names : List EventName) : Type 0 where
+pub record AreFollowed (opening : Opening) (tables : Tables) (mentioned : List Key)
+    (accepted : List Reported) (entries : List (Key × Followed)) (names : List EventName)
+    : Type 0 where
   pub apart : AreApart same_key mentioned
   pub unknown : (key : Key) → list_any (same_key key) mentioned ≡ false → prior_of key accepted ≡ []
-  pub vehicles : AreEntries (λ key vehicle. IsFollowed opening tables key (prior_of key accepted) vehicle) mentioned entries
+  pub vehicles : AreEntries
+      (λ key vehicle. IsFollowed opening tables key (prior_of key accepted) vehicle)
+      mentioned entries
   pub named : names ≡ map name_of accepted
 
 -- the verdicts on the items so far, and what is kept of their vehicles
-pub record IsReplayed (opening : Opening) (tables : Tables) (items : List EventItem) (lines : List Verdict) (entries : List (Key × Followed)) (names : List EventName) : Type 0 where
+pub record IsReplayed (opening : Opening) (tables : Tables) (items : List EventItem)
+    (lines : List Verdict) (entries : List (Key × Followed)) (names : List EventName) : Type 0 where
   pub verdicts : AreVerdicts opening tables items lines
-  pub vehicles : AreFollowed opening tables (vehicles_of (events_of items)) (accepted_of items lines) entries names
+  pub vehicles : AreFollowed opening tables (vehicles_of (events_of items))
+      (accepted_of items lines) entries names

@@ -19,4 +19,5 @@ events_of items = filter_map event_of items
 -- the vehicles that events mention, each once, in the order of their first mention
 abbrev pub vehicles_of : List Reported → List Key
 vehicles_of [] = []
-vehicles_of (event ∷ events) = event.key ∷ filter (λ key. not (same_key key event.key)) (vehicles_of events)
+vehicles_of (event ∷ events) =
+    event.key ∷ filter (λ key. not (same_key key event.key)) (vehicles_of events)

@@ -9,8 +9,8 @@ use Rattle.mds_replay.specs.declared.report.Verdict.{Verdict}
 use Rattle.mds_replay.specs.declared.followed.Followed.{Followed}
 use Rattle.mds_replay.specs.Followed.{IsReplayed}
 
--- the tables, what the vehicles hold at first, the verdicts so far, what is kept of the vehicles that were mentioned, and the
--- names of the accepted events
+-- the tables, what the vehicles hold at first, the verdicts so far, what is kept of the vehicles
+-- that were mentioned, and the names of the accepted events
 pub record Replaying : Type 0 where
   pub tables : Tables
   pub opening : Opening
@@ -18,10 +18,14 @@ pub record Replaying : Type 0 where
   pub vehicles : List (Key × Followed)
   pub names : List EventName
 
--- these are the items that a replayer took: its verdicts are those on them, and it keeps what a replay of them keeps
+-- these are the items that a replayer took: its verdicts are those on them, and it keeps what a
+-- replay of them keeps
 abbrev pub Took : List EventItem → Replaying → Type 0
-Took items replayer = IsReplayed replayer.opening replayer.tables items replayer.lines replayer.vehicles replayer.names
+Took items replayer =
+    IsReplayed replayer.opening replayer.tables items
+    replayer.lines replayer.vehicles replayer.names
 
 -- since it was as before, a replayer took these items; its tables and its opening stay
 abbrev pub TookSince : Replaying → List EventItem → Replaying → Type 0
-TookSince before items now = (now.tables ≡ before.tables) × (now.opening ≡ before.opening) × Took items now
+TookSince before items now =
+    (now.tables ≡ before.tables) × (now.opening ≡ before.opening) × Took items now

@@ -4,7 +4,8 @@ use Rattle.mds_table.specs.State.{name_of}
 use Rattle.mds_core.specs.Refusal.{refusal_text}
 use Rattle.mds_batch.specs.Items.{item_fault_text}
 use Rattle.mds_replay.specs.declared.report.Verdict.{Verdict}
-use Rattle.mds_replay.specs.declared.report.Verdict.TheVariants.{Accepted, Refused, NoOpening, Fault}
+use Rattle.mds_replay.specs.declared.report.Verdict.TheVariants.{Accepted, Refused}
+use Rattle.mds_replay.specs.declared.report.Verdict.TheVariants.{NoOpening, Fault}
 
 -- a verdict accepts
 abbrev pub accepts : Verdict → Bool

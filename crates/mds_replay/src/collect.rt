@@ -33,7 +33,8 @@ pub fn collect(
 
 fn lines_of(alloc: Global, items: &[EventItem], parts: &[Part]) -> Result<Vec<Verdict>, AllocError>
     requires { All (HasPlacesWithin (length items.now)) parts.now }
-    ensures { IfOk result (λ lines. ArePut (all_told parts.now) (map line_of items.now) lines.items) }
+    ensures { IfOk result
+        (λ lines. ArePut (all_told parts.now) (map line_of items.now) lines.items) }
 {
     let mut lines = lines_before(alloc, items)?;
     put_parts(&mut lines, parts);

@@ -4,7 +4,11 @@ use Rattle.mds_core.specs.declared.key.Key.{Key}
 use Rattle.mds_batch.specs.declared.item.VehicleItem.{VehicleItem}
 use Rattle.mds_batch.specs.declared.item.EventItem.{EventItem}
 use Rattle.mds_request.specs.declared.fault.HttpFault.{HttpFault}
-use Rattle.mds_request.specs.declared.fault.HttpFault.TheVariants.{BadHead, TransferEncoding, NotFound, MethodNotAllowed, LengthRequired, BadLength, TooLong, CutShort, NotJson, NotList, TooMany}
+use Rattle.mds_request.specs.declared.fault.HttpFault.TheVariants.{BadHead, TransferEncoding}
+use Rattle.mds_request.specs.declared.fault.HttpFault.TheVariants.{NotFound, MethodNotAllowed}
+use Rattle.mds_request.specs.declared.fault.HttpFault.TheVariants.{LengthRequired, BadLength}
+use Rattle.mds_request.specs.declared.fault.HttpFault.TheVariants.{TooLong, CutShort}
+use Rattle.mds_request.specs.declared.fault.HttpFault.TheVariants.{NotJson, NotList, TooMany}
 use Rattle.mds_request.specs.declared.plan.Plan.{Plan}
 use Rattle.mds_request.specs.declared.plan.Plan.TheVariants as plan
 
@@ -22,7 +26,8 @@ fault_word NotJson = codes "not_json"
 fault_word NotList = codes "not_list"
 fault_word TooMany = codes "too_many"
 
--- what a request asks for: nothing but the answer to its fault, the items of a POST, or what a GET looks at
+-- what a request asks for: nothing but the answer to its fault, the items of a POST, or what a GET
+-- looks at
 pub data Asked : Type 0 where
   Fixed : HttpFault → Asked
   Vehicles : List VehicleItem → Asked

@@ -1,5 +1,6 @@
 -- What was read of a head: its parts, and what the fields of a name give.
-use Rattle.std.specs.Prelude.{◌≡◌, ℕ, ◌<◌, List, [], ◌∷◌, length, map, IsUtf8, Some, None, Result, Ok, Err}
+use Rattle.std.specs.Prelude.{◌≡◌, ℕ, ◌<◌, List, [], ◌∷◌, length, map}
+use Rattle.std.specs.Prelude.{IsUtf8, Some, None, Result, Ok, Err}
 use Rattle.httparse.specs.Grammar.{RequestHead, print_request}
 use Rattle.httparse.specs.Spans.{span_bytes, header_bytes, name_and_value}
 use Rattle.httparse.specs.declared.spans.RequestSpans.{RequestSpans}
@@ -16,14 +17,17 @@ AreFieldValues values (Once value) = values ≡ value.now ∷ []
 AreFieldValues values Often = 1 < length values
 
 -- these are the parts of a head, as they stand in bytes
-pub record ArePartsOf (bytes : List ℕ) (spans : RequestSpans) (headers : List HeaderSpan) (head : RequestHead) : Type 0 where
+pub record ArePartsOf (bytes : List ℕ) (spans : RequestSpans) (headers : List HeaderSpan)
+    (head : RequestHead) : Type 0 where
   pub method : span_bytes bytes spans.method ≡ head.method
   pub target : span_bytes bytes spans.path ≡ head.target
   pub text : IsUtf8 head.target
   pub fields : map (header_bytes bytes) headers ≡ map name_and_value head.fields
   pub len : spans.len ≡ length (print_request head)
 
--- the length of a body by the lengths that are given for it, or the first thing that is wrong with these
+-- the length of a body by the lengths that are given for it, or the first thing that is wrong with
+-- these
 abbrev pub IsLengthOf : List (List ℕ) → Result ℕ HttpFault → Type 0
-IsLengthOf lengths (Ok len) = (first_fault (length_faults lengths) ≡ None) × (len ≡ announced lengths)
+IsLengthOf lengths (Ok len) =
+    (first_fault (length_faults lengths) ≡ None) × (len ≡ announced lengths)
 IsLengthOf lengths (Err fault) = first_fault (length_faults lengths) ≡ Some fault

@@ -1,4 +1,5 @@
--- The head of a request (RFC 9112, sections 2 to 5): where it stands in a stream, and the values of its fields.
+-- The head of a request (RFC 9112, sections 2 to 5): where it stands in a stream, and the values of
+-- its fields.
 use Rattle.std.specs.Prelude.{ℕ, ◌≤◌, List, ◌++◌, length, take, drop, map, filter, codes}
 use Rattle.std.specs.Str.{str_eq_ignore_ascii_case}
 use Rattle.httparse.specs.Grammar.{RequestHead, print_request, ReadsRequest}
@@ -30,9 +31,11 @@ NeverHasHead front = (more : List ℕ) → HasNoHead (front ++ more)
 abbrev pub after_head : RequestHead → List ℕ → List ℕ
 after_head head stream = drop (length (print_request head)) stream
 
--- of fields, each a name and a value without the spaces and tabs round it, the values of those of a name, whatever the case of its letters
+-- of fields, each a name and a value without the spaces and tabs round it, the values of those of a
+-- name, whatever the case of its letters
 abbrev pub values_of : List ℕ → List (List ℕ × List ℕ) → List (List ℕ)
-values_of name fields = map (λ field. field.1) (filter (λ field. str_eq_ignore_ascii_case field.0 name) fields)
+values_of name fields =
+    map (λ field. field.1) (filter (λ field. str_eq_ignore_ascii_case field.0 name) fields)
 
 -- the codings of the body that a head names
 abbrev pub encodings : RequestHead → List (List ℕ)

@@ -1,4 +1,5 @@
--- What the first bytes of a stream say of the head of the request, and which bytes determine what is asked for.
+-- What the first bytes of a stream say of the head of the request, and which bytes determine what
+-- is asked for.
 use Rattle.std.specs.Prelude.{◌≡◌, ℕ, ◌+◌, ◌≤◌, true, List, ◌++◌, length, take, Some, None}
 use Rattle.httparse.specs.Grammar.{RequestHead, print_request, HasNoRequest, MayBecomeRequest}
 use Rattle.mds_table.specs.Json.{max_bytes}
@@ -6,7 +7,8 @@ use Rattle.mds_core.specs.declared.key.Key.{Key}
 use Rattle.mds_request.specs.declared.aim.Aim.{Aim}
 use Rattle.mds_request.specs.declared.head_status.Head.{Head}
 use Rattle.mds_request.specs.declared.head_status.HeadStatus.{HeadStatus}
-use Rattle.mds_request.specs.declared.head_status.HeadStatus.TheVariants.{Partial, Invalid, Rejected, Complete}
+use Rattle.mds_request.specs.declared.head_status.HeadStatus.TheVariants.{Partial, Invalid}
+use Rattle.mds_request.specs.declared.head_status.HeadStatus.TheVariants.{Rejected, Complete}
 use Rattle.mds_request.specs.Asked.{Asked}
 use Rattle.mds_request.specs.Head.{max_head, HasHead, NeverHasHead}
 use Rattle.mds_request.specs.Routes.{aim_in}
@@ -25,13 +27,16 @@ IsJudged head (Rejected fault) = head_fault head ≡ Some fault
 IsJudged head (Complete aim start len) = IsComplete head aim start len
 IsJudged head other = ⊥
 
--- what bytes say of the head: none is there whole, of however many fields, and one may yet come; none ever comes; it has a
--- fault; or it has none
+-- what bytes say of the head: none is there whole, of however many fields, and one may yet come;
+-- none ever comes; it has a fault; or it has none
 abbrev pub IsHeadStatus : List ℕ → HeadStatus → Type 0
-IsHeadStatus bytes Partial = HasNoRequest (take max_head bytes) × MayBecomeRequest (take max_head bytes)
+IsHeadStatus bytes Partial =
+    HasNoRequest (take max_head bytes) × MayBecomeRequest (take max_head bytes)
 IsHeadStatus bytes Invalid = NeverHasHead bytes
-IsHeadStatus bytes (Rejected fault) = (head : RequestHead) × HasHead bytes head × IsJudged head (Rejected fault)
-IsHeadStatus bytes (Complete aim start len) = (head : RequestHead) × HasHead bytes head × IsJudged head (Complete aim start len)
+IsHeadStatus bytes (Rejected fault) =
+    (head : RequestHead) × HasHead bytes head × IsJudged head (Rejected fault)
+IsHeadStatus bytes (Complete aim start len) =
+    (head : RequestHead) × HasHead bytes head × IsJudged head (Complete aim start len)
 
 -- what is said of a head without a fault: of its bytes, and of those of its body
 abbrev pub IfComplete : HeadStatus → (ℕ → ℕ → Type 0) → Type 0
@@ -40,15 +45,19 @@ IfComplete other Says = Unit {0}
 
 -- the head lies in these bytes and is short enough, and the body isn't too long
 abbrev pub IsInReach : List ℕ → HeadStatus → Type 0
-IsInReach bytes status = IfComplete status (λ start len. (start ≤ length bytes) × (start ≤ max_head) × (len ≤ max_bytes))
+IsInReach bytes status =
+    IfComplete status (λ start len. (start ≤ length bytes) × (start ≤ max_head) × (len ≤ max_bytes))
 
 -- these bytes begin with this head, which has no fault
 abbrev pub IsHead : List ℕ → Head → Type 0
-IsHead bytes head = IsHeadStatus bytes (Complete head.aim head.start head.len) × IsInReach bytes (Complete head.aim head.start head.len)
+IsHead bytes head =
+    IsHeadStatus bytes (Complete head.aim head.start head.len)
+    × IsInReach bytes (Complete head.aim head.start head.len)
 
 -- a body is read: that of a POST, where all of it is there
 abbrev pub HasBody : List ℕ → HeadStatus → Type 0
-HasBody stream (Complete aim start len) = (is_post (Some aim) ≡ true) × (start + len ≤ length stream)
+HasBody stream (Complete aim start len) =
+    (is_post (Some aim) ≡ true) × (start + len ≤ length stream)
 HasBody stream other = ⊥
 
 -- a stream holds a request with a body that is read
@@ -65,4 +74,5 @@ DeterminesPlan bytes = (more : List ℕ) → SamePlans bytes (bytes ++ more)
 
 -- with what follows, as soon as there are this many bytes, they determine what is asked for
 abbrev pub DeterminesPlanFrom : List ℕ → ℕ → Type 0
-DeterminesPlanFrom bytes total = (more : List ℕ) → total ≤ length (bytes ++ more) → DeterminesPlan (bytes ++ more)
+DeterminesPlanFrom bytes total =
+    (more : List ℕ) → total ≤ length (bytes ++ more) → DeterminesPlan (bytes ++ more)

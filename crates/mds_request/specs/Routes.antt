@@ -1,5 +1,6 @@
 -- The routes, and what the target of a request is about.
-use Rattle.std.specs.Prelude.{◌≡◌, ℕ, zero, suc, List, [], ◌∷◌, Result, Ok, Err, Option, Some, None, option_map, option_and_then, ◌==◌, codes}
+use Rattle.std.specs.Prelude.{◌≡◌, ℕ, zero, suc, List, [], ◌∷◌, Result, Ok, Err, Option}
+use Rattle.std.specs.Prelude.{Some, None, option_map, option_and_then, ◌==◌, codes}
 use Rattle.std.specs.List.{before_first, after_first}
 use Rattle.uuid.specs.Text.{parsed}
 use Rattle.matchit.specs.Rows.{RowsOf}
@@ -62,7 +63,10 @@ piece (suc place) path = piece place (after_first (λ byte. byte == 47) path)
 
 -- the vehicle that a path names: the identifiers of a provider and of a device
 abbrev pub key_in : List ℕ → Option Key
-key_in path = option_and_then (λ provider. option_map (λ device. record { provider = provider; device = device }) (parsed (piece 3 path))) (parsed (piece 2 path))
+key_in path =
+    option_and_then (λ provider. option_map
+    (λ device. record { provider = provider; device = device })
+    (parsed (piece 3 path))) (parsed (piece 2 path))
 
 -- what a request of a route is about, with the vehicle that its path names
 abbrev pub aim_on : Route → List ℕ → Option (Aim Key)

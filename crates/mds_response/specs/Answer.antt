@@ -9,10 +9,15 @@ use Rattle.mds_core.specs.Refusal.{refusal_word}
 use Rattle.mds_batch.specs.declared.item.ItemFault.{ItemFault}
 use Rattle.mds_batch.specs.Asking.{vehicle_fault, event_fault}
 use Rattle.mds_request.specs.declared.fault.HttpFault.{HttpFault}
-use Rattle.mds_request.specs.declared.fault.HttpFault.TheVariants.{BadHead, TransferEncoding, NotFound, MethodNotAllowed, LengthRequired, BadLength, TooLong, CutShort, NotJson, NotList, TooMany}
+use Rattle.mds_request.specs.declared.fault.HttpFault.TheVariants.{BadHead, TransferEncoding}
+use Rattle.mds_request.specs.declared.fault.HttpFault.TheVariants.{NotFound, MethodNotAllowed}
+use Rattle.mds_request.specs.declared.fault.HttpFault.TheVariants.{LengthRequired, BadLength}
+use Rattle.mds_request.specs.declared.fault.HttpFault.TheVariants.{TooLong, CutShort}
+use Rattle.mds_request.specs.declared.fault.HttpFault.TheVariants.{NotJson, NotList, TooMany}
 use Rattle.mds_request.specs.declared.method.Method.{Method}
 use Rattle.mds_request.specs.Asked.{Asked, Fixed, Vehicles, Events, One, History, Rows, fault_word}
-use Rattle.mds_response.specs.Found.{Finding, replies_in, standing_in, events_in, tables_in, accepted_in}
+use Rattle.mds_response.specs.Found.{Finding, replies_in, standing_in}
+use Rattle.mds_response.specs.Found.{events_in, tables_in, accepted_in}
 use Rattle.mds_response.specs.Verdicts.{verdicts, failures_from}
 use Rattle.mds_response.specs.Json.{standing_text}
 use Rattle.mds_response.specs.Bodies.{fault_body, memory_body, batch_body, events_body, tables_body}
@@ -60,8 +65,8 @@ is_unregistered = record { status = 404; body = fault_body (refusal_word Unregis
 abbrev pub fault_content : HttpFault → Content
 fault_content fault = record { status = fault_status fault; body = fault_body (fault_word fault) }
 
--- a POST of so many items, of which this is said in turn, and so many are accepted: something is said of each, or the
--- next one found no memory
+-- a POST of so many items, of which this is said in turn, and so many are accepted: something is
+-- said of each, or the next one found no memory
 abbrev pub said_content : List (Option Cause) → ℕ → ℕ → Content
 said_content said success total =
     if nat_lt (length said) total then record { status = 503; body = memory_body (length said) }
@@ -69,7 +74,8 @@ said_content said success total =
 
 -- a POST of items with these faults, if any, and these replies
 abbrev pub batch_content : List (Option ItemFault) → List Reply → Content
-batch_content items replies = said_content (verdicts items replies) (accepted_in replies) (length items)
+batch_content items replies =
+    said_content (verdicts items replies) (accepted_in replies) (length items)
 
 -- a look at a vehicle
 abbrev pub look_content : Key → Option Standing → Content
@@ -93,4 +99,8 @@ content_of Rows found = is_there (tables_body (tables_in found))
 -- the answer to what was asked for, by what was found
 abbrev pub answer_to : Asked → Finding → Answer
 answer_to asked found =
-    record { status = (content_of asked found).status; allow = allow_for asked; body = (content_of asked found).body }
+    record {
+      status = (content_of asked found).status;
+      allow = allow_for asked;
+      body = (content_of asked found).body;
+    }

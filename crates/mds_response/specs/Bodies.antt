@@ -17,14 +17,16 @@ memory_body index = codes "{\"error\":\"out_of_memory\",\"index\":" +++ decimal 
 -- the body of a POST: its failures, the number of items accepted, and the number of items
 abbrev pub batch_body : List Failure → ℕ → ℕ → List ℕ
 batch_body failures success total =
-    codes "{\"failures\":[" +++ with_commas failure_text failures
-    +++ codes "],\"success\":" +++ decimal success +++ codes ",\"total\":" +++ decimal total +++ codes "}"
+    codes "{\"failures\":[" +++ with_commas failure_text failures +++ codes "],\"success\":"
+    +++ decimal success +++ codes ",\"total\":" +++ decimal total +++ codes "}"
 
 -- the body of a vehicle's events, in the order in which they were accepted
 abbrev pub events_body : List Reported → List ℕ
 events_body events = codes "{\"events\":[" +++ with_commas event_text events +++ codes "]}"
 
--- the body of tables, which is a file of them too: one table by its rows alone, more with their starting times
+-- the body of tables, which is a file of them too: one table by its rows alone, more with their
+-- starting times
 abbrev pub tables_body : Tables → List ℕ
-tables_body (table ∷ []) = codes "{\"rows\":[" +++ with_commas row_text (rows_of table) +++ codes "]}"
+tables_body (table ∷ []) =
+    codes "{\"rows\":[" +++ with_commas row_text (rows_of table) +++ codes "]}"
 tables_body tables = codes "{\"tables\":[" +++ with_commas table_text tables +++ codes "]}"

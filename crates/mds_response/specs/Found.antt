@@ -11,7 +11,8 @@ use Rattle.mds_core.specs.Headline.{is_done}
 use Rattle.mds_response.specs.declared.found.Found.{Found}
 use Rattle.mds_response.specs.declared.found.Found.TheVariants as found
 
--- what was found: nothing, the replies to the items of a POST, the reply to a look, the events of a vehicle, or tables
+-- what was found: nothing, the replies to the items of a POST, the reply to a look, the events of a
+-- vehicle, or tables
 pub data Finding : Type 0 where
   Nothing : Finding
   Replies : List Reply → Finding
@@ -42,7 +43,8 @@ standing_seen Done = None
 standing_seen (Seen standing) = Some standing
 standing_seen (Refused refusal) = None
 
--- the standing that a look saw: none where the vehicle isn't registered, or something else was found
+-- the standing that a look saw: none where the vehicle isn't registered, or something else was
+-- found
 abbrev pub standing_in : Finding → Option Standing
 standing_in (One reply) = standing_seen reply.outcome
 standing_in finding = None

@@ -1,5 +1,5 @@
--- The text of an answer (RFC 9112, section 2.1): a status line, fields, an empty line, and the body. Each line ends with
--- CR and LF.
+-- The text of an answer (RFC 9112, section 2.1): a status line, fields, an empty line, and the
+-- body. Each line ends with CR and LF.
 use Rattle.std.specs.Prelude.{ℕ, List, [], ◌++◌, length, codes, decimal, Option, Some, None}
 use Rattle.http.specs.StatusCode.{status_text}
 use Rattle.mds_request.specs.declared.method.Method.{Method}
@@ -35,7 +35,8 @@ allow_line (Some method) = codes "allow: " ++ (method_name method ++ codes "\r\n
 -- all that stands before a body of so many bytes: the status line, the fields and the empty line
 abbrev pub head_text : ℕ → Option Method → ℕ → List ℕ
 head_text status allow count =
-    status_line status ++ type_line ++ length_line count ++ close_line ++ allow_line allow ++ codes "\r\n"
+    status_line status ++ type_line ++ length_line count
+    ++ close_line ++ allow_line allow ++ codes "\r\n"
 
 -- all bytes of an answer
 abbrev pub answer_text : Answer → List ℕ
@@ -47,4 +48,5 @@ memory_text = status_line 503 ++ length_line 0 ++ close_line ++ codes "\r\n"
 
 -- all bytes of the answer where what it would rest on isn't recorded
 abbrev pub not_kept_text : List ℕ
-not_kept_text = answer_text (record { status = 503; allow = None; body = codes "{\"error\":\"not_kept\"}" })
+not_kept_text =
+    answer_text (record { status = 503; allow = None; body = codes "{\"error\":\"not_kept\"}" })

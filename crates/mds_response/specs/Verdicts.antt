@@ -15,8 +15,9 @@ cause_of Done = None
 cause_of (Seen standing) = None
 cause_of (Refused refusal) = Some (cause.Refused refusal)
 
--- why each item wasn't accepted, if it wasn't: what is wrong with it, or else what the next reply says. An item that is
--- no fault and has no reply found no memory: it is the first of which nothing is said
+-- why each item wasn't accepted, if it wasn't: what is wrong with it, or else what the next reply
+-- says. An item that is no fault and has no reply found no memory: it is the first of which nothing
+-- is said
 abbrev pub verdicts : List (Option ItemFault) → List Reply → List (Option Cause)
 verdicts [] replies = []
 verdicts (Some fault ∷ items) replies = Some (cause.Fault fault) ∷ verdicts items replies

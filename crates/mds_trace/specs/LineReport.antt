@@ -9,9 +9,10 @@ use Rattle.mds_replay.specs.declared.report.Report.{Report}
 use Rattle.mds_replay.specs.Replay.{IsReport}
 use Rattle.mds_replay.specs.Laws.{AreOutcomes}
 
--- the report of a replay of the items of the stream's lines; where each vehicle is registered first, its verdicts are the
--- outcomes of the machine
-pub record IsLineReport (opening : Opening) (tables : Tables) (stream : List ℕ) (report : Report) : Type 0 where
+-- the report of a replay of the items of the stream's lines; where each vehicle is registered
+-- first, its verdicts are the outcomes of the machine
+pub record IsLineReport (opening : Opening) (tables : Tables) (stream : List ℕ) (report : Report)
+    : Type 0 where
   pub items : List EventItem
   pub lines : HasLineItems stream items
   pub report_is : IsReport opening tables items report

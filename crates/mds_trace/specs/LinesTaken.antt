@@ -7,5 +7,6 @@ use Rattle.mds_replay.specs.Replayer.{Replaying, Took}
 
 -- without a fault the items of the lines that have ended were taken
 abbrev pub AreReplayed : Option LineFault → List ℕ → Replaying → Type 0
-AreReplayed None bytes replayer = (items : List EventItem) × HasEndedItems bytes items × Took items replayer
+AreReplayed None bytes replayer =
+    (items : List EventItem) × HasEndedItems bytes items × Took items replayer
 AreReplayed (Some fault) bytes replayer = Unit {0}

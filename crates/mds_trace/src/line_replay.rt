@@ -33,7 +33,8 @@ impl Model for LineReplay {
       stream = replay.lines;
     } };
 
-    ghost invariant = { λ replay. AreReplayed replay.lines.fault replay.lines.bytes replay.replayer };
+    ghost invariant = { λ replay.
+        AreReplayed replay.lines.fault replay.lines.bytes replay.replayer };
 }
 
 impl LineReplay {
@@ -62,7 +63,8 @@ impl LineReplay {
         ensures fed { OnOk result (self.new ≡ record self.old {
           stream = record { bytes = self.old.stream.bytes ++ piece.now; fault = None };
         }) }
-        ensures ended { OnOk result ((items : List EventItem) × HasEndedItems self.new.stream.bytes items) }
+        ensures ended { OnOk result
+            ((items : List EventItem) × HasEndedItems self.new.stream.bytes items) }
         ensures whole { OnOk result (self.old.stream.fault ≡ None) }
         ensures fault { IfErr result (IsFaultyWith (self.old.stream.bytes ++ piece.now)) }
         ensures kept { IfErr result (λ fault. self.new.stream.fault ≡ Some fault) }

@@ -96,8 +96,8 @@ impl Model for Session {
       place = session.place;
     } };
 
-    ghost invariant = { λ session.
-        IsWalk session.tables session.opening session.events.events session.place session.sets.items };
+    ghost invariant = { λ session. IsWalk session.tables session.opening
+        session.events.events session.place session.sets.items };
 }
 
 impl Session {

@@ -1,5 +1,6 @@
 -- The connection with the least time.
-use Rattle.std.specs.Prelude.{◌≡◌, ℕ, ◌<◌, ◌≤◌, nat_le, List, length, slice_index_or, Option, Some, None, if◌then◌else◌, vec_len}
+use Rattle.std.specs.Prelude.{◌≡◌, ℕ, ◌<◌, ◌≤◌, nat_le, List, length, slice_index_or}
+use Rattle.std.specs.Prelude.{Option, Some, None, if◌then◌else◌, vec_len}
 use Rattle.std.specs.Option.{ForSome}
 use Rattle.std.specs.List.{AllWithin}
 use Rattle.mds_waiting.specs.declared.waiter.Waiter.{Waiter}
@@ -12,13 +13,15 @@ module _ {S : Type 0} where
   abbrev pub time_in : Order → Option (Waiter S) → Option ℕ
   time_in order None = None
   time_in Until (Some waiter) = Some waiter.until
-  time_in (Begun bytes) (Some waiter) = if nat_le bytes (vec_len waiter.bytes) then Some waiter.begun else None
+  time_in (Begun bytes) (Some waiter) =
+      if nat_le bytes (vec_len waiter.bytes) then Some waiter.begun else None
 
   -- its time is this one or a later one, if it is compared
   abbrev pub IsNoSooner : Order → ℕ → Option (Waiter S) → Type 0
   IsNoSooner order time slot = ForSome (time_in order slot) (λ other. time ≤ other)
 
-  -- of the slots below a bound it is the one with the least time, and if none is found, none is compared
+  -- of the slots below a bound it is the one with the least time, and if none is found, none is
+  -- compared
   abbrev pub IsLeastBelow : Order → List (Option (Waiter S)) → ℕ → Option Found → Type 0
   IsLeastBelow order slots high None = AllWithin (λ slot. time_in order slot ≡ None) slots 0 high
   IsLeastBelow order slots high (Some found) = (found.key < high)

@@ -3,7 +3,8 @@ use Rattle.std.specs.Prelude.{ℕ, ◌+◌, min}
 use Rattle.mds_waiting.specs.declared.part.Part.{Part}
 use Rattle.mds_waiting.specs.declared.part.Part.TheVariants.{Head, Request, Answer, Last}
 
--- how long a part may take: 10 seconds for a head, 60 for a request, 60 for taking an answer, 10 for ending behind it
+-- how long a part may take: 10 seconds for a head, 60 for a request, 60 for taking an answer, 10
+-- for ending behind it
 abbrev pub limit_millis : Part → ℕ
 limit_millis Head = 10_000
 limit_millis Request = 60_000

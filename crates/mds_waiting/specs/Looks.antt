@@ -12,6 +12,7 @@ IfDone (Done head) Says = Says head
 IfDone Waits Says = Unit {0}
 IfDone Gone Says = Unit {0}
 
--- a request is whole and has this head, if one without a fault; or its client has ended, and none is told
+-- a request is whole and has this head, if one without a fault; or its client has ended, and none
+-- is told
 abbrev pub IsWholeOrEnded : List ℕ → Option (List ℕ) → Option Head → Type 0
 IsWholeOrEnded bytes coming head = IsWhole bytes head ⊎ (IsAtEnd coming × (head ≡ None))

@@ -1,5 +1,7 @@
 -- Connections that wait in numbered slots: how much they hold, and when their times are over.
-use Rattle.std.specs.Prelude.{◌≡◌, ◌⊎◌, ℕ, zero, suc, ◌+◌, ◌<◌, ◌≤◌, min, List, [], ◌∷◌, ◌++◌, length, sum_by, count_by, is_some, slice_get, slice_set, All, Option, Some, None, IsSome, vec_len}
+use Rattle.std.specs.Prelude.{◌≡◌, ◌⊎◌, ℕ, zero, suc, ◌+◌, ◌<◌, ◌≤◌, min, List, []}
+use Rattle.std.specs.Prelude.{◌∷◌, ◌++◌, length, sum_by, count_by, is_some, slice_get}
+use Rattle.std.specs.Prelude.{slice_set, All, Option, Some, None, IsSome, vec_len}
 use Rattle.std.specs.Option.{ForSome}
 use Rattle.mds_waiting.specs.declared.waiter.Waiter.{Waiter}
 
@@ -68,7 +70,9 @@ module _ {S : Type 0} where
     pub waiter : Waiter S
     pub there : slice_get slots key ≡ Some (Some waiter)
     pub holds : bytes ≤ vec_len waiter.bytes
-    pub first : All (λ slot. ForSome slot (λ other. bytes ≤ vec_len other.bytes → waiter.begun ≤ other.begun)) slots
+    pub first : All
+        (λ slot. ForSome slot (λ other. bytes ≤ vec_len other.bytes → waiter.begun ≤ other.begun))
+        slots
 
   -- the connection that began to wait first, and it did so before this time
   abbrev pub IsEldestBefore : ℕ → List (Option (Waiter S)) → ℕ → Type 0
@@ -93,32 +97,38 @@ module _ {S : Type 0} where
 
   -- the same, where it began to wait before this time
   abbrev pub LeavesEldestBefore : ℕ → List (Option (Waiter S)) → List (Option (Waiter S)) → Type 0
-  LeavesEldestBefore time old new = (key : ℕ) × IsEldestBefore time old key × (new ≡ slice_set old key None)
+  LeavesEldestBefore time old new =
+      (key : ℕ) × IsEldestBefore time old key × (new ≡ slice_set old key None)
 
   -- the same connections wait, or, where each key had one, all but the eldest of them
   abbrev pub LeavesKey : List (Option (Waiter S)) → List (Option (Waiter S)) → Type 0
   LeavesKey old new = SameWaiters old new ⊎ (IsFull old × LeavesEldest old new)
 
-  -- so many have left, one after the other: each was the eldest that held bytes, and there was no room for so many more
+  -- so many have left, one after the other: each was the eldest that held bytes, and there was no
+  -- room for so many more
   abbrev pub HaveLeftFor : ℕ → ℕ → List (Option (Waiter S)) → List (Option (Waiter S)) → Type 0
   HaveLeftFor zero count old new = new ≡ old
   HaveLeftFor (suc n) count old new = (before : List (Option (Waiter S))) × (waiter : Waiter S)
       × HaveLeftFor n count old before × (HasRoom before count → ⊥) × HasLeft before new waiter
 
-  -- connections have left for one more that holds so many bytes: where room was wanting, and then where a key was
+  -- connections have left for one more that holds so many bytes: where room was wanting, and then
+  -- where a key was
   abbrev pub MakesWay : ℕ → List (Option (Waiter S)) → List (Option (Waiter S)) → Type 0
   MakesWay count old new = (n : ℕ) × (roomy : List (Option (Waiter S)))
       × HaveLeftFor n count old roomy × LeavesKey roomy new
 
-  -- one more came, which holds so many bytes: there is room for it once others left for it, and a key, unless memory was wanting
-  -- for one more slot; it waits under the key, or was let go behind them
+  -- one more came, which holds so many bytes: there is room for it once others left for it, and a
+  -- key, unless memory was wanting for one more slot; it waits under the key, or was let go behind
+  -- them
   abbrev pub Joins : ℕ → List (Option (Waiter S)) → List (Option (Waiter S)) → Type 0
-  Joins count old new = (cleared : List (Option (Waiter S))) × MakesWay count old cleared × HasRoom cleared count
-      × (((length old < max_waiting) × (new ≡ cleared)) ⊎ ((key : ℕ) × IsVacant cleared key
+  Joins count old new =
+      (cleared : List (Option (Waiter S))) × MakesWay count old cleared × HasRoom cleared count
+      × (((length old < max_waiting) × (new ≡ cleared))
+      ⊎ ((key : ℕ) × IsVacant cleared key
       × ((new ≡ cleared) ⊎ ((waiter : Waiter S) × (new ≡ slice_set cleared key (Some waiter))))))
 
-  -- what is kept of the slots: how many connections they have, how much these hold, which is in bounds, and a time before which
-  -- nobody's is over
+  -- what is kept of the slots: how many connections they have, how much these hold, which is in
+  -- bounds, and a time before which nobody's is over
   pub record IsKept (slots : List (Option (Waiter S))) (count holding soonest : ℕ) : Type 0 where
     pub few : length slots ≤ max_waiting
     pub many : count ≡ count_by is_some slots

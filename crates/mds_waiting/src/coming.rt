@@ -67,9 +67,11 @@ impl<S: Peer> Coming<S> {
     /// The same with one call, for as many bytes as there is room for. `None` where more may be there.
     #[tactic(auto, using(crate::proofs::PeerLemmas::grows_nothing))]
     fn look_once(&mut self, face: &Face, bytes: &mut Vec<u8>, room: &mut [u8]) -> Option<Look>
-        ensures whole { IfSome result (λ look. IfDone look (IsWholeOrEnded bytes.new.items (S.coming self.new.peer))) }
+        ensures whole { IfSome result
+            (λ look. IfDone look (IsWholeOrEnded bytes.new.items (S.coming self.new.peer))) }
         ensures head { IfSome result (λ look. IfDone look (BeginsWith bytes.new.items)) }
-        ensures grows { result ≢ Some Look.Gone → Grows (S.coming self.old.peer) (S.coming self.new.peer)
+        ensures grows { result ≢ Some Look.Gone
+            → Grows (S.coming self.old.peer) (S.coming self.new.peer)
             bytes.old.items bytes.new.items }
         ensures sent { Keeps (S.sent self.old.peer) (S.sent self.new.peer) }
         ensures bound { length bytes.new.items ≤ max (length bytes.old.items) max_request }
