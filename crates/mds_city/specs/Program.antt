@@ -81,6 +81,14 @@ module _ {O F : Type 0} (opens : O → List ℕ → Option F → Type 0) (files 
         ⊎ ((path ≢ codes "-") × (file : Source F) × IsFileOf path file
         × CameToListing file_bytes table file_bytes file ended out out_new faults faults_new)
 
+    -- a replay of the file of this path, which is standard input for `-` alone, came to these
+    abbrev pub CarriesReplay : ReplayOptions → List ℕ → Option (Source F) → Status → Option (List ℕ) → Option (List ℕ) → Option (List ℕ) → Option (List ℕ) → Type 0
+    CarriesReplay options path table ended out out_new faults faults_new =
+        ((path ≡ codes "-") × (file : Source I) × (file.path.now ≡ path) × (file.reader ≡ Some input)
+        × CameToReplay options file_bytes table input_bytes file ended out out_new faults faults_new)
+        ⊎ ((path ≢ codes "-") × (file : Source F) × IsFileOf path file
+        × CameToReplay options file_bytes table file_bytes file ended out out_new faults faults_new)
+
   -- besides, of what listens: the relation of a number asked for to what listens and its port's number; of what opens journals: that of a
   -- path to what comes of it; and of what reads files: the bytes that are known of each
   module _ {L J : Type 0} (listens : O → ℕ → L → ℕ → Type 0) (opens_journal : O → List ℕ → Result J FileFault → Type 0) (file_bytes : F → Option (List ℕ)) where
@@ -95,14 +103,6 @@ module _ {O F : Type 0} (opens : O → List ℕ → Option F → Type 0) (files 
   -- of each, and standard input itself
   module _ {L J I : Type 0} (listens : O → ℕ → L → ℕ → Type 0) (opens_journal : O → List ℕ → Result J FileFault → Type 0) (file_bytes : F → Option (List ℕ))
       (input_bytes : I → Option (List ℕ)) (input : I) where
-    -- a replay of the file of this path, which is standard input for `-` alone, came to these
-    abbrev pub CarriesReplay : ReplayOptions → List ℕ → Option (Source F) → Status → Option (List ℕ) → Option (List ℕ) → Option (List ℕ) → Option (List ℕ) → Type 0
-    CarriesReplay options path table ended out out_new faults faults_new =
-        ((path ≡ codes "-") × (file : Source I) × (file.path.now ≡ path) × (file.reader ≡ Some input)
-        × CameToReplay options file_bytes table input_bytes file ended out out_new faults faults_new)
-        ⊎ ((path ≢ codes "-") × (file : Source F) × IsFileOf path file
-        × CameToReplay options file_bytes table file_bytes file ended out out_new faults faults_new)
-
     -- what a command did: it read the files that it names, and came to these
     abbrev pub Carries : Command → Status → Option (List ℕ) → Option (List ℕ) → Option (List ℕ) → Option (List ℕ) → Type 0
     Carries (Serve port each workers path journal) ended out out_new faults faults_new =
@@ -112,7 +112,8 @@ module _ {O F : Type 0} (opens : O → List ℕ → Option F → Type 0) (files 
         (table : Option (Source F)) × IsFileNamed (option_map (λ named. named.now) path) table × CameToTable file_bytes table ended out out_new faults faults_new
     Carries (Replay file path any lines workers) ended out out_new faults faults_new =
         (table : Option (Source F)) × IsFileNamed (option_map (λ named. named.now) path) table
-        × CarriesReplay (options_of any lines workers) file.now table ended out out_new faults faults_new
+        × CarriesReplay file_bytes input_bytes input (options_of any lines workers) file.now table ended out out_new faults
+        faults_new
     Carries (Vehicles file path) ended out out_new faults faults_new =
         (table : Option (Source F)) × IsFileNamed (option_map (λ named. named.now) path) table × CarriesVehicles file_bytes input_bytes input file.now table ended out out_new faults faults_new
     Carries (Debug file provider device path) ended out out_new faults faults_new =

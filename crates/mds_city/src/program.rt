@@ -3,9 +3,11 @@ ghost use Rattle.std.specs.Prelude.{◌≡◌, ◌≢◌, ◌↔◌, ℕ, List, 
 ghost use Rattle.std.specs.IoError.{error_kind};
 ghost use Rattle.mds_args.specs.Error.{words_kind};
 ghost use Rattle.mds_book.specs.Books.{IsSeatCount};
+ghost use Rattle.mds_commands.specs.Debug.{Debugs};
 ghost use Rattle.mds_commands.specs.Problem.{Tells};
 ghost use Rattle.mds_io.specs.Page.{AppendsUpTo, with_newline};
-ghost use Rattle.mds_city.specs.Program.{Carries, CarriesServe, CarriesVehicles, Explains, HasWorkers, IsFileNamed, IsFileOf, Runs};
+ghost use Rattle.mds_replay.specs.WithFault.{IsWorkerCount};
+ghost use Rattle.mds_city.specs.Program.{Carries, CarriesReplay, CarriesServe, CarriesVehicles, Explains, HasWorkers, IsFileNamed, IsFileOf, Runs};
 ghost use Rattle.mds_city.specs.Program.{form_if, opening_if, options_of};
 
 use crate::journal::{OpensJournals, serve_over};
@@ -176,11 +178,8 @@ fn carry_out<
             device,
             table,
         } => {
-            let table = file_if_named(files, table);
-            let file = file_of(files, file);
             let named = Named { provider, device };
-            let mut script = input;
-            debug_to(alloc, table, file, named, &mut script, out, faults)
+            debug_file(alloc, files, file, table, named, input, out, faults)
         }
         Command::Table { table } => table_to(alloc, file_if_named(files, table), out, faults),
         Command::Replay {
@@ -190,13 +189,8 @@ fn carry_out<
             lines,
             workers,
         } => {
-            let table = file_if_named(files, table);
             let options = options_of(any, lines, workers);
-            if is_standard_input(file) {
-                let file = source_of(file, input);
-                return replay_to(rt, alloc, table, file, options, out, faults);
-            }
-            replay_to(rt, alloc, table, file_of(files, file), options, out, faults)
+            replay_file(rt, alloc, files, file, table, options, input, out, faults)
         }
         Command::Vehicles { file, table } => {
             list_vehicles(rt, alloc, files, file, table, input, out, faults)
@@ -230,6 +224,58 @@ fn serve_named<
         Some(path) => serve_over(rt, alloc, files, table, path, asked, out, faults),
         None => serve_at(rt, alloc, files, table, asked, out, faults),
     }
+}
+
+/// Replays the file of this path, which is standard input for `-`, over the tables of the file that is named.
+fn replay_file<R: Threads + Sync, O: Opens, I: Read + Drop, W: Write, E: Write>(
+    rt: &R,
+    alloc: Global,
+    files: &O,
+    path: &str,
+    table: Option<&str>,
+    options: ReplayOptions,
+    input: I,
+    out: &mut W,
+    faults: &mut E,
+) -> Status
+    requires { IsWorkerCount options.workers }
+    ensures { (table_file : Option (Source O.File))
+        × IsFileNamed O.opens files.now (option_map (λ named. named.now) table.entry) table_file
+        × CarriesReplay O.opens files.now O.File.remaining I.remaining input options path.now
+        table_file result
+        (W.contents out.old) (W.contents out.new) (E.contents faults.old) (E.contents faults.new) }
+{
+    let table = file_if_named(files, table);
+    if is_standard_input(path) {
+        let file = source_of(path, input);
+        return replay_to(rt, alloc, table, file, options, out, faults);
+    }
+    replay_to(rt, alloc, table, file_of(files, path), options, out, faults)
+}
+
+/// Steps through the events of a vehicle in the file of this path, over the tables of the file that is named.
+fn debug_file<O: Opens, I: Read + Drop, W: Write, E: Write>(
+    alloc: Global,
+    files: &O,
+    path: &str,
+    table: Option<&str>,
+    named: Named<'_>,
+    input: I,
+    out: &mut W,
+    faults: &mut E,
+) -> Status
+    ensures { (table_file : Option (Source O.File))
+        × IsFileNamed O.opens files.now (option_map (λ named. named.now) table.entry) table_file
+        × (events : Source O.File) × IsFileOf O.opens files.now path.now events
+        × (input_new : Option (List ℕ))
+        × Debugs O.File.remaining table_file O.File.remaining events named.entry result
+        (I.remaining input) input_new
+        (W.contents out.old) (W.contents out.new) (E.contents faults.old) (E.contents faults.new) }
+{
+    let table = file_if_named(files, table);
+    let file = file_of(files, path);
+    let mut script = input;
+    debug_to(alloc, table, file, named, &mut script, out, faults)
 }
 
 /// Lists the vehicles of the journal of this path, which is standard input for `-`, over the tables of the file that is named.
