@@ -13,7 +13,8 @@ use Rattle.mds_follow.specs.declared.start_fault.StartFault.{StartFault}
 use Rattle.mds_follow.specs.declared.start_fault.StartFault.TheVariants as start
 use Rattle.mds_commands.specs.declared.source.Source.{Source}
 use Rattle.mds_commands.specs.declared.problem.Problem.{Problem}
-use Rattle.mds_commands.specs.declared.problem.Problem.TheVariants.{CannotRead, Socket, Random, Memory}
+use Rattle.mds_commands.specs.declared.problem.Problem.TheVariants.{CannotRead, Socket}
+use Rattle.mds_commands.specs.declared.problem.Problem.TheVariants.{Random, Memory}
 use Rattle.mds_commands.specs.declared.status.Status.{Status}
 use Rattle.mds_commands.specs.declared.status.Status.TheVariants as status
 use Rattle.mds_commands.specs.Source.{HasTablesIn, ExplainsTable}
@@ -42,7 +43,8 @@ TellsServe old new (Journal problem) = TellsJournal old new problem
 
 -- a problem has this status, and was told
 abbrev pub IsServeTold : ServeProblem → Status → Option (List ℕ) → Option (List ℕ) → Type 0
-IsServeTold problem ended faults faults_new = (ended ≡ serve_status_of problem) × TellsServe faults faults_new problem
+IsServeTold problem ended faults faults_new =
+    (ended ≡ serve_status_of problem) × TellsServe faults faults_new problem
 
 -- the problem is that the file of this path can't be read
 abbrev pub IsUnreadable : List ℕ → ServeProblem → Type 0
@@ -92,30 +94,39 @@ module _ {H J : Type 0} (opens_journal : H → List ℕ → Result J FileFault �
   abbrev pub HadJournal : List ℕ → Type 0
   HadJournal path = (file : J) × opens_journal host path (Ok file)
 
-  -- why the journal of this path isn't open: the host didn't open it, or it did, and it isn't read from its first request on
+  -- why the journal of this path isn't open: the host didn't open it, or it did, and it isn't read
+  -- from its first request on
   abbrev pub IsJournalStop : List ℕ → ServeProblem → Type 0
   IsJournalStop path problem =
       ((fault : FileFault) × opens_journal host path (Err fault) × IsFileProblem path fault problem)
       ⊎ (HadJournal path × ((fault : StartFault) × IsStartProblem path fault problem))
 
--- so many requests were accepted by a settled book over these tables, whose workers answered so many connections each
+-- so many requests were accepted by a settled book over these tables, whose workers answered so
+-- many connections each
 abbrev pub HasAccepted : Tables → ℕ → ℕ → ℕ → Type 0
 HasAccepted tables workers each accepted =
-    (ended : AtEnd) × IsEnded tables workers each (Ok ended) × (accepted ≡ length ended.all.first + length ended.all.second)
+    (ended : AtEnd) × IsEnded tables workers each (Ok ended)
+    × (accepted ≡ length ended.all.first + length ended.all.second)
 
--- of the command: the relation of a host and a number asked for to what listens and its port's number, the host, and the number
+-- of the command: the relation of a host and a number asked for to what listens and its port's
+-- number, the host, and the number
 module _ {H L : Type 0} (listens : H → ℕ → L → ℕ → Type 0) (host : H) (number : ℕ) where
   -- the line went out that says where it listens
   abbrev pub SaidListening : Option (List ℕ) → Option (List ℕ) → Type 0
-  SaidListening out out_new = (listening : L) × (port : ℕ) × listens host number listening port × Appends out out_new (with_newline (listening_line port))
+  SaidListening out out_new =
+      (listening : L) × (port : ℕ) × listens host number listening port
+      × Appends out out_new (with_newline (listening_line port))
 
   -- a front of it did
   abbrev pub SaidFront : Option (List ℕ) → Option (List ℕ) → Type 0
-  SaidFront out out_new = (listening : L) × (port : ℕ) × listens host number listening port × AppendsFront out out_new (with_newline (listening_line port))
+  SaidFront out out_new =
+      (listening : L) × (port : ℕ) × listens host number listening port
+      × AppendsFront out out_new (with_newline (listening_line port))
 
   -- a book over these tables was served by so many workers, and holds so many requests at the end
   abbrev pub ServedBook : Tables → ℕ → ℕ → Option (List ℕ) → Option (List ℕ) → ℕ → Type 0
-  ServedBook tables workers each out out_new accepted = SaidListening out out_new × HasAccepted tables workers each accepted
+  ServedBook tables workers each out out_new accepted =
+      SaidListening out out_new × HasAccepted tables workers each accepted
 
   -- what went out where no book was served to its end
   abbrev pub StopsBook : Option (List ℕ) → Option (List ℕ) → BookStop → Type 0
@@ -124,32 +135,40 @@ module _ {H L : Type 0} (listens : H → ℕ → L → ℕ → Type 0) (host : H
   StopsBook out out_new (Print fault) = SaidFront out out_new
   StopsBook out out_new (Serve stop) = IsUntorn (Serve stop) × SaidListening out out_new
 
-  -- besides: the relation of a path to what comes of opening the journal there; the known bytes of a table file's reader, and the table
-  -- file if one is given
-  module _ {J T : Type 0} (opens_journal : H → List ℕ → Result J FileFault → Type 0) (table_bytes : T → Option (List ℕ)) (table : Option (Source T)) where
+  -- besides: the relation of a path to what comes of opening the journal there; the known bytes of
+  -- a table file's reader, and the table file if one is given
+  module _ {J T : Type 0} (opens_journal : H → List ℕ → Result J FileFault → Type 0)
+      (table_bytes : T → Option (List ℕ)) (table : Option (Source T)) where
     -- the tables were had
     abbrev pub HadTables : Type 0
     HadTables = (tables : Tables) × HasTablesIn table_bytes table tables
 
-    -- why nothing was served to its end: a fault of the table file, no random numbers, or then the journal, the port or what came of
-    -- serving; and what went out
+    -- why nothing was served to its end: a fault of the table file, no random numbers, or then the
+    -- journal, the port or what came of serving; and what went out
     abbrev pub StopsOver : List ℕ → Option (List ℕ) → Option (List ℕ) → ServeProblem → Type 0
     StopsOver path out out_new problem =
-        ((told : Problem) × (problem ≡ Journal (Other told)) × ExplainsTable table_bytes table told × Keeps out out_new)
+        ((told : Problem) × (problem ≡ Journal (Other told))
+        × ExplainsTable table_bytes table told × Keeps out out_new)
         ⊎ (HadTables × (problem ≡ Journal (Other Random)) × Keeps out out_new)
         ⊎ (HadTables × IsJournalStop opens_journal host path problem × Keeps out out_new)
-        ⊎ (HadTables × HadJournal opens_journal host path × ((stop : BookStop) × IsStopProblem path stop problem × StopsBook out out_new stop))
+        ⊎ (HadTables × HadJournal opens_journal host path
+        × ((stop : BookStop) × IsStopProblem path stop problem × StopsBook out out_new stop))
 
-    -- the journal of this path was opened, and a book over the tables was served to its end, and holds so many requests
+    -- the journal of this path was opened, and a book over the tables was served to its end, and
+    -- holds so many requests
     abbrev pub ServedOver : List ℕ → ℕ → ℕ → Option (List ℕ) → Option (List ℕ) → ℕ → Type 0
     ServedOver path workers each out out_new accepted =
-        (tables : Tables) × HasTablesIn table_bytes table tables × HadJournal opens_journal host path × ServedBook tables workers each out out_new accepted
+        (tables : Tables) × HasTablesIn table_bytes table tables
+        × HadJournal opens_journal host path × ServedBook tables workers each out out_new accepted
 
-    -- what the command came to: it stopped for a problem, which was told, or for want of memory to tell it; or it served to the end, and
-    -- said how many requests the book holds
-    abbrev pub CameToServeOver : List ℕ → ℕ → ℕ → Status → Option (List ℕ) → Option (List ℕ) → Option (List ℕ) → Option (List ℕ) → Type 0
+    -- what the command came to: it stopped for a problem, which was told, or for want of memory to
+    -- tell it; or it served to the end, and said how many requests the book holds
+    abbrev pub CameToServeOver : List ℕ → ℕ → ℕ → Status → Option (List ℕ)
+        → Option (List ℕ) → Option (List ℕ) → Option (List ℕ) → Type 0
     CameToServeOver path workers each ended out out_new faults faults_new =
         ((problem : ServeProblem) × StopsOver path out out_new problem
-        × (IsServeTold problem ended faults faults_new ⊎ IsServeTold (Journal (Other Memory)) ended faults faults_new))
-        ⊎ ((accepted : ℕ) × (out_then : Option (List ℕ)) × ServedOver path workers each out out_then accepted
+        × (IsServeTold problem ended faults faults_new
+        ⊎ IsServeTold (Journal (Other Memory)) ended faults faults_new))
+        ⊎ ((accepted : ℕ) × (out_then : Option (List ℕ))
+        × ServedOver path workers each out out_then accepted
         × SaysAccepted accepted ended out_then out_new faults faults_new)

@@ -6,7 +6,8 @@ use Rattle.mds_core.specs.declared.request.Request.{Request}
 use Rattle.mds_journal.specs.Lines.{recovered}
 use Rattle.mds_journal.specs.Journal.{StandsFor}
 use Rattle.mds_journal.specs.declared.journal.AppendError.{AppendError}
-use Rattle.mds_journal.specs.declared.journal.AppendError.TheVariants.{NotWritten, Full, Unknown, Lost}
+use Rattle.mds_journal.specs.declared.journal.AppendError.TheVariants.{NotWritten, Full}
+use Rattle.mds_journal.specs.declared.journal.AppendError.TheVariants.{Unknown, Lost}
 use Rattle.mds_entries.specs.Entry.{Tells}
 use Rattle.mds_entries.specs.Form.{form_line}
 use Rattle.mds_follow.specs.declared.record.RecordFault.{RecordFault}
@@ -30,13 +31,14 @@ abbrev pub MayBeBegun : List ℕ → Type 0
 MayBeBegun file = (recovered file ≡ []) ⊎ (recovered file ≡ form_line ∷ [])
 
 -- a restart reads these requests, also after a crash at this moment
-pub record Stands {D : Type 0} (seen : D → List ℕ) (may_leave : D → List ℕ → Type 0) (device : D) (told : List Request) : Type 0 where
+pub record Stands {D : Type 0} (seen : D → List ℕ) (may_leave : D → List ℕ → Type 0) (device : D)
+    (told : List Request) : Type 0 where
   pub texts : List (List ℕ)
   pub is_told : IsTold texts told
   pub stands : StandsFor seen may_leave texts device
 
--- a restart may read these requests after a crash at some moment from that one on: those that a file tells which was left, and
--- any where it tells none
+-- a restart may read these requests after a crash at some moment from that one on: those that a
+-- file tells which was left, and any where it tells none
 pub record MayRead (left_since : ℕ → List ℕ → Type 0) (t : ℕ) (told : List Request) : Type 0 where
   pub file : List ℕ
   pub left : left_since t file
@@ -44,11 +46,16 @@ pub record MayRead (left_since : ℕ → List ℕ → Type 0) (t : ℕ) (told : 
 
 -- texts tell no more than one list of requests
 abbrev pub TextsTellOneList : Type 0
-TextsTellOneList = (texts : List (List ℕ)) (told other : List Request) → IsTold texts told → IsTold texts other → told ≡ other
+TextsTellOneList =
+    (texts : List (List ℕ)) (told other : List Request)
+    → IsTold texts told → IsTold texts other → told ≡ other
 
 -- what a crash at this moment leaves tells what stands there
-pub reads_now : {D : Type 0} (seen : D → List ℕ) (may_leave : D → List ℕ → Type 0) (left_since : D → ℕ → List ℕ → Type 0) (moment : D → ℕ) (device : D) (told c : List Request)
-    → ((file : List ℕ) → left_since device (moment device) file → may_leave device file) → Stands seen may_leave device told → MayRead (left_since device) (moment device) c → c ≡ told
+pub reads_now : {D : Type 0} (seen : D → List ℕ) (may_leave : D → List ℕ → Type 0)
+    (left_since : D → ℕ → List ℕ → Type 0) (moment : D → ℕ) (device : D) (told c : List Request)
+    → ((file : List ℕ) → left_since device (moment device) file → may_leave device file)
+    → Stands seen may_leave device told → MayRead (left_since device) (moment device) c → c ≡ told
 reads_now seen may_leave left_since moment device told c only stands read =
-    let same : recovered read.file ≡ stands.texts = stands.stands.outcomes read.file (only read.file read.left) in
+    let same : recovered read.file ≡ stands.texts =
+    stands.stands.outcomes read.file (only read.file read.left) in
     sym (read.is_told told (subst (λ (w : List (List ℕ)). IsTold w told) (sym same) stands.is_told))

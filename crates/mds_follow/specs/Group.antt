@@ -5,7 +5,8 @@ use Rattle.mds_core.specs.declared.request.Request.{Request}
 use Rattle.mds_book.specs.Copying.{Progressed, IsCopied}
 
 -- a piece of the first shard's history, and behind it one of the second's
-pub record IsGroup (tables : Tables) (first second : Progressed) (group : List Request) (new_first new_second : Progressed) : Type 0 where
+pub record IsGroup (tables : Tables) (first second : Progressed) (group : List Request)
+    (new_first new_second : Progressed) : Type 0 where
   pub ones : List Request
   pub others : List Request
   pub both : group ≡ ones ++ others

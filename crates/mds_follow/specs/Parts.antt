@@ -23,7 +23,8 @@ pub record Covers (seat : Seated) (recorded : List Request) : Type 0 where
 
 -- what is recorded has all that a seat saw of this vehicle
 abbrev pub CoversVehicle : Key → Seated → List Request → Type 0
-CoversVehicle key seat recorded = IsPrefix (requests_of (seen_in seat (shard_of key)) key) (requests_of recorded key)
+CoversVehicle key seat recorded =
+    IsPrefix (requests_of (seen_in seat (shard_of key)) key) (requests_of recorded key)
 
 -- what is recorded has all that a seat saw of a vehicle, or of every one
 abbrev pub CoversAbout : Option Key → Seated → List Request → Type 0

@@ -12,14 +12,16 @@ use Rattle.mds_journal.specs.declared.device.DeviceError.{DeviceError}
 use Rattle.mds_journal.specs.declared.device.DeviceError.TheVariants as device
 use Rattle.mds_journal.specs.declared.opening.OpenError.{OpenError}
 use Rattle.mds_journal.specs.declared.opening.OpenError.TheVariants as opening
-use Rattle.mds_journal.specs.declared.fault.JournalFault.TheVariants.{Form, BadLine, TooLong, Refused, Damaged}
+use Rattle.mds_journal.specs.declared.fault.JournalFault.TheVariants.{Form, BadLine, TooLong}
+use Rattle.mds_journal.specs.declared.fault.JournalFault.TheVariants.{Refused, Damaged}
 use Rattle.mds_entries.specs.Entry.{Tells}
 use Rattle.mds_entries.specs.Form.{form_line}
 use Rattle.mds_follow.specs.Disk.{IsTold}
 use Rattle.mds_follow.specs.declared.record.RecordFault.{RecordFault}
 use Rattle.mds_follow.specs.declared.record.RecordFault.TheVariants as record_kind
 use Rattle.mds_follow.specs.declared.start_fault.StartFault.{StartFault}
-use Rattle.mds_follow.specs.declared.start_fault.StartFault.TheVariants.{Memory, Device, Journal, Shared}
+use Rattle.mds_follow.specs.declared.start_fault.StartFault.TheVariants.{Memory, Device}
+use Rattle.mds_follow.specs.declared.start_fault.StartFault.TheVariants.{Journal, Shared}
 
 -- what is said of a call of the device that failed
 abbrev pub device_fault : DeviceError → StartFault
@@ -71,13 +73,15 @@ IsNoJournalFault Device = Unit {0}
 IsNoJournalFault (Journal fault) = ⊥
 IsNoJournalFault Shared = ⊥
 
--- a journal is read at a start: its first line names the form, and the line of its first request comes next
-pub record IsAtFirstRequest {D : Type 0} (seen : D → List ℕ) (may_leave : D → List ℕ → Type 0) (may_be_used is_true : D → Type 0)
-    (opening : Opening D) : Type 0 where
+-- a journal is read at a start: its first line names the form, and the line of its first request
+-- comes next
+pub record IsAtFirstRequest {D : Type 0} (seen : D → List ℕ) (may_leave : D → List ℕ → Type 0)
+    (may_be_used is_true : D → Type 0) (opening : Opening D) : Type 0 where
   pub reading : IsReading seen may_leave may_be_used is_true opening
   pub limit : limit_of opening ≡ max_bytes
   pub number : number_of opening ≡ 1
-  pub form : is_true opening.device → recovered (seen opening.device) ≡ form_line ∷ recovered (unread seen opening)
+  pub form : is_true opening.device
+      → recovered (seen opening.device) ≡ form_line ∷ recovered (unread seen opening)
 
 -- no more lines count
 abbrev pub HasNoMore : List ℕ → Type 0
@@ -85,15 +89,20 @@ HasNoMore bytes = recovered bytes ≡ []
 
 -- the first line tells this request, and these bytes are left
 abbrev pub TellsNext : List ℕ → Request → List ℕ → Type 0
-TellsNext bytes request left = (text : List ℕ) × (recovered bytes ≡ text ∷ recovered left) × Tells text request
+TellsNext bytes request left =
+    (text : List ℕ) × (recovered bytes ≡ text ∷ recovered left) × Tells text request
 
 -- the first line tells no request
 abbrev pub TellsNone : List ℕ → Type 0
-TellsNone bytes = (text : List ℕ) × (left : List ℕ) × (recovered bytes ≡ text ∷ recovered left) × ((request : Request) → Tells text request → ⊥)
+TellsNone bytes =
+    (text : List ℕ) × (left : List ℕ)
+    × (recovered bytes ≡ text ∷ recovered left) × ((request : Request) → Tells text request → ⊥)
 
 -- the first line tells a request that may not be done after these
 abbrev pub TellsRefused : Tables → List Request → List ℕ → Type 0
-TellsRefused tables told bytes = (request : Request) × (left : List ℕ) × TellsNext bytes request left × (MayBeDone tables told request → ⊥)
+TellsRefused tables told bytes =
+    (request : Request) × (left : List ℕ)
+    × TellsNext bytes request left × (MayBeDone tables told request → ⊥)
 
 -- why the first line, which has to name the form, isn't taken
 abbrev pub IsFormFault : List ℕ → StartFault → Type 0
@@ -115,7 +124,8 @@ IsLineFault number bytes Shared = ⊥
 
 -- or why its request isn't in the book, behind these
 abbrev pub IsEntryFault : Tables → List Request → ℕ → List ℕ → StartFault → Type 0
-IsEntryFault tables told number bytes (Journal (Refused line)) = (line ≡ number) × TellsRefused tables told bytes
+IsEntryFault tables told number bytes (Journal (Refused line)) =
+    (line ≡ number) × TellsRefused tables told bytes
 IsEntryFault tables told number bytes Shared = Unit {0}
 IsEntryFault tables told number bytes fault = IsLineFault number bytes fault
 
@@ -129,7 +139,8 @@ IsEndFault file Shared = ⊥
 
 -- why a file isn't open as a journal: no line of it names the form, and it isn't empty
 abbrev pub IsOpenFault : List ℕ → StartFault → Type 0
-IsOpenFault file (Journal Form) = (file ≢ []) × ((texts : List (List ℕ)) → recovered file ≡ form_line ∷ texts → ⊥)
+IsOpenFault file (Journal Form) =
+    (file ≢ []) × ((texts : List (List ℕ)) → recovered file ≡ form_line ∷ texts → ⊥)
 IsOpenFault file fault = IsFormFault file fault
 
 -- the lines before these bytes are the form's, and others that tell these requests, in their order
@@ -138,13 +149,17 @@ pub record IsReadTo (file : List ℕ) (told : List Request) (left : List ℕ) : 
   pub is_told : IsTold texts told
   pub split : recovered file ≡ texts ++ recovered left
 
--- all lines before that of this number were read, and this holds of their requests and of what is left
+-- all lines before that of this number were read, and this holds of their requests and of what is
+-- left
 abbrev pub StopsAt : List ℕ → ℕ → (List Request → List ℕ → Type 0) → Type 0
-StopsAt file number Stops = (told : List Request) × (left : List ℕ) × IsReadTo file told left × (number ≡ length told + 1) × Stops told left
+StopsAt file number Stops =
+    (told : List Request) × (left : List ℕ)
+    × IsReadTo file told left × (number ≡ length told + 1) × Stops told left
 
 -- why a book over these tables isn't open over the journal of this file
 abbrev pub IsStartFault : Tables → List ℕ → StartFault → Type 0
-IsStartFault tables file (Journal (TooLong line)) = StopsAt file line (λ told left. IsTooLong max_bytes left)
+IsStartFault tables file (Journal (TooLong line)) =
+    StopsAt file line (λ told left. IsTooLong max_bytes left)
 IsStartFault tables file (Journal (BadLine line)) = StopsAt file line (λ told left. TellsNone left)
 IsStartFault tables file (Journal (Refused line)) = StopsAt file line (TellsRefused tables)
 IsStartFault tables file (Journal Damaged) = HasShortEnd file → ⊥

@@ -19,12 +19,15 @@ pub record IsRefilled (seat : Seated) (told : List Acceptance) : Type 0 where
   pub second : seat.second_seen ≡ part 1 (requests told)
 
 -- all of it was recorded by this moment, and a restart after any crash since then reads it
-pub record IsRead (left_since : ℕ → List Request → Type 0) (start : ℕ) (told : List Acceptance) : Type 0 where
+pub record IsRead (left_since : ℕ → List Request → Type 0) (start : ℕ) (told : List Acceptance)
+    : Type 0 where
   pub at_start : told ≡ recorded_at start (requests told)
   pub only : (c : List Request) → left_since start c → c ≡ requests told
 
--- the next request of a journal is recorded behind the others, at this moment; where all answers were true, the bytes begin with its line
-pub record TakesBack (moment : ℕ) (truth : Type 0) (old new : List Acceptance) (bytes left : List ℕ) : Type 0 where
+-- the next request of a journal is recorded behind the others, at this moment; where all answers
+-- were true, the bytes begin with its line
+pub record TakesBack (moment : ℕ) (truth : Type 0) (old new : List Acceptance) (bytes left : List ℕ)
+    : Type 0 where
   pub request : Request
   pub noted : new ≡ old ++ record { tag = moment; request = request } ∷ []
   pub tells : truth → TellsNext bytes request left

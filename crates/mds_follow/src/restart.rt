@@ -51,7 +51,8 @@ fn refill<L: ShardLedger, M: ShardLedger, R: Wait>(
     ensures memory { result ≡ Err RefillFault.Memory → seat.new ≡ seat.old }
     ensures filled { OnOk result (IsFilled seat.old request.now seat.new) }
     ensures refused { result ≡ Err RefillFault.Refused
-        → MayBeDone book.now.tables (seen_in seat.old (shard_of (key_of request.now))) request.now → ⊥ }
+        → MayBeDone book.now.tables (seen_in seat.old (shard_of (key_of request.now))) request.now
+        → ⊥ }
 {
     let shard = book.shard_of(request.key());
     let expected = seat.accepted(shard);

@@ -31,15 +31,19 @@ pub record AreResumed (seats : List Seated) (told : List Acceptance) : Type 0 wh
   pub split : seats ≡ first ∷ replicate others (fresh false)
   pub is_refilled : IsRefilled first told
 
--- what serving came to where what is accepted is recorded: as where it isn't, or not all is recorded
+-- what serving came to where what is accepted is recorded: as where it isn't, or not all is
+-- recorded
 abbrev pub IsRecordedStop : Tables → ℕ → ℕ → RecordedStop → Type 0
 IsRecordedStop tables workers each (Serve stop) = IsEnded tables workers each (Err stop)
 IsRecordedStop tables workers each Journal = Unit {0}
 
--- what a file tells of what a settled book accepted: all that the seats have seen, and of each shard a beginning of its history. A
--- restart after any crash since the start reads such beginnings too. The file, and what is known of it, are as in `IsDesk`
-pub record IsRecordOf {F : Type 0} (is_sound is_true may_go_on : F → Type 0) (stands : F → List Request → Type 0) (moment : F → ℕ)
-    (left_since : F → ℕ → List Request → Type 0) (start : ℕ) (held : List Request → Type 0) (file : F) (all : Collected) : Type 0 where
+-- what a file tells of what a settled book accepted: all that the seats have seen, and of each
+-- shard a beginning of its history. A restart after any crash since the start reads such beginnings
+-- too. The file, and what is known of it, are as in `IsDesk`
+pub record IsRecordOf {F : Type 0} (is_sound is_true may_go_on : F → Type 0)
+    (stands : F → List Request → Type 0) (moment : F → ℕ)
+    (left_since : F → ℕ → List Request → Type 0) (start : ℕ) (held : List Request → Type 0)
+    (file : F) (all : Collected) : Type 0 where
   pub told : List Acceptance
   pub desk : IsDesk is_sound is_true may_go_on stands moment left_since start held file told
   pub covers : All (λ seat. Covers seat (requests told)) all.seats

@@ -9,8 +9,8 @@ use Rattle.mds_book.specs.Settling.{AreBeginnings, IsSettledBook}
 use Rattle.mds_pool.specs.declared.serving.Stop.{Stop}
 use Rattle.mds_pool.specs.declared.serving.Stop.TheVariants.{Torn}
 
--- what settling a book all of whose seats are handed in came to: the settled book, in which what each seat saw of a shard is a
--- beginning of the shard's history
+-- what settling a book all of whose seats are handed in came to: the settled book, in which what
+-- each seat saw of a shard is a beginning of the shard's history
 abbrev pub IsSettledEnd : Opened → List Seated → Result Collected Stop → Type 0
 IsSettledEnd book seats (Ok all) = IsGathered book seats all × IsSettledBook all × AreBeginnings all
 -- all of the seats are handed in, their notes fit, and settling takes no memory and no connection
@@ -31,9 +31,9 @@ pub record AtEnd : Type 0 where
   pub all : Collected
   pub answered : List ℕ
 
--- what serving with these tables, and so many workers that were to answer so many connections each, came to: they answered them,
--- and the book is settled, in which what each seat saw of a shard is a beginning of the shard's history; or it stopped before. That
--- notes don't fit never comes
+-- what serving with these tables, and so many workers that were to answer so many connections each,
+-- came to: they answered them, and the book is settled, in which what each seat saw of a shard is a
+-- beginning of the shard's history; or it stopped before. That notes don't fit never comes
 abbrev pub IsEnded : Tables → ℕ → ℕ → Result AtEnd Stop → Type 0
 IsEnded tables workers each (Ok ended) =
     IsLeft tables workers ended.all

@@ -3,7 +3,8 @@ use Rattle.std.specs.Prelude.{◌≡◌, ℕ, Bool, false}
 use Rattle.mds_book.specs.Seats.{Seated}
 use Rattle.mds_face.specs.Seats.{HasGrown}
 
--- a worker: its seat, how many connections it answered there, and whether the port failed it before it had answered all
+-- a worker: its seat, how many connections it answered there, and whether the port failed it before
+-- it had answered all
 pub record AtWork : Type 0 where
   pub seat : Seated
   pub answered : ℕ

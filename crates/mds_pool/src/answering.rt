@@ -54,7 +54,8 @@ impl<P: Port> Connection<P> {
         ensures stopped { IfErr result.served (StopsKept D.calls D.gives_events D.gives_rows
             D.is_kept D.keeps (P.In.remaining self.input) desk.old desk.new
             (P.Out.contents self.output) (P.Out.contents result.output)) }
-        ensures no_further { ReadsNoFurther (P.In.remaining self.input) (P.In.remaining result.input) }
+        ensures no_further { ReadsNoFurther
+            (P.In.remaining self.input) (P.In.remaining result.input) }
     {
         let Connection {
             mut input,
