@@ -101,6 +101,15 @@ def told_as(crate, path, text, place):
     return "::".join(filter(None, (module, kind + trait, found[1])))
 
 
+def functions_in(crate):
+    """The functions of a crate's sources, each as a check tells of it."""
+    folder = ROOT / "crates" / crate
+    for file in sorted(folder.glob("src/**/*.rt")):
+        text = file.read_text()
+        for found in FUNCTION.finditer(text):
+            yield told_as(crate, file.relative_to(folder), text, found.start())
+
+
 def functions_of(crate, changes):
     for change in changes:
         text = (ROOT / "crates" / crate / change.path).read_text()

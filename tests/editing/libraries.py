@@ -66,11 +66,20 @@ def linked(one, other):
     return shutil.copy2(one, other)
 
 
+def place(file, text):
+    """Writes a file, or takes it away where there is no text."""
+    if text is None:
+        file.unlink(missing_ok=True)
+    else:
+        file.parent.mkdir(parents=True, exist_ok=True)
+        file.write_text(text)
+
+
 class Bench:
     """A room for checks: what they keep of each crate, and the libraries that have to be built there."""
 
     def __init__(self, room):
-        self.room = Path(room)
+        self.room, self.seconds, self.strays = Path(room), {}, {}
 
     def library(self, crate):
         if is_proved(crate):
@@ -98,16 +107,24 @@ class Bench:
         return [*words, "--links", f"{crate}=", "--jobs", "1", "--incremental", self.kept(crate)]
 
     def say(self, verb, crate, texts, *more):
-        """What a check or a build says of a copy of the crate with these texts."""
+        """What a check or a build says of a copy of the crate with these texts. A file without one isn't in the copy."""
         with tempfile.TemporaryDirectory(prefix="edits-") as room:
             for part in SOURCES:
                 if (ROOT / "crates" / crate / part).exists():
                     shutil.copytree(ROOT / "crates" / crate / part, Path(room) / part)
             for path, text in texts.items():
-                (Path(room) / path).write_text(text)
-            words = [kit() / "bin/rattle", verb, *self.words(crate), *more]
-            told = {"stdout": subprocess.PIPE, "stderr": subprocess.STDOUT, "text": True, "errors": "replace"}
-            return subprocess.run(words, cwd=room, stdin=subprocess.DEVNULL, **told).stdout
+                place(Path(room) / path, text)
+            return self.run([kit() / "bin/rattle", verb, *self.words(crate), *more], room, crate)
+
+    def run(self, words, room, crate):
+        """What a call says. Its processor time is added to that of its crate."""
+        told = {"stdout": subprocess.PIPE, "stderr": subprocess.STDOUT, "text": True, "errors": "replace"}
+        with subprocess.Popen(words, cwd=room, stdin=subprocess.DEVNULL, **told) as call:
+            said = call.stdout.read()
+            _, status, used = os.wait4(call.pid, 0)
+            call.returncode = os.waitstatus_to_exitcode(status)
+        self.seconds[crate] = self.seconds.get(crate, 0) + used.ru_utime + used.ru_stime
+        return said
 
     def prove(self, crate):
         """What a proof of the crate as it stands says, which builds its library too."""

@@ -4,13 +4,15 @@ import re
 from dataclasses import dataclass, field
 
 from editing.bodies import applied
+from editing.supposed import NO_ANSWER, STRAY, supposed
 from harness.counting import ROOT
 
 TOLD = re.compile(r"^fn (\S+): (.*)$")
 OPEN = re.compile(r"^note: \S+: it is not proved that")
 WRONG_ANSWER = re.compile(r"^\./proofs/(\S+)/\w+\.antt:\S+ error: (.*)$", re.M)
-GONE = re.compile(r"has no field|is not in scope|has no `|was not admitted")
-"""What is said of an answer that names what an edit took away. That an answer doesn't fit the new text says nothing of the contract."""
+GONE = re.compile(rf"has no field|is not in scope|has no `|was not admitted|^`{NO_ANSWER}`")
+"""What is said of an answer that names what an edit took away, or of the one that is no answer: neither says anything of the
+contract."""
 
 
 @dataclass
@@ -97,12 +99,22 @@ def left_of(it, edits):
         yield from rounds_of(it.crate, share)
 
 
+def said_of(it, turned, bench):
+    """What a check of a round says. It begins again without what rattle doesn't take."""
+    strays, only = bench.strays.setdefault(it.crate, set()), [word for name in turned for word in ("--only", name)]
+    while True:
+        said = bench.say("check", it.crate, it.texts | supposed(it.crate, turned, strays), "--allow-holes", *only)
+        if strays.issuperset(STRAY.findall(said)):
+            return said
+        strays.update(STRAY.findall(said))
+
+
 def outcomes(it, bench, told=None):
     """Each edit of a round, and what is wrong with it, by a check of the functions that the round turns, and of those that they call.
     An edit that isn't refused is tried again without those that were: goals that wait for a callee's proof aren't looked at where the
     callee is edited too. What a check says is kept in a folder `told`, if there is one."""
     turned = sorted(set().union(*(edit.functions for edit in it.edits)))
-    said = bench.say("check", it.crate, it.texts, *(word for name in turned for word in ("--only", name)))
+    said = said_of(it, turned, bench)
     if told:
         told.mkdir(parents=True, exist_ok=True)
         (told / f"{it.crate}-{len(it.edits)}-{it.edits[0].file.stem}.txt").write_text(said)
