@@ -8,7 +8,7 @@ from editing.supposed import NO_ANSWER, STRAY, supposed
 from harness.counting import ROOT
 
 TOLD = re.compile(r"^fn (\S+): (.*)$")
-OPEN = re.compile(r"^note: \S+: it is not proved that")
+OPEN = re.compile(r"^note: \S+: (?:it is not proved that|`search` found no proof)")
 WRONG_ANSWER = re.compile(r"^\./proofs/(\S+)/\w+\.antt:\S+ error: (.*)$", re.M)
 GONE = re.compile(rf"has no field|is not in scope|has no `|was not admitted|^`{NO_ANSWER}`")
 """What is said of an answer that names what an edit took away, or of the one that is no answer: neither says anything of the
