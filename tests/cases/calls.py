@@ -8,14 +8,17 @@ import tempfile
 from concurrent.futures import ThreadPoolExecutor
 from pathlib import Path
 
+from cases.commands import MISTAKE
 from cases.debugging import BAD, EVENTS, MAX_SCRIPT, NOBODY, SECOND, START, UNKNOWN
+from cases.helps import ALL
+from cases.inputs import REPLAYED
 from cases.replays import A, B, P, batch, event, identifier, item
 from cases.streams import LONG, LONG_FILES
 from cases.tables import ONE_ROW, ONE_ROW_PRINTED, PROFILE, table_printed
 from cases.vehicles import journal, listed, not_a_journal, registered
 from harness.building import Counting
-from harness.case import MAX_BYTES, OUTPUT, Case, cannot_read, not_a_batch, not_a_table, padded, told
-from harness.running import differences, outcome
+from harness.case import MAX_BYTES, NOT_TEXT, OUTPUT, Case, cannot_read, not_a_batch, not_a_table, padded, told
+from harness.running import SECONDS, differences, outcome
 
 MOST_CALLS = 5000000
 EVERY = MOST_CALLS // 5
@@ -52,6 +55,7 @@ WRITES = [
     (f"debug events.json {P} {B}", FAULTS, (1, "", NOBODY[:MOVED])),
     (f"debug events.json {P} x", FAULTS, (2, "", BAD[:MOVED])),
     ("vehicles faulty", FAULTS, (3, "", not_a_journal("form")[:MOVED])),
+    ([b"\xff"], FAULTS, (2, "", NOT_TEXT[:MOVED])),
 ]
 
 
@@ -91,6 +95,20 @@ def interrupted_in_a_row(program):
             if counts.reads != wanted:
                 wrong.append(f"{counts}, in place of {wanted} reads")
             yield from (f"{case.words}, one read in {every} gives a byte: {complaint}" for complaint in wrong)
+
+
+SELDOM = 60000
+"""Of so many calls one moves a byte of a text of `clap`. The shortest has a hundred bytes, so that more calls are made of each
+than of any other line."""
+
+
+def texts_of_clap(program):
+    """Help, and what is told of a mistake, go out however many calls are interrupted."""
+    for case, on in ((Case("--help", out=ALL), OUT), (Case("bogus", status=2, faults=MISTAKE), FAULTS)):
+        wrong, counts = counted(program, case, on, SELDOM)
+        if counts.writes != SELDOM * counts.bytes or counts.writes <= MOST_CALLS:
+            wrong.append(f"{counts}, in place of {SELDOM} writes for each byte, and more than {MOST_CALLS} in all")
+        yield from (f"{case.words}: {complaint}" for complaint in wrong)
 
 
 LONGER = 100000
@@ -187,7 +205,7 @@ def output_that_is_full(program):
     with tempfile.TemporaryDirectory() as folder:
         for name, text in {**LONG_FILES, "one": batch([item()])}.items():
             Path(folder, name).write_text(text)
-        for words, given in {**LONG, "table": "", "replay one": ""}.items():
+        for words, given in {**LONG, "table": "", "replay one": "", "--help": ""}.items():
             whole = subprocess.run([program, *words.split()], cwd=folder, input=given.encode(), stdout=subprocess.PIPE).stdout
             for room in (it for it in ROOMS if it < len(whole)):
                 found = into_a_file(program, words, folder, given, room)
@@ -210,4 +228,12 @@ def into_a_file(program, words, folder, given, room):
     return ran.returncode, out.read_bytes(), ran.stderr
 
 
-CALLS = [interrupted_calls, interrupted_in_a_row, read_so_far, unread_files, threads_of_workers, output_that_is_full]
+CALLS = [
+    interrupted_calls,
+    interrupted_in_a_row,
+    texts_of_clap,
+    read_so_far,
+    unread_files,
+    threads_of_workers,
+    output_that_is_full,
+]
