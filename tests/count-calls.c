@@ -1,22 +1,24 @@
-/* Counts the calls of read and of write on one descriptor, the bytes that they move, how often its end is met, and the threads
-   that are made. Loaded before the C library by tests/program; no part of the program.
+/* Counts the calls of read and of write on one descriptor, the bytes that they move, how often its end is met, the threads that
+   are asked for, and the files that are opened. Loaded before the C library by tests/program; no part of the program.
 
-   COUNTS: a file of five numbers of 8 bytes: calls of read, calls of write, bytes moved, ends, threads. ON: the descriptor. EVERY:
-   where it is given, each call but one in so many is interrupted, and that one moves a byte. */
+   COUNTS: a file of six numbers of 8 bytes: calls of read, calls of write, bytes moved, ends, threads, files. ON: the descriptor.
+   EVERY: where it is given, each call but one in so many is interrupted, and that one moves a byte. MOST: where it is given, no
+   more threads than so many can be made. */
 #define _GNU_SOURCE
 #include <dlfcn.h>
 #include <errno.h>
 #include <fcntl.h>
 #include <pthread.h>
+#include <stdarg.h>
 #include <stdint.h>
 #include <stdlib.h>
 #include <sys/mman.h>
 #include <unistd.h>
 
-enum { READS, WRITES, BYTES, ENDS, THREADS, NUMBERS };
+enum { READS, WRITES, BYTES, ENDS, THREADS, FILES, NUMBERS };
 
 static int64_t nowhere[NUMBERS], *counts = nowhere;
-static long every;
+static long every, most = -1;
 static int on = -1;
 
 static long told(const char *name, long otherwise)
@@ -38,6 +40,7 @@ __attribute__((constructor)) static void ask(void)
     counts = shared;
     on = told("ON", -1);
     every = told("EVERY", 0);
+    most = told("MOST", -1);
 }
 
 /* How many bytes a call of this kind may move: all, one, or none where it is interrupted. */
@@ -91,6 +94,19 @@ int pthread_create(pthread_t *thread, const pthread_attr_t *how, void *(*start)(
     static int (*next)(pthread_t *, const pthread_attr_t *, void *(*)(void *), void *);
     if (!next)
         next = (int (*)(pthread_t *, const pthread_attr_t *, void *(*)(void *), void *))dlsym(RTLD_NEXT, "pthread_create");
-    __atomic_add_fetch(&counts[THREADS], 1, __ATOMIC_SEQ_CST);
-    return next(thread, how, start, given);
+    int64_t number = __atomic_add_fetch(&counts[THREADS], 1, __ATOMIC_SEQ_CST);
+    return most < 0 || number <= most ? next(thread, how, start, given) : EAGAIN;
+}
+
+int open(const char *path, int flags, ...)
+{
+    static int (*next)(const char *, int, ...);
+    if (!next)
+        next = (int (*)(const char *, int, ...))dlsym(RTLD_NEXT, "open");
+    va_list more;
+    va_start(more, flags);
+    mode_t mode = flags & (O_CREAT | O_TMPFILE) ? va_arg(more, mode_t) : 0;
+    va_end(more);
+    __atomic_add_fetch(&counts[FILES], 1, __ATOMIC_SEQ_CST);
+    return next(path, flags, mode);
 }

@@ -1,6 +1,7 @@
 """How often the program reads and writes, how far it reads, how many threads it makes, and output that fails in its middle."""
 
 import os
+import re
 import resource
 import signal
 import subprocess
@@ -13,6 +14,7 @@ from cases.debugging import BAD, EVENTS, MAX_SCRIPT, NOBODY, SECOND, START, UNKN
 from cases.helps import ALL
 from cases.inputs import REPLAYED
 from cases.replays import A, B, P, batch, event, identifier, item
+from cases.serve import NO_CONNECTION, SERVED
 from cases.streams import LONG, LONG_FILES
 from cases.tables import ONE_ROW, ONE_ROW_PRINTED, PROFILE, table_printed
 from cases.vehicles import journal, listed, not_a_journal, registered
@@ -59,11 +61,11 @@ WRITES = [
 ]
 
 
-def counted(program, case, on=-1, every=0):
+def counted(program, case, on=-1, every=0, threads=-1, seconds=SECONDS):
     """What is wrong with the end of a run of the case, and its counts."""
-    with Counting(on, every) as counting:
+    with Counting(on, every, threads) as counting:
         case.env = counting.env
-        return list(differences(case, *outcome(program, case))), counting.counts()
+        return list(differences(case, *outcome(program, case, seconds))), counting.counts()
 
 
 def interrupted(program, words, on, end, wanted):
@@ -173,6 +175,7 @@ def unread_files(program):
 
 
 WORKERS = (1, 2, 4, 5, 64)
+SERVED_ONE = re.compile(r"listening 127\.0\.0\.1:[0-9]+\naccepted 1\n")
 
 
 def threads_of_workers(program):
@@ -188,6 +191,19 @@ def threads_of_workers(program):
         if counts.threads != wanted:
             wrong.append(f"{counts.threads} threads were made, in place of {wanted}")
         yield from (f"{words}: {complaint}" for complaint in wrong)
+
+
+def threads_that_are_wanting(program):
+    """Where the system makes no thread, or no more than two, the program prints the same: workers work one after another."""
+    runs = [("replay --workers 4 -", REPLAYED), (f"{NO_CONNECTION} --workers 4", SERVED)]
+    runs.append((f"{NO_CONNECTION} --workers 4 --journal journal", SERVED_ONE))
+    for most in (0, 2):
+        for words, out in runs:
+            case = Case(words, out=out, given=EVENTS, files={"journal": FILES["journal"]})
+            wrong, counts = counted(program, case, threads=most)
+            if counts.threads <= most:
+                wrong.append(f"{counts.threads} threads were asked for, and more than {most} were to be")
+            yield from (f"{case.words}, with {most} threads at most: {complaint}" for complaint in wrong)
 
 
 ROOMS = (0, 1, 199, 201, 5000, 16385, 65537)
@@ -235,5 +251,6 @@ CALLS = [
     read_so_far,
     unread_files,
     threads_of_workers,
+    threads_that_are_wanting,
     output_that_is_full,
 ]

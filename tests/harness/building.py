@@ -60,16 +60,18 @@ class Refusal:
         return self.mark.exists()
 
 
-Counts = namedtuple("Counts", "reads writes bytes ends threads")
-"""Calls of read, calls of write, the bytes that they moved, how often the end was met, and the threads that were made."""
+Counts = namedtuple("Counts", "reads writes bytes ends threads files")
+"""Calls of read, calls of write, the bytes that they moved, how often the end was met, the threads that were asked for, and the
+files that were opened."""
 
 
 class Counting:
-    """Calls on one descriptor that are counted, and the threads that are made. Of so many calls, if a number is given, one moves
-    a byte, and the others are interrupted. As a context it has the environment of the run that it is for."""
+    """Calls on one descriptor that are counted, the threads that are asked for, and the files that are opened. Of so many calls,
+    if a number is given, one moves a byte, and the others are interrupted. No more threads can be made than are given, or any
+    number for -1. As a context it has the environment of the run that it is for."""
 
-    def __init__(self, on=-1, every=0):
-        self.how = {"ON": str(on), "EVERY": str(every)}
+    def __init__(self, on=-1, every=0, threads=-1):
+        self.how = {"ON": str(on), "EVERY": str(every), "MOST": str(threads)}
         self.shim = built("count-calls.so", "tests/count-calls.c", "-shared", "-fPIC", "-O1", "-ldl")
 
     def __enter__(self):

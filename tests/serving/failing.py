@@ -8,6 +8,7 @@ import time
 from pathlib import Path
 
 from cases.replays import A, B, P
+from harness.building import Counting
 from harness.case import SOCKET
 from model.http import error
 from serving.connections import SMALL_ROOM, long_list
@@ -144,6 +145,18 @@ def most_workers_over_a_journal(program):
             yield from server.end()
 
 
+def threads_that_are_wanting(program):
+    """Where the system makes no thread, or no more than two, the first one does the work of those that are wanting, one worker
+    behind another."""
+    for most in (0, 2):
+        with Counting(threads=most) as counting, Server(program, 2, workers=4, env=counting.env) as server:
+            yield from talk_over(server, registered(A))
+            yield from talk_over(server, look(A, "removed", 0, None))
+            yield from server.end()
+            if counting.counts().threads <= most:
+                yield f"{counting.counts().threads} threads were asked for, and more than {most} were to be"
+
+
 FAILING = [
     connections_that_are_lost,
     connections_that_are_hindered,
@@ -153,4 +166,5 @@ FAILING = [
     stopped_for_a_while,
     last_line_before_the_last_answer,
     most_workers_over_a_journal,
+    threads_that_are_wanting,
 ]
