@@ -7,7 +7,7 @@ from cases.debugging import faults, holds_little, long_sessions, reads_no_script
 from cases.debugging import starts_before_its_script
 from cases.depot import depots
 from cases.helps import help_asked_for
-from cases.inputs import input_that_stays_open
+from cases.inputs import input_that_stays_open, input_that_tells_enough
 from cases.largest import largest
 from cases.lines import line_files
 from cases.pictures import PICTURED
@@ -58,6 +58,7 @@ INTERPLAYS = [
     reads_no_script_before_its_start,
     holds_little,
     input_that_stays_open,
+    input_that_tells_enough,
     output_that_ends_midway,
     *CALLS,
     *PICTURED,

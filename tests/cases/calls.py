@@ -129,21 +129,31 @@ FAR = [
 ]
 
 
-# What has an end on a descriptor, and what comes of it: as a terminal, it is asked for its end once.
+# What is read on a descriptor to its end, and what comes of it: as a terminal, it is asked for its end once.
+OPEN_JOURNAL = journal(registered(A), end="")
+LISTED = f"vehicle {P} {A} removed 0\nregistrations 1 events 0\n"
 SHORT = [
-    ("replay -", INPUT, (0, "accepted 0 refused 0\n", "")),
-    ("replay --lines -", INPUT, (1, "0 fault not_object\naccepted 0 refused 1\n", "")),
-    ("replay short", FILE, (0, "accepted 0 refused 0\n", "")),
-    ("table --table table.json", FILE, (0, ONE_ROW_PRINTED, "")),
-    (DEBUG, INPUT, (0, STARTED + UNKNOWN, "")),
+    ("replay -", INPUT, "[]", (0, "accepted 0 refused 0\n", "")),
+    ("replay --lines -", INPUT, "[]", (1, "0 fault not_object\naccepted 0 refused 1\n", "")),
+    ("replay short", FILE, "[]", (0, "accepted 0 refused 0\n", "")),
+    ("table --table short", FILE, ONE_ROW, (0, ONE_ROW_PRINTED, "")),
+    (DEBUG, INPUT, "[]", (0, STARTED + UNKNOWN, "")),
+    (DEBUG, INPUT, "quit\nstep\n", (0, STARTED, "")),
+    ("vehicles -", INPUT, OPEN_JOURNAL, (0, LISTED, "")),
+    ("vehicles short", FILE, OPEN_JOURNAL, (0, LISTED, "")),
+]
+# What is read of a journal, and not to its end: up to a fault, or to a gate that isn't open.
+MIDWAY = [
+    *[(f"vehicles {name}", on, journal(registered(A)), (0, LISTED, "")) for name, on in (("-", INPUT), ("short", FILE))],
+    *[(f"vehicles {name}", on, " {}\n", (3, "", not_a_journal("form"))) for name, on in (("-", INPUT), ("short", FILE))],
 ]
 
 
 def read_so_far(program):
     """Of a file that is too long one byte more than the limit is read, and of a script as many as it may have. Of others all is
-    read, and their end once."""
+    read, and their end once; but of a journal no end, where what comes before tells enough."""
     runs = [(words, on, text, (wanted, 0), end) for words, on, text, wanted, end in FAR]
-    runs += [(words, on, "[]", (len(ONE_ROW if "table" in words else "[]"), 1), end) for words, on, end in SHORT]
+    runs += [(words, on, text, (len(text), ends), end) for ends, some in enumerate((MIDWAY, SHORT)) for words, on, text, end in some]
     for words, on, text, wanted, (status, out, faults) in runs:
         files = {**FILES, "long": text, "short": text}
         case = Case(words, status=status, out=out, faults=faults, given=text, files=files)

@@ -1,4 +1,7 @@
-"""Standard input that isn't read."""
+"""Standard input that isn't read, or not to its end."""
+
+import subprocess
+import tempfile
 
 from cases.debugging import BAD, EVENTS, NOBODY
 from cases.helps import ALL, SERVE
@@ -8,7 +11,8 @@ from cases.tables import ONE_ROW, ONE_ROW_PRINTED, PROFILE, table_printed
 from cases.vehicles import journal, listed, not_a_journal, registered
 from harness.building import no_random_numbers
 from harness.case import NO_STREAMS, OPEN, OUTPUT, RANDOM, SOME, Case, cannot_read, not_a_batch, not_a_table, told
-from harness.running import differences, label, outcome
+from harness.running import differences, label, outcome, start
+from harness.texts import as_bytes
 
 SECONDS = 60
 """How long a run may take that waits for nothing."""
@@ -50,3 +54,35 @@ def input_that_stays_open(program):
     for case in unread():
         case.stdin = OPEN
         yield from (f"{label(case)}: {it}" for it in differences(case, *outcome(program, case, SECONDS)))
+
+
+# Journals that tell enough before their end: by a first line that isn't the form's, by a later fault, by a gate that isn't open.
+ENOUGH = [
+    (" {}\n", (3, b"", not_a_journal("form"))),
+    (journal("{}", end=""), (3, b"", not_a_journal("bad_line 1"))),
+    (journal(), (0, b"registrations 0 events 0\n", "")),
+]
+
+
+def input_that_tells_enough(program):
+    """What a journal tells is told once it came, though standard input stays open behind it."""
+    for text, (status, out, faults) in ENOUGH:
+        found = outcome_behind(program, text)
+        if found != (status, out, faults.encode()):
+            yield f"vehicles -, behind {text[-20:]!r}: {found}"
+
+
+def outcome_behind(program, text):
+    """The status and both outputs of `vehicles -` once it has this text, and no end of it."""
+    with tempfile.TemporaryDirectory() as folder:
+        child = start(program, Case("vehicles -"), folder)
+        with child.stdin, child.stdout, child.stderr:
+            child.stdin.write(as_bytes(text))
+            child.stdin.flush()
+            try:
+                status = child.wait(SECONDS)
+            except subprocess.TimeoutExpired:
+                child.kill()
+                child.wait()
+                status = f"none after {SECONDS} seconds"
+            return status, child.stdout.read(), child.stderr.read()
