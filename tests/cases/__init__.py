@@ -10,6 +10,7 @@ from cases.helps import help_asked_for
 from cases.inputs import input_that_stays_open, input_that_tells_enough
 from cases.largest import largest
 from cases.lines import line_files
+from cases.opened import files_opened, pipes_and_devices
 from cases.pictures import PICTURED
 from cases.replays import replays
 from cases.serve import outputs_of_serve, ports, tables_of_serve, words_of_serve
@@ -45,6 +46,7 @@ SUBJECTS = [
     long_sessions,
     largest,
     faults,
+    pipes_and_devices,
     streams,
     memory,
     words_of_serve,
@@ -59,6 +61,7 @@ INTERPLAYS = [
     holds_little,
     input_that_stays_open,
     input_that_tells_enough,
+    files_opened,
     output_that_ends_midway,
     *CALLS,
     *PICTURED,

@@ -176,11 +176,12 @@ BEHIND = [
 
 
 def unread_files(program):
-    """Of a file nothing is read behind a problem that is looked for first."""
+    """Of a file nothing is read behind a problem that is looked for first, though each one that is named was opened."""
     for words, on, (status, out, faults) in BEHIND:
         wrong, counts = counted(program, Case(words, status=status, out=out, faults=faults, files=FILES), on)
-        if counts.reads != 0:
-            wrong.append(f"{counts}, and nothing was to be read on descriptor {on}")
+        named = sum(word in FILES for word in words.split())
+        if (counts.reads, counts.files) != (0, named):
+            wrong.append(f"{counts}, in place of {named} files, and no read on descriptor {on}")
         yield from (f"{words}: {text}" for text in wrong)
 
 

@@ -38,6 +38,8 @@ class Case:
     """Standard input."""
     files: dict = field(default_factory=dict)
     """The files of the folder in which the program runs, by their names."""
+    pipes: dict = field(default_factory=dict)
+    """The named pipes of that folder. To each one its text is written, once."""
     stdin: object = None
     stdout: object = None
     stderr: object = None

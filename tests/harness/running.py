@@ -5,6 +5,9 @@ import re
 import resource
 import subprocess
 import tempfile
+import threading
+import time
+from contextlib import suppress
 from pathlib import Path
 
 from harness.case import CLOSED, FOLDER, FULL, GONE, OPEN, SOME
@@ -13,6 +16,8 @@ from harness.texts import as_bytes, difference
 NAME = "mds_city"
 """The name that the program is run by, which its help has."""
 SECONDS = 600
+LATE = 0.2
+"""How many seconds after a case begins its named pipes are written."""
 SILENT, WRITER = os.pipe()
 """A pipe to which nothing is written, and that has no end while this process runs."""
 
@@ -61,9 +66,22 @@ def start(program, case, folder):
     return child
 
 
+def feed(path, text):
+    """Writes the text to a named pipe, and ends it. It comes so late that who doesn't wait for it finds an empty
+    file. A run may have ended by then, or end before it is read."""
+    time.sleep(LATE)
+    with suppress(OSError):
+        path.write_bytes(text)
+
+
+def lay_pipe(path, text):
+    os.mkfifo(path)
+    threading.Thread(target=feed, args=(path, text), daemon=True).start()
+
+
 def files_changed(folder, files):
-    """The names of the files that aren't as they were when they were laid out, that are gone or that were made."""
-    there = {str(path.relative_to(folder)): path for path in Path(folder).rglob("*")}
+    """The names of the files, pipes aside, that aren't as they were when they were laid out, that are gone or that were made."""
+    there = {str(path.relative_to(folder)): path for path in Path(folder).rglob("*") if not path.is_fifo()}
     laid = {os.fsdecode(name): text for name, text in files.items()}
     for name in sorted({*there, *laid}):
         if name not in there or name not in laid:
@@ -84,6 +102,8 @@ def outcome(program, case, seconds=SECONDS):
                 path.mkdir()
             else:
                 path.write_bytes(as_bytes(text))
+        for name, text in case.pipes.items():
+            lay_pipe(Path(folder, name), as_bytes(text))
         child = start(program, case, folder)
         try:
             out, faults = child.communicate(as_bytes(case.given) if child.stdin else None, timeout=seconds)
