@@ -1,4 +1,5 @@
-"""docs/changing.md: each file that it names is there, and each file that has a name to follow is in its part."""
+"""docs/changing.md: each file that it names is there, and each file that has a name to follow is in its part, or, of tests,
+the number of the profile's rows."""
 
 import re
 
@@ -6,6 +7,10 @@ CHANGING = "docs/changing.md"
 PART = re.compile(r"^## ", re.M)
 CODE = re.compile(r"`([^`\n]+)`")
 FOLLOW = re.compile(r"^Follow ((?:`[^`\n]+`[, and\n]*)+)\.", re.M)
+PROFILE = "tests/cases/tables.py"
+ROWS = re.compile(r"^PROFILE_ROWS = (\d+)$", re.M)
+NEW_TYPE = "A new type of event"
+TEST = re.compile(r"crates/test_|tests/cases/")
 FILE = re.compile(r"[\w.-]+(?:/[\w.*-]+)*(?:/|\.(?:antt|edit|html|json|md|out|py|rs|rt|script|svg|toml|txt))|[a-z]+/[\w/.-]+")
 
 
@@ -28,6 +33,19 @@ def is_in(name, paths):
     return any(name.startswith(path) if path.endswith("/") else name == path for path in paths)
 
 
+def uncounted(found, part):
+    """Which tests have the number of the profile's rows and aren't in this part, or stand there in a line with it and lack it."""
+    number = ROWS.search(found[PROFILE]).group(1)
+    told = {path for line in part.splitlines() if line.startswith("|") and has(line, number) for path in paths_in(line)}
+    if not told:
+        yield f"the part `{NEW_TYPE}` has no line with {number}, the number of the profile's rows"
+    for name, text in sorted(found.items()):
+        if name in told and not has(text, number):
+            yield f"{name} hasn't {number}, the number of the profile's rows"
+        if TEST.match(name) and has(text, number) and not is_in(name, paths_in(part)):
+            yield f"{name} has {number}, the number of the profile's rows, and isn't in the part `{NEW_TYPE}`"
+
+
 def unlisted(found):
     """What is wrong with the page, in words."""
     whole = found[CHANGING]
@@ -38,6 +56,8 @@ def unlisted(found):
         title, paths = part.split("\n", 1)[0], paths_in(part)
         if title.startswith("A ") and not FOLLOW.search(part):
             yield f"the part `{title}` has no line `Follow ..`"
+        if title == NEW_TYPE:
+            yield from uncounted(found, part)
         for names in FOLLOW.findall(part):
             for name, text in sorted(found.items()):
                 named = [it for it in CODE.findall(names) if has(text, it)]
