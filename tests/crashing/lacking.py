@@ -8,6 +8,7 @@ import socket
 import subprocess
 import tempfile
 import time
+from concurrent.futures import ThreadPoolExecutor
 from pathlib import Path
 
 from cases.replays import A
@@ -16,6 +17,7 @@ from crashing.clients import unanswered
 from crashing.files import Lines, counted, listed_amiss
 from crashing.recording import CUT, SYNC, WRITE, Recording
 from crashing.reports import NOT_KEPT, device_at, listed, listing, looking, registering, reporting, standing
+from crashing.resting import SLOW, begins_to_write
 from harness.building import Refusal
 from harness.case import SOCKET, cannot_read
 from harness.counting import Skipped
@@ -29,7 +31,7 @@ from serving.server import NotListening, Server
 from serving.wire import ask, connect, get, post
 
 EACH = 1000
-WORKERS = 2
+WORKERS, MANY = 2, 4
 ROOM_BYTES = 40_000
 """On the disk, and the most that a file may have: more than the first events take, and less than all."""
 FIRST, MORE = 10, 400
@@ -202,8 +204,7 @@ def full_at_its_end(program):
 
 def lost_by(program, path, kind, after):
     """What is wrong with a server of which a call on the file fails, behind so many of its kind, while an answer waits for it."""
-    many = 4
-    with Recording(path) as recording, Server(program, EACH, workers=many, journal=path, env=recording.env) as server:
+    with Recording(path) as recording, Server(program, EACH, workers=MANY, journal=path, env=recording.env) as server:
         yield from answered(server, registering(DEVICE, OTHER), done(2), "before")
         recording.fail(kind, after)
         start = time.monotonic()
@@ -230,6 +231,37 @@ def calls_that_fail(program):
         with tempfile.TemporaryDirectory() as folder:
             for complaint in lost_by(program, Path(folder, "journal"), kind, after):
                 yield f"call {after + 1} of kind {kind}: {complaint}"
+
+
+def lost_together(program, path, after):
+    """What is wrong with a server of which a sync fails, behind so many, while more requests wait that rest on one record: first a
+    report, and while that is being written two others."""
+    with Recording(path) as recording, Server(program, EACH, workers=MANY, journal=path, env=recording.env) as server:
+        yield from answered(server, registering(DEVICE, OTHER), done(2), "before")
+        before = recording.number("writes")
+        recording.set(pause=int(SLOW * 1000000))
+        recording.fail(SYNC, after)
+        with ThreadPoolExecutor(MANY) as pool:
+            first = pool.submit(unanswered, server.port, reporting(DEVICE, 0, 1))
+            begins_to_write(recording, before)
+            others = (reporting(OTHER, 0, 1), reporting(DEVICE, 0, 2))
+            behind = [pool.submit(unanswered, server.port, request) for request in others]
+            yield from differing(first.result(), done(1) if after else b"", "the first report")
+            for client in behind:
+                yield from differing(client.result(), b"", "a report that waited")
+        found, wanted = server.ended(), (3, "", LOST)
+        if found != wanted:
+            yield f"it ended with {found}, in place of {wanted}"
+
+
+def requests_that_wait_together(program):
+    """A sync that fails while several reports wait, that of the first report's group, or the first or second of the next group, which
+    has the others: none of them is answered, also not that it isn't kept, and the server tells that the journal is lost, and nothing
+    else."""
+    for after in (0, 2, 3):
+        with tempfile.TemporaryDirectory() as folder:
+            for complaint in lost_together(program, Path(folder, "journal"), after):
+                yield f"sync {after + 1}: {complaint}"
 
 
 def seconds_until_told(server, text):
@@ -406,6 +438,7 @@ LACKING = [
     the_signal_of_a_limit,
     full_at_its_end,
     calls_that_fail,
+    requests_that_wait_together,
     told_beside_an_answer,
     a_port_that_fails,
     a_write_that_fails_once,
