@@ -138,7 +138,8 @@ def one_server_at_a_time(program):
 
 
 def files_that_are_none(program):
-    """Files with a line that is none of a journal, or that isn't accepted, also by the table alone."""
+    """Files with a line that is none of a journal, or that isn't accepted, also by the table alone; of more such lines the first is
+    told."""
     new = registered(DEVICE)
     for text, fault in (
         ("no journal\n", "form"),
@@ -154,6 +155,10 @@ def files_that_are_none(program):
         (journal(new, LONG, RESERVED), "too_long 2"),
         (journal(DROPPED, LONG), "refused 1"),
         (journal(new, end=f" {LONG}"), "too_long 2"),
+        (journal(new, RESERVED, "{}", LONG), "refused 2"),
+        (journal(new, RESERVED, new), "refused 2"),
+        (journal(new, "{}", RESERVED, LONG), "bad_line 2"),
+        (journal(new, LONG, "{}"), "too_long 2"),
     ):
         yield from refused(program, text.encode(), not_a_journal(fault))
     yield from refused(program, journal(new, DROPPED).encode(), not_a_journal("refused 2"), table=ONE_ROW)
@@ -200,10 +205,14 @@ def without_random_numbers(program):
 
 
 def too_much_behind_the_lines(program):
-    """A file behind whose lines more stands than a group, of 2 GB too, is damaged; with as much as a group it is cut."""
+    """A file behind whose lines more stands than a group, of 2 GB too, is damaged, unless one of the lines has a fault; with as much
+    as a group it is cut."""
     lines = counted(REGISTERED.encode())
     yield from begun(program, lines + b"#" + bytes(MOST_BEHIND - 1), 1, lines + b"#")
     yield from refused(program, lines + b"#" + bytes(MOST_BEHIND), not_a_journal("damaged"))
+    for text, fault in ((RESERVED, "refused 2"), ("{}", "bad_line 2"), (LONG, "too_long 2")):
+        content = journal(registered(OTHER), text).encode() + bytes(MOST_BEHIND)
+        yield from refused(program, content, not_a_journal(fault))
     with tempfile.TemporaryDirectory() as folder:
         path = Path(folder, "journal")
         path.write_bytes(lines)
