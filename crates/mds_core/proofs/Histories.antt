@@ -6,16 +6,15 @@ use Rattle.std.proofs.lemmas.Slice.Eq.{bytes_eq-Decides}
 use Rattle.std.proofs.lemmas.List.{append-nil}
 use Rattle.std.proofs.lemmas.List.Elements.{filter-append}
 use Rattle.std.proofs.Common.{append_assoc}
-use Rattle.mds_table.specs.Tables.{Tables, rows_at}
-use Rattle.mds_table.specs.Chain.{Leads}
+use Rattle.mds_table.specs.Tables.{Tables}
 use Rattle.mds_core.specs.declared.key.Key.{Key}
 use Rattle.mds_core.specs.declared.request.Request.{Request}
 use Rattle.mds_core.specs.declared.request.Request.TheVariants.{Register, Report, Look}
 use Rattle.mds_core.specs.declared.reply.Outcome.{Outcome}
 use Rattle.mds_core.specs.declared.reply.Outcome.TheVariants.{Done, Seen, Refused}
 use Rattle.mds_core.specs.Reported.{Reported}
-use Rattle.mds_core.specs.History.{requests_of, key_of, same_key, state_of}
-use Rattle.mds_core.specs.Answer.{IsOpen, Gives, next}
+use Rattle.mds_core.specs.History.{requests_of, key_of, same_key}
+use Rattle.mds_core.specs.Answer.{IsAcceptable, Gives, next}
 use Rattle.mds_core.specs.Lawful.{IsCareer, IsLawfulOf, IsLawful}
 
 -- keys that are the same are equal
@@ -58,25 +57,23 @@ requests_of-next_same history request (Refused refusal) key same = refl
 
 -- a career goes on with a report that could be accepted
 career_more : (tables : Tables) (before rest : List Request) (event : Reported) → IsCareer tables before rest
-    → IsOpen (before ++ rest) event → Leads (rows_at tables event.time) (state_of (before ++ rest)) event.types event.state → IsCareer tables before (rest ++ Report event ∷ [])
-career_more tables before [] event career o leads =
-    let IsOpenTo : List Request → Type 0 = λ requests. IsOpen requests event in
-    let LeadsFrom : List Request → Type 0 = λ requests. Leads (rows_at tables event.time) (state_of requests) event.types event.state in
-    (subst IsOpenTo (append-nil before) o, subst LeadsFrom (append-nil before) leads, tt)
-career_more tables before (Report first ∷ rest) event career o leads =
-    let IsOpenTo : List Request → Type 0 = λ requests. IsOpen requests event in
-    let LeadsFrom : List Request → Type 0 = λ requests. Leads (rows_at tables event.time) (state_of requests) event.types event.state in
+    → IsAcceptable tables (before ++ rest) event → IsCareer tables before (rest ++ Report event ∷ [])
+career_more tables before [] event career may =
+    let Takes : List Request → Type 0 = λ requests. IsAcceptable tables requests event in
+    (subst Takes (append-nil before) may, tt)
+career_more tables before (Report first ∷ rest) event career may =
+    let Takes : List Request → Type 0 = λ requests. IsAcceptable tables requests event in
     let same : before ++ (Report first ∷ rest) ≡ (before ++ Report first ∷ []) ++ rest = sym (append_assoc before (Report first ∷ []) rest) in
-    (career.0, career.1, career_more tables (before ++ Report first ∷ []) rest event career.2 (subst IsOpenTo same o) (subst LeadsFrom same leads))
-career_more tables before (Register key ∷ rest) event career o leads = absurd career
-career_more tables before (Look key ∷ rest) event career o leads = absurd career
+    (career.0, career_more tables (before ++ Report first ∷ []) rest event career.1 (subst Takes same may))
+career_more tables before (Register key ∷ rest) event career may = absurd career
+career_more tables before (Look key ∷ rest) event career may = absurd career
 
 -- a lawful list of one vehicle stays lawful with a request that is accepted behind it
 lawful_of_more : (tables : Tables) (requests : List Request) (request : Request) → IsLawfulOf tables requests → Gives tables requests request Done
     → IsLawfulOf tables (requests ++ request ∷ [])
 lawful_of_more tables requests (Register key) lawful gives = rw gives tt
 lawful_of_more tables [] (Report event) lawful gives = absurd (gives.0.registered refl)
-lawful_of_more tables (Register key ∷ rest) (Report event) lawful gives = career_more tables (Register key ∷ []) rest event lawful gives.0 gives.1
+lawful_of_more tables (Register key ∷ rest) (Report event) lawful gives = career_more tables (Register key ∷ []) rest event lawful gives
 lawful_of_more tables (Report first ∷ rest) (Report event) lawful gives = absurd lawful
 lawful_of_more tables (Look key ∷ rest) (Report event) lawful gives = absurd lawful
 lawful_of_more tables requests (Look key) lawful gives = absurd gives
@@ -103,12 +100,12 @@ lawful_next tables history request (Refused refusal) lawful gives = lawful
 career_gives : (tables : Tables) (before first : List Request) (request : Request) (rest : List Request) → IsCareer tables before (first ++ request ∷ rest)
     → Gives tables (before ++ first) request Done
 career_gives tables before [] (Report event) rest career =
-    let P : List Request → Type 0 = λ requests. Gives tables requests (Report event) Done in subst P (sym (append-nil before)) (career.0, career.1)
+    let P : List Request → Type 0 = λ requests. Gives tables requests (Report event) Done in subst P (sym (append-nil before)) career.0
 career_gives tables before [] (Register key) rest career = absurd career
 career_gives tables before [] (Look key) rest career = absurd career
 career_gives tables before (Report event ∷ first) request rest career =
     let P : List Request → Type 0 = λ requests. Gives tables requests request Done in
-    subst P (append_assoc before (Report event ∷ []) first) (career_gives tables (before ++ Report event ∷ []) first request rest career.2)
+    subst P (append_assoc before (Report event ∷ []) first) (career_gives tables (before ++ Report event ∷ []) first request rest career.1)
 career_gives tables before (Register key ∷ first) request rest career = absurd career
 career_gives tables before (Look key ∷ first) request rest career = absurd career
 

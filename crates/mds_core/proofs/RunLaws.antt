@@ -61,8 +61,8 @@ done_exactly tables before (Register key) outcome gives =
     (λ done. subst P done gives, λ none. outcome_one tables (requests_of before key) (Register key) outcome Done gives none)
 done_exactly tables before (Report event) outcome gives =
     let P : Outcome → Type 0 = λ o. Gives tables (requests_of before event.key) (Report event) o in (
-      λ done. let is = subst P done gives in record { open_to_it = is.0; rows_lead = is.1 },
-      λ may. outcome_one tables (requests_of before event.key) (Report event) outcome Done gives (may.open_to_it, may.rows_lead),
+      λ done. subst P done gives,
+      λ may. outcome_one tables (requests_of before event.key) (Report event) outcome Done gives may,
     )
 done_exactly tables before (Look key) outcome gives =
     let P : Outcome → Type 0 = λ o. Gives tables (requests_of before key) (Look key) o in

@@ -19,6 +19,11 @@ pub record IsOpen (requests : List Request) (event : Reported) : Type 0 where
   pub new : has_event requests event.id ≡ false
   pub in_time : is_late (last_time requests) event.time ≡ false
 
+-- it is open to the event, and rows in force at its time lead, one for each of the event's types in order, from the state held to
+-- the state reported
+abbrev pub IsAcceptable : Tables → List Request → Reported → Type 0
+IsAcceptable tables requests event = IsOpen requests event × Leads (rows_at tables event.time) (state_of requests) event.types event.state
+
 -- none of these rows lead, and this is where the event gets stuck
 pub record HasNoChain (rows : List Row) (from : State) (event : Reported) (at : ℕ) : Type 0 where
   pub none : Leads rows from event.types event.state → ⊥
@@ -35,7 +40,7 @@ Gives tables requests (Report event) (Refused Repeated) = (requests ≢ []) × (
 Gives tables requests (Report event) (Refused (Late last)) =
     (requests ≢ []) × (has_event requests event.id ≡ false) × (last_time requests ≡ Some last) × (event.time < last)
 Gives tables requests (Report event) (Refused (NoChain state at)) = IsOpen requests event × (state ≡ state_of requests) × HasNoChain (rows_at tables event.time) state event at
-Gives tables requests (Report event) Done = IsOpen requests event × Leads (rows_at tables event.time) (state_of requests) event.types event.state
+Gives tables requests (Report event) Done = IsAcceptable tables requests event
 -- no other outcome comes
 Gives tables requests request outcome = ⊥
 
@@ -46,17 +51,7 @@ pub record Answers (tables : Tables) (history : List Request) (request : Request
 
 -- the rules have such an outcome for such a request, after one history or another
 abbrev pub IsOutcomeFor : Request → Outcome → Type 0
-IsOutcomeFor (Register key) Done = Unit {0}
-IsOutcomeFor (Register key) (Refused AlreadyRegistered) = Unit {0}
-IsOutcomeFor (Look key) (Seen standing) = Unit {0}
-IsOutcomeFor (Look key) (Refused Unregistered) = Unit {0}
-IsOutcomeFor (Report event) Done = Unit {0}
-IsOutcomeFor (Report event) (Refused Unregistered) = Unit {0}
-IsOutcomeFor (Report event) (Refused Repeated) = Unit {0}
-IsOutcomeFor (Report event) (Refused (Late last)) = Unit {0}
-IsOutcomeFor (Report event) (Refused (NoChain state at)) = Unit {0}
--- no other outcome comes
-IsOutcomeFor request outcome = ⊥
+IsOutcomeFor request outcome = (tables : Tables) × (requests : List Request) × Gives tables requests request outcome
 
 -- the history after an outcome
 abbrev pub next : List Request → Request → Outcome → List Request

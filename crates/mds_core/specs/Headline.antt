@@ -1,16 +1,14 @@
 -- What becomes of each request of a run, by its place in the list.
 use Rattle.std.specs.Prelude.{◌≡◌, ◌≢◌, ◌↔◌, ℕ, List, [], length, take, map, filter, Some, slice_get, Bool, true, false}
 use Rattle.std.specs.List.{zip}
-use Rattle.mds_table.specs.Tables.{Tables, rows_at}
-use Rattle.mds_table.specs.Chain.{Leads}
+use Rattle.mds_table.specs.Tables.{Tables}
 use Rattle.mds_core.specs.declared.request.Request.{Request}
 use Rattle.mds_core.specs.declared.request.Request.TheVariants.{Register, Report, Look}
 use Rattle.mds_core.specs.declared.reply.Outcome.{Outcome}
 use Rattle.mds_core.specs.declared.reply.Outcome.TheVariants.{Done, Seen, Refused}
 use Rattle.mds_core.specs.declared.reply.Reply.{Reply}
-use Rattle.mds_core.specs.Reported.{Reported}
-use Rattle.mds_core.specs.History.{requests_of, state_of}
-use Rattle.mds_core.specs.Answer.{IsOpen}
+use Rattle.mds_core.specs.History.{requests_of}
+use Rattle.mds_core.specs.Answer.{IsAcceptable}
 
 -- a request was answered Done
 abbrev pub is_done : Outcome → Bool
@@ -21,12 +19,6 @@ is_done (Refused refusal) = false
 -- of requests with their replies, the requests that were answered Done, in their order
 abbrev pub done_of : List (Request × Reply) → List Request
 done_of answered = map (λ one. one.0) (filter (λ one. is_done one.1.outcome) answered)
-
--- the vehicle is registered, the identifier new there, the time not before the last, and rows in force at its time lead, one
--- for each of the event's types in order, from the state held to the state reported
-pub record IsAcceptable (tables : Tables) (requests : List Request) (event : Reported) : Type 0 where
-  pub open_to_it : IsOpen requests event
-  pub rows_lead : Leads (rows_at tables event.time) (state_of requests) event.types event.state
 
 -- with what was answered Done before: a registration is Done exactly where there is nothing of its vehicle, an event
 -- exactly where it is acceptable to its vehicle's own list, and a look never

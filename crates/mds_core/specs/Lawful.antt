@@ -1,19 +1,16 @@
 -- Histories that could have been accepted.
 use Rattle.std.specs.Prelude.{List, [], ◌∷◌, ◌++◌}
-use Rattle.mds_table.specs.Tables.{Tables, rows_at}
-use Rattle.mds_table.specs.Chain.{Leads}
+use Rattle.mds_table.specs.Tables.{Tables}
 use Rattle.mds_core.specs.declared.key.Key.{Key}
 use Rattle.mds_core.specs.declared.request.Request.{Request}
 use Rattle.mds_core.specs.declared.request.Request.TheVariants.{Register, Report, Look}
-use Rattle.mds_core.specs.History.{requests_of, state_of}
-use Rattle.mds_core.specs.Answer.{IsOpen}
+use Rattle.mds_core.specs.History.{requests_of}
+use Rattle.mds_core.specs.Answer.{IsAcceptable}
 
--- each entry of the list is a report that rows in force at its time lead from the state held before it, with a new identifier
--- and a time that doesn't fall
+-- each entry of the list is a report that was acceptable after those before it
 abbrev pub IsCareer : Tables → List Request → List Request → Type 0
 IsCareer tables before [] = Unit {0}
-IsCareer tables before (Report event ∷ rest) =
-    IsOpen before event × Leads (rows_at tables event.time) (state_of before) event.types event.state × IsCareer tables (before ++ Report event ∷ []) rest
+IsCareer tables before (Report event ∷ rest) = IsAcceptable tables before event × IsCareer tables (before ++ Report event ∷ []) rest
 IsCareer tables before (Register key ∷ rest) = ⊥
 IsCareer tables before (Look key ∷ rest) = ⊥
 

@@ -118,16 +118,16 @@ module _ (tables : Tables) (key registered : Key) where
       let all : done ++ (event ∷ rest) ≡ (done ++ event ∷ []) ++ rest = sym (append_assoc done (event ∷ []) rest) in
       let theirs : All (λ (one : Reported). one.key ≡ key) done = All-front (λ (one : Reported). one.key ≡ key) done (event ∷ rest) keys in
       let same : event.key ≡ key = All-middle (λ (one : Reported). one.key ≡ key) done rest event keys in
-      let next : AreOpenFrom tables Removed (done ++ event ∷ []) = open_next done event theirs same before career.0 career.1 in
+      let next : AreOpenFrom tables Removed (done ++ event ∷ []) = open_next done event theirs same before career.0.0 career.0.1 in
       let grown : told done ++ Report event ∷ [] ≡ told (done ++ event ∷ []) = ap (λ more. Register registered ∷ more) (sym (map-append Report done (event ∷ []))) in
       subst (λ events. AreOpenFrom tables Removed events) (sym all)
       (goes_on rest (done ++ event ∷ []) (subst (λ events. All (λ (one : Reported). one.key ≡ key) events) all keys) next
-      (subst (λ requests. IsCareer tables requests (map Report rest)) grown career.2))
+      (subst (λ requests. IsCareer tables requests (map Report rest)) grown career.1))
 
 -- a career is reports alone
 all_reports : (tables : Tables) (before rest : List Request) → IsCareer tables before rest → rest ≡ map Report (reports rest)
 all_reports tables before [] career = refl
-all_reports tables before (Report event ∷ rest) career = ap (λ more. Report event ∷ more) (all_reports tables (before ++ Report event ∷ []) rest career.2)
+all_reports tables before (Report event ∷ rest) career = ap (λ more. Report event ∷ more) (all_reports tables (before ++ Report event ∷ []) rest career.1)
 all_reports tables before (Register key ∷ rest) career = absurd career
 all_reports tables before (Look key ∷ rest) career = absurd career
 
