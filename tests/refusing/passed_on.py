@@ -3,7 +3,7 @@
 A place that makes one want of another, or of the error of a growth, has no line: its own text says so."""
 
 PASSED_ON = {
-    "mds_book/book.rt": {"opened": ["Slot::open"]},
+    "mds_book/book.rt": {"open_slot": ["Slot::open"]},
     "mds_book/slot.rt": {"Slot::step": ["shard.step"]},
     "mds_city/program.rt": {"words_of": ["words.collect"]},
     "mds_commands/print.rt": {"add_table": ["table.rows"]},

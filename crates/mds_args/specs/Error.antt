@@ -9,7 +9,8 @@ use Rattle.mds_args.specs.declared.error.WordsErrorKind.{WordsErrorKind}
 use Rattle.mds_args.specs.declared.error.WordsErrorKind.TheVariants.{Help, Mistake, Memory}
 use Rattle.mds_args.specs.Words.{AsksNothing, program_app}
 
--- of which kind an error is by what `clap` tells of it: help and the version are help, all else but the want of memory is a mistake
+-- of which kind an error is by what `clap` tells of it: help and the version are help, all else but
+-- the want of memory is a mistake
 abbrev pub kind_in : ErrorKind → WordsErrorKind
 kind_in kind.DisplayHelp = Help
 kind_in kind.DisplayVersion = Help
@@ -22,14 +23,17 @@ words_kind error = kind_in (kind_of error.cause)
 
 -- the error says that these are a command's name and values of no command; or memory was refused
 abbrev pub SaysMissing : Option (Text × List Row) → Error → Type 0
-SaysMissing found error = (kind_of error ≡ kind.OutOfMemory) ⊎ (AsksNothing found × (kind_of error ≡ kind.MissingSubcommand))
+SaysMissing found error =
+    (kind_of error ≡ kind.OutOfMemory)
+    ⊎ (AsksNothing found × (kind_of error ≡ kind.MissingSubcommand))
 
--- why these words give no command: `clap` finds such a fault in them, or finds none and they ask for none, which the error
--- says; or memory was refused
+-- why these words give no command: `clap` finds such a fault in them, or finds none and they ask
+-- for none, which the error says; or memory was refused
 abbrev pub IsCause : List Text → Error → Type 0
 IsCause words error =
     HasKind (fault_of program_app words) error
-    ⊎ ((fault_of program_app words ≡ []) × AsksNothing (subcommand_of program_app words) × (kind_of error ≡ kind.MissingSubcommand))
+    ⊎ ((fault_of program_app words ≡ []) × AsksNothing (subcommand_of program_app words)
+    × (kind_of error ≡ kind.MissingSubcommand))
 
 -- the error of words has such a cause
 abbrev pub HasCause : List Text → WordsError → Type 0

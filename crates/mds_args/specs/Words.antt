@@ -1,10 +1,12 @@
 -- What the words of the command line ask for.
-use Rattle.std.specs.Prelude.{◌≡◌, ◌⊎◌, ◌↔◌, ℕ, List, [], ◌∷◌, Option, Some, None, Result, true, codes, option_map, IfOk, IsTrue}
+use Rattle.std.specs.Prelude.{◌≡◌, ◌⊎◌, ◌↔◌, ℕ, List, [], ◌∷◌, Option, Some}
+use Rattle.std.specs.Prelude.{None, Result, true, codes, option_map, IfOk, IsTrue}
 use Rattle.std.specs.Str.Parse.{digits_value, without_leading_plus}
 use Rattle.clap.specs.declared.builder.action.ArgAction.TheVariants.{SetTrue}
 use Rattle.clap.specs.declared.builder.command.Command.{Command as Form}
 use Rattle.clap.specs.declared.builder.value_parser.ValueParser.TheVariants.{Unsigned}
-use Rattle.clap.specs.Words.{App, IsUnsignedIn, Row, Rule, Text, app_of, fault_of, first_of, new_app, new_rule, takes, with_rule, subcommand_of, with_subcommand}
+use Rattle.clap.specs.Words.{App, IsUnsignedIn, Row, Rule, Text, app_of, fault_of, first_of}
+use Rattle.clap.specs.Words.{new_app, new_rule, takes, with_rule, subcommand_of, with_subcommand}
 use Rattle.mds_args.specs.declared.words.Command.{Command}
 use Rattle.mds_args.specs.declared.words.Command.TheVariants.{Serve, Replay, Debug, Table, Vehicles}
 
@@ -52,24 +54,28 @@ max_workers = 64
 
 -- the option `--workers`, which is this number where it isn't given
 abbrev pub workers_rule : Text → Rule
-workers_rule number = record (number_rule (codes "workers") 1 max_workers) { defaults = number ∷ [] }
+workers_rule number =
+    record (number_rule (codes "workers") 1 max_workers) { defaults = number ∷ [] }
 
 -- the command `serve`, with its numbers and the options
 abbrev pub serve_app : App
 serve_app =
-    with_rule (with_rule (with_rule (with_rule (with_rule (new_app (codes "serve")) (needed_number_rule (codes "port") max_port))
-    (needed_number_rule (codes "each") max_each)) (workers_rule (codes "4"))) table_rule) journal_rule
+    with_rule (with_rule (with_rule (with_rule (with_rule (new_app (codes "serve"))
+    (needed_number_rule (codes "port") max_port)) (needed_number_rule (codes "each") max_each))
+    (workers_rule (codes "4"))) table_rule) journal_rule
 
 -- the command `replay`, with its file, the table's option, the flags and the number of workers
 abbrev pub replay_app : App
 replay_app =
-    with_rule (with_rule (with_rule (with_rule (with_rule (new_app (codes "replay")) (word_rule (codes "FILE"))) table_rule)
-    (flag_rule (codes "any"))) (flag_rule (codes "lines"))) (workers_rule (codes "1"))
+    with_rule (with_rule (with_rule (with_rule (with_rule (new_app (codes "replay"))
+    (word_rule (codes "FILE"))) table_rule) (flag_rule (codes "any"))) (flag_rule (codes "lines")))
+    (workers_rule (codes "1"))
 
 -- the command `debug`, with its file, its vehicle's provider and device, and the option
 abbrev pub debug_app : App
 debug_app =
-    with_rule (with_rule (with_rule (with_rule (new_app (codes "debug")) (word_rule (codes "FILE"))) (word_rule (codes "PROVIDER"))) (word_rule (codes "DEVICE"))) table_rule
+    with_rule (with_rule (with_rule (with_rule (new_app (codes "debug")) (word_rule (codes "FILE")))
+    (word_rule (codes "PROVIDER"))) (word_rule (codes "DEVICE"))) table_rule
 
 -- the command `table`, with the option
 abbrev pub table_app : App
@@ -77,16 +83,20 @@ table_app = with_rule (new_app (codes "table")) table_rule
 
 -- the command `vehicles`, with its file and the option
 abbrev pub vehicles_app : App
-vehicles_app = with_rule (with_rule (new_app (codes "vehicles")) (word_rule (codes "FILE"))) table_rule
+vehicles_app =
+    with_rule (with_rule (new_app (codes "vehicles")) (word_rule (codes "FILE"))) table_rule
 
 -- the program with no command yet, which must be given one
 abbrev pub bare_app : App
-bare_app = record { top = record (new_app (codes "mds_city")).top { subcommand_required = true }; subs = [] }
+bare_app =
+    record
+    { top = record (new_app (codes "mds_city")).top { subcommand_required = true }; subs = [] }
 
 -- the program with its commands
 abbrev pub program_app : App
 program_app =
-    with_subcommand (with_subcommand (with_subcommand (with_subcommand (with_subcommand bare_app serve_app.top) replay_app.top) debug_app.top) table_app.top) vehicles_app.top
+    with_subcommand (with_subcommand (with_subcommand (with_subcommand (with_subcommand bare_app
+    serve_app.top) replay_app.top) debug_app.top) table_app.top) vehicles_app.top
 
 -- where there was memory, `clap` is told of this app
 abbrev pub IsTold : {E : Type 0} → App → Result Form E → Type 0
@@ -103,38 +113,52 @@ name_of (Vehicles file table) = codes "vehicles"
 -- the value is a text that is this number, one of this range
 abbrev pub IsNumber : ℕ → ℕ → Option Text → ℕ → Type 0
 IsNumber least most None number = ⊥
-IsNumber least most (Some text) number = IsUnsignedIn least most text × (number ≡ digits_value 10 (without_leading_plus text))
+IsNumber least most (Some text) number =
+    IsUnsignedIn least most text × (number ≡ digits_value 10 (without_leading_plus text))
 
 -- there is no value, or it is no number of this range
 abbrev pub HasNoNumber : ℕ → ℕ → Option Text → Type 0
 HasNoNumber least most value = (number : ℕ) → IsNumber least most value number → ⊥
 
--- the port's number, the connections of each worker or the number of workers is missing or out of its range
+-- the port's number, the connections of each worker or the number of workers is missing or out of
+-- its range
 abbrev pub LacksNumber : List Row → Type 0
 LacksNumber values =
-    HasNoNumber 0 max_port (first_of (codes "port") values) ⊎ HasNoNumber 0 max_each (first_of (codes "each") values)
+    HasNoNumber 0 max_port (first_of (codes "port") values)
+    ⊎ HasNoNumber 0 max_each (first_of (codes "each") values)
     ⊎ HasNoNumber 1 max_workers (first_of (codes "workers") values)
 
 -- the file is missing, or the number of workers is missing or out of its range
 abbrev pub LacksFileOrWorkers : List Row → Type 0
-LacksFileOrWorkers values = (first_of (codes "FILE") values ≡ None) ⊎ HasNoNumber 1 max_workers (first_of (codes "workers") values)
+LacksFileOrWorkers values =
+    (first_of (codes "FILE") values ≡ None)
+    ⊎ HasNoNumber 1 max_workers (first_of (codes "workers") values)
 
--- the values that were found are those of this command; it has no table or journal where none was given, and a flag that is set is true
+-- the values that were found are those of this command; it has no table or journal where none was
+-- given, and a flag that is set is true
 abbrev pub HasValues : List Row → Command → Type 0
 HasValues values (Serve port each workers table journal) =
-    IsNumber 0 max_port (first_of (codes "port") values) port × IsNumber 0 max_each (first_of (codes "each") values) each
-    × IsNumber 1 max_workers (first_of (codes "workers") values) workers × (first_of (codes "table") values ≡ option_map (λ path. path.now) table)
+    IsNumber 0 max_port (first_of (codes "port") values) port
+    × IsNumber 0 max_each (first_of (codes "each") values) each
+    × IsNumber 1 max_workers (first_of (codes "workers") values) workers
+    × (first_of (codes "table") values ≡ option_map (λ path. path.now) table)
     × (first_of (codes "journal") values ≡ option_map (λ path. path.now) journal)
 HasValues values (Replay file table any lines workers) =
-    (first_of (codes "FILE") values ≡ Some file.now) × (first_of (codes "table") values ≡ option_map (λ path. path.now) table)
-    × (IsTrue any ↔ (first_of (codes "any") values ≡ Some (codes "true"))) × (IsTrue lines ↔ (first_of (codes "lines") values ≡ Some (codes "true")))
+    (first_of (codes "FILE") values ≡ Some file.now)
+    × (first_of (codes "table") values ≡ option_map (λ path. path.now) table)
+    × (IsTrue any ↔ (first_of (codes "any") values ≡ Some (codes "true")))
+    × (IsTrue lines ↔ (first_of (codes "lines") values ≡ Some (codes "true")))
     × IsNumber 1 max_workers (first_of (codes "workers") values) workers
 HasValues values (Debug file provider device table) =
-    (first_of (codes "FILE") values ≡ Some file.now) × (first_of (codes "PROVIDER") values ≡ Some provider.now)
-    × (first_of (codes "DEVICE") values ≡ Some device.now) × (first_of (codes "table") values ≡ option_map (λ path. path.now) table)
-HasValues values (Table table) = first_of (codes "table") values ≡ option_map (λ path. path.now) table
+    (first_of (codes "FILE") values ≡ Some file.now)
+    × (first_of (codes "PROVIDER") values ≡ Some provider.now)
+    × (first_of (codes "DEVICE") values ≡ Some device.now)
+    × (first_of (codes "table") values ≡ option_map (λ path. path.now) table)
+HasValues values (Table table) =
+    first_of (codes "table") values ≡ option_map (λ path. path.now) table
 HasValues values (Vehicles file table) =
-    (first_of (codes "FILE") values ≡ Some file.now) × (first_of (codes "table") values ≡ option_map (λ path. path.now) table)
+    (first_of (codes "FILE") values ≡ Some file.now)
+    × (first_of (codes "table") values ≡ option_map (λ path. path.now) table)
 
 -- one of these arguments has no value
 abbrev pub LacksOneOf : List Text → List Row → Type 0
@@ -152,8 +176,10 @@ AsksNothing found = (command : Command) → Asks found command → ⊥
 
 -- the words ask for this command, and `clap` finds no fault in them
 abbrev pub IsAskedBy : List Text → Command → Type 0
-IsAskedBy words command = Asks (subcommand_of program_app words) command × (fault_of program_app words ≡ [])
+IsAskedBy words command =
+    Asks (subcommand_of program_app words) command × (fault_of program_app words ≡ [])
 
 -- `clap` takes the words, and they ask for some command
 abbrev pub AreTaken : List Text → Type 0
-AreTaken words = (takes program_app words ≡ true) × (AsksNothing (subcommand_of program_app words) → ⊥)
+AreTaken words =
+    (takes program_app words ≡ true) × (AsksNothing (subcommand_of program_app words) → ⊥)

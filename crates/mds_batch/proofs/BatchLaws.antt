@@ -7,7 +7,7 @@ use Rattle.mds_table.specs.Json.{IsShortTextOf}
 use Rattle.mds_batch.specs.declared.batch.BatchFault.{BatchFault}
 use Rattle.mds_batch.specs.declared.batch.BatchFault.TheVariants.{Memory, TooLong, NotJson, NotList, TooMany}
 use Rattle.mds_batch.specs.Items.{IsVehicleItem, IsEventItem}
-use Rattle.mds_batch.specs.Batch.{listed, AreItemsOf, HasItems, HasFault}
+use Rattle.mds_batch.specs.Batch.{listed_values, AreItemsOf, HasItems, HasFault}
 use Rattle.mds_batch.specs.Laws.{BatchesHaveNoFault, BatchesHaveOneFault}
 
 -- the text of bytes has one value
@@ -15,8 +15,8 @@ same_value : (bytes : List ℕ) (value other : Data) → IsShortTextOf value byt
 same_value bytes value other is are = let texts : Some value ≡ Some other = sym is.1.1 ∙ are.1.1 in cc
 
 -- and lists the same
-same_listed : (bytes : List ℕ) (value other : Data) → IsShortTextOf value bytes → IsShortTextOf other bytes → listed value ≡ listed other
-same_listed bytes value other is are = ap listed (same_value bytes value other is are)
+same_listed : (bytes : List ℕ) (value other : Data) → IsShortTextOf value bytes → IsShortTextOf other bytes → listed_values value ≡ listed_values other
+same_listed bytes value other is are = ap listed_values (same_value bytes value other is are)
 
 -- a value doesn't list too many where it lists nothing
 none_is_some : (bytes : List ℕ) → HasFault bytes NotList → HasFault bytes TooMany → ⊥

@@ -17,7 +17,7 @@ use Rattle.mds_batch.specs.Member.{member_name}
 use Rattle.mds_table.specs.Json.{state_in, time_in}
 use Rattle.mds_batch.specs.Forms.{uuid_in, types_in}
 use Rattle.mds_batch.specs.Items.{position_or_null, is_faulty, fault_at, fault_of, vehicle_members, event_members, IsKeyOf, IsEventOf, IsVehicleItem, IsEventItem}
-use Rattle.mds_batch.specs.Laws.{named, IsFirstFaulty, FaultsNameTheFirst, FaultyMembersAreTold, Agree, VehiclesGoByMembers, EventsGoByMembers}
+use Rattle.mds_batch.specs.Laws.{named_member, IsFirstFaulty, FaultsNameTheFirst, FaultyMembersAreTold, Agree, VehiclesGoByMembers, EventsGoByMembers}
 
 -- what was found first stands behind others that aren't it
 found_first : (value : Data) (asked : List Member) (member : Member) → find (is_faulty value) asked ≡ Some member → IsFirstFaulty asked value member
@@ -36,9 +36,9 @@ found_first value (first ∷ rest) member is = step (is_faulty value first) refl
 pub faults_name_the_first : FaultsNameTheFirst
 faults_name_the_first asked value fault member is names =
     found_first value asked member (search_of (is_some (as_object value)) (find (is_faulty value) asked) is) where
-      named_at : (found : Member) → named (fault_at value found) ≡ Some found
+      named_at : (found : Member) → named_member (fault_at value found) ≡ Some found
       named_at found = by_presence (is_some (get (member_name found) value)) where
-        by_presence : (b : Bool) → named (cond b (Bad found) (Missing found)) ≡ Some found
+        by_presence : (b : Bool) → named_member (cond b (Bad found) (Missing found)) ≡ Some found
         by_presence true = refl
         by_presence false = refl
 
@@ -46,10 +46,10 @@ faults_name_the_first asked value fault member is names =
       search_of true None is = cc
       search_of true (Some found) is =
           let same : fault_at value found ≡ fault = cc in
-          sym (named_at found) ∙ ap named same ∙ names
+          sym (named_at found) ∙ ap named_member same ∙ names
       search_of false found is =
           let same : NotObject ≡ fault = cc in
-          let none : None ≡ Some member = ap named same ∙ names in cc
+          let none : None ≡ Some member = ap named_member same ∙ names in cc
 
 -- where none was found, none is faulty
 none_faulty : (value : Data) (asked : List Member) → find (is_faulty value) asked ≡ None → All (λ member. is_faulty value member ≡ false) asked

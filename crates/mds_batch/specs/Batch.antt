@@ -11,8 +11,8 @@ use Rattle.mds_batch.specs.declared.batch.BatchFault.TheVariants.{Memory, TooLon
 use Rattle.mds_batch.specs.declared.batch.BatchFault.TheVariants.{NotList, TooMany}
 
 -- the values that a batch lists: those of a list, or an object alone
-abbrev pub listed : Data → Option (List Data)
-listed value =
+abbrev pub listed_values : Data → Option (List Data)
+listed_values value =
     option_or (option_map items_in (as_array value))
     (option_map (λ members. value ∷ []) (as_object value))
 
@@ -33,13 +33,14 @@ pub record AreItemsOf {A : Type 0} (IsItemOf : Data → A → Type 0) (values : 
 abbrev pub HasItems : {A : Type 0} → (Data → A → Type 0) → List ℕ → List A → Type 0
 HasItems IsItemOf bytes items =
     (value : Data) × (all : List Data) × IsShortTextOf value bytes
-    × (listed value ≡ Some all) × (length all ≤ max_items) × AreItemsOf IsItemOf all items
+    × (listed_values value ≡ Some all) × (length all ≤ max_items) × AreItemsOf IsItemOf all items
 
 -- what is wrong with a value that is no batch: it is neither a list nor an object, or it lists too
 -- many
 abbrev pub IsListFault : Data → BatchFault → Type 0
-IsListFault value NotList = listed value ≡ None
-IsListFault value TooMany = (all : List Data) × (listed value ≡ Some all) × (max_items < length all)
+IsListFault value NotList = listed_values value ≡ None
+IsListFault value TooMany =
+    (all : List Data) × (listed_values value ≡ Some all) × (max_items < length all)
 IsListFault value Memory = ⊥
 IsListFault value TooLong = ⊥
 IsListFault value NotJson = ⊥

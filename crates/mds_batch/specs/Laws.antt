@@ -16,10 +16,10 @@ use Rattle.mds_batch.specs.Items.{event_members, IsVehicleItem, IsEventItem}
 use Rattle.mds_batch.specs.Batch.{HasItems, HasFault}
 
 -- the member that a fault names
-abbrev pub named : ItemFault → Option Member
-named NotObject = None
-named (Missing member) = Some member
-named (Bad member) = Some member
+abbrev pub named_member : ItemFault → Option Member
+named_member NotObject = None
+named_member (Missing member) = Some member
+named_member (Bad member) = Some member
 
 -- of the members asked for this one isn't as it should be, and each one before it is
 abbrev pub IsFirstFaulty : List Member → Data → Member → Type 0
@@ -31,7 +31,7 @@ IsFirstFaulty asked value member =
 abbrev pub FaultsNameTheFirst : Type 0
 FaultsNameTheFirst =
     (asked : List Member) (value : Data) (fault : ItemFault) (member : Member)
-    → fault_of asked value ≡ Some fault → named fault ≡ Some member
+    → fault_of asked value ≡ Some fault → named_member fault ≡ Some member
     → IsFirstFaulty asked value member
 
 -- a value of which a member isn't as it should be has a fault

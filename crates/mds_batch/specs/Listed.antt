@@ -1,7 +1,7 @@
 -- What is kept of the items of a batch while they are read.
 use Rattle.std.specs.Prelude.{◌≡◌, ℕ, ◌<◌, ◌≤◌, List, length, Bool, true, false, Some, None}
 use Rattle.serde_json.specs.Data.{Data}
-use Rattle.mds_batch.specs.Batch.{listed, max_items, AreItemsOf}
+use Rattle.mds_batch.specs.Batch.{listed_values, max_items, AreItemsOf}
 
 -- the items that the values are were taken, and counted, or the values are too many
 abbrev pub HoldsItems : {A : Type 0} → (Data → A → Type 0)
@@ -16,5 +16,5 @@ abbrev pub IsListOf : {A : Type 0} → (Data → A → Type 0)
     → (List A → Type 0) → Data → ℕ → Bool → Bool → Type 0
 IsListOf IsItemOf Took value count is_too_long true =
     (values : List Data)
-    × (listed value ≡ Some values) × HoldsItems IsItemOf Took values count is_too_long
-IsListOf IsItemOf Took value count is_too_long false = listed value ≡ None
+    × (listed_values value ≡ Some values) × HoldsItems IsItemOf Took values count is_too_long
+IsListOf IsItemOf Took value count is_too_long false = listed_values value ≡ None

@@ -4,7 +4,7 @@ ghost use Rattle.serde_json.specs.View.{view};
 ghost use Rattle.mds_table.specs.Json.{max_bytes};
 ghost use Rattle.mds_batch.specs.Items.{IsVehicleItem, IsEventItem};
 ghost use Rattle.mds_batch.specs.declared.item.EventItem.{EventItem as Item};
-ghost use Rattle.mds_batch.specs.Batch.{max_items, listed, AreItemsOf, HasItems, IsListFault, HasFault, HasItemFault, fault_text};
+ghost use Rattle.mds_batch.specs.Batch.{max_items, listed_values, AreItemsOf, HasItems, IsListFault, HasFault, HasItemFault, fault_text};
 
 use crate::event::EventFields;
 use crate::list::{ItemFields, ItemList};

@@ -100,7 +100,7 @@ fn put_event(item: &mut EventItem, told: Told, types: &[TypeName])
 }
 
 impl EventFields {
-    fn told(&self) -> Result<Told, ItemFault>
+    fn told_fields(&self) -> Result<Told, ItemFault>
         ensures event { (found : Members) → HoldsEvent found self.now
             → IfOk result (λ told.
             IsEventOf (object found) (reported_by told self.now.types.names.items)) }
@@ -108,10 +108,10 @@ impl EventFields {
             → IfErr result (λ fault. fault_of event_members (object found) ≡ Some fault) }
     {
         let key = self.vehicle.key()?;
-        let id = self.id.required(Member::EventId)?;
-        let state = self.state.required(Member::VehicleState)?;
-        self.has_types.required(Member::EventTypes)?;
-        let time = self.time.required(Member::Timestamp)?;
+        let id = self.id.require(Member::EventId)?;
+        let state = self.state.require(Member::VehicleState)?;
+        self.has_types.require(Member::EventTypes)?;
+        let time = self.time.require(Member::Timestamp)?;
         let position = self.position()?;
         Ok(Told {
             key,
@@ -190,7 +190,7 @@ impl ItemFields for EventFields {
 
     #[tactic(auto, unfolding(crate::specs::Items::IsEventItem))]
     fn fill(&self, item: &mut EventItem) {
-        match self.told() {
+        match self.told_fields() {
             Ok(told) => put_event(item, told, self.types.names()),
             Err(fault) => *item = EventItem::Fault(fault),
         }

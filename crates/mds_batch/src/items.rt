@@ -53,7 +53,7 @@ impl EventItems {
     }
 
     /// What is kept of each item beside the names of its types: it tells what is wrong with the item, if anything is.
-    pub fn kept(&self) -> &[KeptItem]
+    pub fn kept_items(&self) -> &[KeptItem]
         ensures { map kept_fault result.now ≡ map event_fault self.now }
     {
         &self.items
@@ -100,7 +100,7 @@ impl BatchItems for EventItems {
     fn ask(&self, at: usize, request: &mut Request) -> bool {
         match &self.items[at] {
             KeptItem::Event(kept) => {
-                put_report(request, kept.told(), kept.types(&self.names));
+                put_report(request, kept.told_fields(), kept.types(&self.names));
                 true
             }
             KeptItem::Fault(_) => false,

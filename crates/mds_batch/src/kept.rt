@@ -26,7 +26,7 @@ pub struct KeptEvent {
 
 impl KeptEvent {
     /// What the event says beside its types.
-    pub(crate) fn told(&self) -> Told
+    pub(crate) fn told_fields(&self) -> Told
         ensures { result ≡ self.now.told }
     {
         self.told

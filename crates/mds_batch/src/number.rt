@@ -14,9 +14,9 @@ pub(crate) fn number_of(text: &str) -> Option<Number>
 {
     let bytes = text.as_bytes();
     if has_minus(bytes) {
-        negative(&Numeral::scan(&bytes[1..]))
+        negative_number(&Numeral::scan(&bytes[1..]))
     } else {
-        unsigned(&Numeral::scan(bytes))
+        unsigned_number(&Numeral::scan(bytes))
     }
 }
 
@@ -28,18 +28,18 @@ fn has_minus(bytes: &[u8]) -> bool
 }
 
 #[inline(always)]
-fn unsigned(numeral: &Numeral<'_>) -> Option<Number>
+fn unsigned_number(numeral: &Numeral<'_>) -> Option<Number>
     ensures { option_map number_view result ≡ number_from false numeral.now }
 {
     match numeral.to_u64() {
         Some(whole) => Some(Number::from(whole)),
-        None => nearest(false, numeral),
+        None => nearest_double(false, numeral),
     }
 }
 
 /// `-0` is a double, as `serde_json` has it.
 #[inline(always)]
-fn negative(numeral: &Numeral<'_>) -> Option<Number>
+fn negative_number(numeral: &Numeral<'_>) -> Option<Number>
     ensures { option_map number_view result ≡ number_from true numeral.now }
 {
     if let Some(whole) = numeral.to_i64(true) {
@@ -47,11 +47,11 @@ fn negative(numeral: &Numeral<'_>) -> Option<Number>
             return Some(Number::from(whole));
         }
     }
-    nearest(true, numeral)
+    nearest_double(true, numeral)
 }
 
 #[inline(always)]
-fn nearest(is_negative: bool, numeral: &Numeral<'_>) -> Option<Number>
+fn nearest_double(is_negative: bool, numeral: &Numeral<'_>) -> Option<Number>
     ensures { option_map number_view result ≡ float_of is_negative numeral.now }
 {
     Number::from_f64(numeral.to_float::<f64>(is_negative))

@@ -26,7 +26,7 @@ impl<T: Copy> Slot<T> {
         }
     }
 
-    pub(crate) fn required(self, member: Member) -> Result<T, ItemFault>
+    pub(crate) fn require(self, member: Member) -> Result<T, ItemFault>
         ensures value { IfOk result (λ value. found_in self ≡ Some (Some value)) }
         ensures fault { IfErr result (λ fault. ((found_in self ≡ None) × (fault ≡ Missing member))
             ⊎ ((found_in self ≡ Some None) × (fault ≡ bad member))) }

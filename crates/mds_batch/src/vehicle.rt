@@ -26,8 +26,8 @@ impl VehicleFields {
         ensures fault { (found : Members) → HoldsVehicle found self.now
             → IfErr result (λ fault. fault_of vehicle_members (object found) ≡ Some fault) }
     {
-        let provider = self.provider.required(Member::ProviderId)?;
-        let device = self.device.required(Member::DeviceId)?;
+        let provider = self.provider.require(Member::ProviderId)?;
+        let device = self.device.require(Member::DeviceId)?;
         Ok(Key { provider, device })
     }
 }

@@ -10,7 +10,7 @@ use Rattle.mds_core.specs.Answer.{Answers, next}
 use Rattle.mds_settle.specs.declared.note.Note.{Note}
 use Rattle.mds_log.specs.Log.{Acceptance, requests}
 use Rattle.mds_book.specs.Shards.{shard_of, AreOfShard, count_of}
-use Rattle.mds_book.specs.Seats.{Seated, noted, rises, sees, seen_in, turned, IsCalled}
+use Rattle.mds_book.specs.Seats.{Seated, notes_of_call, rise_of, seen_after, seen_in, turns_after, IsCalled}
 use Rattle.mds_book.specs.Sights.{IsStepped, AreTrue, next_turn}
 use Rattle.mds_book.proofs.Slots.{requests_after}
 use Rattle.mds_book.proofs.Trues.{requests_prefix, true_call, true_other}
@@ -24,14 +24,14 @@ seen_after tables number old mark request reply new step =
 -- a seat after a call in the shard of this number, whose history was `before`
 abbrev pub called_seat : ℕ → Seated → List Request → Request → Reply → Seated
 called_seat number seat before request reply = record {
-  first = seat.first + rises 0 number reply;
-  second = seat.second + rises 1 number reply;
-  notes = seat.notes ++ noted seat.keeps_all request reply;
+  first = seat.first + rise_of 0 number reply;
+  second = seat.second + rise_of 1 number reply;
+  notes = seat.notes ++ notes_of_call seat.keeps_all request reply;
   keeps_all = seat.keeps_all;
-  first_seen = sees 0 number before request reply seat.first_seen;
-  second_seen = sees 1 number before request reply seat.second_seen;
-  first_turns = turned 0 number seat.first_turns;
-  second_turns = turned 1 number seat.second_turns;
+  first_seen = seen_after 0 number before request reply seat.first_seen;
+  second_seen = seen_after 1 number before request reply seat.second_seen;
+  first_turns = turns_after 0 number seat.first_turns;
+  second_turns = turns_after 1 number seat.second_turns;
 }
 
 -- a call in the shard of this number
@@ -59,7 +59,7 @@ called_in known tables number old new log longer mark request reply is here step
 pub called_first : (known tables : Tables) (old new : Seated) (log longer : List Acceptance) (mark : ℕ) (request : Request) (reply : Reply)
     → known ≡ tables → shard_of (key_of request) ≡ 0 → IsStepped tables 0 log mark request reply longer → old.first_seen ≡ requests log → new.first_seen ≡ requests longer
     → new.first ≡ old.first + count_of reply.outcome → new.first_turns ≡ next_turn old.first_turns → new.second ≡ old.second
-    → new.notes ≡ old.notes ++ noted old.keeps_all request reply → new.keeps_all ≡ old.keeps_all → new.second_seen ≡ old.second_seen
+    → new.notes ≡ old.notes ++ notes_of_call old.keeps_all request reply → new.keeps_all ≡ old.keeps_all → new.second_seen ≡ old.second_seen
     → new.second_turns ≡ old.second_turns → IsCalled known old request reply new
 called_first known tables old new log longer mark request reply is here step saw sees_now first turn second notes keeps other waits =
     let second_is : new.second ≡ old.second + 0 = second ∙ sym (add-zero old.second) in
@@ -79,7 +79,7 @@ called_first known tables old new log longer mark request reply is here step saw
 pub called_second : (known tables : Tables) (old new : Seated) (log longer : List Acceptance) (mark : ℕ) (request : Request) (reply : Reply)
     → known ≡ tables → shard_of (key_of request) ≡ 1 → IsStepped tables 1 log mark request reply longer → old.second_seen ≡ requests log → new.second_seen ≡ requests longer
     → new.second ≡ old.second + count_of reply.outcome → new.second_turns ≡ next_turn old.second_turns → new.first ≡ old.first
-    → new.notes ≡ old.notes ++ noted old.keeps_all request reply → new.keeps_all ≡ old.keeps_all → new.first_seen ≡ old.first_seen
+    → new.notes ≡ old.notes ++ notes_of_call old.keeps_all request reply → new.keeps_all ≡ old.keeps_all → new.first_seen ≡ old.first_seen
     → new.first_turns ≡ old.first_turns → IsCalled known old request reply new
 called_second known tables old new log longer mark request reply is here step saw sees_now second turn first notes keeps other waits =
     let first_is : new.first ≡ old.first + 0 = first ∙ sym (add-zero old.first) in
@@ -105,18 +105,18 @@ not_zero number one zero = omega arith
 -- a seat's notes stay true to the shard of a call
 pub true_here : (tables : Tables) (number : ℕ) (log longer : List Acceptance) (mark same : ℕ) (notes more : List Note) (count grown : ℕ) (all : Bool) (request : Request)
     (reply : Reply) → shard_of (key_of request) ≡ number → AreTrue tables number log mark notes count → IsStepped tables number log mark request reply longer
-    → same ≡ mark → more ≡ notes ++ noted all request reply → grown ≡ count + count_of reply.outcome → AreTrue tables number longer same more grown
+    → same ≡ mark → more ≡ notes ++ notes_of_call all request reply → grown ≡ count + count_of reply.outcome → AreTrue tables number longer same more grown
 true_here tables number log longer mark same notes more count grown all request reply here are step marked written counted =
-    let after_it : AreTrue tables number longer mark (notes ++ noted all request reply) (count + count_of reply.outcome) =
+    let after_it : AreTrue tables number longer mark (notes ++ notes_of_call all request reply) (count + count_of reply.outcome) =
     true_call tables number log mark notes count all request reply longer are step here in
-    let Marked : ℕ → Type 0 = λ m. AreTrue tables number longer m (notes ++ noted all request reply) (count + count_of reply.outcome) in
+    let Marked : ℕ → Type 0 = λ m. AreTrue tables number longer m (notes ++ notes_of_call all request reply) (count + count_of reply.outcome) in
     let Written : List Note → Type 0 = λ w. AreTrue tables number longer same w (count + count_of reply.outcome) in
     let Counted : ℕ → Type 0 = λ n. AreTrue tables number longer same more n in
     subst Counted (sym counted) (subst Written (sym written) (subst Marked (sym marked) after_it))
 
 -- and to the other shard
 pub true_there : (tables : Tables) (number : ℕ) (log : List Acceptance) (mark : ℕ) (notes more : List Note) (count : ℕ) (all : Bool) (request : Request) (reply : Reply)
-    → shard_of (key_of request) ≢ number → AreTrue tables number log mark notes count → more ≡ notes ++ noted all request reply
+    → shard_of (key_of request) ≢ number → AreTrue tables number log mark notes count → more ≡ notes ++ notes_of_call all request reply
     → AreTrue tables number log mark more count
 true_there tables number log mark notes more count all request reply other are written =
     let Written : List Note → Type 0 = λ w. AreTrue tables number log mark w count in

@@ -8,7 +8,7 @@ use Rattle.mds_core.specs.History.{requests_of}
 use Rattle.mds_core.proofs.Histories.{requests_of-append}
 use Rattle.mds_log.specs.Log.{Acceptance, requests}
 use Rattle.mds_shard.specs.Replay.{IsEndOf}
-use Rattle.mds_book.specs.Copying.{Progressed, copied}
+use Rattle.mds_book.specs.Copying.{Progressed, copied_requests}
 use Rattle.mds_book.proofs.Copying.{take_longer}
 use Rattle.mds_book.proofs.Trues.{requests_prefix}
 
@@ -40,9 +40,9 @@ of_vehicle_prefix xs ys key begins = (requests_of begins.0 key, sym (requests_of
 -- where as much was copied of a history as leads to the end of a vehicle's requests, all of them were that a beginning of its log has
 pub all_were_copied : (seen log : List Acceptance) (history : List Request) (progress : Progressed) (key : Key) (end : ℕ) → IsPrefix seen log → requests log ≡ history
     → IsPrefix progress.seen history → progress.count ≤ length progress.seen → IsEndOf history key end → end ≤ progress.count
-    → IsPrefix (requests_of (requests seen) key) (requests_of (copied progress) key)
+    → IsPrefix (requests_of (requests seen) key) (requests_of (copied_requests progress) key)
 all_were_copied seen log history progress key end begins whole seen_begins within ends le =
     let in_history : IsPrefix (requests seen) history = subst (λ (w : List Request). IsPrefix (requests seen) w) whole (requests_prefix seen log begins) in
-    let same : requests_of history key ≡ requests_of (copied progress) key =
+    let same : requests_of history key ≡ requests_of (copied_requests progress) key =
     all_before history key progress.count (none_further history key end progress.count le ends.none) ∙ ap (λ w. requests_of w key) (take_longer progress.count progress.seen history seen_begins within) in
     subst (λ (w : List Request). IsPrefix (requests_of (requests seen) key) w) same (of_vehicle_prefix (requests seen) history key in_history)

@@ -15,7 +15,7 @@ use Rattle.mds_log.proofs.Lists.{one_begins_other, prefix_get, prefix_self}
 use Rattle.mds_log.specs.Log.{Acceptance, requests}
 use Rattle.mds_book.specs.Laws.{OneBegins}
 use Rattle.mds_book.specs.Shards.{shard_of}
-use Rattle.mds_book.specs.Seats.{IsCalled, Seated, after_call, seen_in, sees}
+use Rattle.mds_book.specs.Seats.{IsCalled, Seated, after_call, seen_in, seen_after}
 use Rattle.mds_book.specs.Gathering.{Collected}
 use Rattle.mds_book.specs.Settling.{AreBeginnings, IsSettledBook, IsTorn}
 use Rattle.mds_settle.specs.Settled.{IsSettled}
@@ -58,7 +58,7 @@ seen_after : (seat : Seated) (before : List Request) (request : Request) (reply 
     → seen_in (after_call seat before request reply) (shard_of (key_of request)) ≡ next before request reply.outcome
 seen_after seat before request reply = by_number (shard_of (key_of request)) (mod_below (from_be_bytes w128 (key_of request).device) 2 (omega arith)) where
   by_number : (number : ℕ) → number < 2
-      → (if number == 0 then sees 0 number before request reply seat.first_seen else (if number == 1 then sees 1 number before request reply seat.second_seen else []))
+      → (if number == 0 then seen_after 0 number before request reply seat.first_seen else (if number == 1 then seen_after 1 number before request reply seat.second_seen else []))
       ≡ next before request reply.outcome
   by_number zero small = refl
   by_number (suc zero) small = refl

@@ -13,7 +13,7 @@ use Rattle.mds_core.specs.Machine.{Machine, Steps}
 use Rattle.mds_core.specs.Answer.{next}
 use Rattle.mds_log.specs.Log.{Acceptance, requests}
 use Rattle.mds_book.specs.Shards.{shard_of, AreOfShard, count_of}
-use Rattle.mds_book.specs.Sights.{after}
+use Rattle.mds_book.specs.Sights.{log_after}
 
 -- it is longer by one where a request was accepted
 pub length-next : (history : List Request) (request : Request) (outcome : Outcome) → length (next history request outcome) ≡ length history + count_of outcome
@@ -30,7 +30,7 @@ of_shard_next number history request (Refused refusal) all is = all
 
 -- the log after a call asks for the history after it
 pub requests_after : (log : List Acceptance) (mark : ℕ) (request : Request) (outcome : Outcome)
-    → requests (after log mark request (is_done outcome)) ≡ next (requests log) request outcome
+    → requests (log_after log mark request (is_done outcome)) ≡ next (requests log) request outcome
 requests_after log mark request Done = map-append (λ (one : Acceptance). one.request) log (record { tag = mark; request = request } ∷ [])
 requests_after log mark request (Seen standing) = refl
 requests_after log mark request (Refused refusal) = refl
@@ -38,7 +38,7 @@ requests_after log mark request (Refused refusal) = refl
 -- what stands behind a lock stays so by a step
 pub slot_next : (tables : Tables) (number : ℕ) (old new : Machine) (total grown : ℕ) (log longer : List Acceptance) (mark : ℕ) (request : Request) (reply : Reply)
     → Steps old request reply new → old.tables ≡ tables → AreOfShard number old.history → total ≡ length old.history → requests log ≡ old.history
-    → shard_of (key_of request) ≡ number → grown ≡ total + count_of reply.outcome → longer ≡ after log mark request (is_done reply.outcome)
+    → shard_of (key_of request) ≡ number → grown ≡ total + count_of reply.outcome → longer ≡ log_after log mark request (is_done reply.outcome)
     → (new.tables ≡ tables) × AreOfShard number new.history × (grown ≡ length new.history) × (requests longer ≡ new.history)
 slot_next tables number old new total grown log longer mark request reply step is all counted whole here more goes_on =
     let of_shard : AreOfShard number (next old.history request reply.outcome) = of_shard_next number old.history request reply.outcome all here in

@@ -18,8 +18,8 @@ use Rattle.mds_settle.specs.Settled.{HasRightReply, IsInOrder, least_after}
 use Rattle.mds_log.specs.Log.{Acceptance, requests}
 use Rattle.mds_log.proofs.Lists.{prefix_length, prefix_get, get_last}
 use Rattle.mds_book.specs.Shards.{shard_of, count_of}
-use Rattle.mds_book.specs.Seats.{noted}
-use Rattle.mds_book.specs.Sights.{after, IsStepped, accepted_of, AreTrue}
+use Rattle.mds_book.specs.Seats.{notes_of_call}
+use Rattle.mds_book.specs.Sights.{log_after, IsStepped, accepted_of, AreTrue}
 
 -- nothing was noted, and nothing seen
 pub true_none : (tables : Tables) (shard mark : ℕ) → AreTrue tables shard [] mark [] 0
@@ -62,13 +62,13 @@ true_longer tables shard log longer mark notes count begins are = record {
 }
 
 -- the log before a call is a beginning of the log after it
-pub after_longer : (log : List Acceptance) (mark : ℕ) (request : Request) (done : Bool) → IsPrefix log (after log mark request done)
+pub after_longer : (log : List Acceptance) (mark : ℕ) (request : Request) (done : Bool) → IsPrefix log (log_after log mark request done)
 after_longer log mark request true = (record { tag = mark; request = request } ∷ [], refl)
 after_longer log mark request false = ([], append-nil log)
 
 -- what is accepted stands where the log ended
 stored_after : (log : List Acceptance) (mark : ℕ) (request : Request) (done : Bool) (place : ℕ) → place ≡ length log → done ≡ true
-    → slice_get (after log mark request done) place ≡ Some (record { tag = mark; request = request })
+    → slice_get (log_after log mark request done) place ≡ Some (record { tag = mark; request = request })
 stored_after log mark request true place here done = rw here (get_last log (record { tag = mark; request = request }))
 stored_after log mark request false place here done = absurd (cc)
 
@@ -95,9 +95,9 @@ own_weight shard note here = rw (eq-eqb note.shard shard here) refl
 -- the notes with that of a call in this shard, which was answered after all of the log
 pub true_noted : (tables : Tables) (shard : ℕ) (log : List Acceptance) (mark : ℕ) (notes : List Note) (count : ℕ) (note : Note)
     → AreTrue tables shard log mark notes count → note.shard ≡ shard → Answers tables (requests log) note.request note.reply
-    → AreTrue tables shard (after log mark note.request (is_done note.reply.outcome)) mark (notes ++ note ∷ []) (count + count_of note.reply.outcome)
+    → AreTrue tables shard (log_after log mark note.request (is_done note.reply.outcome)) mark (notes ++ note ∷ []) (count + count_of note.reply.outcome)
 true_noted tables shard log mark notes count note are here answer =
-    let new : List Acceptance = after log mark note.request (is_done note.reply.outcome) in
+    let new : List Acceptance = log_after log mark note.request (is_done note.reply.outcome) in
     let begins : IsPrefix log new = after_longer log mark note.request (is_done note.reply.outcome) in
     let longer : AreTrue tables shard new mark notes count = true_longer tables shard log new mark notes count begins are in
     let asked : length (requests log) ≡ length log = requests_length log in
@@ -130,25 +130,25 @@ true_past tables shard log mark notes count note are other = record {
 -- the notes after a call in this shard
 pub true_call : (tables : Tables) (shard : ℕ) (old : List Acceptance) (mark : ℕ) (notes : List Note) (count : ℕ) (all : Bool) (request : Request) (reply : Reply)
     (new : List Acceptance) → AreTrue tables shard old mark notes count → IsStepped tables shard old mark request reply new → shard_of (key_of request) ≡ shard
-    → AreTrue tables shard new mark (notes ++ noted all request reply) (count + count_of reply.outcome)
+    → AreTrue tables shard new mark (notes ++ notes_of_call all request reply) (count + count_of reply.outcome)
 true_call tables shard old mark notes count all request reply new are step here =
     let seen : AreTrue tables shard step.log mark notes count = true_longer tables shard old step.log mark notes count step.seen are in
-    let TrueOf : List Acceptance → Type 0 = λ log. AreTrue tables shard log mark (notes ++ noted all request reply) (count + count_of reply.outcome) in
+    let TrueOf : List Acceptance → Type 0 = λ log. AreTrue tables shard log mark (notes ++ notes_of_call all request reply) (count + count_of reply.outcome) in
     subst TrueOf (sym step.goes_on) (by_kept (all || is_done reply.outcome) refl step.log seen step.answer) where
       by_kept : (kept : Bool) → (all || is_done reply.outcome) ≡ kept → (log : List Acceptance) → AreTrue tables shard log mark notes count
           → Answers tables (requests log) request reply
-          → AreTrue tables shard (after log mark request (is_done reply.outcome)) mark
+          → AreTrue tables shard (log_after log mark request (is_done reply.outcome)) mark
           (notes ++ cond kept (record { shard = shard_of (key_of request); request = request; reply = reply } ∷ []) []) (count + count_of reply.outcome)
       by_kept true is log seen answer =
           true_noted tables shard log mark notes count (record { shard = shard_of (key_of request); request = request; reply = reply }) seen here answer
       by_kept false is log seen answer =
           let not_done : is_done reply.outcome ≡ false = (or_parts all (is_done reply.outcome) is).1 in
-          let TrueWhere : Bool → Type 0 = λ done. AreTrue tables shard (after log mark request done) mark (notes ++ []) (count + cond done 1 0) in
+          let TrueWhere : Bool → Type 0 = λ done. AreTrue tables shard (log_after log mark request done) mark (notes ++ []) (count + cond done 1 0) in
           subst TrueWhere (sym not_done) (rw (append-nil notes, add-zero count) seen)
 
 -- the notes after a call in another shard
 pub true_other : (tables : Tables) (shard : ℕ) (log : List Acceptance) (mark : ℕ) (notes : List Note) (count : ℕ) (all : Bool) (request : Request) (reply : Reply)
-    → AreTrue tables shard log mark notes count → shard_of (key_of request) ≢ shard → AreTrue tables shard log mark (notes ++ noted all request reply) count
+    → AreTrue tables shard log mark notes count → shard_of (key_of request) ≢ shard → AreTrue tables shard log mark (notes ++ notes_of_call all request reply) count
 true_other tables shard log mark notes count all request reply are other = by_kept (all || is_done reply.outcome) where
   by_kept : (kept : Bool) → AreTrue tables shard log mark (notes ++ cond kept (record { shard = shard_of (key_of request); request = request; reply = reply } ∷ []) []) count
   by_kept true = true_past tables shard log mark notes count (record { shard = shard_of (key_of request); request = request; reply = reply }) are other

@@ -43,9 +43,12 @@ open_fault_text BadSeats = codes "bad_seats"
 -- these are the vehicle's events after some lawful history of its shard, if it is registered there
 abbrev pub GivesEvents : Tables → Key → Option (List Reported) → Type 0
 GivesEvents tables key found =
-    (history : List Request) × IsLawful tables history × AreOfShard (shard_of key) history × (found ≡ events_in history key)
+    (history : List Request)
+    × IsLawful tables history × AreOfShard (shard_of key) history × (found ≡ events_in history key)
 
--- something is seen of the shard of this number: its history is lawful, and its vehicles have this number
+-- something is seen of the shard of this number: its history is lawful, and its vehicles have this
+-- number
 abbrev pub SeesShard : Tables → ℕ → (Machine → Type 0) → Type 0
 SeesShard tables number Sees =
-    (shard : Machine) × (shard.tables ≡ tables) × IsLawful shard.tables shard.history × AreOfShard number shard.history × Sees shard
+    (shard : Machine) × (shard.tables ≡ tables) × IsLawful shard.tables shard.history
+    × AreOfShard number shard.history × Sees shard

@@ -9,8 +9,8 @@ use Rattle.mds_shard.specs.Walk.{IsWalkOf}
 use Rattle.mds_book.specs.declared.listing.Listing.{Listing}
 
 -- it begins at the vehicle's last request, with room for all its events and for a piece of them
-pub record IsBegun {E : Type 0} (events_of : E → List Reported) (room_of : E → ℕ) (history : List Request) (key : Key) (listing : Listing E)
-    : Type 0 where
+pub record IsBegun {E : Type 0} (events_of : E → List Reported) (room_of : E → ℕ)
+    (history : List Request) (key : Key) (listing : Listing E) : Type 0 where
   pub walk : IsWalkOf history key (Some listing.last) []
   pub none : events_of listing.events ≡ []
   pub room : length (reports (requests_of history key)) ≤ room_of listing.events

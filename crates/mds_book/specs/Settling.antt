@@ -9,11 +9,14 @@ use Rattle.mds_book.specs.Gathering.{Collected}
 
 -- the seats' notes fit the history of the shard of this number
 abbrev pub AreFitting : Collected → ℕ → List Request → Type 0
-AreFitting all shard history = IsSettled all.tables shard history (λ (seat : Seated). seat.notes) all.seats
+AreFitting all shard history =
+    IsSettled all.tables shard history (λ (seat : Seated). seat.notes) all.seats
 
--- this is the least place of the shard of this number at which the seats' notes don't fit its history
+-- this is the least place of the shard of this number at which the seats' notes don't fit its
+-- history
 abbrev pub IsTornAt : Collected → ℕ → List Request → ℕ → Type 0
-IsTornAt all shard history place = IsLeastFault all.tables shard history (λ (seat : Seated). seat.notes) all.seats place
+IsTornAt all shard history place =
+    IsLeastFault all.tables shard history (λ (seat : Seated). seat.notes) all.seats place
 
 -- the notes fit both histories
 pub record IsSettledBook (all : Collected) : Type 0 where

@@ -1,5 +1,6 @@
 -- What a seat saw of a shard's log, and how its notes stand to it.
-use Rattle.std.specs.Prelude.{◌≡◌, ℕ, ◌+◌, ◌%◌, ◌^◌, ◌==◌, ◌&&◌, ◌++◌, ◌∷◌, [], List, Bool, Option, true, Some, slice_get, All, AllPairs, count_by, if◌then◌else◌}
+use Rattle.std.specs.Prelude.{◌≡◌, ℕ, ◌+◌, ◌%◌, ◌^◌, ◌==◌, ◌&&◌, ◌++◌, ◌∷◌, [], List, Bool, Option}
+use Rattle.std.specs.Prelude.{true, Some, slice_get, All, AllPairs, count_by, if◌then◌else◌}
 use mathlib.Core.List.{IsPrefix}
 use Rattle.mds_table.specs.Tables.{Tables}
 use Rattle.mds_core.specs.declared.key.Key.{Key}
@@ -15,7 +16,8 @@ use Rattle.mds_settle.specs.Settled.{HasRightReply, IsInOrder}
 use Rattle.mds_log.specs.Log.{Acceptance, requests}
 use Rattle.mds_book.specs.Shards.{AreOfShard}
 
--- what a seat saw of a log, and how many turns it had: each showed it the whole log, under the shard's lock
+-- what a seat saw of a log, and how many turns it had: each showed it the whole log, under the
+-- shard's lock
 pub record Sighted : Type 0 where
   pub seen : List Acceptance
   pub turns : ℕ
@@ -25,31 +27,33 @@ abbrev pub next_turn : ℕ → ℕ
 next_turn turns = (turns + 1) % 2 ^ 64
 
 -- the log after a call of the seat with this mark
-abbrev pub after : List Acceptance → ℕ → Request → Bool → List Acceptance
-after log mark request done = if done then log ++ record { tag = mark; request = request } ∷ [] else log
+abbrev pub log_after : List Acceptance → ℕ → Request → Bool → List Acceptance
+log_after log mark request done =
+    if done then log ++ record { tag = mark; request = request } ∷ [] else log
 
--- a seat that had seen the beginning `old` of a log has seen all of it, as long as the shard's history, and what its own call
--- has added
-pub record IsShown (old : List Acceptance) (history : List Request) (mark : ℕ) (request : Request) (reply : Reply)
-    (new : List Acceptance) : Type 0 where
+-- a seat that had seen the beginning `old` of a log has seen all of it, as long as the shard's
+-- history, and what its own call has added
+pub record IsShown (old : List Acceptance) (history : List Request) (mark : ℕ) (request : Request)
+    (reply : Reply) (new : List Acceptance) : Type 0 where
   pub log : List Acceptance
   pub seen : IsPrefix old log
   pub whole : requests log ≡ history
-  pub goes_on : new ≡ after log mark request (is_done reply.outcome)
+  pub goes_on : new ≡ log_after log mark request (is_done reply.outcome)
 
 -- the same, where the history was lawful, and the reply is the answer after it
-pub record IsStepped (tables : Tables) (number : ℕ) (old : List Acceptance) (mark : ℕ) (request : Request) (reply : Reply)
-    (new : List Acceptance) : Type 0 where
+pub record IsStepped (tables : Tables) (number : ℕ) (old : List Acceptance) (mark : ℕ)
+    (request : Request) (reply : Reply) (new : List Acceptance) : Type 0 where
   pub log : List Acceptance
   pub seen : IsPrefix old log
   pub lawful : IsLawful tables (requests log)
   pub of_shard : AreOfShard number (requests log)
   pub answer : Answers tables (requests log) request reply
-  pub goes_on : new ≡ after log mark request (is_done reply.outcome)
+  pub goes_on : new ≡ log_after log mark request (is_done reply.outcome)
 
--- a seat that had seen the beginning `old` of a log has seen all of it, and these are the vehicle's events in it
-pub record IsSeenWhole (tables : Tables) (number : ℕ) (old : List Acceptance) (key : Key) (found : Option (List Reported))
-    (new : List Acceptance) : Type 0 where
+-- a seat that had seen the beginning `old` of a log has seen all of it, and these are the vehicle's
+-- events in it
+pub record IsSeenWhole (tables : Tables) (number : ℕ) (old : List Acceptance) (key : Key)
+    (found : Option (List Reported)) (new : List Acceptance) : Type 0 where
   pub seen : IsPrefix old new
   pub lawful : IsLawful tables (requests new)
   pub of_shard : AreOfShard number (requests new)
@@ -59,8 +63,10 @@ pub record IsSeenWhole (tables : Tables) (number : ℕ) (old : List Acceptance) 
 abbrev pub accepted_of : ℕ → Note → Bool
 accepted_of shard note = (note.shard == shard) && is_done note.reply.outcome
 
--- the notes of the seat with this mark are true to what it saw of the shard's log, and so many of them are accepted
-pub record AreTrue (tables : Tables) (shard : ℕ) (log : List Acceptance) (mark : ℕ) (notes : List Note) (count : ℕ) : Type 0 where
+-- the notes of the seat with this mark are true to what it saw of the shard's log, and so many of
+-- them are accepted
+pub record AreTrue (tables : Tables) (shard : ℕ) (log : List Acceptance) (mark : ℕ)
+    (notes : List Note) (count : ℕ) : Type 0 where
   -- each reply is the answer after so many entries as its place says
   pub answered : All (λ note. note.shard ≡ shard → HasRightReply tables (requests log) note) notes
   -- what was accepted stands at its place, under this mark

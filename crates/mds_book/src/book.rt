@@ -5,12 +5,12 @@ ghost use mathlib.Core.List.{IsPrefix};
 ghost use Rattle.mds_core.specs.History.{key_of, requests_of};
 ghost use Rattle.mds_core.specs.Headline.{is_done as outcome_is_done};
 ghost use Rattle.mds_book.specs.Shards.{shard_of as number_of, count_of};
-ghost use Rattle.mds_book.specs.Seats.{fresh, keeps_all, is_look, accepted_in, seen_in, noted, IsCalled, IsListed};
+ghost use Rattle.mds_book.specs.Seats.{new_seat, keeps_all, is_look, accepted_in, seen_in, notes_of_call, IsCalled, IsListed};
 ghost use Rattle.mds_book.specs.Sights.{IsSeenWhole, IsStepped, next_turn};
 ghost use Rattle.mds_book.specs.Books.{IsBadCount, GivesEvents, SeesShard, open_fault_text};
 ghost use Rattle.mds_book.specs.Gathering.{IsGathered};
 ghost use Rattle.mds_book.specs.Settling.{AreBeginnings, IsSettledBook};
-ghost use Rattle.mds_book.specs.Copying.{AddsPiece, copied, copied_in};
+ghost use Rattle.mds_book.specs.Copying.{AddsPiece, copied_requests, copied_in};
 ghost use Rattle.mds_log.specs.Log.{requests};
 
 use crate::gathered::Account;
@@ -108,7 +108,7 @@ fn seats_of<L: ShardLedger, M: ShardLedger>(
 ) -> Result<Vec<Seat<L, M>>, AllocError>
     requires first { first.old.share.parts ≡ count }
     requires second { second.old.share.parts ≡ count }
-    ensures { IfOk result (λ seats. seats.items ≡ replicate count (fresh (keeps_all keep))) }
+    ensures { IfOk result (λ seats. seats.items ≡ replicate count (new_seat (keeps_all keep))) }
 {
     let mut seats = Vec::with_capacity(alloc, count)?;
     for _ in 0..count {
@@ -118,7 +118,7 @@ fn seats_of<L: ShardLedger, M: ShardLedger>(
 }
 
 /// `AllocError` would come, too, where another had written to the log: nobody does.
-fn opened<L: ShardLedger, const N: usize>(
+fn open_slot<L: ShardLedger, const N: usize>(
     alloc: Global,
     tables: &Tables,
     blank: Blank,
@@ -147,7 +147,7 @@ fn places_of<L: ShardLedger, M: ShardLedger>(
     requires first { first.old.share.parts ≡ count }
     requires second { second.old.share.parts ≡ count }
     ensures seats { IfOk result (λ places.
-        places.0.items ≡ replicate count (fresh (keeps_all keep))) }
+        places.0.items ≡ replicate count (new_seat (keeps_all keep))) }
     ensures empty { IfOk result (λ places. vec_len places.1 ≡ 0) }
     ensures room { IfOk result (λ places. count ≤ vec_capacity places.1) }
 {
@@ -193,7 +193,7 @@ fn note_call(notes: &mut Vec<Note>, keeps_all: bool, shard: usize, request: &Req
     requires shard { shard ≡ number_of (key_of request.now) }
     requires room { (keeps_all || outcome_is_done reply.now.outcome) ≡ true
         → vec_len notes.old < vec_capacity notes.old }
-    ensures { notes.new.items ≡ notes.old.items ++ noted keeps_all request.now reply.now }
+    ensures { notes.new.items ≡ notes.old.items ++ notes_of_call keeps_all request.now reply.now }
 {
     if !keeps_all && !is_done(reply) {
         return;
@@ -229,7 +229,7 @@ fn has_copied_in<R: Wait, L: ShardLedger, const N: usize>(
     key: &Key,
 ) -> bool
     ensures { result ≡ true → IsPrefix (requests_of (requests seen.now) key.now)
-        (requests_of (copied progress.now) key.now) }
+        (requests_of (copied_requests progress.now) key.now) }
 {
     slot.lock(rt).has_copied(seen, progress, key)
 }
@@ -272,7 +272,7 @@ impl<L: ShardLedger, M: ShardLedger> Book<L, M> {
         ensures book { IfOk result (λ opened.
             opened.0 ≡ record { tables = tables; seats = seats }) }
         ensures seats { IfOk result (λ opened.
-            opened.1.items ≡ replicate seats (fresh (keeps_all keep))) }
+            opened.1.items ≡ replicate seats (new_seat (keeps_all keep))) }
         ensures range { (result ≡ Err OpenFault.BadSeats) ↔ IsBadCount seats }
     {
         if seats == 0 || seats > MAX_SEATS {
@@ -303,12 +303,12 @@ impl<L: ShardLedger, M: ShardLedger> Book<L, M> {
         ensures book { IfOk result (λ opened.
             opened.0 ≡ record { tables = tables; seats = seats }) }
         ensures seats { IfOk result (λ opened.
-            opened.1.items ≡ replicate seats (fresh (keeps_all keep))) }
+            opened.1.items ≡ replicate seats (new_seat (keeps_all keep))) }
     {
         let [first_hasher, second_hasher] = hashers;
-        let (first_slot, ones) = opened(alloc, &tables, first, first_hasher)?;
-        let (second_slot, others) = opened(alloc, &tables, second, second_hasher)?;
-        Book::seated(
+        let (first_slot, ones) = open_slot(alloc, &tables, first, first_hasher)?;
+        let (second_slot, others) = open_slot(alloc, &tables, second, second_hasher)?;
+        Book::with_seats(
             alloc,
             tables,
             seats,
@@ -320,7 +320,7 @@ impl<L: ShardLedger, M: ShardLedger> Book<L, M> {
         )
     }
 
-    fn seated(
+    fn with_seats(
         alloc: Global,
         tables: Tables,
         seats: usize,
@@ -337,7 +337,7 @@ impl<L: ShardLedger, M: ShardLedger> Book<L, M> {
         ensures book { IfOk result (λ opened.
             opened.0 ≡ record { tables = tables; seats = seats }) }
         ensures seats { IfOk result (λ opened.
-            opened.1.items ≡ replicate seats (fresh (keeps_all keep))) }
+            opened.1.items ≡ replicate seats (new_seat (keeps_all keep))) }
     {
         let (list, room) = places_of(alloc, seats, keep, &mut ones, &mut others)?;
         let book = Book::of(tables, seats, first, second, ones.marks, others.marks, room);

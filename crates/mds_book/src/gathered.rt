@@ -101,7 +101,8 @@ impl<L: ShardLedger, M: ShardLedger> Model for Settled<L, M> {
 
     ghost view = { λ settled. settled.gathered };
 
-    ghost invariant = { λ settled. IsSettledBook settled.gathered × AreBeginnings settled.gathered };
+    ghost invariant = { λ settled.
+        IsSettledBook settled.gathered × AreBeginnings settled.gathered };
 }
 
 impl<L: ShardLedger, M: ShardLedger> Gathered<L, M> {

@@ -37,7 +37,8 @@ fn begin<E: TakesPieces>(
     shard: &Shard,
     key: &Key,
 ) -> Result<Option<Listing<E>>, AllocError>
-    ensures some { IfOk result (λ listing. IfSome listing (IsBegun E.events E.room shard.now.history key.now)) }
+    ensures some { IfOk result
+        (λ listing. IfSome listing (IsBegun E.events E.room shard.now.history key.now)) }
     ensures none { IfOk result (λ listing.
         IfNone listing (events_told shard.now.history key.now ≡ None)) }
 {
@@ -88,7 +89,8 @@ fn begin_unseated<R: Wait, L: ShardLedger, E: TakesPieces, const N: usize>(
 ) -> Result<(Front<L>, Option<Listing<E>>), AllocError>
     ensures lawful { IfOk result (λ begun. IsLawful L.tables (requests begun.0)) }
     ensures of_shard { IfOk result (λ begun. AreOfShard N (requests begun.0)) }
-    ensures some { IfOk result (λ begun. IfSome begun.1 (IsBegun E.events E.room (requests begun.0) key.now)) }
+    ensures some { IfOk result
+        (λ begun. IfSome begun.1 (IsBegun E.events E.room (requests begun.0) key.now)) }
     ensures none { IfOk result (λ begun.
         IfNone begun.1 (events_told (requests begun.0) key.now ≡ None)) }
 {

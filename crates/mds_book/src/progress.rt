@@ -2,7 +2,7 @@
 ghost use Rattle.std.specs.Prelude.{◌≡◌, ◌≤◌, ◌+◌, true, length};
 ghost use mathlib.Core.List.{IsPrefix};
 ghost use Rattle.mds_log.specs.Log.{requests};
-ghost use Rattle.mds_book.specs.Copying.{copied};
+ghost use Rattle.mds_book.specs.Copying.{copied_requests};
 
 use crate::ShardLedger;
 use mds_log::Front;
@@ -69,7 +69,7 @@ impl<L: ShardLedger> Progress<L> {
     }
 
     pub(crate) fn has(&self, front: &Front<L>) -> bool
-        ensures { result ≡ true → IsPrefix (requests front.now) (copied self.now) }
+        ensures { result ≡ true → IsPrefix (requests front.now) (copied_requests self.now) }
     {
         self.front.tell_order(front);
         front.len() <= self.count as u64

@@ -3,9 +3,9 @@ ghost use Rattle.std.specs.Prelude.{◌≡◌, ◌<◌, ◌≤◌, ◌+◌, ◌^
 ghost use mathlib.Core.List.{IsPrefix};
 ghost use Rattle.mds_core.specs.Headline.{is_done};
 ghost use Rattle.mds_book.specs.Shards.{count_of};
-ghost use Rattle.mds_book.specs.Seats.{accepted_in, is_look, fresh, keeps_all};
-ghost use Rattle.mds_book.specs.Sights.{after, next_turn};
-ghost use Rattle.mds_book.specs.Copying.{copied};
+ghost use Rattle.mds_book.specs.Seats.{accepted_in, is_look, new_seat, keeps_all};
+ghost use Rattle.mds_book.specs.Sights.{log_after, next_turn};
+ghost use Rattle.mds_book.specs.Copying.{copied_requests};
 ghost use Rattle.mds_book.specs.Retired.{IsRetired};
 
 use crate::gathered::Account;
@@ -90,7 +90,8 @@ impl<L: ShardLedger, M: ShardLedger> Model for Seat<L, M> {
 
     ghost invariant = { λ seat.
         AreTrue L.tables 0 seat.first.sight.seen seat.first.mark seat.notes.items seat.first.count
-        × AreTrue M.tables 1 seat.second.sight.seen seat.second.mark seat.notes.items seat.second.count };
+        × AreTrue M.tables 1 seat.second.sight.seen
+        seat.second.mark seat.notes.items seat.second.count };
 }
 
 impl<L: ShardLedger> Parts<L> {
@@ -133,7 +134,8 @@ impl<L: ShardLedger> Part<L> {
         ensures count { self.new.count ≡ self.old.count + count_of outcome.now }
         ensures total { accepted.new.total ≡ accepted.old.total + count_of outcome.now }
         ensures seen { IsPrefix self.old.sight.seen keeper.old }
-        ensures log { keeper.new ≡ after keeper.old self.old.mark request.now (is_done outcome.now) }
+        ensures log { keeper.new
+            ≡ log_after keeper.old self.old.mark request.now (is_done outcome.now) }
         ensures sight { self.new.sight
             ≡ record { seen = keeper.new; turns = next_turn self.old.sight.turns } }
         ensures mark { self.new.mark ≡ self.old.mark }
@@ -162,7 +164,7 @@ impl<L: ShardLedger, M: ShardLedger> Seat<L, M> {
     ) -> Seat<L, M>
         requires first { 1 ≤ first.old.share.parts }
         requires second { 1 ≤ second.old.share.parts }
-        ensures seat { result ≡ fresh (keeps_all keep) }
+        ensures seat { result ≡ new_seat (keeps_all keep) }
         ensures first { first.new.share.parts + 1 ≡ first.old.share.parts }
         ensures second { second.new.share.parts + 1 ≡ second.old.share.parts }
     {
@@ -203,8 +205,9 @@ impl<L: ShardLedger, M: ShardLedger> Seat<L, M> {
 
     /// Whether all that the seat has seen of both shards was copied.
     pub fn is_within(&self, first: &Progress<L>, second: &Progress<M>) -> bool
-        ensures first { result ≡ true → IsPrefix self.now.first_seen (copied first.now) }
-        ensures second { result ≡ true → IsPrefix self.now.second_seen (copied second.now) }
+        ensures first { result ≡ true → IsPrefix self.now.first_seen (copied_requests first.now) }
+        ensures second { result ≡ true
+            → IsPrefix self.now.second_seen (copied_requests second.now) }
     {
         first.has(self.first.sight.front()) && second.has(self.second.sight.front())
     }

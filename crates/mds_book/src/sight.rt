@@ -46,7 +46,8 @@ impl<L: ShardLedger> Sight<L> {
 
     pub(crate) fn add(&mut self, keeper: &mut Keeper<L>, mark: &Mark<L>, request: &Request)
         requires room { length keeper.old < 2 ^ 63 }
-        ensures log { keeper.new ≡ keeper.old ++ record { tag = mark.now; request = request.now } ∷ [] }
+        ensures log { keeper.new
+            ≡ keeper.old ++ record { tag = mark.now; request = request.now } ∷ [] }
         ensures sight { self.new ≡ record { seen = keeper.new; turns = self.old.turns } }
     {
         keeper.add(mark, request);

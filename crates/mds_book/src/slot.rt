@@ -11,7 +11,7 @@ ghost use Rattle.mds_log.specs.Log.{requests};
 ghost use Rattle.mds_shard.specs.Walk.{IsWalkOf, steps_left};
 ghost use Rattle.mds_book.specs.Shards.{shard_of as number_of, AreOfShard, count_of};
 ghost use Rattle.mds_book.specs.Sights.{IsShown, next_turn};
-ghost use Rattle.mds_book.specs.Copying.{AddsPiece, IsPiece, copied};
+ghost use Rattle.mds_book.specs.Copying.{AddsPiece, IsPiece, copied_requests};
 
 use crate::seat::Parts;
 use crate::{Blank, Copies, Part, Progress};
@@ -105,11 +105,12 @@ impl<L: ShardLedger, const N: usize> Slot<L, N> {
         requires ledger { (blank.name ≡ L.name) × (blank.parts ≡ L.parts) }
         requires log { (blank.log ≡ L.log) × (blank.marks ≡ L.marks) }
         requires tables { tables ≡ L.tables }
-        ensures slot { IfSome result (λ opened. opened.0 ≡ record { tables = tables; history = [] }) }
+        ensures slot { IfSome result
+            (λ opened. opened.0 ≡ record { tables = tables; history = [] }) }
         ensures parts { IfSome result (λ opened. opened.1.share.parts ≡ L.parts) }
     {
         let Blank { ledger, log, marks } = blank;
-        let (keeper, front) = log.named::<L>()?;
+        let (keeper, front) = log.with_name::<L>()?;
         let (accepted, share) = ledger.open::<L>();
         let slot = Slot {
             shard: Shard::open(alloc, tables, hasher),
@@ -119,14 +120,14 @@ impl<L: ShardLedger, const N: usize> Slot<L, N> {
         let parts = Parts {
             share,
             front,
-            marks: marks.named::<L>(),
+            marks: marks.with_name::<L>(),
         };
         Some((slot, parts))
     }
 
     /// A slot of no book, with nothing accepted, and its one part, which has seen nothing. `None` would mean that another has
     /// written to its log: nobody does.
-    pub fn single(
+    pub fn open_single(
         alloc: Global,
         tables: Tables,
         blank: Blank,
@@ -135,7 +136,8 @@ impl<L: ShardLedger, const N: usize> Slot<L, N> {
         requires ledger { (blank.name ≡ L.name) × (blank.parts ≡ L.parts) × (blank.parts ≡ 1) }
         requires log { (blank.log ≡ L.log) × (blank.marks ≡ L.marks) }
         requires tables { tables ≡ L.tables }
-        ensures slot { IfSome result (λ opened. opened.0 ≡ record { tables = tables; history = [] }) }
+        ensures slot { IfSome result
+            (λ opened. opened.0 ≡ record { tables = tables; history = [] }) }
         ensures count { IfSome result (λ opened. opened.1.count ≡ 0) }
         ensures sight { IfSome result (λ opened. opened.1.sight ≡ record { seen = []; turns = 0 }) }
     {
@@ -261,7 +263,7 @@ impl<L: ShardLedger, const N: usize> Slot<L, N> {
     pub(crate) fn has_copied(&mut self, seen: &Front<L>, progress: &Progress<L>, key: &Key) -> bool
         ensures slot { self.new ≡ self.old }
         ensures copied { result ≡ true → IsPrefix (requests_of (requests seen.now) key.now)
-            (requests_of (copied progress.now) key.now) }
+            (requests_of (copied_requests progress.now) key.now) }
     {
         // This call's contract says that the history is no longer than a list can be.
         let _ = self.shard.len();
@@ -289,8 +291,8 @@ impl<L: ShardLedger, const N: usize> Slot<L, N> {
         ensures count { IfOk result (λ reply.
             part.new.count ≡ part.old.count + count_of reply.outcome) }
         ensures place { IfOk result (λ reply. part.old.count ≤ reply.place) }
-        ensures shown { IfOk result (λ reply. IsShown part.old.sight.seen self.old.history part.old.mark
-            request.now reply part.new.sight.seen) }
+        ensures shown { IfOk result (λ reply. IsShown part.old.sight.seen
+            self.old.history part.old.mark request.now reply part.new.sight.seen) }
         ensures turn { IfOk result (λ reply.
             part.new.sight.turns ≡ next_turn part.old.sight.turns) }
         ensures mark { part.new.mark ≡ part.old.mark }

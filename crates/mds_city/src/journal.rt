@@ -1,7 +1,7 @@
 //! The command that serves vehicles over a journal.
 ghost use Rattle.std.specs.Prelude.{◌≡◌, ◌⊎◌, ℕ, List, Result, ⊤, IfOk, IfErr};
 ghost use Rattle.mds_core.specs.declared.request.Request.{Request as Requested};
-ghost use Rattle.mds_journal.specs.Lines.{recovered};
+ghost use Rattle.mds_journal.specs.Lines.{recovered_texts};
 ghost use Rattle.mds_file.specs.declared.fault.FileFault.{FileFault as Unopened};
 ghost use Rattle.mds_book.specs.Books.{IsSeatCount};
 ghost use Rattle.mds_follow.specs.Disk.{IsTold};
@@ -233,7 +233,7 @@ fn serve_reader<
     requires log { log ≡ J.log }
     requires start { J.start ≡ H.Journal.moment reader.opening.device }
     requires held { (told : List Requested)
-        → IsTold (recovered (H.Journal.seen reader.opening.device)) told → J.held told }
+        → IsTold (recovered_texts (H.Journal.seen reader.opening.device)) told → J.held told }
     ensures ok { IfOk result (λ served. ServedBook H.listens host.now asked.port opening.tables
         opening.seats asked.each (W.contents out.old) (W.contents out.new) served.0) }
     ensures err { IfErr result (λ stopped. StopsBook H.listens host.now asked.port

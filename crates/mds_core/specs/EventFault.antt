@@ -9,7 +9,8 @@ use Rattle.mds_core.specs.declared.event.EventFault.TheVariants.{NoTypes, TooMan
 abbrev pub FaultOf : List (List ℕ) → ℕ → EventFault → Type 0
 FaultOf types time NoTypes = types ≡ []
 FaultOf types time TooManyTypes = max_event_types < length types
-FaultOf types time BadTime = (1 ≤ length types) × (length types ≤ max_event_types) × (max_time < time)
+FaultOf types time BadTime =
+    (1 ≤ length types) × (length types ≤ max_event_types) × (max_time < time)
 
 -- the word for a fault
 abbrev pub event_fault_text : EventFault → List ℕ

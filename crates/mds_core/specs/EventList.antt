@@ -1,5 +1,6 @@
 -- What is kept of events, and the events that it stands for.
-use Rattle.std.specs.Prelude.{ℕ, ◌+◌, ◌*◌, ◌≤◌, List, length, take, drop, Vec, vec_len, vec_capacity}
+use Rattle.std.specs.Prelude.{ℕ, ◌+◌, ◌*◌, ◌≤◌, List, length, take}
+use Rattle.std.specs.Prelude.{drop, Vec, vec_len, vec_capacity}
 use Rattle.std.specs.List.{All}
 use Rattle.mds_core.specs.Reported.{Reported, max_event_types, MayBeReported}
 use Rattle.mds_core.specs.declared.event_list.KeptEvent.{KeptEvent}
@@ -34,7 +35,8 @@ pub record IsKept (names : List (List ℕ)) (kept : KeptEvent) : Type 0 where
   pub reported : MayBeReported (types_kept names kept) kept.time
 
 -- so it is with each, and there is memory for further events
-pub record AreKept {A B : Type 0} (kept : Vec KeptEvent A) (names : Vec (List ℕ) B) (room : ℕ) : Type 0 where
+pub record AreKept {A B : Type 0} (kept : Vec KeptEvent A) (names : Vec (List ℕ) B) (room : ℕ)
+    : Type 0 where
   pub each : All (IsKept names.items) kept.items
   pub has_places : vec_len kept + room ≤ vec_capacity kept
   pub has_names : vec_len names + room * max_event_types ≤ vec_capacity names

@@ -1,5 +1,6 @@
 -- What a history of accepted requests says of one vehicle.
-use Rattle.std.specs.Prelude.{ℕ, List, length, filter, Option, Some, None, Bool, false, nat_lt, ◌&&◌}
+use Rattle.std.specs.Prelude.{ℕ, List, length, filter, Option}
+use Rattle.std.specs.Prelude.{Some, None, Bool, false, nat_lt, ◌&&◌}
 use Rattle.std.specs.List.{filter_map, last_or, list_any}
 use Rattle.std.specs.Option.{option_map, option_map_or}
 use Rattle.std.specs.Str.{bytes_eq}
@@ -45,7 +46,8 @@ reports requests = filter_map report_of requests
 abbrev pub last_report : List Request → Option Reported
 last_report requests = last_or None (reports requests)
 
--- the state that a registered vehicle holds: the one that its last event reported; removed where there is none
+-- the state that a registered vehicle holds: the one that its last event reported; removed where
+-- there is none
 abbrev pub state_of : List Request → State
 state_of requests = option_map_or (λ event. event.state) (last_report requests) Removed
 
@@ -64,7 +66,12 @@ has_event requests id = list_any (λ event. bytes_eq event.id id) (reports reque
 -- where a vehicle stands, by the accepted requests about it
 abbrev pub standing_of : List Request → Standing
 standing_of requests =
-    record { state = state_of requests; events = length (reports requests); last = last_time requests; position = last_position requests }
+    record {
+      state = state_of requests;
+      events = length (reports requests);
+      last = last_time requests;
+      position = last_position requests;
+    }
 
 -- the time is less than that of the last event, where there is one
 abbrev pub is_late : Option ℕ → ℕ → Bool

@@ -17,7 +17,8 @@ is_repeated requests (Register key) = false
 is_repeated requests (Report event) = has_event requests event.id
 is_repeated requests (Look key) = false
 
--- this is what is known of a vehicle by the accepted requests about it, when a request about it is decided
+-- this is what is known of a vehicle by the accepted requests about it, when a request about it is
+-- decided
 pub record AreKnown (requests : List Request) (request : Request) (known : Known) : Type 0 where
   pub standing : known.standing ≡ standing_if requests
   pub has_event : known.has_event ≡ is_repeated requests request

@@ -10,7 +10,8 @@ use Rattle.mds_core.specs.Answer.{IsAcceptable}
 -- each entry of the list is a report that was acceptable after those before it
 abbrev pub IsCareer : Tables → List Request → List Request → Type 0
 IsCareer tables before [] = Unit {0}
-IsCareer tables before (Report event ∷ rest) = IsAcceptable tables before event × IsCareer tables (before ++ Report event ∷ []) rest
+IsCareer tables before (Report event ∷ rest) =
+    IsAcceptable tables before event × IsCareer tables (before ++ Report event ∷ []) rest
 IsCareer tables before (Register key ∷ rest) = ⊥
 IsCareer tables before (Look key ∷ rest) = ⊥
 

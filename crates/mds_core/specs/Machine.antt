@@ -1,5 +1,5 @@
--- What contracts see of a machine, and what each of its calls says: the plain machine, a shard, a shard behind its lock and a desk
--- cite these same words.
+-- What contracts see of a machine, and what each of its calls says: the plain machine, a shard, a
+-- shard behind its lock and a desk cite these same words.
 use Rattle.std.specs.Prelude.{◌≡◌, List, [], ◌∷◌, Option, Some, None}
 use Rattle.mds_table.specs.Tables.{Tables}
 use Rattle.mds_core.specs.declared.key.Key.{Key}
@@ -31,7 +31,8 @@ pub record LacksMemory (old : Machine) (request : Request) (new : Machine) : Typ
 abbrev pub standing_in : List Request → Key → Option Standing
 standing_in history key = standing_if (requests_of history key)
 
--- the events that were accepted, in their order, of a vehicle with these accepted requests, if it is registered
+-- the events that were accepted, in their order, of a vehicle with these accepted requests, if it
+-- is registered
 abbrev pub events_if : List Request → Option (List Reported)
 events_if [] = None
 events_if (request ∷ rest) = Some (reports (request ∷ rest))

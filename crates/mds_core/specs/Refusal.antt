@@ -2,7 +2,8 @@
 use Rattle.std.specs.Prelude.{ℕ, List, [], ◌++◌, codes, decimal}
 use Rattle.mds_table.specs.State.{name_of}
 use Rattle.mds_core.specs.declared.reply.Refusal.{Refusal}
-use Rattle.mds_core.specs.declared.reply.Refusal.TheVariants.{AlreadyRegistered, Unregistered, Repeated, Late, NoChain}
+use Rattle.mds_core.specs.declared.reply.Refusal.TheVariants.{AlreadyRegistered, Unregistered}
+use Rattle.mds_core.specs.declared.reply.Refusal.TheVariants.{Repeated, Late, NoChain}
 
 -- the word for a refusal
 abbrev pub refusal_word : Refusal → List ℕ

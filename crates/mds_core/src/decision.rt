@@ -46,9 +46,11 @@ pub fn decide(tables: &Tables, known: &Known, request: &Request) -> Outcome
 /// The first refusal that holds, in the order of [`Refusal`].
 pub fn decide_event(tables: &Tables, known: &Known, event: &Event) -> Result<(), Refusal>
     ensures decided { (requests : List Requested)
-        → AreKnown requests (Request.Report event.now) known.now → MatchResult result
+        → AreKnown requests (Request.Report event.now) known.now
+        → MatchResult result
         (λ _. Gives tables.now requests (Request.Report event.now) Outcome.Done)
-        (λ refusal. Gives tables.now requests (Request.Report event.now) (Outcome.Refused refusal)) }
+        (λ refusal.
+        Gives tables.now requests (Request.Report event.now) (Outcome.Refused refusal)) }
     // What no list has, as an identifier held by a vehicle that isn't registered, is decided in the same order.
     ensures unregistered { known.now.standing ≡ None → result ≡ Err Refusal.Unregistered }
     ensures repeated { IsSome known.now.standing → known.now.has_event ≡ true

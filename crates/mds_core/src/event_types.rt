@@ -19,7 +19,7 @@ pub(crate) struct EventTypes {
 
 impl Model for EventTypes {
     ghost use Rattle.std.specs.Prelude.{List, ℕ, length as number, take};
-    ghost use Rattle.mds_core.specs.EventTypes.{padded, ArePadded};
+    ghost use Rattle.mds_core.specs.EventTypes.{padded_types, ArePadded};
 
     ghost Value = { List (List ℕ) };
 
@@ -27,9 +27,10 @@ impl Model for EventTypes {
 
     ghost invariant = { λ types. ArePadded types.names types.count };
 
-    ghost inverse = { λ types. record { names = padded types; count = number types } };
+    ghost inverse = { λ types. record { names = padded_types types; count = number types } };
 
-    ghost inverse_ok = { λ _ padded. λ i. record { names = padded.whole i; count = padded.count i } };
+    ghost inverse_ok = { λ _ padded.
+        λ i. record { names = padded.whole i; count = padded.count i } };
 }
 
 impl EventTypes {

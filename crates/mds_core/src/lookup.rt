@@ -47,7 +47,7 @@ pub fn standing_after(standing: Option<Standing>, request: &Request) -> Standing
         → standing ≡ standing_if requests → length (reports requests) < usize.MAX
         → result ≡ standing_of (requests ++ request.now ∷ []) }
 {
-    let standing = standing.unwrap_or(Standing::registered());
+    let standing = standing.unwrap_or(Standing::at_registration());
     match request.event() {
         Some(event) => standing.after(event),
         None => standing,

@@ -27,7 +27,7 @@ pub struct Standing {
 
 impl Standing {
     /// Where a vehicle stands that was registered and has no event yet.
-    pub fn registered() -> Standing
+    pub fn at_registration() -> Standing
         ensures fields { result
             ≡ record { state = State.Removed; events = 0; last = None; position = None } }
         ensures list { (key : Key) → result ≡ standing_of (Register key ∷ []) }

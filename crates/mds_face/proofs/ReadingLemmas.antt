@@ -12,7 +12,7 @@ use Rattle.mds_request.specs.Asked.{Asked}
 use Rattle.mds_request.specs.Plan.{IsPlan}
 use Rattle.mds_request.specs.HeadStatus.{IsHeadStatus}
 use Rattle.mds_request.proofs.PlanLaws.{invalid_determines, partial_determines, rejected_determines, complete_determines, statuses_stay}
-use Rattle.mds_face.specs.Reading.{Grows, IsEnough, ReadsNoFurther, wanted}
+use Rattle.mds_face.specs.Reading.{Grows, IsEnough, ReadsNoFurther, missing_bytes}
 
 -- some bytes have the status of the same bytes
 pub status_of_same : (a b : List ℕ) (status : HeadStatus) → a ≡ b → IsHeadStatus a status → IsHeadStatus b status
@@ -90,7 +90,7 @@ no_more a b c held few p q =
     (held ++ q.0, Consumes-trans a b c held q.0 p q.2, inl fits)
 
 -- a head's bytes, and those that its body waits for, are no more than the request's
-pub no_further : (status : HeadStatus) (a b c : Option (List ℕ)) (held : List ℕ) → length held ≤ 16384 → IsHeadStatus held status → Consumes a b held → ConsumesUpTo (wanted status (length held)) b c → ReadsNoFurther a c
+pub no_further : (status : HeadStatus) (a b c : Option (List ℕ)) (held : List ℕ) → length held ≤ 16384 → IsHeadStatus held status → Consumes a b held → ConsumesUpTo (missing_bytes status (length held)) b c → ReadsNoFurther a c
 no_further (Complete aim start len) a b c held few is p q =
     let bytes = held ++ q.0 in
     let taken = Consumes-trans a b c held q.0 p q.2 in

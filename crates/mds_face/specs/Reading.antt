@@ -27,6 +27,6 @@ ReadsNoFurther old new =
     × IsHeadStatus bytes (Complete aim start len) × (length bytes ≤ start + len)))
 
 -- how many bytes are yet wanting of a body that is announced
-abbrev pub wanted : HeadStatus → ℕ → ℕ
-wanted (Complete aim start len) there = start + len - there
-wanted other there = 0
+abbrev pub missing_bytes : HeadStatus → ℕ → ℕ
+missing_bytes (Complete aim start len) there = start + len - there
+missing_bytes other there = 0

@@ -111,7 +111,7 @@ impl Desk for Fleet {
     }
 
     fn rows(&mut self) -> Result<Vec<(u64, Vec<Row>)>, AllocError> {
-        listed(self.allocator(), self.tables())
+        list_of_tables(self.allocator(), self.tables())
     }
 }
 
@@ -125,7 +125,7 @@ fn list_of(alloc: Global, events: &[Event]) -> Result<EventList, AllocError>
     Ok(list)
 }
 
-fn listed(alloc: Global, tables: &Tables) -> Result<Vec<(u64, Vec<Row>)>, AllocError>
+fn list_of_tables(alloc: Global, tables: &Tables) -> Result<Vec<(u64, Vec<Row>)>, AllocError>
     ensures { IfOk result (λ listed. tables_of listed.items ≡ tables.now) }
 {
     let mut list = Vec::with_capacity(alloc, tables.len())?;
@@ -185,6 +185,6 @@ impl<R: Wait, L: ShardLedger, M: ShardLedger> Desk for SeatDesk<'_, R, L, M> {
     }
 
     fn rows(&mut self) -> Result<Vec<(u64, Vec<Row>)>, AllocError> {
-        listed(self.alloc, self.book.tables())
+        list_of_tables(self.alloc, self.book.tables())
     }
 }

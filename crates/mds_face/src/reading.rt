@@ -6,7 +6,7 @@ ghost use Rattle.mds_request.specs.Asked.{asked_in};
 ghost use Rattle.mds_request.specs.Head.{max_head};
 ghost use Rattle.mds_request.specs.Plan.{IsPlan};
 ghost use Rattle.mds_request.specs.HeadStatus.{IsInReach, IsHeadStatus};
-ghost use Rattle.mds_face.specs.Reading.{Grows, IsEnough, ReadsNoFurther, wanted};
+ghost use Rattle.mds_face.specs.Reading.{Grows, IsEnough, ReadsNoFurther, missing_bytes};
 
 use mds_io::{MAX_CALLS, ReadError, read_more, read_up_to};
 use mds_request::{Face, HeadStatus, MAX_HEAD, Plan};
@@ -114,7 +114,7 @@ fn read_body<R: Read>(
     ensures enough { OnOk result (IsEnough (R.remaining reader.new) bytes.new.items) }
     ensures grown { OnOk result (Grows (R.remaining reader.old) (R.remaining reader.new)
         bytes.old.items bytes.new.items) }
-    ensures lost { ConsumesUpTo (wanted status.now (length bytes.old.items))
+    ensures lost { ConsumesUpTo (missing_bytes status.now (length bytes.old.items))
         (R.remaining reader.old) (R.remaining reader.new) }
     ensures turns { IsErrOf result ReadError.TooManyTurns → calls.new ≡ 0 }
 {

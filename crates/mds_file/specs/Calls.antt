@@ -1,6 +1,7 @@
--- The calls that were made of a file, with their answers, and a file that keeps what it is given: what it has after them, and
--- what a crash may leave. Of some calls the newest comes first.
-use Rattle.std.specs.Prelude.{◌≡◌, ◌≢◌, ◌⊎◌, ℕ, ◌+◌, ◌≤◌, ◌==◌, Bool, true, false, cond, List, [], ◌∷◌, ◌++◌, length, take, drop, slice_index, refl}
+-- The calls that were made of a file, with their answers, and a file that keeps what it is given:
+-- what it has after them, and what a crash may leave. Of some calls the newest comes first.
+use Rattle.std.specs.Prelude.{◌≡◌, ◌≢◌, ◌⊎◌, ℕ, ◌+◌, ◌≤◌, ◌==◌, Bool, true, false, cond}
+use Rattle.std.specs.Prelude.{List, [], ◌∷◌, ◌++◌, length, take, drop, slice_index, refl}
 use Rattle.std.specs.Coded.{Coded, code_by, coded×, coded_ℕ, coded_bool, coded_list}
 use Rattle.std.proofs.Common.{inl, inr, le_refl, le_trans, le-add_right, lt_irrefl, lt_of_lt_of_le}
 use Rattle.std.proofs.Math.Numerals.{lt-add-one}
@@ -25,7 +26,8 @@ pub data Call : Type 0 where
 abbrev pub bytes_behind : Call → List ℕ → List ℕ → List ℕ
 bytes_behind (Measure done size) left file = file
 bytes_behind (Read done at asked bytes) left file = file
-bytes_behind (Write true at bytes) left file = take at file ++ bytes ++ drop (at + length bytes) file
+bytes_behind (Write true at bytes) left file =
+    take at file ++ bytes ++ drop (at + length bytes) file
 bytes_behind (Write false at bytes) left file = left
 bytes_behind (Cut true size) left file = take size file
 bytes_behind (Cut false size) left file = left
@@ -34,7 +36,8 @@ bytes_behind (Sync done) left file = file
 -- the bytes after all calls; `left n` are those that the n-th call has left if it failed
 abbrev pub contents : List ℕ → (ℕ → List ℕ) → List Call → List ℕ
 contents first left [] = first
-contents first left (call ∷ earlier) = bytes_behind call (left (length earlier)) (contents first left earlier)
+contents first left (call ∷ earlier) =
+    bytes_behind call (left (length earlier)) (contents first left earlier)
 
 -- bytes that were read are the file's, and none come only at its end
 pub record AreBytesAt (file : List ℕ) (at asked : ℕ) (bytes : List ℕ) : Type 0 where
@@ -56,7 +59,9 @@ IsAnswer (Sync done) left file = Unit {0}
 -- all answers are those of a file that keeps what it is given
 abbrev pub AreAnswers : List ℕ → (ℕ → List ℕ) → List Call → Type 0
 AreAnswers first left [] = Unit {0}
-AreAnswers first left (call ∷ earlier) = AreAnswers first left earlier × IsAnswer call (left (length earlier)) (contents first left earlier)
+AreAnswers first left (call ∷ earlier) =
+    AreAnswers first left earlier
+    × IsAnswer call (left (length earlier)) (contents first left earlier)
 
 -- no sync has failed
 abbrev pub IsSynced : List Call → Type 0
@@ -81,15 +86,19 @@ failures (call ∷ earlier) = cond (was_done call) (failures earlier) (failures 
 abbrev pub LeftBehind : Call → List ℕ → List ℕ → (List ℕ → Type 0) → List ℕ → Type 0
 LeftBehind (Measure done size) left file old c = old c
 LeftBehind (Read done at asked bytes) left file old c = old c
-LeftBehind (Write done at bytes) left file old c = (c ≡ bytes_behind (Write done at bytes) left file) ⊎ TornFrom at (length bytes) old c
-LeftBehind (Cut done size) left file old c = (c ≡ bytes_behind (Cut done size) left file) ⊎ ((d : List ℕ) × old d × IsCut size d c)
+LeftBehind (Write done at bytes) left file old c =
+    (c ≡ bytes_behind (Write done at bytes) left file) ⊎ TornFrom at (length bytes) old c
+LeftBehind (Cut done size) left file old c =
+    (c ≡ bytes_behind (Cut done size) left file) ⊎ ((d : List ℕ) × old d × IsCut size d c)
 LeftBehind (Sync true) left file old c = c ≡ file
 LeftBehind (Sync false) left file old c = old c
 
 -- after all calls; at first all is on the disk
 abbrev pub Outcome : List ℕ → (ℕ → List ℕ) → List Call → List ℕ → Type 0
 Outcome first left [] c = c ≡ first
-Outcome first left (call ∷ earlier) c = LeftBehind call (left (length earlier)) (contents first left earlier) (Outcome first left earlier) c
+Outcome first left (call ∷ earlier) c =
+    LeftBehind call (left (length earlier))
+    (contents first left earlier) (Outcome first left earlier) c
 
 -- how many calls there were that change what a crash may leave
 abbrev pub moment_of : List Call → ℕ
@@ -103,10 +112,13 @@ moment_of (Sync done ∷ earlier) = moment_of earlier + 1
 -- after some of all calls, at a moment no earlier than this
 abbrev pub LeftSince : List ℕ → (ℕ → List ℕ) → List Call → ℕ → List ℕ → Type 0
 LeftSince first left [] t c = (t ≤ 0) × (c ≡ first)
-LeftSince first left (call ∷ earlier) t c = LeftSince first left earlier t c ⊎ ((t ≤ moment_of (call ∷ earlier)) × Outcome first left (call ∷ earlier) c)
+LeftSince first left (call ∷ earlier) t c =
+    LeftSince first left earlier t c
+    ⊎ ((t ≤ moment_of (call ∷ earlier)) × Outcome first left (call ∷ earlier) c)
 
 -- this moment is one of those since an earlier one
-pub left_now : (first : List ℕ) (left : ℕ → List ℕ) (calls : List Call) (t : ℕ) (c : List ℕ) → t ≤ moment_of calls → Outcome first left calls c → LeftSince first left calls t c
+pub left_now : (first : List ℕ) (left : ℕ → List ℕ) (calls : List Call) (t : ℕ) (c : List ℕ)
+    → t ≤ moment_of calls → Outcome first left calls c → LeftSince first left calls t c
 left_now first left [] t c le now = (le, now)
 left_now first left (call ∷ earlier) t c le now = inr (le, now)
 
@@ -119,33 +131,46 @@ no_earlier (Cut done size) earlier = le-add_right (moment_of earlier) 1
 no_earlier (Sync done) earlier = le-add_right (moment_of earlier) 1
 
 -- what is left since a moment is left at one that is past
-left_by : (first : List ℕ) (left : ℕ → List ℕ) (calls : List Call) (t : ℕ) (c : List ℕ) → LeftSince first left calls t c → t ≤ moment_of calls
+left_by : (first : List ℕ) (left : ℕ → List ℕ) (calls : List Call) (t : ℕ) (c : List ℕ)
+    → LeftSince first left calls t c → t ≤ moment_of calls
 left_by first left [] t c was = was.0
-left_by first left (call ∷ earlier) t c (inl was) = le_trans (left_by first left earlier t c was) (no_earlier call earlier)
+left_by first left (call ∷ earlier) t c (inl was) =
+    le_trans (left_by first left earlier t c was) (no_earlier call earlier)
 left_by first left (call ∷ earlier) t c (inr now) = now.0
 
-none_later : (first : List ℕ) (left : ℕ → List ℕ) (earlier : List Call) (c : List ℕ) → LeftSince first left earlier (moment_of earlier + 1) c → ⊥
-none_later first left earlier c was = lt_irrefl (moment_of earlier) (lt_of_lt_of_le (lt-add-one (moment_of earlier)) (left_by first left earlier (moment_of earlier + 1) c was))
+none_later : (first : List ℕ) (left : ℕ → List ℕ) (earlier : List Call) (c : List ℕ)
+    → LeftSince first left earlier (moment_of earlier + 1) c → ⊥
+none_later first left earlier c was =
+    lt_irrefl (moment_of earlier) (lt_of_lt_of_le (lt-add-one (moment_of earlier))
+    (left_by first left earlier (moment_of earlier + 1) c was))
 
 -- since this moment there is no other
-pub left_last : (first : List ℕ) (left : ℕ → List ℕ) (calls : List Call) (c : List ℕ) → LeftSince first left calls (moment_of calls) c → Outcome first left calls c
+pub left_last : (first : List ℕ) (left : ℕ → List ℕ) (calls : List Call) (c : List ℕ)
+    → LeftSince first left calls (moment_of calls) c → Outcome first left calls c
 left_last first left [] c was = was.1
 left_last first left (call ∷ earlier) c (inr now) = now.1
 left_last first left (Measure done size ∷ earlier) c (inl was) = left_last first left earlier c was
-left_last first left (Read done at asked bytes ∷ earlier) c (inl was) = left_last first left earlier c was
-left_last first left (Write done at bytes ∷ earlier) c (inl was) = absurd (none_later first left earlier c was)
-left_last first left (Cut done size ∷ earlier) c (inl was) = absurd (none_later first left earlier c was)
-left_last first left (Sync done ∷ earlier) c (inl was) = absurd (none_later first left earlier c was)
+left_last first left (Read done at asked bytes ∷ earlier) c (inl was) =
+    left_last first left earlier c was
+left_last first left (Write done at bytes ∷ earlier) c (inl was) =
+    absurd (none_later first left earlier c was)
+left_last first left (Cut done size ∷ earlier) c (inl was) =
+    absurd (none_later first left earlier c was)
+left_last first left (Sync done ∷ earlier) c (inl was) =
+    absurd (none_later first left earlier c was)
 
 -- ---- how a record holds a call
 
--- the call that some numbers and bytes stand for: which it is, whether it was done, an offset or a size, and how much was asked for
+-- the call that some numbers and bytes stand for: which it is, whether it was done, an offset or a
+-- size, and how much was asked for
 abbrev pub call_of : List ℕ → List ℕ → Call
 call_of numbers bytes =
     let done = slice_index numbers 1 == 1 in
     let place = slice_index numbers 2 in
-    cond (slice_index numbers 0 == 0) (Measure done place) (cond (slice_index numbers 0 == 1) (Read done place (slice_index numbers 3) bytes)
-    (cond (slice_index numbers 0 == 2) (Write done place bytes) (cond (slice_index numbers 0 == 3) (Cut done place) (Sync done))))
+    cond (slice_index numbers 0 == 0) (Measure done place) (cond (slice_index numbers 0 == 1)
+    (Read done place (slice_index numbers 3) bytes)
+    (cond (slice_index numbers 0 == 2) (Write done place bytes)
+    (cond (slice_index numbers 0 == 3) (Cut done place) (Sync done))))
 
 -- how the logic stores a call
 abbrev Stored : Type 0
@@ -160,8 +185,10 @@ call_stored (Sync done) = (4, (done, (0, (0, []))))
 
 abbrev call_from_stored : Stored → Call
 call_from_stored s =
-    cond (s.0 == 0) (Measure s.1.0 s.1.1.0) (cond (s.0 == 1) (Read s.1.0 s.1.1.0 s.1.1.1.0 s.1.1.1.1)
-    (cond (s.0 == 2) (Write s.1.0 s.1.1.0 s.1.1.1.1) (cond (s.0 == 3) (Cut s.1.0 s.1.1.0) (Sync s.1.0))))
+    cond (s.0 == 0) (Measure s.1.0 s.1.1.0) (cond (s.0 == 1)
+    (Read s.1.0 s.1.1.0 s.1.1.1.0 s.1.1.1.1)
+    (cond (s.0 == 2) (Write s.1.0 s.1.1.0 s.1.1.1.1)
+    (cond (s.0 == 3) (Cut s.1.0 s.1.1.0) (Sync s.1.0))))
 
 pub call_from_stored-call_stored : (call : Call) → call_from_stored (call_stored call) ≡ call
 call_from_stored-call_stored (Measure done size) = refl
@@ -171,4 +198,7 @@ call_from_stored-call_stored (Cut done size) = refl
 call_from_stored-call_stored (Sync done) = refl
 
 abbrev pub calls_code : Coded (List Call)
-calls_code = coded_list (code_by Stored (coded× coded_ℕ (coded× coded_bool (coded× coded_ℕ (coded× coded_ℕ (coded_list coded_ℕ))))) call_stored call_from_stored call_from_stored-call_stored)
+calls_code =
+    coded_list (code_by Stored
+    (coded× coded_ℕ (coded× coded_bool (coded× coded_ℕ (coded× coded_ℕ (coded_list coded_ℕ)))))
+    call_stored call_from_stored call_from_stored-call_stored)

@@ -1,7 +1,7 @@
 -- A file that is made a journal, and its form.
 use Rattle.std.proofs.Common.{◌≡◌, ◌⊎◌, inl, inr, ℕ, suc, ◌<◌, ◌≤◌, List, [], ◌∷◌, ◌++◌, length, refl, sym, ap, ◌∙◌, subst, arith, append_assoc}
 use Rattle.mds_table.specs.Json.{max_bytes}
-use Rattle.mds_journal.specs.Lines.{HasNoFeed, recovered, open_lines}
+use Rattle.mds_journal.specs.Lines.{HasNoFeed, recovered_texts, open_lines}
 use Rattle.mds_journal.specs.Device.{LeavesOnly, Only, Untouched}
 use Rattle.mds_journal.specs.Opening.{IsTooLong, KeepsLines}
 use Rattle.mds_journal.specs.declared.fault.JournalFault.TheVariants.{Form, BadLine, TooLong, Refused, Damaged}
@@ -22,7 +22,7 @@ no_entries [] tells = refl
 no_entries (entry ∷ entries) tells = absurd tells
 
 -- what stands where nothing is recorded
-pub form_alone : {D : Type 0} (seen : D → List ℕ) (may_leave : D → List ℕ → Type 0) (device : D) → Stands seen may_leave device [] → recovered (seen device) ≡ form_line ∷ []
+pub form_alone : {D : Type 0} (seen : D → List ℕ) (may_leave : D → List ℕ → Type 0) (device : D) → Stands seen may_leave device [] → recovered_texts (seen device) ≡ form_line ∷ []
 form_alone seen may_leave device stands =
     stands.stands.now ∙ stands.is_told.split ∙ ap (λ w. form_line ∷ w) (no_entries stands.is_told.entries stands.is_told.tells)
 
@@ -50,7 +50,7 @@ module _ {D : Type 0} (seen : D → List ℕ) (may_leave : D → List ℕ → Ty
       → LeavesOnly moment left_since opened closed (KeepsLines (seen opened)) → LeavesOnly moment left_since closed made MayBeBegun
       → LeavesOnly moment left_since device made (MayBegin device)
   form_leaves device opened closed made blank same opens closes writes =
-      let nothing : recovered (seen opened) ≡ [] = ap recovered same ∙ blank.none in
+      let nothing : recovered_texts (seen opened) ≡ [] = ap recovered_texts same ∙ blank.none in
       and_then moment left_since device opened made (MayBegin device) (weaker moment left_since device opened (may_leave device) (MayBegin device) (λ c may. inl may) opens)
       (and_then moment left_since opened closed made (MayBegin device)
       (weaker moment left_since opened closed (KeepsLines (seen opened)) (MayBegin device) (λ c keeps. inr (inl (keeps.lines ∙ nothing))) closes)
@@ -100,7 +100,7 @@ module _ {D : Type 0} (seen : D → List ℕ) (may_leave : D → List ℕ → Ty
   pub not_closed : (device opened closed : D) → IsBlank (seen device) → seen opened ≡ seen device → LeavesOnly moment left_since device opened (may_leave device)
       → LeavesOnly moment left_since opened closed (KeepsLines (seen opened)) → LeavesOnly moment left_since device closed (MayBegin device)
   not_closed device opened closed blank same opens closes =
-      let nothing : recovered (seen opened) ≡ [] = ap recovered same ∙ blank.none in
+      let nothing : recovered_texts (seen opened) ≡ [] = ap recovered_texts same ∙ blank.none in
       and_then moment left_since device opened closed (MayBegin device) (not_opened device opened opens)
       (weaker moment left_since opened closed (KeepsLines (seen opened)) (MayBegin device) (λ c keeps. inr (inl (keeps.lines ∙ nothing))) closes)
 
@@ -129,7 +129,7 @@ no_feed_within (t ∷ text) (x ∷ long) rest more none same shorter =
     no_feed_within text long rest more (λ k d below. none (suc k) d (omega (arith, below))) (cc same) (omega (arith, shorter))
 
 -- a first line that counts isn't too long
-not_too_long : (limit : ℕ) (bytes text : List ℕ) (texts : List (List ℕ)) → recovered bytes ≡ text ∷ texts → length text ≤ limit → IsTooLong limit bytes → ⊥
+not_too_long : (limit : ℕ) (bytes text : List ℕ) (texts : List (List ℕ)) → recovered_texts bytes ≡ text ∷ texts → length text ≤ limit → IsTooLong limit bytes → ⊥
 not_too_long limit bytes text texts is short long =
     let of = parts bytes in
     let lines : bytes ≡ open_lines (text ∷ texts) ++ of.end = of.split ∙ ap (λ w. open_lines w ++ of.end) is in
@@ -139,7 +139,7 @@ not_too_long limit bytes text texts is short long =
     no_feed_within text long.0 long.1 (open_lines texts ++ of.end) long.3 split (omega (arith, short, long.4))
 
 -- the fault of a first line that was made is none
-none_of_made : (made : List ℕ) (fault : StartFault) → recovered made ≡ form_line ∷ [] → IsFormFault made fault → IsJournalFault fault → ⊥
+none_of_made : (made : List ℕ) (fault : StartFault) → recovered_texts made ≡ form_line ∷ [] → IsFormFault made fault → IsJournalFault fault → ⊥
 none_of_made made Memory is why journal = journal
 none_of_made made Device is why journal = journal
 none_of_made made Shared is why journal = journal
@@ -155,13 +155,13 @@ stays file made fault (inl same) why journal = same
 stays file made fault (inr begins) why journal = absurd (none_of_made made fault begins.1 why journal)
 
 -- and its fault is that of the file as it was
-pub open_fault : (file made : List ℕ) (fault : StartFault) → StaysOrBegins file made → (file ≡ [] → recovered made ≡ form_line ∷ []) → IsFormFault made fault → IsOpenFault file fault
+pub open_fault : (file made : List ℕ) (fault : StartFault) → StaysOrBegins file made → (file ≡ [] → recovered_texts made ≡ form_line ∷ []) → IsFormFault made fault → IsOpenFault file fault
 open_fault file made Memory kept empty why = tt
 open_fault file made Device kept empty why = tt
 open_fault file made Shared kept empty why = absurd why
 open_fault file made (Journal Form) kept empty why =
     let same = stays file made (Journal Form) kept why tt in
-    (λ none. why [] (empty none), λ texts is. why texts (ap recovered same ∙ is))
+    (λ none. why [] (empty none), λ texts is. why texts (ap recovered_texts same ∙ is))
 open_fault file made (Journal (TooLong line)) kept empty why =
     subst (λ (w : List ℕ). IsFormFault w (Journal (TooLong line))) (stays file made (Journal (TooLong line)) kept why tt) why
 open_fault file made (Journal (BadLine line)) kept empty why = absurd why

@@ -3,7 +3,7 @@ use Rattle.std.proofs.Common.{◌≡◌, ◌⊎◌, inl, inr, ℕ, ◌+◌, ◌<
 use Rattle.std.specs.List.{AllZip}
 use Rattle.std.proofs.lemmas.List.{take_more}
 use Rattle.mds_core.specs.declared.request.Request.{Request}
-use Rattle.mds_journal.specs.Lines.{recovered}
+use Rattle.mds_journal.specs.Lines.{recovered_texts}
 use Rattle.mds_journal.specs.Device.{LeavesOnly}
 use Rattle.mds_journal.specs.Journal.{StandsFor, MayGoOn, IsLost, IsRefusal}
 use Rattle.mds_journal.specs.declared.journal.Journal.{Journal}
@@ -51,12 +51,12 @@ told_more texts group told requests is tells = record {
 
 -- the file stands for the requests of a group that was acknowledged
 pub stands_more : {D : Type 0} (seen : D → List ℕ) (may_leave : D → List ℕ → Type 0) (old new : D) (group : List (List ℕ)) (told requests : List Request)
-    → Stands seen may_leave old told → AllZip Tells group requests → StandsFor seen may_leave (recovered (seen old) ++ group) new → Stands seen may_leave new (told ++ requests)
+    → Stands seen may_leave old told → AllZip Tells group requests → StandsFor seen may_leave (recovered_texts (seen old) ++ group) new → Stands seen may_leave new (told ++ requests)
 stands_more seen may_leave old new group told requests stands tells now =
     let Told : List (List ℕ) → Type 0 = λ w. IsTold w told in
     record {
-      texts = recovered (seen old) ++ group;
-      is_told = told_more (recovered (seen old)) group told requests (subst Told (sym stands.stands.now) stands.is_told) tells;
+      texts = recovered_texts (seen old) ++ group;
+      is_told = told_more (recovered_texts (seen old)) group told requests (subst Told (sym stands.stands.now) stands.is_told) tells;
       stands = now;
     }
 
@@ -84,7 +84,7 @@ was_usable old result other lost = not_lost old.is_lost (λ is. subst IsOther (l
 -- a restart reads what it might have read before, or the group's requests behind those from before, or none of them
 pub disk_passes : {D : Type 0} (seen : D → List ℕ) (may_leave : D → List ℕ → Type 0) (moment : D → ℕ) (left_since : D → ℕ → List ℕ → Type 0) (old new : Disk D) (group : List (List ℕ))
     (told requests : List Request) → MayGoOn old.journal
-    → LeavesOnly moment left_since old.journal.device new.journal.device (IsFileBeforeOrAfter (recovered (seen old.journal.device)) group)
+    → LeavesOnly moment left_since old.journal.device new.journal.device (IsFileBeforeOrAfter (recovered_texts (seen old.journal.device)) group)
     → Stands seen may_leave old.journal.device told → AllZip Tells group requests
     → Passes (λ (disk : Disk D). moment disk.journal.device) (λ disk t c. MayRead (left_since disk.journal.device) t c) old new (λ c. MayGoOn old.journal × IsBeforeOrAfter told requests c)
 disk_passes {D = D} seen may_leave moment left_since old new group told requests go leaves stands tells = record {
@@ -94,8 +94,8 @@ disk_passes {D = D} seen may_leave moment left_since old new group told requests
   Told : List Request → List (List ℕ) → Type 0
   Told c w = IsTold w c
 
-  by_lines : (file : List ℕ) (c : List Request) → ((other : List Request) → IsTold (recovered file) other → other ≡ c)
-      → (recovered file ≡ recovered (seen old.journal.device)) ⊎ (recovered file ≡ recovered (seen old.journal.device) ++ group) → IsBeforeOrAfter told requests c
+  by_lines : (file : List ℕ) (c : List Request) → ((other : List Request) → IsTold (recovered_texts file) other → other ≡ c)
+      → (recovered_texts file ≡ recovered_texts (seen old.journal.device)) ⊎ (recovered_texts file ≡ recovered_texts (seen old.journal.device) ++ group) → IsBeforeOrAfter told requests c
   by_lines file c is (inl same) =
       inl (sym (is told (subst (Told told) (sym (same ∙ stands.stands.now)) stands.is_told)))
   by_lines file c is (inr same) =
@@ -103,7 +103,7 @@ disk_passes {D = D} seen may_leave moment left_since old new group told requests
       (told_more stands.texts group told requests stands.is_told tells))))
 
   by_time : (t : ℕ) (c : List Request) → (read : MayRead (left_since new.journal.device) t c)
-      → left_since old.journal.device t read.file ⊎ IsFileBeforeOrAfter (recovered (seen old.journal.device)) group read.file
+      → left_since old.journal.device t read.file ⊎ IsFileBeforeOrAfter (recovered_texts (seen old.journal.device)) group read.file
       → MayRead (left_since old.journal.device) t c ⊎ (MayGoOn old.journal × IsBeforeOrAfter told requests c)
   by_time t c read (inl left) = inl (record { file = read.file; left = left; is_told = read.is_told })
   by_time t c read (inr may) = inr (go, by_lines read.file c read.is_told may.lines)
@@ -120,7 +120,7 @@ still_passes {D = D} moment left_since old new P same = record {
 pub failed_passes : {D : Type 0} (seen : D → List ℕ) (may_leave : D → List ℕ → Type 0) (moment : D → ℕ) (left_since : D → ℕ → List ℕ → Type 0) (old new : Disk D)
     (group : List (List ℕ)) (told requests : List Request) (error : AppendError) → (IsRefusal error → new.journal ≡ old.journal)
     → (IsLost old.journal → failed error ≡ failed Lost)
-    → (MayGoOn old.journal → LeavesOnly moment left_since old.journal.device new.journal.device (IsFileBeforeOrAfter (recovered (seen old.journal.device)) group))
+    → (MayGoOn old.journal → LeavesOnly moment left_since old.journal.device new.journal.device (IsFileBeforeOrAfter (recovered_texts (seen old.journal.device)) group))
     → (MayGoOn old.journal → Stands seen may_leave old.journal.device told) → AllZip Tells group requests
     → Passes (λ (disk : Disk D). moment disk.journal.device) (λ disk t c. MayRead (left_since disk.journal.device) t c) old new (λ c. MayGoOn old.journal × IsBeforeOrAfter told requests c)
 failed_passes seen may_leave moment left_since old new group told requests (NotWritten error) refused lost leaves stands tells =

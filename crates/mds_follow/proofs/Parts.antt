@@ -8,7 +8,7 @@ use Rattle.mds_core.specs.declared.request.Request.{Request}
 use Rattle.mds_core.specs.History.{key_of}
 use Rattle.mds_log.proofs.Lists.{prefix_trans}
 use Rattle.mds_book.specs.Shards.{shard_of, AreOfShard}
-use Rattle.mds_book.specs.Copying.{Progressed, copied, IsPiece}
+use Rattle.mds_book.specs.Copying.{Progressed, copied_requests, IsPiece}
 use Rattle.mds_book.proofs.Copying.{take_longer}
 use Rattle.mds_follow.specs.Parts.{part, Follows}
 use Rattle.mds_follow.specs.Group.{IsGroup}
@@ -59,14 +59,14 @@ pub follows_first : (tables : Tables) (first second : Progressed) (group : List 
     → IsGroup tables first second group new_first new_second → Follows 0 recorded first → Follows 0 (recorded ++ group) new_first
 follows_first tables first second group new_first new_second recorded is follows =
     filter-append _ recorded group ∙ (ap (λ w. w ++ part 0 group) follows
-    ∙ (ap (λ w. copied first ++ w) (first_part tables first second group new_first new_second is) ∙ sym is.first_copied.copied))
+    ∙ (ap (λ w. copied_requests first ++ w) (first_part tables first second group new_first new_second is) ∙ sym is.first_copied.copied))
 
 -- and of the second
 pub follows_second : (tables : Tables) (first second : Progressed) (group : List Request) (new_first new_second : Progressed) (recorded : List Request)
     → IsGroup tables first second group new_first new_second → Follows 1 recorded second → Follows 1 (recorded ++ group) new_second
 follows_second tables first second group new_first new_second recorded is follows =
     filter-append _ recorded group ∙ (ap (λ w. w ++ part 1 group) follows
-    ∙ (ap (λ w. copied second ++ w) (second_part tables first second group new_first new_second is) ∙ sym is.second_copied.copied))
+    ∙ (ap (λ w. copied_requests second ++ w) (second_part tables first second group new_first new_second is) ∙ sym is.second_copied.copied))
 
 -- more of the history was seen, and no more of it copied
 pub follows_still : (number : ℕ) (recorded : List Request) (old : Progressed) (longer : List Request) → IsPrefix old.seen longer → old.count ≤ length old.seen
@@ -74,7 +74,7 @@ pub follows_still : (number : ℕ) (recorded : List Request) (old : Progressed) 
 follows_still number recorded old longer begins within follows = follows ∙ sym (take_longer old.count old.seen longer begins within)
 
 -- what was copied begins what was seen
-pub copied_begins : (progress : Progressed) → IsPrefix (copied progress) progress.seen
+pub copied_begins : (progress : Progressed) → IsPrefix (copied_requests progress) progress.seen
 copied_begins progress = (drop progress.count progress.seen, take-append-drop progress.count progress.seen)
 
 -- what is recorded of a shard begins its history

@@ -10,7 +10,7 @@ use Rattle.mds_core.specs.declared.reply.Outcome.TheVariants.{Done}
 use Rattle.mds_core.specs.History.{requests_of, key_of, same_key}
 use Rattle.mds_core.specs.Answer.{Gives, MayBeDone}
 use Rattle.mds_core.proofs.Histories.{same_key_is}
-use Rattle.mds_journal.specs.Lines.{recovered}
+use Rattle.mds_journal.specs.Lines.{recovered_texts}
 use Rattle.mds_journal.specs.Opening.{KeepsLines}
 use Rattle.mds_journal.specs.Device.{LeavesOnly}
 use Rattle.mds_journal.specs.declared.fault.JournalFault.TheVariants.{Form, BadLine, TooLong, Refused, Damaged}
@@ -29,7 +29,7 @@ use Rattle.mds_follow.proofs.Disks.{told_more}
 use Rattle.mds_follow.proofs.Safety.{recorded_requests}
 
 -- the form's line alone tells nothing
-pub read_form : (file left : List ℕ) → recovered file ≡ form_line ∷ recovered left → IsReadTo file [] left
+pub read_form : (file left : List ℕ) → recovered_texts file ≡ form_line ∷ recovered_texts left → IsReadTo file [] left
 read_form file left is = record { texts = form_line ∷ []; is_told = record { entries = []; split = refl; tells = tt }; split = is }
 
 -- one more line tells one request more
@@ -38,13 +38,13 @@ pub read_next : (file bytes left : List ℕ) (told : List Request) (request : Re
 read_next file bytes left told request read next = record {
   texts = read.texts ++ next.0 ∷ [];
   is_told = told_more read.texts (next.0 ∷ []) told (request ∷ []) read.is_told (next.2, tt);
-  split = read.split ∙ ap (λ w. read.texts ++ w) next.1 ∙ sym (append_assoc read.texts (next.0 ∷ []) (recovered left));
+  split = read.split ∙ ap (λ w. read.texts ++ w) next.1 ∙ sym (append_assoc read.texts (next.0 ∷ []) (recovered_texts left));
 }
 
 -- where no more lines count, all were read
-pub read_all : (file left : List ℕ) (told : List Request) → IsReadTo file told left → HasNoMore left → IsTold (recovered file) told
+pub read_all : (file left : List ℕ) (told : List Request) → IsReadTo file told left → HasNoMore left → IsTold (recovered_texts file) told
 read_all file left told read none =
-    let all : recovered file ≡ read.texts = read.split ∙ ap (λ w. read.texts ++ w) none ∙ append-nil read.texts in
+    let all : recovered_texts file ≡ read.texts = read.split ∙ ap (λ w. read.texts ++ w) none ∙ append-nil read.texts in
     let Told : List (List ℕ) → Type 0 = λ w. IsTold w told in
     subst Told (sym all) read.is_told
 
@@ -137,7 +137,7 @@ requests_length told = length-map told (λ (one : Acceptance). one.request)
 
 -- a restart after a crash since the journal was opened reads what was read
 pub read_only : {D : Type 0} (seen : D → List ℕ) (moment : D → ℕ) (left_since : D → ℕ → List ℕ → Type 0) (opened device : D) (told : List Acceptance) (start : ℕ) → start ≡ moment opened
-    → IsTold (recovered (seen opened)) (requests told) → told ≡ recorded_at (moment opened) (requests told) → LeavesOnly moment left_since opened device (KeepsLines (seen opened))
+    → IsTold (recovered_texts (seen opened)) (requests told) → told ≡ recorded_at (moment opened) (requests told) → LeavesOnly moment left_since opened device (KeepsLines (seen opened))
     → IsRead (λ t c. MayRead (left_since device) t c) start told
 read_only seen moment left_since opened device told start here is_told at leaves = record {
   at_start = at ∙ ap (λ (t : ℕ). recorded_at t (requests told)) (sym here);

@@ -3,7 +3,7 @@ use Rattle.std.specs.Prelude.{◌≡◌, ◌⊎◌, ℕ, List, [], ◌∷◌}
 use Rattle.std.specs.List.{AllZip}
 use Rattle.std.proofs.Common.{sym, subst}
 use Rattle.mds_core.specs.declared.request.Request.{Request}
-use Rattle.mds_journal.specs.Lines.{recovered}
+use Rattle.mds_journal.specs.Lines.{recovered_texts}
 use Rattle.mds_journal.specs.Journal.{StandsFor}
 use Rattle.mds_journal.specs.declared.journal.AppendError.{AppendError}
 use Rattle.mds_journal.specs.declared.journal.AppendError.TheVariants.{NotWritten, Full}
@@ -28,7 +28,7 @@ pub record IsTold (texts : List (List ℕ)) (told : List Request) : Type 0 where
 
 -- a file stands for nothing yet, or for the form
 abbrev pub MayBeBegun : List ℕ → Type 0
-MayBeBegun file = (recovered file ≡ []) ⊎ (recovered file ≡ form_line ∷ [])
+MayBeBegun file = (recovered_texts file ≡ []) ⊎ (recovered_texts file ≡ form_line ∷ [])
 
 -- a restart reads these requests, also after a crash at this moment
 pub record Stands {D : Type 0} (seen : D → List ℕ) (may_leave : D → List ℕ → Type 0) (device : D)
@@ -42,7 +42,7 @@ pub record Stands {D : Type 0} (seen : D → List ℕ) (may_leave : D → List �
 pub record MayRead (left_since : ℕ → List ℕ → Type 0) (t : ℕ) (told : List Request) : Type 0 where
   pub file : List ℕ
   pub left : left_since t file
-  pub is_told : (other : List Request) → IsTold (recovered file) other → other ≡ told
+  pub is_told : (other : List Request) → IsTold (recovered_texts file) other → other ≡ told
 
 -- texts tell no more than one list of requests
 abbrev pub TextsTellOneList : Type 0
@@ -56,6 +56,6 @@ pub reads_now : {D : Type 0} (seen : D → List ℕ) (may_leave : D → List ℕ
     → ((file : List ℕ) → left_since device (moment device) file → may_leave device file)
     → Stands seen may_leave device told → MayRead (left_since device) (moment device) c → c ≡ told
 reads_now seen may_leave left_since moment device told c only stands read =
-    let same : recovered read.file ≡ stands.texts =
+    let same : recovered_texts read.file ≡ stands.texts =
     stands.stands.outcomes read.file (only read.file read.left) in
     sym (read.is_told told (subst (λ (w : List (List ℕ)). IsTold w told) (sym same) stands.is_told))

@@ -6,7 +6,7 @@ use Rattle.mds_core.specs.declared.request.Request.{Request}
 use Rattle.mds_core.specs.History.{key_of, requests_of}
 use Rattle.mds_book.specs.Shards.{shard_of}
 use Rattle.mds_book.specs.Seats.{Seated, seen_in}
-use Rattle.mds_book.specs.Copying.{Progressed, copied}
+use Rattle.mds_book.specs.Copying.{Progressed, copied_requests}
 
 -- the requests about vehicles of the shard of this number, in their order
 abbrev pub part : ℕ → List Request → List Request
@@ -14,7 +14,7 @@ part number requests = filter (λ request. shard_of (key_of request) == number) 
 
 -- what is recorded of the shard of this number is what was copied of its history
 abbrev pub Follows : ℕ → List Request → Progressed → Type 0
-Follows number recorded progress = part number recorded ≡ copied progress
+Follows number recorded progress = part number recorded ≡ copied_requests progress
 
 -- what is recorded has all that a seat saw of each shard
 pub record Covers (seat : Seated) (recorded : List Request) : Type 0 where

@@ -4,9 +4,9 @@ use Rattle.mds_table.specs.Json.{max_bytes}
 use Rattle.mds_table.specs.Tables.{Tables}
 use Rattle.mds_core.specs.declared.request.Request.{Request}
 use Rattle.mds_core.specs.Answer.{MayBeDone}
-use Rattle.mds_journal.specs.Lines.{recovered}
+use Rattle.mds_journal.specs.Lines.{recovered_texts}
 use Rattle.mds_journal.specs.Journal.{HasShortEnd}
-use Rattle.mds_journal.specs.Opening.{IsReading, IsTooLong, limit_of, number_of, unread}
+use Rattle.mds_journal.specs.Opening.{IsReading, IsTooLong, limit_of, number_of, unread_bytes}
 use Rattle.mds_journal.specs.declared.opening.Opening.{Opening}
 use Rattle.mds_journal.specs.declared.device.DeviceError.{DeviceError}
 use Rattle.mds_journal.specs.declared.device.DeviceError.TheVariants as device
@@ -44,12 +44,12 @@ line_fault number opening.Damaged = Device
 
 -- no line counts, and no more stands there than a crash leaves
 pub record IsBlank (file : List ℕ) : Type 0 where
-  pub none : recovered file ≡ []
+  pub none : recovered_texts file ≡ []
   pub short : HasShortEnd file
 
 -- a file stood for nothing, and another stands for the form
 abbrev pub Begins : List ℕ → List ℕ → Type 0
-Begins file other = (recovered file ≡ []) × (recovered other ≡ form_line ∷ [])
+Begins file other = (recovered_texts file ≡ []) × (recovered_texts other ≡ form_line ∷ [])
 
 -- the other has the same bytes, or begins it
 abbrev pub StaysOrBegins : List ℕ → List ℕ → Type 0
@@ -57,7 +57,7 @@ StaysOrBegins file other = (other ≡ file) ⊎ Begins file other
 
 -- the other stands for the same lines, or begins it
 abbrev pub KeepsOrBegins : List ℕ → List ℕ → Type 0
-KeepsOrBegins file other = (recovered other ≡ recovered file) ⊎ Begins file other
+KeepsOrBegins file other = (recovered_texts other ≡ recovered_texts file) ⊎ Begins file other
 
 -- the fault says what is wrong with the file
 abbrev pub IsJournalFault : StartFault → Type 0
@@ -81,22 +81,23 @@ pub record IsAtFirstRequest {D : Type 0} (seen : D → List ℕ) (may_leave : D 
   pub limit : limit_of opening ≡ max_bytes
   pub number : number_of opening ≡ 1
   pub form : is_true opening.device
-      → recovered (seen opening.device) ≡ form_line ∷ recovered (unread seen opening)
+      → recovered_texts (seen opening.device)
+      ≡ form_line ∷ recovered_texts (unread_bytes seen opening)
 
 -- no more lines count
 abbrev pub HasNoMore : List ℕ → Type 0
-HasNoMore bytes = recovered bytes ≡ []
+HasNoMore bytes = recovered_texts bytes ≡ []
 
 -- the first line tells this request, and these bytes are left
 abbrev pub TellsNext : List ℕ → Request → List ℕ → Type 0
 TellsNext bytes request left =
-    (text : List ℕ) × (recovered bytes ≡ text ∷ recovered left) × Tells text request
+    (text : List ℕ) × (recovered_texts bytes ≡ text ∷ recovered_texts left) × Tells text request
 
 -- the first line tells no request
 abbrev pub TellsNone : List ℕ → Type 0
 TellsNone bytes =
-    (text : List ℕ) × (left : List ℕ)
-    × (recovered bytes ≡ text ∷ recovered left) × ((request : Request) → Tells text request → ⊥)
+    (text : List ℕ) × (left : List ℕ) × (recovered_texts bytes ≡ text ∷ recovered_texts left)
+    × ((request : Request) → Tells text request → ⊥)
 
 -- the first line tells a request that may not be done after these
 abbrev pub TellsRefused : Tables → List Request → List ℕ → Type 0
@@ -106,7 +107,8 @@ TellsRefused tables told bytes =
 
 -- why the first line, which has to name the form, isn't taken
 abbrev pub IsFormFault : List ℕ → StartFault → Type 0
-IsFormFault bytes (Journal Form) = (texts : List (List ℕ)) → recovered bytes ≡ form_line ∷ texts → ⊥
+IsFormFault bytes (Journal Form) =
+    (texts : List (List ℕ)) → recovered_texts bytes ≡ form_line ∷ texts → ⊥
 IsFormFault bytes (Journal (TooLong line)) = (line ≡ 0) × IsTooLong max_bytes bytes
 IsFormFault bytes (Journal fault) = ⊥
 IsFormFault bytes Memory = Unit {0}
@@ -140,14 +142,14 @@ IsEndFault file Shared = ⊥
 -- why a file isn't open as a journal: no line of it names the form, and it isn't empty
 abbrev pub IsOpenFault : List ℕ → StartFault → Type 0
 IsOpenFault file (Journal Form) =
-    (file ≢ []) × ((texts : List (List ℕ)) → recovered file ≡ form_line ∷ texts → ⊥)
+    (file ≢ []) × ((texts : List (List ℕ)) → recovered_texts file ≡ form_line ∷ texts → ⊥)
 IsOpenFault file fault = IsFormFault file fault
 
 -- the lines before these bytes are the form's, and others that tell these requests, in their order
 pub record IsReadTo (file : List ℕ) (told : List Request) (left : List ℕ) : Type 0 where
   pub texts : List (List ℕ)
   pub is_told : IsTold texts told
-  pub split : recovered file ≡ texts ++ recovered left
+  pub split : recovered_texts file ≡ texts ++ recovered_texts left
 
 -- all lines before that of this number were read, and this holds of their requests and of what is
 -- left

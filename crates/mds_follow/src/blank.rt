@@ -1,7 +1,7 @@
 //! A file that has no form yet, and the line that names the form.
 ghost use Rattle.std.specs.Prelude.{◌≡◌, ◌⊎◌, [], ◌∷◌, true, IfOk, IfErr};
 ghost use Rattle.mds_journal.specs.Device.{LeavesOnly, Untouched};
-ghost use Rattle.mds_journal.specs.Lines.{recovered};
+ghost use Rattle.mds_journal.specs.Lines.{recovered_texts};
 ghost use Rattle.mds_entries.specs.Form.{form_line};
 ghost use Rattle.mds_follow.specs.Disk.{MayBeBegun};
 ghost use Rattle.mds_follow.specs.Reading.{IsBlank, IsNoJournalFault, KeepsOrBegins, StaysOrBegins};
@@ -48,7 +48,7 @@ fn is_blank<D: Device>(device: &mut D) -> Result<bool, DeviceError>
 
 /// Whether bytes are a closed gate and the line that names the form, or less of them: a byte that isn't on the disk yet is 0.
 fn is_begun(bytes: &[u8]) -> bool
-    ensures { result ≡ true → recovered bytes.now ≡ [] }
+    ensures { result ≡ true → recovered_texts bytes.now ≡ [] }
 {
     let Some((gate, rest)) = bytes.split_first() else {
         return true;
@@ -85,7 +85,7 @@ pub(crate) fn with_form<D: Device>(alloc: Global, mut device: D) -> Result<D, (S
     ensures kept { IfOk result (λ made. D.is_true made
         → StaysOrBegins (D.seen device) (D.seen made)) }
     ensures empty { IfOk result (λ made. D.is_true made → D.seen device ≡ []
-        → recovered (D.seen made) ≡ form_line ∷ []) }
+        → recovered_texts (D.seen made) ≡ form_line ∷ []) }
     ensures any_moment { IfOk result (λ made. D.is_true made
         → LeavesOnly D.moment D.left_since device made
         (λ c. D.may_leave device c ⊎ KeepsOrBegins (D.seen device) c)) }
@@ -113,7 +113,7 @@ fn make_form<D: Device>(alloc: Global, device: D) -> Result<D, (StartFault, D)>
     requires blank { D.is_true device → IsBlank (D.seen device) }
     ensures usable { IfOk result D.may_be_used }
     ensures made { IfOk result (λ made. D.is_true made
-        → recovered (D.seen made) ≡ form_line ∷ []) }
+        → recovered_texts (D.seen made) ≡ form_line ∷ []) }
     ensures any_moment { IfOk result (λ made. D.is_true made
         → LeavesOnly D.moment D.left_since device made
         (λ c. D.may_leave device c ⊎ MayBeBegun c)) }

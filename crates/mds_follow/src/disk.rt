@@ -3,7 +3,7 @@ ghost use Rattle.std.specs.Prelude.{◌≡◌, ◌++◌, ◌∷◌, [], ℕ, Lis
 ghost use Rattle.std.specs.List.{AllZip};
 ghost use Rattle.mds_entries.specs.Entry.{Tells};
 ghost use Rattle.mds_journal.specs.Device.{LeavesOnly};
-ghost use Rattle.mds_journal.specs.Lines.{recovered};
+ghost use Rattle.mds_journal.specs.Lines.{recovered_texts};
 ghost use Rattle.mds_journal.specs.Journal.{IsSound, MayGoOn};
 ghost use Rattle.mds_follow.specs.Disk.{MayBeBegun, Stands};
 ghost use Rattle.mds_follow.specs.Record.{HasSame};
@@ -36,7 +36,7 @@ impl<D: Device> Disk<D> {
     ) -> Result<Disk<D>, (RecordFault, Journal<D>)>
         requires sound { IsSound D.seen D.may_leave D.may_be_used D.is_true journal }
         requires ready { MayGoOn journal }
-        requires none { D.is_true journal.device → recovered (D.seen journal.device) ≡ [] }
+        requires none { D.is_true journal.device → recovered_texts (D.seen journal.device) ≡ [] }
         ensures sound { IfOk result (λ disk.
             IsSound D.seen D.may_leave D.may_be_used D.is_true disk.journal) }
         ensures stands { IfOk result (λ disk. MayGoOn disk.journal × (D.is_true disk.journal.device

@@ -2,9 +2,9 @@
 ghost use Rattle.std.specs.Prelude.{◌≡◌, ◌⊎◌, ◌+◌, ◌<◌, ◌∷◌, [], true, false, IfOk, IfErr, OnOk, OnErr};
 ghost use Rattle.mds_table.specs.Json.{max_bytes};
 ghost use Rattle.mds_journal.specs.Device.{LeavesOnly, Untouched};
-ghost use Rattle.mds_journal.specs.Lines.{recovered};
+ghost use Rattle.mds_journal.specs.Lines.{recovered_texts};
 ghost use Rattle.mds_journal.specs.Journal.{IsSound, MayGoOn, StandsFor};
-ghost use Rattle.mds_journal.specs.Opening.{IsReading, KeepsLines, limit_of, number_of, place_of, unread};
+ghost use Rattle.mds_journal.specs.Opening.{IsReading, KeepsLines, limit_of, number_of, place_of, unread_bytes};
 ghost use Rattle.mds_entries.specs.Form.{form_line};
 ghost use Rattle.mds_follow.specs.Reading.{HasNoMore, IsAtFirstRequest, IsEndFault, IsFormFault, IsJournalFault, IsLineFault, IsOpenFault, KeepsOrBegins, StaysOrBegins, TellsNext};
 
@@ -31,11 +31,11 @@ fn take_form<D: Device>(opening: &mut Opening<D>, line: &mut Vec<u8>) -> Result<
     ensures reading { IsReading D.seen D.may_leave D.may_be_used D.is_true opening.new }
     ensures limit { limit_of opening.new ≡ max_bytes }
     ensures form { OnOk result (D.is_true opening.new.device
-        → recovered (unread D.seen opening.old)
-        ≡ form_line ∷ recovered (unread D.seen opening.new)) }
+        → recovered_texts (unread_bytes D.seen opening.old)
+        ≡ form_line ∷ recovered_texts (unread_bytes D.seen opening.new)) }
     ensures number { OnOk result (number_of opening.new ≡ 1) }
     ensures fault { IfErr result (λ fault. D.is_true opening.new.device
-        → IsFormFault (unread D.seen opening.old) fault) }
+        → IsFormFault (unread_bytes D.seen opening.old) fault) }
     ensures untouched { D.is_true opening.new.device → Untouched D.seen D.may_leave D.moment
         D.left_since opening.old.device opening.new.device }
     ensures was_true { D.is_true opening.new.device → D.is_true opening.old.device }
@@ -137,19 +137,19 @@ impl<D: Device> RequestReader<D> {
         ensures reading { IsReading D.seen D.may_leave D.may_be_used D.is_true self.new.opening }
         ensures limit { limit_of self.new.opening ≡ max_bytes }
         ensures some { IfOk result (λ more. more ≡ true → D.is_true self.new.opening.device
-            → TellsNext (unread D.seen self.old.opening) self.new.request
-            (unread D.seen self.new.opening)) }
+            → TellsNext (unread_bytes D.seen self.old.opening) self.new.request
+            (unread_bytes D.seen self.new.opening)) }
         ensures number { IfOk result (λ more. more ≡ true
             → number_of self.new.opening ≡ number_of self.old.opening + 1) }
         ensures further { IfOk result (λ more. more ≡ true
             → place_of self.old.opening < place_of self.new.opening) }
         ensures none { IfOk result (λ more. more ≡ false → D.is_true self.new.opening.device
-            → HasNoMore (unread D.seen self.old.opening)
-            × (unread D.seen self.new.opening ≡ unread D.seen self.old.opening)) }
+            → HasNoMore (unread_bytes D.seen self.old.opening)
+            × (unread_bytes D.seen self.new.opening ≡ unread_bytes D.seen self.old.opening)) }
         ensures same_number { IfOk result (λ more. more ≡ false
             → number_of self.new.opening ≡ number_of self.old.opening) }
         ensures fault { IfErr result (λ fault. D.is_true self.new.opening.device → IsLineFault
-            (number_of self.old.opening) (unread D.seen self.old.opening) fault) }
+            (number_of self.old.opening) (unread_bytes D.seen self.old.opening) fault) }
         ensures untouched { D.is_true self.new.opening.device → Untouched D.seen D.may_leave
             D.moment D.left_since self.old.opening.device self.new.opening.device }
         ensures was_true { D.is_true self.new.opening.device
@@ -176,12 +176,13 @@ impl<D: Device> RequestReader<D> {
     /// `Memory`. The device comes back.
     pub(crate) fn into_disk(self) -> Result<Disk<D>, (StartFault, D)>
         requires reading { IsReading D.seen D.may_leave D.may_be_used D.is_true self.opening }
-        requires done { D.is_true self.opening.device → HasNoMore (unread D.seen self.opening) }
+        requires done { D.is_true self.opening.device
+            → HasNoMore (unread_bytes D.seen self.opening) }
         ensures sound { IfOk result (λ disk.
             IsSound D.seen D.may_leave D.may_be_used D.is_true disk.journal) }
         ensures ready { IfOk result (λ disk. MayGoOn disk.journal) }
         ensures stands { IfOk result (λ disk. D.is_true disk.journal.device
-            → StandsFor D.seen D.may_leave (recovered (D.seen self.opening.device))
+            → StandsFor D.seen D.may_leave (recovered_texts (D.seen self.opening.device))
             disk.journal.device) }
         ensures any_moment { IfOk result (λ disk. D.is_true disk.journal.device
             → LeavesOnly D.moment D.left_since self.opening.device disk.journal.device

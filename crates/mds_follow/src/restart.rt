@@ -8,8 +8,8 @@ ghost use Rattle.mds_book.specs.Seats.{seen_in};
 ghost use Rattle.mds_log.specs.Log.{requests};
 ghost use Rattle.mds_table.specs.Json.{max_bytes};
 ghost use Rattle.mds_journal.specs.Device.{LeavesOnly, Untouched};
-ghost use Rattle.mds_journal.specs.Lines.{recovered};
-ghost use Rattle.mds_journal.specs.Opening.{IsReading, KeepsLines, limit_of, number_of, place_of, unread};
+ghost use Rattle.mds_journal.specs.Lines.{recovered_texts};
+ghost use Rattle.mds_journal.specs.Opening.{IsReading, KeepsLines, limit_of, number_of, place_of, unread_bytes};
 ghost use Rattle.mds_follow.specs.Disk.{IsTold};
 ghost use Rattle.mds_follow.specs.Record.{recorded_at};
 ghost use Rattle.mds_follow.specs.Reading.{HasNoMore, IsAtFirstRequest, IsEntryFault, IsJournalFault, IsStartFault};
@@ -91,17 +91,17 @@ fn take_back<D: Device, L: ShardLedger, M: ShardLedger, J: RecordLog, R: Wait>(
     ensures taken { IfOk result (λ more. more ≡ true
         → TakesBack (D.moment reader.new.opening.device) (D.is_true reader.new.opening.device)
         keeper.old keeper.new
-        (unread D.seen reader.old.opening) (unread D.seen reader.new.opening)) }
+        (unread_bytes D.seen reader.old.opening) (unread_bytes D.seen reader.new.opening)) }
     ensures number { IfOk result (λ _. number_of reader.new.opening ≡ length keeper.new + 1) }
     ensures refilled { IfOk result (λ _. IsRefilled seat.new keeper.new) }
     ensures further { IfOk result (λ more. more ≡ true
         → place_of reader.old.opening < place_of reader.new.opening) }
     ensures done { IfOk result (λ more. more ≡ false → (keeper.new ≡ keeper.old)
-        × (D.is_true reader.new.opening.device → HasNoMore (unread D.seen reader.old.opening)
-        × (unread D.seen reader.new.opening ≡ unread D.seen reader.old.opening))) }
+        × (D.is_true reader.new.opening.device → HasNoMore (unread_bytes D.seen reader.old.opening)
+        × (unread_bytes D.seen reader.new.opening ≡ unread_bytes D.seen reader.old.opening))) }
     ensures fault { IfErr result (λ fault. D.is_true reader.new.opening.device
         → IsEntryFault book.now.tables (requests keeper.old) (number_of reader.old.opening)
-        (unread D.seen reader.old.opening) fault) }
+        (unread_bytes D.seen reader.old.opening) fault) }
     ensures untouched { D.is_true reader.new.opening.device → Untouched D.seen D.may_leave
         D.moment D.left_since reader.old.opening.device reader.new.opening.device }
     ensures was_true { D.is_true reader.new.opening.device
@@ -146,9 +146,9 @@ fn read_back<D: Device, L: ShardLedger, M: ShardLedger, J: RecordLog, R: Wait>(
     ensures short { OnOk result (length keeper.new < 2 ^ 63) }
     ensures refilled { OnOk result (IsRefilled seat.new keeper.new) }
     ensures done { OnOk result (D.is_true reader.new.opening.device
-        → HasNoMore (unread D.seen reader.new.opening)) }
+        → HasNoMore (unread_bytes D.seen reader.new.opening)) }
     ensures told { OnOk result (D.is_true reader.new.opening.device
-        → IsTold (recovered (D.seen reader.old.opening.device)) (requests keeper.new)) }
+        → IsTold (recovered_texts (D.seen reader.old.opening.device)) (requests keeper.new)) }
     ensures at_start { OnOk result (D.is_true reader.new.opening.device
         → keeper.new
         ≡ recorded_at (D.moment reader.old.opening.device) (requests keeper.new)) }
@@ -189,7 +189,7 @@ pub fn resume<D: Device, L: ShardLedger, M: ShardLedger, J: RecordLog, R: Wait>(
     requires log { log ≡ J.log }
     requires start { J.start ≡ D.moment reader.opening.device }
     requires held { (told : List Requested)
-        → IsTold (recovered (D.seen reader.opening.device)) told → J.held told }
+        → IsTold (recovered_texts (D.seen reader.opening.device)) told → J.held told }
     requires fresh { IsRefilled seat.old [] }
     ensures keep { seat.new.keeps_all ≡ seat.old.keeps_all }
     ensures refilled { IfOk result (λ follower. IsRefilled seat.new follower) }
@@ -204,7 +204,7 @@ pub fn resume<D: Device, L: ShardLedger, M: ShardLedger, J: RecordLog, R: Wait>(
     ensures was_true { IfErr result (λ error. D.is_true error.1
         → D.is_true reader.opening.device) }
 {
-    let Some((mut keeper, _front)) = log.named::<J>() else {
+    let Some((mut keeper, _front)) = log.with_name::<J>() else {
         return Err((StartFault::Shared, reader.into_device()));
     };
     match read_back(rt, book, seat, &mut reader, &mut keeper) {

@@ -8,7 +8,9 @@ with_newline text = text ++ 10 ∷ []
 
 -- a front of the text went to the writer, and not all of it
 abbrev pub AppendsFront : Option (List ℕ) → Option (List ℕ) → List ℕ → Type 0
-AppendsFront old new text = (sent : List ℕ) × (rest : List ℕ) × (0 < length rest) × (text ≡ sent ++ rest) × Appends old new sent
+AppendsFront old new text =
+    (sent : List ℕ) × (rest : List ℕ)
+    × (0 < length rest) × (text ≡ sent ++ rest) × Appends old new sent
 
 -- the text went to the writer, or a front of it
 abbrev pub AppendsUpTo : Option (List ℕ) → Option (List ℕ) → List ℕ → Type 0

@@ -17,11 +17,13 @@ ConsumesUpTo limit old new = (front : List ℕ) × (length front ≤ limit) × C
 
 -- the bytes held grew by what the reader lost of its known bytes, at most so many
 abbrev pub Gains : ℕ → Option (List ℕ) → Option (List ℕ) → List ℕ → List ℕ → Type 0
-Gains most old new held grown = (more : List ℕ) × (length more ≤ most) × (grown ≡ held ++ more) × Consumes old new more
+Gains most old new held grown =
+    (more : List ℕ) × (length more ≤ most) × (grown ≡ held ++ more) × Consumes old new more
 
--- what reading that stopped left: the bytes held grew by what the reader lost, at most so many; for want of memory those of the
--- last call, for which there is so much room, were lost
-abbrev pub StopsAt : ReadError → ℕ → ℕ → Option (List ℕ) → Option (List ℕ) → List ℕ → List ℕ → Type 0
+-- what reading that stopped left: the bytes held grew by what the reader lost, at most so many; for
+-- want of memory those of the last call, for which there is so much room, were lost
+abbrev pub StopsAt : ReadError → ℕ → ℕ → Option (List ℕ)
+    → Option (List ℕ) → List ℕ → List ℕ → Type 0
 StopsAt Memory room most old new held grown =
     (more : List ℕ) × (lost : List ℕ) × (0 < length lost) × (length lost ≤ room)
     × (length more + length lost ≤ most) × (grown ≡ held ++ more) × Consumes old new (more ++ lost)
@@ -33,9 +35,11 @@ abbrev pub LosesAt : ReadError → ℕ → Option (List ℕ) → Option (List �
 LosesAt fault limit old new =
     (held : List ℕ) × (length held < limit) × StopsAt fault CHUNK_BYTES limit old new [] held
 
--- what a call of `read` did to the known bytes: it gave a front of the room, met the end, or gave nothing
+-- what a call of `read` did to the known bytes: it gave a front of the room, met the end, or gave
+-- nothing
 abbrev pub Reads : Call → Option (List ℕ) → Option (List ℕ) → List ℕ → Type 0
-Reads (Moved count) old new room = (0 < count) × (count ≤ length room) × Consumes old new (take count room)
+Reads (Moved count) old new room =
+    (0 < count) × (count ≤ length room) × Consumes old new (take count room)
 Reads Nothing old new room = Consumes old new [] × IsAtEnd new
 Reads Again old new room = Consumes old new []
 Reads Failed old new room = Consumes old new []

@@ -1,7 +1,7 @@
 //! Calls of `read` and `write`, which are counted.
 ghost use Rattle.std.specs.Prelude.{◌≡◌, ◌≢◌, ◌↔◌, IsTrue, IfOk, IfErr};
 ghost use Rattle.std.specs.IoError.{error_kind};
-ghost use Rattle.mds_io.specs.Call.{moved};
+ghost use Rattle.mds_io.specs.Call.{call_that_moved};
 
 use std::io::{self, ErrorKind};
 
@@ -23,7 +23,7 @@ pub(crate) enum Call {
 }
 
 pub(crate) fn call_of(came: io::Result<usize>) -> Call
-    ensures ok { IfOk came (λ count. result ≡ moved count) }
+    ensures ok { IfOk came (λ count. result ≡ call_that_moved count) }
     ensures again { IfErr came (λ error. error_kind error ≡ ErrorKind.Interrupted
         → result ≡ Call.Again) }
     ensures failed { IfErr came (λ error. error_kind error ≢ ErrorKind.Interrupted

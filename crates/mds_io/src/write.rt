@@ -42,7 +42,8 @@ pub fn write_all_of<W: Write>(
     ensures err { IfErr result (λ stop. (stop.sent < length bytes.now)
         × Appends (W.contents writer.old) (W.contents writer.new) (take stop.sent bytes.now)) }
     ensures counted { calls.new ≤ calls.old }
-    ensures made { IfErr result (λ stop. stop.kind ≡ WriteErrorKind.Device → calls.new < calls.old) }
+    ensures made { IfErr result
+        (λ stop. stop.kind ≡ WriteErrorKind.Device → calls.new < calls.old) }
     ensures spent { OnOk result (0 < length bytes.now → calls.new < calls.old) }
     ensures turns { IfErr result (λ stop. stop.kind ≡ WriteErrorKind.TooManyTurns
         → calls.new ≡ 0) }

@@ -3,7 +3,7 @@ use Rattle.std.proofs.Common.{◌≡◌, ℕ, ◌+◌, ◌-◌, ◌<◌, ◌≤�
 use Rattle.std.proofs.lemmas.List.{take_rest}
 use Rattle.std.proofs.lemmas.List.Elements.{All-append}
 use Rattle.mds_journal.specs.Device.{Holds, Torn, TornFrom, Follows, Only, LeavesOnly}
-use Rattle.mds_journal.specs.Lines.{HasNoFeed, recovered, open_lines, at_rest}
+use Rattle.mds_journal.specs.Lines.{HasNoFeed, recovered_texts, open_lines, at_rest}
 use Rattle.mds_journal.specs.Journal.{IsKept, IsStaged, IsBeforeOrAfter, IsReady, StandsFor}
 use Rattle.mds_journal.specs.declared.device.DeviceError.{DeviceError}
 use Rattle.mds_journal.specs.declared.group.TheConstants.{MAX_GROUP_BYTES}
@@ -25,7 +25,7 @@ pub record AreBehind (group : List (List ℕ)) (all bytes : List ℕ) : Type 0 w
   pub few : length bytes < MAX_GROUP_BYTES
   pub size : length all ≡ length bytes + 1
 
-pub are_behind : (group : List (List ℕ)) (all : List ℕ) → recovered all ≡ group → all ≡ at_rest group → length all ≤ MAX_GROUP_BYTES → (group ≡ [] → ⊥)
+pub are_behind : (group : List (List ℕ)) (all : List ℕ) → recovered_texts all ≡ group → all ≡ at_rest group → length all ≤ MAX_GROUP_BYTES → (group ≡ [] → ⊥)
     → AreBehind group all (take (length all - 1) (drop 1 all))
 are_behind group all texts is short some =
     let bytes = take (length all - 1) (drop 1 all) in
@@ -43,7 +43,7 @@ module _ {D : Type 0} (seen : D → List ℕ) (may_leave : D → List ℕ → Ty
   pub ready_at : (texts : List (List ℕ)) (journal : Journal D) → All HasNoFeed texts → journal.end ≡ length (open_lines texts) → IsKept texts (seen journal.device)
       → ((c : List ℕ) → may_leave journal.device c → IsKept texts c) → IsReady seen may_leave journal
   ready_at texts journal none place kept outcomes =
-      let same : texts ≡ recovered (seen journal.device) = sym (kept_stands texts (seen journal.device) none kept) in
+      let same : texts ≡ recovered_texts (seen journal.device) = sym (kept_stands texts (seen journal.device) none kept) in
       record {
         place = place ∙ ap (λ (all : List (List ℕ)). length (open_lines all)) same;
         file = subst (λ (all : List (List ℕ)). IsKept all (seen journal.device)) same kept;
@@ -51,15 +51,15 @@ module _ {D : Type 0} (seen : D → List ℕ) (may_leave : D → List ℕ → Ty
       }
 
   -- and then file and outcomes stand for the texts
-  pub ready_stands : (texts : List (List ℕ)) (journal : Journal D) → IsReady seen may_leave journal × (recovered (seen journal.device) ≡ texts) → StandsFor seen may_leave texts journal.device
+  pub ready_stands : (texts : List (List ℕ)) (journal : Journal D) → IsReady seen may_leave journal × (recovered_texts (seen journal.device) ≡ texts) → StandsFor seen may_leave texts journal.device
   ready_stands texts journal both = record {
     now = both.1;
-    outcomes = λ c left. kept_stands (recovered (seen journal.device)) c (texts_have_no_feed (seen journal.device)) (both.0.outcomes c left) ∙ both.1;
+    outcomes = λ c left. kept_stands (recovered_texts (seen journal.device)) c (texts_have_no_feed (seen journal.device)) (both.0.outcomes c left) ∙ both.1;
   }
 
   module _ (old : Journal D) (ready : IsReady seen may_leave old) (group : List (List ℕ)) where
     abbrev pub texts : List (List ℕ)
-    texts = recovered (seen old.device)
+    texts = recovered_texts (seen old.device)
 
     pub none : All HasNoFeed texts
     none = texts_have_no_feed (seen old.device)
@@ -82,7 +82,7 @@ module _ {D : Type 0} (seen : D → List ℕ) (may_leave : D → List ℕ → Ty
 
       -- a write that failed leaves it ready
       pub not_written : (new : Journal D) → new.end ≡ old.end → Torn (old.end + 1) n (seen old.device) (seen new.device)
-          → Follows (Torn (old.end + 1) n) (may_leave old.device) (may_leave new.device) → IsReady seen may_leave new × (recovered (seen new.device) ≡ texts)
+          → Follows (Torn (old.end + 1) n) (may_leave old.device) (may_leave new.device) → IsReady seen may_leave new × (recovered_texts (seen new.device) ≡ texts)
       not_written new same torn crash =
           let kept : IsKept texts (seen new.device) = torn_behind texts old.end ready.place n (seen old.device) (seen new.device) few ready.file torn in
           (ready_at texts new none (same ∙ ready.place) kept (λ c left. still_kept c (crash c left)), kept_stands texts (seen new.device) none kept)
@@ -102,7 +102,7 @@ module _ {D : Type 0} (seen : D → List ℕ) (may_leave : D → List ℕ → Ty
 
       -- and then the group is on the disk
       pub group_added : (new : Journal D) → new.end ≡ old.end + length bytes → Holds (seen mid) old.end (32 ∷ []) (seen new.device) → Only (seen new.device) (may_leave new.device)
-          → IsReady seen may_leave new × (recovered (seen new.device) ≡ texts ++ group)
+          → IsReady seen may_leave new × (recovered_texts (seen new.device) ≡ texts ++ group)
       group_added new moved opened only =
           let all : List (List ℕ) = texts ++ group in
           let none_all : All HasNoFeed all = All-append HasNoFeed texts group none none_new in
@@ -122,24 +122,24 @@ module _ {D : Type 0} (seen : D → List ℕ) (may_leave : D → List ℕ → Ty
     -- room that was made, or not, leaves it ready
     pub room_made : (is_true : Type 0) (result : Result (Unit {0}) DeviceError) (new : Journal D) → is_true → new.end ≡ old.end
         → OnOk result (is_true → Holds (seen old.device) (old.end + 1) room (seen new.device)) → OnErr result (is_true → Torn (old.end + 1) (length room) (seen old.device) (seen new.device))
-        → Follows (Torn (old.end + 1) (length room)) (may_leave old.device) (may_leave new.device) → IsReady seen may_leave new × (recovered (seen new.device) ≡ recovered (seen old.device))
+        → Follows (Torn (old.end + 1) (length room)) (may_leave old.device) (may_leave new.device) → IsReady seen may_leave new × (recovered_texts (seen new.device) ≡ recovered_texts (seen old.device))
     room_made is_true (Ok unit) new is same written torn crash =
-        let reaches : old.end + 1 ≤ length (seen old.device) = kept_reaches (recovered (seen old.device)) old.end ready.place (seen old.device) ready.file in
+        let reaches : old.end + 1 ≤ length (seen old.device) = kept_reaches (recovered_texts (seen old.device)) old.end ready.place (seen old.device) ready.file in
         not_written old ready [] (length room) few new same (subst (λ (file : List ℕ). Torn (old.end + 1) (length room) (seen old.device) file) (sym (written is)) (torn_written (old.end + 1) room (seen old.device) reaches)) crash
     room_made is_true (Err error) new is same written torn crash = not_written old ready [] (length room) few new same (torn is) crash
 
     -- and a crash meanwhile leaves the same lines
     pub room_leaves : (moment : D → ℕ) (left_since : D → ℕ → List ℕ → Type 0) (mid : D)
-        → LeavesOnly moment left_since old.device mid (TornFrom (old.end + 1) (length room) (may_leave old.device)) → LeavesOnly moment left_since old.device mid (IsKept (recovered (seen old.device)))
+        → LeavesOnly moment left_since old.device mid (TornFrom (old.end + 1) (length room) (may_leave old.device)) → LeavesOnly moment left_since old.device mid (IsKept (recovered_texts (seen old.device)))
     room_leaves moment left_since mid leaves =
-        weaker moment left_since old.device mid (TornFrom (old.end + 1) (length room) (may_leave old.device)) (IsKept (recovered (seen old.device))) (still_kept old ready [] (length room) few) leaves
+        weaker moment left_since old.device mid (TornFrom (old.end + 1) (length room) (may_leave old.device)) (IsKept (recovered_texts (seen old.device))) (still_kept old ready [] (length room) few) leaves
 
 -- a group behind that
 pub room_and_group : {D : Type 0} (seen : D → List ℕ) (moment : D → ℕ) (left_since : D → ℕ → List ℕ → Type 0) (old mid new : D) (group : List (List ℕ))
-    → recovered (seen mid) ≡ recovered (seen old) → LeavesOnly moment left_since old mid (IsKept (recovered (seen old)))
-    → LeavesOnly moment left_since mid new (IsBeforeOrAfter (recovered (seen mid)) group) → LeavesOnly moment left_since old new (IsBeforeOrAfter (recovered (seen old)) group)
+    → recovered_texts (seen mid) ≡ recovered_texts (seen old) → LeavesOnly moment left_since old mid (IsKept (recovered_texts (seen old)))
+    → LeavesOnly moment left_since mid new (IsBeforeOrAfter (recovered_texts (seen mid)) group) → LeavesOnly moment left_since old new (IsBeforeOrAfter (recovered_texts (seen old)) group)
 room_and_group seen moment left_since old mid new group same one two =
-    let texts = recovered (seen old) in
+    let texts = recovered_texts (seen old) in
     and_then moment left_since old mid new (IsBeforeOrAfter texts group)
     (weaker moment left_since old mid (IsKept texts) (IsBeforeOrAfter texts group) (λ c kept. kept_before texts group c (texts_have_no_feed (seen old)) kept) one)
     (subst (λ (all : List (List ℕ)). LeavesOnly moment left_since mid new (IsBeforeOrAfter all group)) same two)

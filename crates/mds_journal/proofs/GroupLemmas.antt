@@ -2,11 +2,11 @@
 use Rattle.std.proofs.Common.{◌≡◌, ℕ, ◌+◌, ◌-◌, ◌<◌, true, false, List, [], ◌∷◌, ◌++◌, length, take, set, All, Option, Some, None, Result, Ok, Err, is_ok, is_some, OnOk, IfNone, refl, sym, ap, ◌∙◌, arith, append_assoc, length-append, length-set}
 use Rattle.std.proofs.lemmas.List.{set_at}
 use Rattle.std.proofs.lemmas.List.Elements.{All-push}
-use Rattle.mds_journal.specs.Lines.{HasNoFeed, recovered, open_lines, at_rest}
+use Rattle.mds_journal.specs.Lines.{HasNoFeed, recovered_texts, open_lines, at_rest}
 use Rattle.mds_journal.proofs.LineLemmas.{recovered_closed, open_lines-append, length-at_rest, texts_have_no_feed}
 
 -- a file at rest stands for its texts
-pub recovered-at_rest : (texts : List (List ℕ)) → All HasNoFeed texts → recovered (at_rest texts) ≡ texts
+pub recovered-at_rest : (texts : List (List ℕ)) → All HasNoFeed texts → recovered_texts (at_rest texts) ≡ texts
 recovered-at_rest texts none = recovered_closed texts 35 [] none (omega arith)
 
 -- one line behind others, and the gate behind it
@@ -25,18 +25,18 @@ gate_opened texts text n is =
 
 -- the bytes of a group, when a line was pushed
 pub record IsPushed (old new text : List ℕ) : Type 0 where
-  pub whole : new ≡ at_rest (recovered new)
-  pub texts : recovered new ≡ recovered old ++ text ∷ []
+  pub whole : new ≡ at_rest (recovered_texts new)
+  pub texts : recovered_texts new ≡ recovered_texts old ++ text ∷ []
   pub size : length new ≡ length old + length text + 2
 
-pub pushed : (old laid new text : List ℕ) (n : ℕ) → old ≡ at_rest (recovered old) → n ≡ length old - 1 → laid ≡ old ++ (text ++ 10 ∷ 35 ∷ []) → new ≡ set laid n 32 → HasNoFeed text → IsPushed old new text
+pub pushed : (old laid new text : List ℕ) (n : ℕ) → old ≡ at_rest (recovered_texts old) → n ≡ length old - 1 → laid ≡ old ++ (text ++ 10 ∷ 35 ∷ []) → new ≡ set laid n 32 → HasNoFeed text → IsPushed old new text
 pushed old laid new text n whole at laid_out opened none =
-    let texts = recovered old in
+    let texts = recovered_texts old in
     let place : n ≡ length (open_lines texts) = omega (arith, at, ap length whole, length-at_rest texts) in
     let is : new ≡ at_rest (texts ++ text ∷ []) =
     opened ∙ ap (λ (bytes : List ℕ). set bytes n 32) (laid_out ∙ ap (λ (bytes : List ℕ). bytes ++ (text ++ 10 ∷ 35 ∷ [])) whole) ∙ gate_opened texts text n place in
-    let stands : recovered new ≡ texts ++ text ∷ [] =
-    ap recovered is ∙ recovered-at_rest (texts ++ text ∷ []) (All-push HasNoFeed texts text (texts_have_no_feed old) none) in
+    let stands : recovered_texts new ≡ texts ++ text ∷ [] =
+    ap recovered_texts is ∙ recovered-at_rest (texts ++ text ∷ []) (All-push HasNoFeed texts text (texts_have_no_feed old) none) in
     record {
       whole = is ∙ ap at_rest (sym stands);
       texts = stands;
@@ -44,8 +44,8 @@ pushed old laid new text n whole at laid_out opened none =
     }
 
 -- the bytes of a group are some
-pub some_bytes : (bytes : List ℕ) → bytes ≡ at_rest (recovered bytes) → 0 < length bytes
-some_bytes bytes whole = omega (arith, ap length whole, length-at_rest (recovered bytes))
+pub some_bytes : (bytes : List ℕ) → bytes ≡ at_rest (recovered_texts bytes) → 0 < length bytes
+some_bytes bytes whole = omega (arith, ap length whole, length-at_rest (recovered_texts bytes))
 
 -- a closed gate alone is what is left
 pub cleared : (bytes : List ℕ) → 0 < length bytes → set (take 1 bytes) 0 35 ≡ 35 ∷ []
@@ -57,11 +57,11 @@ alone_texts [] one = refl
 alone_texts (text ∷ texts) one = absurd (omega (arith, length-append (text ++ 10 ∷ open_lines texts) (35 ∷ [])))
 
 -- one byte is a group with no lines
-pub alone : (bytes : List ℕ) → bytes ≡ at_rest (recovered bytes) → length bytes ≡ 1 → recovered bytes ≡ []
-alone bytes whole one = alone_texts (recovered bytes) (sym (ap length whole) ∙ one)
+pub alone : (bytes : List ℕ) → bytes ≡ at_rest (recovered_texts bytes) → length bytes ≡ 1 → recovered_texts bytes ≡ []
+alone bytes whole one = alone_texts (recovered_texts bytes) (sym (ap length whole) ∙ one)
 
 -- and such a group is one byte
-pub alone_byte : (bytes : List ℕ) → bytes ≡ at_rest (recovered bytes) → recovered bytes ≡ [] → length bytes ≡ 1
+pub alone_byte : (bytes : List ℕ) → bytes ≡ at_rest (recovered_texts bytes) → recovered_texts bytes ≡ [] → length bytes ≡ 1
 alone_byte bytes whole none = ap length whole ∙ ap (λ (texts : List (List ℕ)). length (at_rest texts)) none
 
 -- what holds on success, where there was one

@@ -4,15 +4,15 @@ use Rattle.std.proofs.lemmas.Bool.{cases_eq}
 use Rattle.std.proofs.lemmas.List.{take_at, drop_at, drop_more}
 use Rattle.std.proofs.lemmas.List.Elements.{All-append}
 use Rattle.mds_journal.specs.Device.{Holds, Torn}
-use Rattle.mds_journal.specs.Lines.{HasNoFeed, recovered, open_lines, at_rest}
+use Rattle.mds_journal.specs.Lines.{HasNoFeed, recovered_texts, open_lines, at_rest}
 use Rattle.mds_journal.specs.Journal.{IsKept, IsStaged, HasShortEnd, IsBeforeOrAfter}
 use Rattle.mds_journal.specs.declared.group.TheConstants.{MAX_GROUP_BYTES}
 use Rattle.mds_journal.proofs.LineLemmas.{recovered_closed, open_lines-append, length-at_rest}
 
 -- a file at rest stands for its texts, whatever stands behind its gate
-pub kept_stands : (texts : List (List ℕ)) (file : List ℕ) → All HasNoFeed texts → IsKept texts file → recovered file ≡ texts
+pub kept_stands : (texts : List (List ℕ)) (file : List ℕ) → All HasNoFeed texts → IsKept texts file → recovered_texts file ≡ texts
 kept_stands texts file none kept =
-    ap recovered (kept.split ∙ append_assoc (open_lines texts) (35 ∷ []) kept.rest) ∙ recovered_closed texts 35 kept.rest none (omega arith)
+    ap recovered_texts (kept.split ∙ append_assoc (open_lines texts) (35 ∷ []) kept.rest) ∙ recovered_closed texts 35 kept.rest none (omega arith)
 
 pub kept_length : (texts : List (List ℕ)) (file : List ℕ) (kept : IsKept texts file) → length file ≡ length (open_lines texts) + 1 + length kept.rest
 kept_length texts file kept = omega (arith, ap length kept.split, length-append (at_rest texts) kept.rest, length-at_rest texts)
@@ -104,7 +104,7 @@ module _ (texts : List (List ℕ)) (at : ℕ) (place : at ≡ length (open_lines
           few = omega (arith, staged.few);
         })
         by_gate (inr shut) =
-            let stands : recovered new ≡ texts = ap recovered (gate_torn new torn) ∙ recovered_closed texts (get_or new at 0) behind none shut in
+            let stands : recovered_texts new ≡ texts = ap recovered_texts (gate_torn new torn) ∙ recovered_closed texts (get_or new at 0) behind none shut in
             record {
               lines = inl stands;
               short = omega (arith, staged_length, staged.few, torn.no_longer, ap (λ (all : List (List ℕ)). length (open_lines all)) stands);

@@ -3,7 +3,7 @@ use Rattle.std.proofs.Common.{◌≡◌, ◌≢◌, ◌⊎◌, inl, inr, ℕ, ze
 use Rattle.std.proofs.lemmas.Bool.{cases_eq, eqb-false, ne_eqb, cond-false, cond_both}
 use Rattle.std.proofs.lemmas.List.{append-nil}
 use Rattle.std.proofs.lemmas.List.Elements.{All-nil, All-cons, All-head, All-tail, All-take}
-use Rattle.mds_journal.specs.Lines.{HasNoFeed, with_first, whole_lines, open_texts, recovered, open_lines, at_rest}
+use Rattle.mds_journal.specs.Lines.{HasNoFeed, with_first, whole_lines, open_texts, recovered_texts, open_lines, at_rest}
 
 -- a byte that is no line feed
 abbrev IsOther : ℕ → Type 0
@@ -27,11 +27,11 @@ no_line [] none = refl
 no_line (c ∷ text) none = other_first c text (All-head IsOther c text none) ∙ ap (with_first c) (no_line text (All-tail IsOther c text none))
 
 -- a whole open line in front adds its text
-pub recovered_line : (text rest : List ℕ) → HasNoFeed text → recovered (32 ∷ (text ++ 10 ∷ rest)) ≡ text ∷ recovered rest
+pub recovered_line : (text rest : List ℕ) → HasNoFeed text → recovered_texts (32 ∷ (text ++ 10 ∷ rest)) ≡ text ∷ recovered_texts rest
 recovered_line text rest none = ap (λ (lines : List (List ℕ)). open_texts (with_first 32 lines)) (text_line text rest none)
 
 -- an open line with no line feed stands for nothing
-pub recovered_torn : (text : List ℕ) → HasNoFeed text → recovered (32 ∷ text) ≡ []
+pub recovered_torn : (text : List ℕ) → HasNoFeed text → recovered_texts (32 ∷ text) ≡ []
 recovered_torn text none = ap (λ (lines : List (List ℕ)). open_texts (with_first 32 lines)) (no_line text none)
 
 shut_first : (gate : ℕ) (lines : List (List ℕ)) → gate ≢ 32 → open_texts (with_first gate lines) ≡ []
@@ -39,7 +39,7 @@ shut_first gate [] shut = refl
 shut_first gate (line ∷ lines) shut = cond-false (gate == 32) (line ∷ open_texts lines) [] (ne_eqb gate 32 shut)
 
 -- behind a gate that isn't open nothing counts
-pub recovered_shut : (gate : ℕ) (rest : List ℕ) → gate ≢ 32 → recovered (gate ∷ rest) ≡ []
+pub recovered_shut : (gate : ℕ) (rest : List ℕ) → gate ≢ 32 → recovered_texts (gate ∷ rest) ≡ []
 recovered_shut gate rest shut =
     cond_both (gate == 10) ([] ∷ whole_lines rest) (with_first gate (whole_lines rest)) (λ (lines : List (List ℕ)). open_texts lines ≡ [])
     (λ feed. refl) (λ other. shut_first gate (whole_lines rest) shut)
@@ -47,24 +47,24 @@ recovered_shut gate rest shut =
 -- ---- many lines
 
 -- open lines and a rest stand for the texts of the lines and what the rest stands for
-pub recovered_lines : (texts : List (List ℕ)) (rest : List ℕ) → All HasNoFeed texts → recovered (open_lines texts ++ rest) ≡ texts ++ recovered rest
+pub recovered_lines : (texts : List (List ℕ)) (rest : List ℕ) → All HasNoFeed texts → recovered_texts (open_lines texts ++ rest) ≡ texts ++ recovered_texts rest
 recovered_lines [] rest none = refl
 recovered_lines (text ∷ texts) rest none =
-    ap (λ (bytes : List ℕ). recovered (32 ∷ bytes)) (append_assoc text (10 ∷ open_lines texts) rest)
+    ap (λ (bytes : List ℕ). recovered_texts (32 ∷ bytes)) (append_assoc text (10 ∷ open_lines texts) rest)
     ∙ recovered_line text (open_lines texts ++ rest) (All-head HasNoFeed text texts none)
     ∙ ap (λ (more : List (List ℕ)). text ∷ more) (recovered_lines texts rest (All-tail HasNoFeed text texts none))
 
 -- the same, where the rest stands for nothing
-pub recovered_end : (texts : List (List ℕ)) (end : List ℕ) → All HasNoFeed texts → recovered end ≡ [] → recovered (open_lines texts ++ end) ≡ texts
+pub recovered_end : (texts : List (List ℕ)) (end : List ℕ) → All HasNoFeed texts → recovered_texts end ≡ [] → recovered_texts (open_lines texts ++ end) ≡ texts
 recovered_end texts end none nothing =
     recovered_lines texts end none ∙ ap (λ (more : List (List ℕ)). texts ++ more) nothing ∙ append-nil texts
 
 -- no other texts fit
-pub recovered_is : (file end : List ℕ) (texts : List (List ℕ)) → All HasNoFeed texts → file ≡ open_lines texts ++ end → recovered end ≡ [] → recovered file ≡ texts
-recovered_is file end texts none split nothing = ap recovered split ∙ recovered_end texts end none nothing
+pub recovered_is : (file end : List ℕ) (texts : List (List ℕ)) → All HasNoFeed texts → file ≡ open_lines texts ++ end → recovered_texts end ≡ [] → recovered_texts file ≡ texts
+recovered_is file end texts none split nothing = ap recovered_texts split ∙ recovered_end texts end none nothing
 
 -- a closed gate ends them, whatever stands behind it
-pub recovered_closed : (texts : List (List ℕ)) (gate : ℕ) (rest : List ℕ) → All HasNoFeed texts → gate ≢ 32 → recovered (open_lines texts ++ gate ∷ rest) ≡ texts
+pub recovered_closed : (texts : List (List ℕ)) (gate : ℕ) (rest : List ℕ) → All HasNoFeed texts → gate ≢ 32 → recovered_texts (open_lines texts ++ gate ∷ rest) ≡ texts
 recovered_closed texts gate rest none shut = recovered_end texts (gate ∷ rest) none (recovered_shut gate rest shut)
 
 pub open_lines-append : (xs ys : List (List ℕ)) → open_lines (xs ++ ys) ≡ open_lines xs ++ open_lines ys
@@ -98,7 +98,7 @@ open_have_no_feed ((gate ∷ text) ∷ lines) none =
     (λ is. All-cons HasNoFeed text (open_texts lines) (All-tail IsOther gate text (All-head HasNoFeed (gate ∷ text) lines none)) (open_have_no_feed lines (All-tail HasNoFeed (gate ∷ text) lines none)))
     (λ shut. All-nil HasNoFeed)
 
-pub texts_have_no_feed : (file : List ℕ) → All HasNoFeed (recovered file)
+pub texts_have_no_feed : (file : List ℕ) → All HasNoFeed (recovered_texts file)
 texts_have_no_feed file = open_have_no_feed (whole_lines file) (lines_have_no_feed file)
 
 -- ---- a file is open lines and an end
@@ -122,20 +122,20 @@ first_feed (c ∷ bytes) = elim (cases_eq c 10) [
 
 pub record Parts (file : List ℕ) : Type 0 where
   pub end : List ℕ
-  pub split : file ≡ open_lines (recovered file) ++ end
-  pub nothing : recovered end ≡ []
+  pub split : file ≡ open_lines (recovered_texts file) ++ end
+  pub nothing : recovered_texts end ≡ []
 
-end_parts : (file : List ℕ) → recovered file ≡ [] → Parts file
+end_parts : (file : List ℕ) → recovered_texts file ≡ [] → Parts file
 end_parts file none = record { end = file; split = ap (λ (texts : List (List ℕ)). open_lines texts ++ file) (sym none); nothing = none }
 
 line_parts : (line rest : List ℕ) → HasNoFeed line → Parts rest → Parts (32 ∷ (line ++ 10 ∷ rest))
 line_parts line rest none p =
-    let texts : recovered (32 ∷ (line ++ 10 ∷ rest)) ≡ line ∷ recovered rest = recovered_line line rest none in
+    let texts : recovered_texts (32 ∷ (line ++ 10 ∷ rest)) ≡ line ∷ recovered_texts rest = recovered_line line rest none in
     record {
       end = p.end;
       split =
           ap (λ (bytes : List ℕ). 32 ∷ (line ++ 10 ∷ bytes)) p.split
-          ∙ ap (λ (bytes : List ℕ). 32 ∷ bytes) (sym (append_assoc line (10 ∷ open_lines (recovered rest)) p.end))
+          ∙ ap (λ (bytes : List ℕ). 32 ∷ bytes) (sym (append_assoc line (10 ∷ open_lines (recovered_texts rest)) p.end))
           ∙ ap (λ (all : List (List ℕ)). open_lines all ++ p.end) (sym texts);
       nothing = p.nothing;
     }
@@ -156,15 +156,15 @@ pub parts : (file : List ℕ) → Parts file
 parts file = parts_within (length file) file (omega arith)
 
 -- the front of an end that stands for nothing stands for nothing
-pub front_nothing : (n : ℕ) (end : List ℕ) → recovered end ≡ [] → recovered (take n end) ≡ []
+pub front_nothing : (n : ℕ) (end : List ℕ) → recovered_texts end ≡ [] → recovered_texts (take n end) ≡ []
 front_nothing zero end nothing = refl
 front_nothing (suc n) [] nothing = refl
 front_nothing (suc n) (gate ∷ bytes) nothing = elim (cases_eq gate 32) [
-  | inl is_open ↦ subst (λ (g : ℕ). recovered (g ∷ take n bytes) ≡ []) (sym is_open) (elim (first_feed bytes) [
+  | inl is_open ↦ subst (λ (g : ℕ). recovered_texts (g ∷ take n bytes) ≡ []) (sym is_open) (elim (first_feed bytes) [
     | inl none ↦ recovered_torn (take n bytes) (All-take IsOther n bytes none)
     | inr first ↦
-        let texts : recovered (gate ∷ bytes) ≡ first.line ∷ recovered first.rest =
-        ap (λ (g : ℕ). recovered (g ∷ bytes)) is_open ∙ ap (λ (all : List ℕ). recovered (32 ∷ all)) first.split ∙ recovered_line first.line first.rest first.none in
+        let texts : recovered_texts (gate ∷ bytes) ≡ first.line ∷ recovered_texts first.rest =
+        ap (λ (g : ℕ). recovered_texts (g ∷ bytes)) is_open ∙ ap (λ (all : List ℕ). recovered_texts (32 ∷ all)) first.split ∙ recovered_line first.line first.rest first.none in
         absurd (cc (texts, nothing))
   ])
   | inr shut ↦ recovered_shut gate (take n bytes) shut

@@ -4,7 +4,7 @@ use Rattle.std.proofs.lemmas.Bool.{cond-true}
 use Rattle.std.proofs.lemmas.List.{take_at, drop_at, drop_more, drop_all, take_rest, length-take-le}
 use Rattle.std.proofs.lemmas.List.Elements.{All-push}
 use Rattle.mds_journal.specs.Device.{ReadsAt}
-use Rattle.mds_journal.specs.Lines.{HasNoFeed, recovered, open_lines}
+use Rattle.mds_journal.specs.Lines.{HasNoFeed, recovered_texts, open_lines}
 use Rattle.mds_journal.specs.Opening.{AreLines, GoesOn, IsTooLong, IsFound}
 use Rattle.mds_journal.specs.declared.opening.Found.TheVariants.{Line, Shut, More}
 use Rattle.mds_journal.proofs.LineLemmas.{recovered_line, recovered_torn, recovered_shut, open_lines-append}
@@ -45,15 +45,15 @@ found_more [] some is_open none = absurd (omega arith)
 found_more (gate ∷ bytes) some is_open none = inr (bytes, ap (λ (g : ℕ). g ∷ bytes) is_open, none)
 
 -- where no more comes, an open line that isn't whole stands for nothing
-pub more_nothing : (bytes : List ℕ) → IsFound bytes More → recovered bytes ≡ []
-more_nothing bytes (inl none) = ap recovered none
-more_nothing bytes (inr torn) = ap recovered torn.1 ∙ recovered_torn torn.0 torn.2
+pub more_nothing : (bytes : List ℕ) → IsFound bytes More → recovered_texts bytes ≡ []
+more_nothing bytes (inl none) = ap recovered_texts none
+more_nothing bytes (inr torn) = ap recovered_texts torn.1 ∙ recovered_torn torn.0 torn.2
 
 module _ (file : List ℕ) (end : ℕ) (held : List ℕ) (ahead : GoesOn file end held) where
   -- behind a gate that isn't open nothing counts
-  pub shut_nothing : IsFound held Shut → recovered (drop end file) ≡ []
+  pub shut_nothing : IsFound held Shut → recovered_texts (drop end file) ≡ []
   shut_nothing found =
-      ap recovered (ahead.split ∙ ap (λ (all : List ℕ). all ++ ahead.rest) found.2) ∙ recovered_shut found.0 (found.1 ++ ahead.rest) found.3
+      ap recovered_texts (ahead.split ∙ ap (λ (all : List ℕ). all ++ ahead.rest) found.2) ∙ recovered_shut found.0 (found.1 ++ ahead.rest) found.3
 
   -- bytes at hand that are too many for a line
   pub more_too_long : (limit : ℕ) → IsFound held More → limit + 1 < length held → IsTooLong limit (drop end file)
@@ -114,8 +114,8 @@ module _ (file : List ℕ) (end : ℕ) (held : List ℕ) (ahead : GoesOn file en
     next_unread =
         sym (drop-drop (size + 2) end file) ∙ ap (λ (all : List ℕ). drop (size + 2) all) line_first ∙ drop_at line after (size + 2) line_length
 
-    pub next_recovered : recovered (drop end file) ≡ text ∷ recovered (drop (end + (size + 2)) file)
-    next_recovered = ap recovered unread_is ∙ recovered_line text after found.2 ∙ ap (λ (all : List ℕ). text ∷ recovered all) (sym next_unread)
+    pub next_recovered : recovered_texts (drop end file) ≡ text ∷ recovered_texts (drop (end + (size + 2)) file)
+    next_recovered = ap recovered_texts unread_is ∙ recovered_line text after found.2 ∙ ap (λ (all : List ℕ). text ∷ recovered_texts all) (sym next_unread)
 
     pub next_within : end + (size + 2) ≤ length file
     next_within = omega (arith, length-drop end file, ap length line_first, length-append line after, line_length)

@@ -4,17 +4,17 @@ use Rattle.std.proofs.lemmas.Bool.{cases_eq}
 use Rattle.std.proofs.lemmas.List.{take_all, drop_all, length-take-le}
 use Rattle.std.proofs.lemmas.List.Elements.{All-nil}
 use Rattle.mds_journal.specs.Device.{Holds, Torn, TornFrom, Cut, Follows, Only, Elapses, LeavesOnly, Untouched}
-use Rattle.mds_journal.specs.Lines.{recovered, open_lines, at_rest}
+use Rattle.mds_journal.specs.Lines.{recovered_texts, open_lines, at_rest}
 use Rattle.mds_journal.specs.Journal.{IsKept}
 use Rattle.mds_journal.specs.Opening.{AreLines, KeepsLines, IsReadToEnd}
 use Rattle.mds_journal.proofs.MomentLemmas.{started, goes_on, weaker, and_then, after_none}
 use Rattle.mds_journal.proofs.LineLemmas.{recovered_end, recovered_torn, recovered_shut, front_nothing}
 
 -- no more than one byte is no line
-short_nothing : (bytes : List ℕ) → length bytes ≤ 1 → recovered bytes ≡ []
+short_nothing : (bytes : List ℕ) → length bytes ≤ 1 → recovered_texts bytes ≡ []
 short_nothing [] short = refl
 short_nothing (a ∷ []) short = elim (cases_eq a 32) [
-  | inl is_open ↦ ap (λ (gate : ℕ). recovered (gate ∷ [])) is_open ∙ recovered_torn [] (All-nil (λ (byte : ℕ). byte ≢ 10))
+  | inl is_open ↦ ap (λ (gate : ℕ). recovered_texts (gate ∷ [])) is_open ∙ recovered_torn [] (All-nil (λ (byte : ℕ). byte ≢ 10))
   | inr shut ↦ recovered_shut a [] shut
 ]
 short_nothing (a ∷ b ∷ bytes) short = absurd (omega arith)
@@ -29,7 +29,7 @@ pub kept_rest : (texts : List (List ℕ)) → IsKept texts (at_rest texts)
 kept_rest texts = record { rest = []; split = sym (append-nil (at_rest texts)); few = omega arith }
 
 -- the same texts, and no longer than the old end or the new one
-keeps : (file c : List ℕ) → recovered c ≡ recovered file → length c ≤ max (length file) (length (open_lines (recovered file)) + 1) → KeepsLines file c
+keeps : (file c : List ℕ) → recovered_texts c ≡ recovered_texts file → length c ≤ max (length file) (length (open_lines (recovered_texts file)) + 1) → KeepsLines file c
 keeps file c same short = record {
   lines = same;
   short = λ was. omega (arith, was, short, ap (λ (texts : List (List ℕ)). length (open_lines texts)) same);
@@ -39,7 +39,7 @@ keeps file c same short = record {
 pub keeps_itself : (file : List ℕ) → KeepsLines file file
 keeps_itself file = record { lines = refl; short = λ was. was }
 
-module _ (file : List ℕ) (end : ℕ) (within : end ≤ length file) (lines : AreLines (take end file)) (nothing : recovered (drop end file) ≡ []) where
+module _ (file : List ℕ) (end : ℕ) (within : end ≤ length file) (lines : AreLines (take end file)) (nothing : recovered_texts (drop end file) ≡ []) where
   abbrev texts : List (List ℕ)
   texts = lines.texts
 
@@ -49,14 +49,14 @@ module _ (file : List ℕ) (end : ℕ) (within : end ≤ length file) (lines : A
   split : file ≡ open_lines texts ++ tail
   split = sym (take-append-drop end file) ∙ ap (λ (all : List ℕ). all ++ tail) lines.split
 
-  pub stands : recovered file ≡ texts
-  stands = ap recovered split ∙ recovered_end texts tail lines.none nothing
+  pub stands : recovered_texts file ≡ texts
+  stands = ap recovered_texts split ∙ recovered_end texts tail lines.none nothing
 
   lines_length : length (open_lines texts) ≡ end
   lines_length = sym (ap length lines.split) ∙ length-take-le end file within
 
   -- the lines end where the reading did
-  pub end_is : end ≡ length (open_lines (recovered file))
+  pub end_is : end ≡ length (open_lines (recovered_texts file))
   end_is = sym (ap (λ (all : List (List ℕ)). length (open_lines all)) stands ∙ lines_length)
 
   -- any cut keeps the texts
@@ -65,7 +65,7 @@ module _ (file : List ℕ) (end : ℕ) (within : end ≤ length file) (lines : A
       let n = length c - end in
       let whole : c ≡ open_lines texts ++ take n tail =
       sym cut.front ∙ ap (λ (all : List ℕ). take (length c) all) split ∙ take_past (open_lines texts) tail (length c) n (omega (arith, cut.no_shorter, within, lines_length)) in
-      let same : recovered c ≡ texts = ap recovered whole ∙ recovered_end texts (take n tail) lines.none (front_nothing n tail nothing) in
+      let same : recovered_texts c ≡ texts = ap recovered_texts whole ∙ recovered_end texts (take n tail) lines.none (front_nothing n tail nothing) in
       keeps file c (same ∙ sym stands) (omega (arith, ap length cut.front, length-take (length c) file))
 
   pub cut_done : take end file ≡ open_lines texts
@@ -77,10 +77,10 @@ module _ (file : List ℕ) (end : ℕ) (within : end ≤ length file) (lines : A
       let front : take end c ≡ open_lines texts = torn.before ∙ take_all end (open_lines texts) (omega (arith, lines_length)) in
       let whole : c ≡ open_lines texts ++ drop end c = sym (take-append-drop end c) ∙ ap (λ (all : List ℕ). all ++ drop end c) front in
       let one : length (drop end c) ≤ 1 = omega (arith, length-drop end c, lines_length, torn.no_longer) in
-      let same : recovered c ≡ texts = ap recovered whole ∙ recovered_end texts (drop end c) lines.none (short_nothing (drop end c) one) in
+      let same : recovered_texts c ≡ texts = ap recovered_texts whole ∙ recovered_end texts (drop end c) lines.none (short_nothing (drop end c) one) in
       keeps file c (same ∙ sym stands) (omega (arith, torn.no_longer, lines_length, end_is))
 
-  pub written_end : (c : List ℕ) → Holds (open_lines texts) end (35 ∷ []) c → c ≡ at_rest (recovered file)
+  pub written_end : (c : List ℕ) → Holds (open_lines texts) end (35 ∷ []) c → c ≡ at_rest (recovered_texts file)
   written_end c holds =
       holds
       ∙ ap (λ (all : List ℕ). all ++ (35 ∷ []) ++ drop (end + 1) (open_lines texts)) (take_all end (open_lines texts) (omega (arith, lines_length)))
@@ -123,7 +123,7 @@ module _ {D : Type 0} (seen : D → List ℕ) (may_leave : D → List ℕ → Ty
       (weaker moment left_since kept new (TornFrom end 1 (may_leave kept)) Kept
       (λ c from. torn_end file end read.within read.lines read.done c (subst (λ (d : List ℕ). Torn end 1 d c) (only from.0 from.1 ∙ whole) from.2)) more)
 
-  pub gate_closed : (mid kept new : D) → seen mid ≡ take end file → seen kept ≡ seen mid → Holds (seen kept) end (35 ∷ []) (seen new) → seen new ≡ at_rest (recovered file)
+  pub gate_closed : (mid kept new : D) → seen mid ≡ take end file → seen kept ≡ seen mid → Holds (seen kept) end (35 ∷ []) (seen new) → seen new ≡ at_rest (recovered_texts file)
   gate_closed mid kept new is_cut same holds =
       written_end file end read.within read.lines read.done (seen new) (subst (λ (d : List ℕ). Holds d end (35 ∷ []) (seen new)) (same ∙ is_cut ∙ read.lines.split) holds)
 

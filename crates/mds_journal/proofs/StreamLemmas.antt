@@ -2,7 +2,7 @@
 use Rattle.std.proofs.Common.{◌≡◌, ℕ, ◌+◌, ◌<◌, ◌≤◌, List, ◌∷◌, ◌++◌, length, take, drop, Option, Some, None, IfSome, refl, sym, ap, ◌∙◌, subst, append_assoc, append-nil, arith, length-drop, take-add}
 use Rattle.std.proofs.lemmas.List.{take_at, drop-append-le}
 use Rattle.std.specs.Io.KnownBytes.{Consumes, IsAtEnd, Keeps, prepend_known}
-use Rattle.mds_journal.specs.Lines.{recovered}
+use Rattle.mds_journal.specs.Lines.{recovered_texts}
 use Rattle.mds_journal.specs.Opening.{GoesOn, IsTooLong, IsFound}
 use Rattle.mds_journal.specs.Stream.{HandsOut, StandsForNothing}
 use Rattle.mds_journal.specs.declared.opening.Found.TheVariants.{Line, Shut, More}
@@ -33,7 +33,7 @@ hands_out (Some rest) held size found =
     let more : size + 2 ≤ length held = omega (arith, found.0, length-drop 1 held) in
     let place : 0 + (size + 2) ≡ size + 2 = omega arith in
     next_recovered (held ++ rest) 0 held ahead size found
-    ∙ ap (λ (l : List ℕ). take size (drop 1 held) ∷ recovered l) (ap (λ (n : ℕ). drop n (held ++ rest)) place ∙ drop-append-le (size + 2) held rest more)
+    ∙ ap (λ (l : List ℕ). take size (drop 1 held) ∷ recovered_texts l) (ap (λ (n : ℕ). drop n (held ++ rest)) place ∙ drop-append-le (size + 2) held rest more)
 
 -- behind a gate that isn't open nothing counts
 pub none_behind : (known : Option (List ℕ)) (held : List ℕ) → IsFound held Shut → StandsForNothing (prepend_known held known)
@@ -43,7 +43,7 @@ none_behind (Some rest) held found = shut_nothing (held ++ rest) 0 held (goes_on
 -- nor does a line that the end cuts off
 pub none_at_end : (known : Option (List ℕ)) (held : List ℕ) → IsFound held More → IsAtEnd known → StandsForNothing (prepend_known held known)
 none_at_end None held found end = tt
-none_at_end (Some rest) held found end = ap (λ (l : List ℕ). recovered (held ++ l)) end ∙ ap recovered (append-nil held) ∙ more_nothing held found
+none_at_end (Some rest) held found end = ap (λ (l : List ℕ). recovered_texts (held ++ l)) end ∙ ap recovered_texts (append-nil held) ∙ more_nothing held found
 
 -- bytes at hand that are too many for a line
 pub more_is_too_long : (known : Option (List ℕ)) (held : List ℕ) (limit : ℕ) → IsFound held More → limit + 1 < length held → IfSome (prepend_known held known) (IsTooLong limit)
@@ -66,7 +66,7 @@ pub same_hands_out : (a b c : Option (List ℕ)) (text : List ℕ) → Keeps a b
 same_hands_out None b c text same is = tt
 same_hands_out (Some x) None c text same is = absurd same
 same_hands_out (Some x) (Some y) None text same is = absurd is
-same_hands_out (Some x) (Some y) (Some z) text same is = ap recovered (sym same) ∙ is
+same_hands_out (Some x) (Some y) (Some z) text same is = ap recovered_texts (sym same) ∙ is
 
 -- the bytes that were held, and those that a read put behind them
 pub held_and_given : (held empty joined filled cut : List ℕ) (at count : ℕ) → length held ≡ at → joined ≡ held ++ empty → take at filled ≡ take at joined

@@ -1,5 +1,6 @@
 -- What the calls of a device do to its file, to what a crash may leave, and to the past.
-use Rattle.std.specs.Prelude.{◌<◌, ◌≡◌, ◌⊎◌, ℕ, ◌+◌, ◌≤◌, min, max, List, ◌++◌, length, take, drop, Result, IsErrOf}
+use Rattle.std.specs.Prelude.{◌<◌, ◌≡◌, ◌⊎◌, ℕ, ◌+◌, ◌≤◌, min, max, List}
+use Rattle.std.specs.Prelude.{◌++◌, length, take, drop, Result, IsErrOf}
 use Rattle.mds_journal.specs.declared.device.DeviceError.{DeviceError}
 use Rattle.mds_journal.specs.declared.device.DeviceError.TheVariants.{Failed}
 
@@ -42,20 +43,23 @@ pub record ReadsAt (file : List ℕ) (at : ℕ) (old new : List ℕ) (n : ℕ) :
   pub end : n ≡ 0 → (length old ≡ 0) ⊎ (length file ≤ at)
 
 -- a call changed nothing, and took no time
-pub record Untouched {D : Type 0} (seen : D → List ℕ) (may_leave : D → List ℕ → Type 0) (moment : D → ℕ) (left_since : D → ℕ → List ℕ → Type 0) (old new : D) : Type 0 where
+pub record Untouched {D : Type 0} (seen : D → List ℕ) (may_leave : D → List ℕ → Type 0)
+    (moment : D → ℕ) (left_since : D → ℕ → List ℕ → Type 0) (old new : D) : Type 0 where
   pub file : seen new ≡ seen old
   pub outcomes : (c : List ℕ) → may_leave new c → may_leave old c
   pub time : moment new ≡ moment old
   pub past : (t : ℕ) (c : List ℕ) → left_since new t c → left_since old t c
 
 -- time goes on: a crash since t might have left what it might have before, or what it may now
-pub record Elapses (before now : ℕ) (past since : ℕ → List ℕ → Type 0) (may_leave : List ℕ → Type 0) : Type 0 where
+pub record Elapses (before now : ℕ) (past since : ℕ → List ℕ → Type 0) (may_leave : List ℕ → Type 0)
+    : Type 0 where
   pub later : before ≤ now
   pub nothing_else : (t : ℕ) (c : List ℕ) → t ≤ before → since t c → past t c ⊎ may_leave c
   pub keeps : (t : ℕ) (c : List ℕ) → t ≤ before → past t c → since t c
 
 -- a crash at any moment since old leaves a file that has P
-pub record LeavesOnly {D : Type 0} (moment : D → ℕ) (left_since : D → ℕ → List ℕ → Type 0) (old new : D) (P : List ℕ → Type 0) : Type 0 where
+pub record LeavesOnly {D : Type 0} (moment : D → ℕ) (left_since : D → ℕ → List ℕ → Type 0)
+    (old new : D) (P : List ℕ → Type 0) : Type 0 where
   pub later : moment old ≤ moment new
   pub each : (c : List ℕ) → left_since new (moment old) c → P c
   -- for a run that began earlier

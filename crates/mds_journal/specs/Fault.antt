@@ -2,7 +2,8 @@
 use Rattle.std.specs.Prelude.{ℕ, List, ◌++◌, codes}
 use Rattle.std.specs.Fmt.{decimal}
 use Rattle.mds_journal.specs.declared.fault.JournalFault.{JournalFault}
-use Rattle.mds_journal.specs.declared.fault.JournalFault.TheVariants.{Form, BadLine, TooLong, Refused, Damaged}
+use Rattle.mds_journal.specs.declared.fault.JournalFault.TheVariants.{Form, BadLine, TooLong}
+use Rattle.mds_journal.specs.declared.fault.JournalFault.TheVariants.{Refused, Damaged}
 
 abbrev pub journal_fault_text : JournalFault → List ℕ
 journal_fault_text Form = codes "form"

@@ -13,7 +13,8 @@ with_first byte (line ∷ lines) = (byte ∷ line) ∷ lines
 -- the lines of some bytes that end with a line feed, each without it
 abbrev pub whole_lines : List ℕ → List (List ℕ)
 whole_lines [] = []
-whole_lines (byte ∷ bytes) = if byte == 10 then [] ∷ whole_lines bytes else with_first byte (whole_lines bytes)
+whole_lines (byte ∷ bytes) =
+    if byte == 10 then [] ∷ whole_lines bytes else with_first byte (whole_lines bytes)
 
 -- the texts of the lines up to the first whose gate isn't open
 abbrev pub open_texts : List (List ℕ) → List (List ℕ)
@@ -22,8 +23,8 @@ open_texts ([] ∷ lines) = []
 open_texts ((gate ∷ text) ∷ lines) = if gate == 32 then text ∷ open_texts lines else []
 
 -- what a file stands for
-abbrev pub recovered : List ℕ → List (List ℕ)
-recovered file = open_texts (whole_lines file)
+abbrev pub recovered_texts : List ℕ → List (List ℕ)
+recovered_texts file = open_texts (whole_lines file)
 
 -- open lines of these texts
 abbrev pub open_lines : List (List ℕ) → List ℕ

@@ -1,7 +1,8 @@
 -- What is known of a reader while its lines are handed out.
-use Rattle.std.specs.Prelude.{◌≡◌, ℕ, ◌^◌, ◌<◌, ◌≤◌, List, [], ◌∷◌, length, drop, Bool, true, false, Option, Some, None, IfSome, Result, Ok, Err}
+use Rattle.std.specs.Prelude.{◌≡◌, ℕ, ◌^◌, ◌<◌, ◌≤◌, List, [], ◌∷◌, length, drop, Bool}
+use Rattle.std.specs.Prelude.{true, false, Option, Some, None, IfSome, Result, Ok, Err}
 use Rattle.std.specs.Io.KnownBytes.{prepend_known}
-use Rattle.mds_journal.specs.Lines.{recovered}
+use Rattle.mds_journal.specs.Lines.{recovered_texts}
 use Rattle.mds_journal.specs.Opening.{IsTooLong}
 use Rattle.mds_journal.specs.declared.stream.StreamError.{StreamError}
 use Rattle.mds_journal.specs.declared.stream.StreamError.TheVariants.{Memory, Read, TooLong, Full}
@@ -38,13 +39,14 @@ pub record IsStream {R : Type 0} (stream : LineStream R) : Type 0 where
 abbrev pub HandsOut : Option (List ℕ) → List ℕ → Option (List ℕ) → Type 0
 HandsOut None text left = Unit {0}
 HandsOut (Some bytes) text None = ⊥
-HandsOut (Some bytes) text (Some rest) = recovered bytes ≡ text ∷ recovered rest
+HandsOut (Some bytes) text (Some rest) = recovered_texts bytes ≡ text ∷ recovered_texts rest
 
 -- in known bytes no line counts
 abbrev pub StandsForNothing : Option (List ℕ) → Type 0
-StandsForNothing known = IfSome known (λ bytes. recovered bytes ≡ [])
+StandsForNothing known = IfSome known (λ bytes. recovered_texts bytes ≡ [])
 
--- why lines can't be read on: the line of this number has more bytes than the limit, or so many lines were handed out that no more are
+-- why lines can't be read on: the line of this number has more bytes than the limit, or so many
+-- lines were handed out that no more are
 abbrev pub IsStreamFault : ℕ → ℕ → Option (List ℕ) → StreamError → Type 0
 IsStreamFault number limit known (TooLong line) = (line ≡ number) × IfSome known (IsTooLong limit)
 IsStreamFault number limit known Full = 2 ^ 62 ≤ number

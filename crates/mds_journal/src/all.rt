@@ -1,9 +1,9 @@
 //! A whole opening at once, for small files and tests.
 ghost use Rattle.std.specs.Prelude.{◌≡◌, ◌⊎◌, ◌<◌, ◌^◌, [], map, IfOk, IfErr};
 ghost use Rattle.mds_journal.specs.Device.{LeavesOnly, Untouched};
-ghost use Rattle.mds_journal.specs.Lines.{recovered};
+ghost use Rattle.mds_journal.specs.Lines.{recovered_texts};
 ghost use Rattle.mds_journal.specs.Journal.{IsSound, MayGoOn};
-ghost use Rattle.mds_journal.specs.Opening.{IsReading, KeepsLines, unread};
+ghost use Rattle.mds_journal.specs.Opening.{IsReading, KeepsLines, unread_bytes};
 
 use crate::{Device, Journal, OpenError, Opening};
 use std::alloc::Global;
@@ -21,11 +21,11 @@ pub fn read_all<D: Device>(
     requires usable { D.may_be_used device }
     requires limit { longest < 2 ^ 62 }
     ensures lines { IfOk result (λ opened. D.is_true opened.0.device
-        → map (λ line. line.items) opened.1.items ≡ recovered (D.seen device)) }
+        → map (λ line. line.items) opened.1.items ≡ recovered_texts (D.seen device)) }
     ensures sound { IfOk result (λ opened.
         IsSound D.seen D.may_leave D.may_be_used D.is_true opened.0 × MayGoOn opened.0) }
     ensures same { IfOk result (λ opened. D.is_true opened.0.device
-        → recovered (D.seen opened.0.device) ≡ recovered (D.seen device)) }
+        → recovered_texts (D.seen opened.0.device) ≡ recovered_texts (D.seen device)) }
 
     // A crash at any moment leaves what one before might have left, or the same lines.
     ensures any_moment { IfOk result (λ opened. D.is_true opened.0.device
@@ -53,9 +53,10 @@ fn read_lines<D: Device>(alloc: Global, opening: &mut Opening<D>) -> Result<Vec<
     requires { IsReading D.seen D.may_leave D.may_be_used D.is_true opening.old }
     ensures reading { IsReading D.seen D.may_leave D.may_be_used D.is_true opening.new }
     ensures lines { IfOk result (λ lines. D.is_true opening.new.device
-        → map (λ line. line.items) lines.items ≡ recovered (unread D.seen opening.old)) }
+        → map (λ line. line.items) lines.items
+        ≡ recovered_texts (unread_bytes D.seen opening.old)) }
     ensures done { IfOk result (λ lines. D.is_true opening.new.device
-        → recovered (unread D.seen opening.new) ≡ []) }
+        → recovered_texts (unread_bytes D.seen opening.new) ≡ []) }
     ensures untouched { D.is_true opening.new.device → Untouched D.seen D.may_leave D.moment
         D.left_since opening.old.device opening.new.device }
     ensures was_true { D.is_true opening.new.device → D.is_true opening.old.device }

@@ -1,7 +1,7 @@
 //! Lines that are to be added to a journal together.
 ghost use Rattle.std.specs.Prelude.{◌≡◌, ◌+◌, ◌<◌, ◌≤◌, ◌↔◌, [], ◌∷◌, ◌++◌, length, take};
 ghost use Rattle.std.specs.Prelude.{IsErrOf, IsTrue, IfOk, OnOk, OnErr, IfNone, IfSome, slice_index};
-ghost use Rattle.mds_journal.specs.Lines.{HasNoFeed, at_rest, recovered};
+ghost use Rattle.mds_journal.specs.Lines.{HasNoFeed, at_rest, recovered_texts};
 
 use memchr::memchr;
 use std::alloc::{AllocError, Global};
@@ -42,14 +42,14 @@ pub struct Group {
 
 impl Model for Group {
     ghost use Rattle.std.specs.Prelude.{◌≡◌, ◌≤◌, ℕ, List, length};
-    ghost use Rattle.mds_journal.specs.Lines.{at_rest, recovered};
+    ghost use Rattle.mds_journal.specs.Lines.{at_rest, recovered_texts};
     ghost use Rattle.mds_journal.specs.declared.group.TheConstants.{MAX_GROUP_BYTES};
 
     ghost Value = { List (List ℕ) };
 
-    ghost view = { λ group. recovered group.bytes.items };
+    ghost view = { λ group. recovered_texts group.bytes.items };
 
-    ghost invariant = { λ group. (group.bytes.items ≡ at_rest (recovered group.bytes.items))
+    ghost invariant = { λ group. (group.bytes.items ≡ at_rest (recovered_texts group.bytes.items))
         × (length group.bytes.items ≤ MAX_GROUP_BYTES) };
 }
 
@@ -115,7 +115,7 @@ impl Group {
     }
 
     pub(crate) fn bytes(&self) -> &[u8]
-        ensures texts { recovered result.now ≡ self.now }
+        ensures texts { recovered_texts result.now ≡ self.now }
         ensures at_rest { result.now ≡ at_rest self.now }
         ensures short { length result.now ≤ MAX_GROUP_BYTES }
     {

@@ -2,7 +2,7 @@
 ghost use Rattle.std.specs.Prelude.{◌≡◌, ◌≢◌, ◌++◌, ◌+◌, ◌<◌, ◌≤◌, ◌↔◌, [], length};
 ghost use Rattle.std.specs.Prelude.{IsErrOf, OnOk, IfErr, Err};
 ghost use Rattle.mds_journal.specs.Device.{LeavesOnly};
-ghost use Rattle.mds_journal.specs.Lines.{recovered, open_lines, at_rest};
+ghost use Rattle.mds_journal.specs.Lines.{recovered_texts, open_lines, at_rest};
 ghost use Rattle.mds_journal.specs.Journal.{IsSound, IsLost, MayGoOn, StandsFor, IsBeforeOrAfter};
 ghost use Rattle.mds_journal.specs.Journal.{HasFailed, IsNotWritten, IsUnknown, IsRefusal};
 
@@ -52,18 +52,20 @@ impl<D: Device> Journal<D> {
 
         ensures sound { IsSound D.seen D.may_leave D.may_be_used D.is_true self.new }
         ensures acknowledged { OnOk result (MayGoOn self.new × (D.is_true self.new.device
-            → StandsFor D.seen D.may_leave (recovered (D.seen self.old.device) ++ group.now)
+            → StandsFor D.seen D.may_leave (recovered_texts (D.seen self.old.device) ++ group.now)
             self.new.device)) }
 
         // A crash at any moment of the call leaves the lines from before it, or those with the whole group.
         ensures any_moment { MayGoOn self.old → D.is_true self.new.device
             → LeavesOnly D.moment D.left_since self.old.device self.new.device
-            (IsBeforeOrAfter (recovered (D.seen self.old.device)) group.now) }
+            (IsBeforeOrAfter (recovered_texts (D.seen self.old.device)) group.now) }
 
         // After a write that failed the same lines are there, and the journal may go on.
         ensures not_written { IfErr result (λ error. IsNotWritten error
-            → MayGoOn self.new × (D.is_true self.new.device
-            → StandsFor D.seen D.may_leave (recovered (D.seen self.old.device)) self.new.device)) }
+            → MayGoOn self.new
+            × (D.is_true self.new.device
+            → StandsFor D.seen D.may_leave
+            (recovered_texts (D.seen self.old.device)) self.new.device)) }
         ensures unknown { IfErr result (λ error. IsUnknown error → IsLost self.new) }
         ensures refused { IfErr result (λ error. IsRefusal error → self.new ≡ self.old) }
 
@@ -71,7 +73,7 @@ impl<D: Device> Journal<D> {
         ensures failed { IfErr result (λ error. HasFailed error
             → D.faults self.old.device < D.faults self.new.device) }
         ensures full { IsErrOf result AppendError.Full → D.is_true self.new.device
-            → MAX_BYTES < length (open_lines (recovered (D.seen self.old.device)))
+            → MAX_BYTES < length (open_lines (recovered_texts (D.seen self.old.device)))
             + length (at_rest group.now) }
         ensures lost { (result ≡ Err AppendError.Lost) ↔ IsLost self.old }
 
@@ -100,14 +102,16 @@ impl<D: Device> Journal<D> {
 
         ensures sound { IsSound D.seen D.may_leave D.may_be_used D.is_true self.new }
         ensures acknowledged { OnOk result (MayGoOn self.new × (D.is_true self.new.device
-            → StandsFor D.seen D.may_leave (recovered (D.seen self.old.device) ++ group.now)
+            → StandsFor D.seen D.may_leave (recovered_texts (D.seen self.old.device) ++ group.now)
             self.new.device)) }
         ensures any_moment { D.is_true self.new.device
             → LeavesOnly D.moment D.left_since self.old.device self.new.device
-            (IsBeforeOrAfter (recovered (D.seen self.old.device)) group.now) }
+            (IsBeforeOrAfter (recovered_texts (D.seen self.old.device)) group.now) }
         ensures not_written { IfErr result (λ error. IsNotWritten error
-            → MayGoOn self.new × (D.is_true self.new.device
-            → StandsFor D.seen D.may_leave (recovered (D.seen self.old.device)) self.new.device)) }
+            → MayGoOn self.new
+            × (D.is_true self.new.device
+            → StandsFor D.seen D.may_leave
+            (recovered_texts (D.seen self.old.device)) self.new.device)) }
         ensures unknown { IfErr result (λ error. IsUnknown error → IsLost self.new) }
         ensures refused { IfErr result (λ error. IsRefusal error → ⊥) }
         ensures later { D.faults self.old.device ≤ D.faults self.new.device }

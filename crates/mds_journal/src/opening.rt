@@ -2,9 +2,9 @@
 ghost use Rattle.std.specs.Prelude.{◌≡◌, ◌≢◌, ◌++◌, ◌+◌, ◌-◌, ◌^◌, ◌<◌, ◌≤◌, [], ◌∷◌, true, false};
 ghost use Rattle.std.specs.Prelude.{length, IsErrOf, OnOk, OnErr, IfOk, IfErr, MatchBool};
 ghost use Rattle.mds_journal.specs.Device.{LeavesOnly, Untouched};
-ghost use Rattle.mds_journal.specs.Lines.{recovered};
+ghost use Rattle.mds_journal.specs.Lines.{recovered_texts};
 ghost use Rattle.mds_journal.specs.Opening.{IsReading, IsTooLong, IsFound, IfMore};
-ghost use Rattle.mds_journal.specs.Opening.{unread, at_hand, place_of, limit_of, number_of, lines_in};
+ghost use Rattle.mds_journal.specs.Opening.{unread_bytes, at_hand, place_of, limit_of, number_of, lines_in};
 
 use crate::group::{OPEN_GATE, find_feed};
 use crate::journal::MAX_BYTES;
@@ -68,7 +68,7 @@ impl<D: Device> Opening<D> {
         ensures same { IfOk result (λ opening. D.is_true opening.device
             → D.seen opening.device ≡ D.seen device) }
         ensures all { IfOk result (λ opening. D.is_true opening.device
-            → unread D.seen opening ≡ D.seen device) }
+            → unread_bytes D.seen opening ≡ D.seen device) }
         ensures limit { IfOk result (λ opening. limit_of opening ≡ longest) }
         ensures number { IfOk result (λ opening. number_of opening ≡ 0) }
 
@@ -107,19 +107,19 @@ impl<D: Device> Opening<D> {
         requires { IsReading D.seen D.may_leave D.may_be_used D.is_true self.old }
         ensures reading { IsReading D.seen D.may_leave D.may_be_used D.is_true self.new }
         ensures line { IfOk result (λ more. more ≡ true → D.is_true self.new.device
-            → recovered (unread D.seen self.old)
-            ≡ line.new.items ∷ recovered (unread D.seen self.new)) }
+            → recovered_texts (unread_bytes D.seen self.old)
+            ≡ line.new.items ∷ recovered_texts (unread_bytes D.seen self.new)) }
         ensures done { IfOk result (λ more. more ≡ false → D.is_true self.new.device
-            → (recovered (unread D.seen self.old) ≡ [])
-            × (unread D.seen self.new ≡ unread D.seen self.old)) }
+            → (recovered_texts (unread_bytes D.seen self.old) ≡ [])
+            × (unread_bytes D.seen self.new ≡ unread_bytes D.seen self.old)) }
         ensures further { IfOk result (λ more. more ≡ true
             → place_of self.old < place_of self.new) }
         ensures within { IfOk result (λ more. more ≡ true
             → length line.new.items ≤ limit_of self.old) }
         ensures err { OnErr result (D.is_true self.new.device
-            → unread D.seen self.new ≡ unread D.seen self.old) }
+            → unread_bytes D.seen self.new ≡ unread_bytes D.seen self.old) }
         ensures too_long { IsErrOf result OpenError.TooLong → D.is_true self.new.device
-            → IsTooLong (limit_of self.old) (unread D.seen self.old) }
+            → IsTooLong (limit_of self.old) (unread_bytes D.seen self.old) }
         ensures limit { limit_of self.new ≡ limit_of self.old }
         ensures number { number_of self.new ≡ number_of self.old + lines_in result }
         ensures untouched { D.is_true self.new.device → Untouched D.seen D.may_leave D.moment
@@ -167,12 +167,12 @@ impl<D: Device> Opening<D> {
         ensures reading { IsReading D.seen D.may_leave D.may_be_used D.is_true self.new }
         ensures found { IfOk result (λ found. IsFound (at_hand self.new) found) }
         ensures whole { IfOk result (λ found. IfMore found (D.is_true self.new.device
-            → unread D.seen self.new ≡ at_hand self.new)) }
+            → unread_bytes D.seen self.new ≡ at_hand self.new)) }
         ensures end { self.new.end ≡ self.old.end }
         ensures limit { self.new.longest ≡ self.old.longest }
         ensures number { self.new.count ≡ self.old.count }
         ensures too_long { IsErrOf result OpenError.TooLong → D.is_true self.new.device
-            → IsTooLong self.old.longest (unread D.seen self.new) }
+            → IsTooLong self.old.longest (unread_bytes D.seen self.new) }
         ensures untouched { D.is_true self.new.device → Untouched D.seen D.may_leave D.moment
             D.left_since self.old.device self.new.device }
         ensures was_true { D.is_true self.new.device → D.is_true self.old.device }
@@ -207,7 +207,7 @@ impl<D: Device> Opening<D> {
             (length (at_hand self.old) < length (at_hand self.new))
             (at_hand self.new ≡ at_hand self.old)) }
         ensures whole { IfOk result (λ more. more ≡ false → D.is_true self.new.device
-            → unread D.seen self.new ≡ at_hand self.new) }
+            → unread_bytes D.seen self.new ≡ at_hand self.new) }
         ensures end { self.new.end ≡ self.old.end }
         ensures limit { self.new.longest ≡ self.old.longest }
         ensures number { self.new.count ≡ self.old.count }
@@ -246,8 +246,8 @@ impl<D: Device> Opening<D> {
         ensures reading { IsReading D.seen D.may_leave D.may_be_used D.is_true self.new }
         ensures ok { IfOk result (λ more. more ≡ true) }
         ensures line { OnOk result (D.is_true self.new.device
-            → recovered (unread D.seen self.old)
-            ≡ line.new.items ∷ recovered (unread D.seen self.new)) }
+            → recovered_texts (unread_bytes D.seen self.old)
+            ≡ line.new.items ∷ recovered_texts (unread_bytes D.seen self.new)) }
         ensures further { OnOk result (self.old.end < self.new.end) }
         ensures within { OnOk result (length line.new.items ≤ self.old.longest) }
         ensures device { self.new.device ≡ self.old.device }
@@ -255,7 +255,7 @@ impl<D: Device> Opening<D> {
         ensures number { self.new.count ≡ self.old.count + lines_in result }
         ensures err { OnErr result (self.new.end ≡ self.old.end) }
         ensures too_long { IsErrOf result OpenError.TooLong → D.is_true self.old.device
-            → IsTooLong self.old.longest (unread D.seen self.old) }
+            → IsTooLong self.old.longest (unread_bytes D.seen self.old) }
         ensures only { IfErr result (λ error. (error ≢ OpenError.Damaged)
             × (error ≢ OpenError.Device DeviceError.Failed)) }
     {

@@ -1,9 +1,9 @@
 //! The end of a file, which is repaired once its lines are read.
 ghost use Rattle.std.specs.Prelude.{◌≡◌, ◌<◌, ◌≤◌, ◌^◌, [], OnOk, IfOk, IfErr, IsErrOf};
 ghost use Rattle.mds_journal.specs.Device.{Only, LeavesOnly, Untouched};
-ghost use Rattle.mds_journal.specs.Lines.{recovered, at_rest};
+ghost use Rattle.mds_journal.specs.Lines.{recovered_texts, at_rest};
 ghost use Rattle.mds_journal.specs.Journal.{IsSound, MayGoOn, HasShortEnd};
-ghost use Rattle.mds_journal.specs.Opening.{IsReading, IsReadToEnd, KeepsLines, unread};
+ghost use Rattle.mds_journal.specs.Opening.{IsReading, IsReadToEnd, KeepsLines, unread_bytes};
 
 use crate::group::CLOSED_GATE;
 use crate::step::{Step, write_and_sync};
@@ -20,11 +20,11 @@ impl<D: Device> Opening<D> {
     /// a call failed. The device comes back.
     pub fn finish(self) -> Result<Journal<D>, (OpenError, D)>
         requires reading { IsReading D.seen D.may_leave D.may_be_used D.is_true self }
-        requires done { D.is_true self.device → recovered (unread D.seen self) ≡ [] }
+        requires done { D.is_true self.device → recovered_texts (unread_bytes D.seen self) ≡ [] }
         ensures sound { IfOk result (IsSound D.seen D.may_leave D.may_be_used D.is_true) }
         ensures ready { IfOk result MayGoOn }
         ensures at_rest { IfOk result (λ journal. D.is_true journal.device
-            → D.seen journal.device ≡ at_rest (recovered (D.seen self.device))) }
+            → D.seen journal.device ≡ at_rest (recovered_texts (D.seen self.device))) }
         ensures durable { IfOk result (λ journal. D.is_true journal.device
             → Only (D.seen journal.device) (D.may_leave journal.device)) }
 
@@ -82,7 +82,7 @@ fn close_end<D: Device>(device: &mut D, end: usize) -> Result<(), DeviceError>
     requires usable { D.may_be_used device.old }
     requires read { D.is_true device.old → IsReadToEnd D.seen D.may_leave end device.old }
     ensures at_rest { OnOk result (D.is_true device.new
-        → D.seen device.new ≡ at_rest (recovered (D.seen device.old))) }
+        → D.seen device.new ≡ at_rest (recovered_texts (D.seen device.old))) }
     ensures durable { OnOk result (D.is_true device.new
         → Only (D.seen device.new) (D.may_leave device.new)) }
     ensures any_moment { D.is_true device.new

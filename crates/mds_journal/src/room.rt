@@ -1,7 +1,7 @@
 //! Room ahead: bytes behind the closed gate, so that a group is written over what the file has already.
 ghost use Rattle.std.specs.Prelude.{◌≡◌, ◌≤◌, length};
 ghost use Rattle.mds_journal.specs.Device.{LeavesOnly};
-ghost use Rattle.mds_journal.specs.Lines.{recovered};
+ghost use Rattle.mds_journal.specs.Lines.{recovered_texts};
 ghost use Rattle.mds_journal.specs.Journal.{IsSound, MayGoOn, IsKept};
 
 use crate::group::LINE_FEED;
@@ -32,12 +32,12 @@ impl<D: Device> Journal<D> {
         ensures ready { MayGoOn self.new }
         ensures end { self.new.end ≡ self.old.end }
         ensures same { D.is_true self.new.device
-            → recovered (D.seen self.new.device) ≡ recovered (D.seen self.old.device) }
+            → recovered_texts (D.seen self.new.device) ≡ recovered_texts (D.seen self.old.device) }
 
         // A crash at any moment leaves the same lines, and less than a group behind them.
         ensures any_moment { D.is_true self.new.device
             → LeavesOnly D.moment D.left_since self.old.device self.new.device
-            (IsKept (recovered (D.seen self.old.device))) }
+            (IsKept (recovered_texts (D.seen self.old.device))) }
 
         ensures later { D.faults self.old.device ≤ D.faults self.new.device }
         ensures was_true { D.is_true self.new.device → D.is_true self.old.device }

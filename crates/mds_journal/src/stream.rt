@@ -70,7 +70,8 @@ impl<R: Read> LineStream<R> {
         requires { IsStream self.old }
         ensures stream { IsStream self.new }
         ensures line { IfOk result (λ more. more ≡ true
-            → HandsOut (unread_of R.remaining self.old) line.new.items (unread_of R.remaining self.new)) }
+            → HandsOut (unread_of R.remaining self.old)
+            line.new.items (unread_of R.remaining self.new)) }
         ensures done { IfOk result (λ more. more ≡ false
             → StandsForNothing (unread_of R.remaining self.old)
             × Keeps (unread_of R.remaining self.old) (unread_of R.remaining self.new)) }
@@ -78,7 +79,8 @@ impl<R: Read> LineStream<R> {
             → length line.new.items ≤ most_of self.old) }
         ensures err { OnErr result
             (Keeps (unread_of R.remaining self.old) (unread_of R.remaining self.new)) }
-        ensures cause { IfErr result (IsStreamFault (lines_given self.old) (most_of self.old) (unread_of R.remaining self.old)) }
+        ensures cause { IfErr result (IsStreamFault (lines_given self.old)
+            (most_of self.old) (unread_of R.remaining self.old)) }
         ensures limit { most_of self.new ≡ most_of self.old }
         ensures number { lines_given self.new ≡ lines_given self.old + lines_of_stream result }
     {
@@ -102,11 +104,13 @@ impl<R: Read> LineStream<R> {
         requires { IsStream self.old }
         ensures stream { IsStream self.new }
         ensures found { IfOk result (λ found. IsFound (held_by self.new) found) }
-        ensures whole { IfOk result (λ found. IfMore found (IsAtEnd (R.remaining self.new.reader))) }
+        ensures whole { IfOk result
+            (λ found. IfMore found (IsAtEnd (R.remaining self.new.reader))) }
         ensures kept { Keeps (unread_of R.remaining self.old) (unread_of R.remaining self.new) }
         ensures limit { self.new.longest ≡ self.old.longest }
         ensures number { self.new.count ≡ self.old.count }
-        ensures cause { IfErr result (IsStreamFault (lines_given self.old) (most_of self.old) (unread_of R.remaining self.old)) }
+        ensures cause { IfErr result (IsStreamFault (lines_given self.old)
+            (most_of self.old) (unread_of R.remaining self.old)) }
     {
         'reads: loop {
             match find_line(&self.bytes[self.next..]) {
@@ -139,7 +143,8 @@ impl<R: Read> LineStream<R> {
         ensures kept { Keeps (unread_of R.remaining self.old) (unread_of R.remaining self.new) }
         ensures limit { self.new.longest ≡ self.old.longest }
         ensures number { self.new.count ≡ self.old.count }
-        ensures only { IfErr result (λ error. (error ≡ StreamError.Memory) ⊎ (error ≡ StreamError.Read)) }
+        ensures only { IfErr result
+            (λ error. (error ≡ StreamError.Memory) ⊎ (error ≡ StreamError.Read)) }
     {
         let start = self.bytes.len() - self.next;
         let room = [0u8; CHUNK_BYTES];
@@ -165,13 +170,14 @@ impl<R: Read> LineStream<R> {
         requires room { self.old.next + size + 2 ≤ length self.old.bytes.items }
         ensures stream { IsStream self.new }
         ensures ok { IfOk result (λ more. more ≡ true) }
-        ensures line { OnOk result
-            (HandsOut (unread_of R.remaining self.old) line.new.items (unread_of R.remaining self.new)) }
+        ensures line { OnOk result (HandsOut (unread_of R.remaining self.old)
+            line.new.items (unread_of R.remaining self.new)) }
         ensures within { OnOk result (length line.new.items ≤ self.old.longest) }
         ensures limit { self.new.longest ≡ self.old.longest }
         ensures number { self.new.count ≡ self.old.count + lines_of_stream result }
         ensures err { OnErr result (self.new ≡ self.old) }
-        ensures cause { IfErr result (IsStreamFault (lines_given self.old) (most_of self.old) (unread_of R.remaining self.old)) }
+        ensures cause { IfErr result (IsStreamFault (lines_given self.old)
+            (most_of self.old) (unread_of R.remaining self.old)) }
     {
         if size > self.longest {
             return Err(StreamError::TooLong(self.count));
@@ -197,8 +203,8 @@ fn read_behind<R: Read>(reader: &mut R, bytes: &mut [u8], start: usize) -> Optio
     requires { start < length bytes.old }
     ensures front { take start bytes.new ≡ take start bytes.old }
     ensures within { IfSome result (λ count. start + count ≤ length bytes.new) }
-    ensures given { IfSome result (λ count.
-        Consumes (R.remaining reader.old) (R.remaining reader.new) (take count (drop start bytes.new))) }
+    ensures given { IfSome result (λ count. Consumes (R.remaining reader.old)
+        (R.remaining reader.new) (take count (drop start bytes.new))) }
     ensures end { IfSome result (λ count. count ≡ 0 → IsAtEnd (R.remaining reader.new)) }
     ensures none { IfNone result (Keeps (R.remaining reader.old) (R.remaining reader.new)) }
 {

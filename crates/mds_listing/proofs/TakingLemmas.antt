@@ -6,7 +6,7 @@ use Rattle.mds_table.specs.Tables.{Tables}
 use Rattle.mds_core.specs.declared.request.Request.{Request}
 use Rattle.mds_entries.specs.Entry.{Tells}
 use Rattle.mds_entries.specs.Form.{form_line}
-use Rattle.mds_journal.specs.Lines.{recovered}
+use Rattle.mds_journal.specs.Lines.{recovered_texts}
 use Rattle.mds_journal.specs.Stream.{HandsOut, StandsForNothing}
 use Rattle.mds_journal.specs.Opening.{IsTooLong}
 use Rattle.mds_journal.specs.declared.fault.JournalFault.TheVariants.{Form, BadLine, TooLong, Refused, Damaged}
@@ -30,7 +30,7 @@ gives_more None middle left texts text given out = tt
 gives_more (Some bytes) None left texts text given out = absurd given
 gives_more (Some bytes) (Some some) None texts text given out = absurd out
 gives_more (Some bytes) (Some some) (Some rest) texts text given out =
-    given ∙ ap (λ more. texts ++ more) out ∙ sym (append_assoc texts (text ∷ []) (recovered rest))
+    given ∙ ap (λ more. texts ++ more) out ∙ sym (append_assoc texts (text ∷ []) (recovered_texts rest))
 
 -- at the end they are all
 gives_all : (known left : Option (List ℕ)) (texts : List (List ℕ)) → Gives known texts left → StandsForNothing left → AreTexts known texts
@@ -43,7 +43,7 @@ pub handed_out : (known kept left : Option (List ℕ)) (text : List ℕ) → Kee
 handed_out None kept left text keeps out = tt
 handed_out (Some bytes) None left text keeps out = absurd keeps
 handed_out (Some bytes) (Some same) None text keeps out = absurd out
-handed_out (Some bytes) (Some same) (Some rest) text keeps out = ap recovered (sym keeps) ∙ out
+handed_out (Some bytes) (Some same) (Some rest) text keeps out = ap recovered_texts (sym keeps) ∙ out
 
 -- what holds of known bytes holds of the same ones
 pub held_of : (P : List ℕ → Type 0) (known kept : Option (List ℕ)) → Keeps known kept → IfSome kept P → IfSome known P
@@ -124,7 +124,7 @@ line_fault tables known left number roster (Fault Damaged) so why = absurd why
 pub form_fault : (tables : Tables) (known kept : Option (List ℕ)) (error : TakeError) → Keeps known kept → IsFormFault kept error → IsJournalFault tables known error
 form_fault tables known kept Memory keeps why = tt
 form_fault tables known kept Read keeps why = tt
-form_fault tables known kept (Fault Form) keeps (inl none) = inl (held_of (λ bytes. recovered bytes ≡ []) known kept keeps none)
+form_fault tables known kept (Fault Form) keeps (inl none) = inl (held_of (λ bytes. recovered_texts bytes ≡ []) known kept keeps none)
 form_fault tables known kept (Fault Form) keeps (inr other) = inr (other.0, other.1, handed_out known kept other.1 other.0 keeps other.2, other.3, other.4)
 form_fault tables known kept (Fault (TooLong line)) keeps why = inl (why.0, held_of (IsTooLong max_bytes) known kept keeps why.1)
 form_fault tables known kept (Fault (BadLine line)) keeps why = absurd why

@@ -9,7 +9,7 @@ use Rattle.mds_core.specs.Answer.{MayBeDone}
 use Rattle.mds_core.specs.Lawful.{IsLawful}
 use Rattle.mds_entries.specs.Entry.{Tells}
 use Rattle.mds_entries.specs.Form.{form_line}
-use Rattle.mds_journal.specs.Lines.{recovered}
+use Rattle.mds_journal.specs.Lines.{recovered_texts}
 use Rattle.mds_journal.specs.Opening.{IsTooLong}
 use Rattle.mds_journal.specs.Stream.{HandsOut, StandsForNothing}
 use Rattle.mds_journal.specs.declared.stream.StreamError.{StreamError}
@@ -32,7 +32,7 @@ stream_error stream.Full = Read
 abbrev pub Gives : Option (List ℕ) → List (List ℕ) → Option (List ℕ) → Type 0
 Gives None texts left = Unit {0}
 Gives (Some bytes) texts None = ⊥
-Gives (Some bytes) texts (Some rest) = recovered bytes ≡ texts ++ recovered rest
+Gives (Some bytes) texts (Some rest) = recovered_texts bytes ≡ texts ++ recovered_texts rest
 
 -- the first line names the form
 abbrev pub BeginsWithForm : Option (List ℕ) → Option (List ℕ) → Type 0
@@ -57,7 +57,7 @@ pub record HasTold (known : Option (List ℕ)) (history : List Request) (left : 
 
 -- these are the texts that count in known bytes
 abbrev pub AreTexts : Option (List ℕ) → List (List ℕ) → Type 0
-AreTexts known texts = IfSome known (λ bytes. recovered bytes ≡ texts)
+AreTexts known texts = IfSome known (λ bytes. recovered_texts bytes ≡ texts)
 
 -- the lines that count are the form's, and others that tell these requests, in order
 abbrev pub IsTaken : Option (List ℕ) → List Request → Type 0

@@ -1,5 +1,5 @@
--- The rule of a log, and what its steps tell.
--- Each entry names the key of the pen that may add the next one. The cell of a pen that is used up is at home.
+-- The rule of a log, and what its steps tell. Each entry names the key of the pen that may add the
+-- next one. The cell of a pen that is used up is at home.
 use Rattle.std.specs.Prelude.{◌≡◌, ◌<◌, ℕ, true, List, [], ◌∷◌, ◌++◌, length}
 use Rattle.logbook.specs.Pages.{Cell, cell, Book, Named, Step, View, may_make}
 use Rattle.mds_log.specs.declared.entry.Entry.{Entry}
@@ -19,11 +19,13 @@ abbrev pub IsSpent : List Cell → List Entry → Type 0
 IsSpent cells [] = Unit {0}
 IsSpent cells (entry ∷ entries) = (cell cells (last_key entry.next entries)).1 ≡ true
 
--- the first word is the length of the log; wherever an entry follows, the pen that may have added it is used up
+-- the first word is the length of the log; wherever an entry follows, the pen that may have added
+-- it is used up
 pub record IsKept (cells : List Cell) (log : List Entry) : Type 0 where
   pub some : 0 < length cells
   pub head : cell cells 0 ≡ (length log, true)
-  pub spent : (xs : List Entry) (entry : Entry) (ys : List Entry) → xs ++ entry ∷ ys ≡ log → IsSpent cells xs
+  pub spent : (xs : List Entry) (entry : Entry) (ys : List Entry)
+      → xs ++ entry ∷ ys ≡ log → IsSpent cells xs
 
 -- the first word of a book
 abbrev pub head_of : Book → Named

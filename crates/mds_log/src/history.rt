@@ -204,7 +204,7 @@ impl BlankLog {
 
     /// The keeper of the log, under a name, and a front that has seen nothing, at the cost of one atomic instruction.
     /// `None` would mean that another has written to the log: nobody does.
-    pub fn named<J: Logged>(self) -> Option<(Keeper<J>, Front<J>)>
+    pub fn with_name<J: Logged>(self) -> Option<(Keeper<J>, Front<J>)>
         requires { self ≡ J.log }
         ensures { IfSome result (λ opened. (opened.0 ≡ []) × (opened.1 ≡ [])) }
     {

@@ -144,7 +144,7 @@ impl BlankMarks {
     }
 
     /// The marks under a name. None was handed back.
-    pub fn named<J: Marked>(self) -> Marks<J>
+    pub fn with_name<J: Marked>(self) -> Marks<J>
         requires { self ≡ J.marks }
         ensures { result ≡ [] }
     {

@@ -6,7 +6,7 @@ use Rattle.std.proofs.lemmas.List.{length-replicate, length-set, get_or-replicat
 use Rattle.std.proofs.lemmas.List.Elements.{All-replicate, All-set, AllZip-get_or}
 use Rattle.std.proofs.lemmas.Slice.Zip.{AllZip-long}
 use Rattle.mds_table.specs.Tables.{Tables}
-use Rattle.mds_book.specs.Seats.{Seated, fresh}
+use Rattle.mds_book.specs.Seats.{Seated, new_seat}
 use Rattle.mds_book.specs.Gathering.{Collected, IsGathered}
 use Rattle.mds_face.specs.Seats.{HasGrown}
 use Rattle.mds_log.specs.Log.{Acceptance}
@@ -26,19 +26,19 @@ workers_still count seats back are grown =
     )
 
 -- seats that were told nothing, and note the calls that were accepted, are workers
-pub new_workers : (count : ℕ) → AreWorkers count (replicate count (fresh false))
-new_workers count = (length-replicate count (fresh false), All-replicate (λ seat. seat.keeps_all ≡ false) count (fresh false) refl)
+pub new_workers : (count : ℕ) → AreWorkers count (replicate count (new_seat false))
+new_workers count = (length-replicate count (new_seat false), All-replicate (λ seat. seat.keeps_all ≡ false) count (new_seat false) refl)
 
 -- such seats are workers too where the first of them has asked something, and notes the same
-pub first_resumed : (count : ℕ) (seats : List Seated) (old new : Seated) → 0 < count → seats ≡ replicate count (fresh false)
+pub first_resumed : (count : ℕ) (seats : List Seated) (old new : Seated) → 0 < count → seats ≡ replicate count (new_seat false)
     → old ≡ slice_index_or seats 0 old → new.keeps_all ≡ old.keeps_all → AreWorkers count (slice_set seats 0 new)
 first_resumed count seats old new some are is keep =
     let workers : AreWorkers count seats = subst (AreWorkers count) (sym are) (new_workers count) in
-    let first : old ≡ fresh false = is ∙ (ap (λ (w : List Seated). slice_index_or w 0 old) are ∙ get_or-replicate count 0 (fresh false) old some) in
+    let first : old ≡ new_seat false = is ∙ (ap (λ (w : List Seated). slice_index_or w 0 old) are ∙ get_or-replicate count 0 (new_seat false) old some) in
     (length-set seats 0 new ∙ workers.0, All-set (λ seat. seat.keeps_all ≡ false) seats 0 new (keep ∙ ap (λ (s : Seated). s.keeps_all) first) workers.1)
 
 -- and they are resumed where it has asked what is recorded
-pub resumed : (count : ℕ) (seats : List Seated) (new : Seated) (told : List Acceptance) → 0 < count → seats ≡ replicate count (fresh false) → IsRefilled new told
+pub resumed : (count : ℕ) (seats : List Seated) (new : Seated) (told : List Acceptance) → 0 < count → seats ≡ replicate count (new_seat false) → IsRefilled new told
     → AreResumed (slice_set seats 0 new) told
 resumed zero seats new told some are refilled = absurd (omega (arith, some))
 resumed (suc others) seats new told some are refilled =

@@ -4,7 +4,7 @@ use Rattle.std.specs.Prelude.{replicate}
 use Rattle.std.specs.List.{AllZip, list_any}
 use Rattle.mds_book.specs.Seats.{Seated}
 use Rattle.mds_face.specs.Seats.{HasGrown}
-use Rattle.mds_pool.specs.Workers.{AtWork, HasWorked, idle}
+use Rattle.mds_pool.specs.Workers.{AtWork, HasWorked, idle_worker}
 use Rattle.mds_pool.proofs.SeatGrowth.{seat_stays}
 
 -- neither holds where not one of both does
@@ -13,7 +13,7 @@ neither false b none = (refl, none)
 neither true b none = (none, absurd (search (rules, none)))
 
 -- the seats of workers that have worked have grown
-pub seats_grown : (each : ℕ) (seats : List Seated) (workers : List AtWork) → AllZip (HasWorked each) (map idle seats) workers
+pub seats_grown : (each : ℕ) (seats : List Seated) (workers : List AtWork) → AllZip (HasWorked each) (map idle_worker seats) workers
     → AllZip HasGrown seats (map (λ (one : AtWork). one.seat) workers)
 seats_grown each [] [] worked = tt
 seats_grown each [] (worker ∷ workers) worked = absurd worked
@@ -21,7 +21,7 @@ seats_grown each (seat ∷ seats) [] worked = absurd worked
 seats_grown each (seat ∷ seats) (worker ∷ workers) worked = (worked.0.grown, seats_grown each seats workers worked.1)
 
 -- where the port failed no worker, each answered so many connections
-pub all_answered : (each : ℕ) (seats : List Seated) (workers : List AtWork) → AllZip (HasWorked each) (map idle seats) workers
+pub all_answered : (each : ℕ) (seats : List Seated) (workers : List AtWork) → AllZip (HasWorked each) (map idle_worker seats) workers
     → list_any (λ (one : AtWork). one.failed) workers ≡ false → map (λ (one : AtWork). one.answered) workers ≡ replicate (length seats) each
 all_answered each [] [] worked none = refl
 all_answered each [] (worker ∷ workers) worked none = absurd worked

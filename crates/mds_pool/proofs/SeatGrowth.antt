@@ -18,7 +18,7 @@ use Rattle.mds_core.specs.declared.reply.Outcome.{Outcome}
 use Rattle.mds_core.specs.declared.reply.Outcome.TheVariants.{Done, Seen, Refused}
 use Rattle.mds_settle.specs.declared.note.Note.{Note}
 use Rattle.mds_book.specs.Shards.{shard_of}
-use Rattle.mds_book.specs.Seats.{IsCalled, IsListed, Seated, noted, rises, seen_in, sees}
+use Rattle.mds_book.specs.Seats.{IsCalled, IsListed, Seated, notes_of_call, rise_of, seen_in, seen_after}
 use Rattle.mds_face.specs.Seats.{HasGrown, SeatCalls, accepted_notes}
 
 -- the accepted notes of two lists are those of one and of the other
@@ -61,7 +61,7 @@ counted p x false false false is = refl
 
 -- what a call adds to the count of a shard is what its note, if it has one, adds to the accepted notes there
 noted_rises : (shard : ℕ) (all : Bool) (request : Request) (reply : Reply)
-    → rises shard (shard_of (key_of request)) reply ≡ accepted_notes shard (noted all request reply)
+    → rise_of shard (shard_of (key_of request)) reply ≡ accepted_notes shard (notes_of_call all request reply)
 noted_rises shard all request reply =
     counted (λ (note : Note). (shard == note.shard) && is_done note.reply.outcome) (record { shard = shard_of (key_of request); request = request; reply = reply })
     (shard == shard_of (key_of request)) (is_done reply.outcome) all refl
@@ -74,7 +74,7 @@ next_begins before request (Refused refusal) = prefix_self before
 
 -- what had been seen of a shard is a beginning of what is seen of it after a call, in this shard or in another
 seen_begins : (shard number : ℕ) (before : List Request) (request : Request) (reply : Reply) (old : List Request) → (shard ≡ number → IsPrefix old before)
-    → IsPrefix old (sees shard number before request reply old)
+    → IsPrefix old (seen_after shard number before request reply old)
 seen_begins shard number before request reply old begins = by_test (shard == number) refl where
   by_test : (b : Bool) → (shard == number) ≡ b → IsPrefix old (if b then next before request reply.outcome else old)
   by_test true same = prefix_trans old before (next before request reply.outcome) (begins (grind (arith, nat_tests))) (next_begins before request reply.outcome)
@@ -83,7 +83,7 @@ seen_begins shard number before request reply old begins = by_test (shard == num
 -- a call adds to the counts, to the notes and to what is seen
 pub call_grows : (tables : Tables) (seat : Seated) (request : Request) (reply : Reply) (new : Seated) → IsCalled tables seat request reply new → HasGrown seat new
 call_grows tables seat request reply new called = subst (λ after. HasGrown seat after) (sym called.seat) (record {
-  more = noted seat.keeps_all request reply;
+  more = notes_of_call seat.keeps_all request reply;
   notes = refl;
   first = ap (λ n. seat.first + n) (noted_rises 0 seat.keeps_all request reply);
   second = ap (λ n. seat.second + n) (noted_rises 1 seat.keeps_all request reply);

@@ -6,7 +6,7 @@ use Rattle.mds_table.specs.Tables.{Tables}
 use Rattle.mds_core.specs.declared.request.Request.{Request}
 use Rattle.mds_log.specs.Log.{Acceptance, requests}
 use Rattle.mds_book.specs.Gathering.{Collected}
-use Rattle.mds_book.specs.Seats.{Seated, fresh}
+use Rattle.mds_book.specs.Seats.{Seated, new_seat}
 use Rattle.mds_face.specs.declared.kept_desk.KeepFault.{KeepFault}
 use Rattle.mds_face.specs.declared.kept_desk.KeepFault.TheVariants as keep
 use Rattle.mds_follow.specs.Parts.{Covers, part}
@@ -28,7 +28,7 @@ keep_fault Lost = keep.Lost
 pub record AreResumed (seats : List Seated) (told : List Acceptance) : Type 0 where
   pub first : Seated
   pub others : ℕ
-  pub split : seats ≡ first ∷ replicate others (fresh false)
+  pub split : seats ≡ first ∷ replicate others (new_seat false)
   pub is_refilled : IsRefilled first told
 
 -- what serving came to where what is accepted is recorded: as where it isn't, or not all is

@@ -11,8 +11,8 @@ pub record AtWork : Type 0 where
   pub failed : Bool
 
 -- a worker that has answered no connection
-abbrev pub idle : Seated → AtWork
-idle seat = record { seat = seat; answered = 0; failed = false }
+abbrev pub idle_worker : Seated → AtWork
+idle_worker seat = record { seat = seat; answered = 0; failed = false }
 
 -- the worker's seat has grown, and it answered so many connections, unless the port failed it
 pub record HasWorked (each : ℕ) (old new : AtWork) : Type 0 where

@@ -107,7 +107,7 @@ impl Model for AnswerCount {
 
 impl AnswerCount {
     /// No connection.
-    pub(crate) fn none() -> AnswerCount
+    pub(crate) fn new() -> AnswerCount
         ensures { result ≡ 0 }
     {
         AnswerCount { answers: 0 }

@@ -224,7 +224,7 @@ impl<R: Wait, P: Port, L: ShardLedger, M: ShardLedger, G: Gate, K: Recorder<L, M
         ensures grown { HasGrown seat.old seat.new }
         ensures each { result.fault ≡ None → result.answered ≡ each }
     {
-        let mut answered = AnswerCount::none();
+        let mut answered = AnswerCount::new();
         let mut receipt = self.recorder.receipt(self.rt);
         for nth in 0..each {
             let Ok(connection) = Connection::take(self.port) else {

@@ -3,7 +3,7 @@ ghost use Rattle.std.specs.Prelude.{◌≡◌, ℕ, List, IfOk, IfErr, Ok, vec_l
 ghost use Rattle.mds_table.specs.Tables.{Tables as Timed};
 ghost use Rattle.mds_core.specs.declared.request.Request.{Request as Requested};
 ghost use Rattle.mds_journal.specs.Device.{LeavesOnly};
-ghost use Rattle.mds_journal.specs.Lines.{recovered};
+ghost use Rattle.mds_journal.specs.Lines.{recovered_texts};
 ghost use Rattle.mds_journal.specs.Opening.{KeepsLines};
 ghost use Rattle.mds_book.specs.Books.{IsSeatCount};
 ghost use Rattle.mds_follow.specs.Disk.{IsTold};
@@ -105,7 +105,7 @@ impl<D: Device, L: ShardLedger, M: ShardLedger, J: RecordLog> RecordedBook<Disk<
         requires log { log ≡ J.log }
         requires start { J.start ≡ D.moment reader.opening.device }
         requires held { (told : List Requested)
-            → IsTold (recovered (D.seen reader.opening.device)) told → J.held told }
+            → IsTold (recovered_texts (D.seen reader.opening.device)) told → J.held told }
         ensures opened { IfOk result (λ own. (own.tables ≡ opening.tables)
             × (own.seats ≡ opening.seats)) }
         ensures fault { IfErr result (λ error. D.is_true error.1

@@ -1,7 +1,7 @@
 //! A book that serves a port, from its opening to its settling.
 ghost use Rattle.std.specs.Prelude.{◌≡◌, false, replicate, IfOk, vec_len};
 ghost use Rattle.mds_book.specs.Books.{IsSeatCount};
-ghost use Rattle.mds_book.specs.Seats.{fresh};
+ghost use Rattle.mds_book.specs.Seats.{new_seat};
 ghost use Rattle.mds_pool.specs.Serving.{IsEnded, IsSettledEnd};
 
 use crate::pool::serve_round;
@@ -110,7 +110,7 @@ pub(crate) fn open_book<L: ShardLedger, M: ShardLedger>(
     ensures book { IfOk result (λ opened.
         opened.0 ≡ record { tables = opening.tables; seats = opening.seats }) }
     ensures seats { IfOk result (λ opened.
-        opened.1.items ≡ replicate opening.seats (fresh false)) }
+        opened.1.items ≡ replicate opening.seats (new_seat false)) }
 {
     let NewBook {
         tables,

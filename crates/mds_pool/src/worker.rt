@@ -1,7 +1,7 @@
 //! Workers: each with its seat, and with what it came to.
 ghost use Rattle.std.specs.Prelude.{◌≡◌, ◌≤◌, map, vec_len, vec_capacity};
 ghost use Rattle.std.specs.List.{list_any};
-ghost use Rattle.mds_pool.specs.Workers.{AtWork, idle};
+ghost use Rattle.mds_pool.specs.Workers.{AtWork, idle_worker};
 
 use crate::AnswerCount;
 use mds_book::{Seat, ShardLedger};
@@ -46,10 +46,10 @@ impl<L: ShardLedger, M: ShardLedger> Model for Worker<L, M> {
 impl<L: ShardLedger, M: ShardLedger> Worker<L, M> {
     /// A worker at this seat that has answered no connection.
     fn at(seat: Seat<L, M>) -> Worker<L, M>
-        ensures { result ≡ idle seat }
+        ensures { result ≡ idle_worker seat }
     {
         let shift = Shift {
-            answered: AnswerCount::none(),
+            answered: AnswerCount::new(),
             fault: None,
         };
         Worker { seat, shift }
@@ -62,7 +62,7 @@ pub(crate) fn workers_at<L: ShardLedger, M: ShardLedger>(
     mut room: Vec<Worker<L, M>>,
 ) -> Vec<Worker<L, M>>
     requires { (vec_len room ≡ 0) × (vec_len seats ≤ vec_capacity room) }
-    ensures { result.items ≡ map idle seats.items }
+    ensures { result.items ≡ map idle_worker seats.items }
 {
     for seat in seats {
         room.push_reserved(Worker::at(seat));

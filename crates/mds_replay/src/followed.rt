@@ -30,7 +30,7 @@ impl Followed {
         match opening {
             Opening::Removed => Followed {
                 openings: StateSet::of(State::Removed),
-                standing: Some(Standing::registered()),
+                standing: Some(Standing::at_registration()),
             },
             Opening::Any => Followed {
                 openings: StateSet::all(),
@@ -92,7 +92,7 @@ fn judge_first(tables: &Tables, event: &Event) -> (Verdict, Followed)
     }
     let followed = Followed {
         openings,
-        standing: Some(Standing::registered().after(event)),
+        standing: Some(Standing::at_registration().after(event)),
     };
     (Verdict::Accepted(event.state()), followed)
 }

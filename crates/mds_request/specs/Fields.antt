@@ -6,7 +6,7 @@ use Rattle.httparse.specs.Spans.{span_bytes, header_bytes, name_and_value}
 use Rattle.httparse.specs.declared.spans.RequestSpans.{RequestSpans}
 use Rattle.httparse.specs.declared.spans.HeaderSpan.{HeaderSpan}
 use Rattle.mds_request.specs.declared.fault.HttpFault.{HttpFault}
-use Rattle.mds_request.specs.Plan.{length_faults, first_fault, announced}
+use Rattle.mds_request.specs.Plan.{length_faults, first_fault, announced_length}
 use Rattle.mds_request.specs.declared.field.FieldValues.{FieldValues}
 use Rattle.mds_request.specs.declared.field.FieldValues.TheVariants.{Nothing, Once, Often}
 
@@ -29,5 +29,5 @@ pub record ArePartsOf (bytes : List ℕ) (spans : RequestSpans) (headers : List 
 -- these
 abbrev pub IsLengthOf : List (List ℕ) → Result ℕ HttpFault → Type 0
 IsLengthOf lengths (Ok len) =
-    (first_fault (length_faults lengths) ≡ None) × (len ≡ announced lengths)
+    (first_fault (length_faults lengths) ≡ None) × (len ≡ announced_length lengths)
 IsLengthOf lengths (Err fault) = first_fault (length_faults lengths) ≡ Some fault

@@ -45,13 +45,13 @@ is_one_length (value ∷ []) = nat_lt 0 (length value) && list_all is_ascii_digi
 is_one_length other = false
 
 -- the number that the one length given writes
-abbrev pub announced : List (List ℕ) → ℕ
-announced (value ∷ []) = digits_value 10 value
-announced other = 0
+abbrev pub announced_length : List (List ℕ) → ℕ
+announced_length (value ∷ []) = digits_value 10 value
+announced_length other = 0
 
 -- the bytes of the body: as many as the one length of a POST says, and none of a GET
 abbrev pub body_length : RequestHead → ℕ
-body_length head = if is_post (aim_in head.target) then announced (lengths head) else 0
+body_length head = if is_post (aim_in head.target) then announced_length (lengths head) else 0
 
 -- what can be wrong with the lengths that are given for a body, each with where it is, in the order
 -- in which it is looked for
@@ -59,7 +59,7 @@ abbrev pub length_faults : List (List ℕ) → List (Bool × HttpFault)
 length_faults lengths =
     (nat_eq (length lengths) 0, LengthRequired)
     ∷ (not (is_one_length lengths), BadLength)
-    ∷ (nat_lt max_bytes (announced lengths), TooLong)
+    ∷ (nat_lt max_bytes (announced_length lengths), TooLong)
     ∷ []
 
 -- what can be wrong with a head

@@ -8,7 +8,7 @@ ghost use Rattle.mds_response.specs.Answer.{answer_to, batch_content, look_conte
 
 use crate::Found;
 use crate::batch::{answered_items, failures_of};
-use crate::found::accepted;
+use crate::found::count_accepted;
 use crate::json::StandingText;
 use mds_batch::BatchItem;
 use mds_core::{Event, EventList, Key, Refusal, Reply, Standing};
@@ -29,7 +29,7 @@ pub(crate) fn body_of(alloc: Global, plan: &Plan, found: &Found) -> Result<Strin
     match plan {
         Plan::Fixed(fault) => fault_body(alloc, fault),
         Plan::Vehicles(items) => batch_body(alloc, items, found.replies()),
-        Plan::Events(items) => batch_body(alloc, items.kept(), found.replies()),
+        Plan::Events(items) => batch_body(alloc, items.kept_items(), found.replies()),
         Plan::One(key) => look_body(alloc, key, found.standing()),
         Plan::History(_) => events_body(alloc, found.events()),
         Plan::Rows => tables_body(alloc, found.tables()),
@@ -58,7 +58,7 @@ fn batch_body<I: BatchItem>(
     }
     let found = failures_of(alloc, items, replies)?;
     let failures = Commas { items: &found };
-    let success = accepted(replies);
+    let success = count_accepted(replies);
     let mut text = String::with_capacity(alloc, ANSWER_ROOM)?;
     write!(
         text,

@@ -25,7 +25,7 @@ impl Found {
     pub fn accepted(&self) -> usize
         ensures { result ≡ accepted_in (replies_in (finding_in self.now)) }
     {
-        accepted(self.replies())
+        count_accepted(self.replies())
     }
 
     pub(crate) fn replies(&self) -> &[Reply]
@@ -74,7 +74,7 @@ fn standing_seen(outcome: Outcome) -> Option<Standing>
     }
 }
 
-pub(crate) fn accepted(replies: &[Reply]) -> usize
+pub(crate) fn count_accepted(replies: &[Reply]) -> usize
     ensures { result ≡ accepted_in replies.now }
 {
     replies

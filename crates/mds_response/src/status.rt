@@ -18,7 +18,7 @@ pub fn status_of(plan: &Plan, found: &Found) -> StatusCode
     match plan {
         Plan::Fixed(fault) => fault_status(fault),
         Plan::Vehicles(items) => batch_status(items, found.replies()),
-        Plan::Events(items) => batch_status(items.kept(), found.replies()),
+        Plan::Events(items) => batch_status(items.kept_items(), found.replies()),
         Plan::One(_) => vehicle_status(found.standing().is_some()),
         Plan::History(_) => vehicle_status(found.events().is_some()),
         Plan::Rows => StatusCode::OK,

@@ -32,7 +32,8 @@ registered_in history = filter_map registration_of history
 
 -- each vehicle registered and where it stands, in the order of their registrations
 abbrev pub standings_in : List Request → List (Key × Standing)
-standings_in history = map (λ key. (key, standing_of (requests_of history key))) (registered_in history)
+standings_in history =
+    map (λ key. (key, standing_of (requests_of history key))) (registered_in history)
 
 -- what names an event among all events
 abbrev pub name_of : Reported → EventName
@@ -42,30 +43,38 @@ name_of event = record { key = event.key; id = event.id }
 abbrev pub names_in : List Request → List EventName
 names_in history = map name_of (reports history)
 
--- this is the roster over the tables of a lawful history: where each vehicle stands after it, their order, and its events' names
+-- this is the roster over the tables of a lawful history: where each vehicle stands after it, their
+-- order, and its events' names
 pub record IsRosterOf (tables : Tables) (history : List Request) (roster : Roster) : Type 0 where
   pub over : roster.tables ≡ tables
   pub lawful : IsLawful tables history
-  pub standings : (key : Key) → get same_key roster.vehicles key ≡ standing_if (requests_of history key)
+  pub standings : (key : Key)
+      → get same_key roster.vehicles key ≡ standing_if (requests_of history key)
   pub order : keys roster.vehicles ≡ registered_in history
   pub named : roster.names.keys ≡ names_in history
 
--- whichever history the roster was of, the request is accepted after it, and the roster now is of both
+-- whichever history the roster was of, the request is accepted after it, and the roster now is of
+-- both
 abbrev pub Accepts : Request → Roster → Roster → Type 0
 Accepts request old new = (tables : Tables) (history : List Request) → IsRosterOf tables history old
     → MayBeDone tables history request × IsRosterOf tables (history ++ request ∷ []) new
 
--- whichever history the roster was of, the request isn't accepted after it, and the roster now is of the same
+-- whichever history the roster was of, the request isn't accepted after it, and the roster now is
+-- of the same
 abbrev pub Refuses : Request → Roster → Roster → Type 0
 Refuses request old new = (tables : Tables) (history : List Request) → IsRosterOf tables history old
     → (MayBeDone tables history request → ⊥) × IsRosterOf tables history new
 
--- whichever history the roster was of, the request would be accepted after it, and the roster now is of the same
+-- whichever history the roster was of, the request would be accepted after it, and the roster now
+-- is of the same
 abbrev pub LacksRoom : Request → Roster → Roster → Type 0
-LacksRoom request old new = (tables : Tables) (history : List Request) → IsRosterOf tables history old
+LacksRoom request old new =
+    (tables : Tables) (history : List Request)
+    → IsRosterOf tables history old
     → MayBeDone tables history request × IsRosterOf tables history new
 
 -- the vehicle stands so now, in its place or behind all others, and every other as before
 pub record PutsStanding (key : Key) (standing : Standing) (old new : Standings) : Type 0 where
-  pub found : (other : Key) → get same_key new other ≡ cond (same_key key other) (Some standing) (get same_key old other)
+  pub found : (other : Key)
+      → get same_key new other ≡ cond (same_key key other) (Some standing) (get same_key old other)
   pub entries : new.entries ≡ insert_entry same_key old.entries key standing

@@ -57,7 +57,7 @@ impl Roster {
             (Accepts request.now self.old self.new) (Refuses request.now self.old self.new)) }
         ensures memory { OnErr result (LacksRoom request.now self.old self.new) }
     {
-        let known = self.known(request);
+        let known = self.known_of(request);
         match decide(&self.tables, &known, request) {
             Outcome::Done => {
                 // Each accepted event has a name, so no vehicle has more events than there is room for names.
@@ -71,8 +71,9 @@ impl Roster {
         }
     }
 
-    fn known(&self, request: &Request) -> Known
-        ensures { (tables : TableList) (history : List Requested) → IsRosterOf tables history self.now
+    fn known_of(&self, request: &Request) -> Known
+        ensures { (tables : TableList) (history : List Requested)
+            → IsRosterOf tables history self.now
             → AreKnown (requests_of history (key_of request.now)) request.now result }
     {
         Known {
@@ -89,8 +90,8 @@ impl Roster {
 
     /// The vehicle that was registered at this place of all, from 0, and where it stands.
     pub fn vehicle(&self, place: usize) -> Option<(Key, Standing)>
-        ensures { (tables : TableList) (history : List Requested) → IsRosterOf tables history self.now
-            → result ≡ slice_get (standings_in history) place }
+        ensures { (tables : TableList) (history : List Requested)
+            → IsRosterOf tables history self.now → result ≡ slice_get (standings_in history) place }
     {
         match self.vehicles.get_index(place) {
             Some((key, standing)) => Some((*key, *standing)),
@@ -100,8 +101,8 @@ impl Roster {
 
     /// How many vehicles are registered.
     pub fn registrations(&self) -> usize
-        ensures count { (tables : TableList) (history : List Requested) → IsRosterOf tables history self.now
-            → result ≡ length (registered_in history) }
+        ensures count { (tables : TableList) (history : List Requested)
+            → IsRosterOf tables history self.now → result ≡ length (registered_in history) }
         ensures small { result < 2 ^ 63 }
     {
         self.vehicles.len()
@@ -109,8 +110,8 @@ impl Roster {
 
     /// How many events were accepted.
     pub fn events(&self) -> usize
-        ensures count { (tables : TableList) (history : List Requested) → IsRosterOf tables history self.now
-            → result ≡ length (reports history) }
+        ensures count { (tables : TableList) (history : List Requested)
+            → IsRosterOf tables history self.now → result ≡ length (reports history) }
         ensures small { result < 2 ^ 63 }
     {
         self.names.len()

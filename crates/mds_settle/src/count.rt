@@ -14,7 +14,7 @@ pub(crate) fn first_miscounted<S: NoteList>(shard: usize, end: usize, lists: &[S
         (AreOnceBelow shard end S.seen lists.now)
         (IsFirstMiscounted shard end S.seen lists.now) }
 {
-    let place = walked(shard, end, lists);
+    let place = walk_length(shard, end, lists);
     if !are_few(shard, place, lists) {
         return Some(first_twice(shard, place, lists));
     }
@@ -28,7 +28,7 @@ pub(crate) fn first_miscounted<S: NoteList>(shard: usize, end: usize, lists: &[S
 }
 
 /// How far, up to the end, a walk over all lists side by side finds an accepted note of the shard for each place.
-fn walked<S: NoteList>(shard: usize, end: usize, lists: &[S]) -> usize
+fn walk_length<S: NoteList>(shard: usize, end: usize, lists: &[S]) -> usize
     ensures within { result ≤ end }
     ensures found { (place : ℕ) → place < result → 1 ≤ notes_at shard place S.seen lists.now }
 {

@@ -1,5 +1,6 @@
 -- What a shard keeps beside its history.
-use Rattle.std.specs.Prelude.{◌≡◌, ℕ, ◌≤◌, ◌++◌, ◌∷◌, ◌||◌, ◌&&◌, cond, List, [], length, take, drop, Option, Some, None, slice_get}
+use Rattle.std.specs.Prelude.{◌≡◌, ℕ, ◌≤◌, ◌++◌, ◌∷◌, ◌||◌, ◌&&◌, cond, List, []}
+use Rattle.std.specs.Prelude.{length, take, drop, Option, Some, None, slice_get}
 use Rattle.std.specs.declared.hash.RandomState.{RandomState}
 use Rattle.indexmap.specs.IndexMap.{IndexMap, get}
 use Rattle.indexmap.specs.IndexSet.{IndexSet, contains}
@@ -7,7 +8,8 @@ use Rattle.mds_table.specs.Tables.{Tables}
 use Rattle.mds_core.specs.declared.key.Key.{Key}
 use Rattle.mds_core.specs.declared.event_name.EventName.{EventName}
 use Rattle.mds_core.specs.declared.request.Request.{Request}
-use Rattle.mds_core.specs.History.{key_of, same_key, same_event, requests_of, has_event, standing_of}
+use Rattle.mds_core.specs.History.{key_of, same_key, same_event}
+use Rattle.mds_core.specs.History.{requests_of, has_event, standing_of}
 use Rattle.mds_core.specs.Lawful.{IsLawful}
 use Rattle.mds_shard.specs.declared.vehicle.Vehicle.{Vehicle}
 
@@ -35,29 +37,40 @@ pub record IsEndOf (history : List Request) (key : Key) (end : ℕ) : Type 0 whe
   pub none : requests_of (drop end history) key ≡ []
   pub least : (place : ℕ) → requests_of (drop place history) key ≡ [] → end ≤ place
 
--- what is kept of a vehicle: nothing where it isn't registered, else where it stands and the place of its last request
+-- what is kept of a vehicle: nothing where it isn't registered, else where it stands and the place
+-- of its last request
 abbrev pub IsVehicle : List Request → Key → Option Vehicle → Type 0
 IsVehicle history key None = requests_of history key ≡ []
-IsVehicle history key (Some vehicle) = (vehicle.standing ≡ standing_of (requests_of history key)) × IsLastPlace history key vehicle.last
+IsVehicle history key (Some vehicle) =
+    (vehicle.standing ≡ standing_of (requests_of history key))
+    × IsLastPlace history key vehicle.last
 
 -- beside each request of the history stands the place of the request about its vehicle before it
 pub record AreBefore (history : List Request) (before : List (Option ℕ)) : Type 0 where
   pub count : length before ≡ length history
-  pub each : (place : ℕ) (request : Request) (earlier : Option ℕ) → slice_get history place ≡ Some request → slice_get before place ≡ Some earlier
+  pub each : (place : ℕ) (request : Request) (earlier : Option ℕ)
+      → slice_get history place ≡ Some request → slice_get before place ≡ Some earlier
       → IsLastPlaceIf (take place history) (key_of request) earlier
 
 -- the vehicle is kept as this one, and every other as before
 abbrev pub PutsVehicle : Key → Vehicle → Vehicles → Vehicles → Type 0
-PutsVehicle key vehicle old new = (other : Key) → get same_key new other ≡ cond (same_key key other) (Some vehicle) (get same_key old other)
+PutsVehicle key vehicle old new =
+    (other : Key)
+    → get same_key new other ≡ cond (same_key key other) (Some vehicle) (get same_key old other)
 
 -- the name of the event that a request reports is kept beside those that were
 abbrev pub AddsName : Request → Names → Names → Type 0
-AddsName request old new = (name : EventName)
-    → contains same_event new name ≡ (contains same_event old name || (same_key (key_of request) name.key && has_event (request ∷ []) name.id))
+AddsName request old new =
+    (name : EventName)
+    → contains same_event new name
+    ≡ (contains same_event old name
+    || (same_key (key_of request) name.key && has_event (request ∷ []) name.id))
 
 -- the history is lawful, and what is kept beside it is what it says of each vehicle
-pub record IsReplay (tables : Tables) (history : List Request) (before : List (Option ℕ)) (vehicles : Vehicles) (names : Names) : Type 0 where
+pub record IsReplay (tables : Tables) (history : List Request) (before : List (Option ℕ))
+    (vehicles : Vehicles) (names : Names) : Type 0 where
   pub lawful : IsLawful tables history
   pub places : AreBefore history before
   pub standings : (key : Key) → IsVehicle history key (get same_key vehicles key)
-  pub held : (name : EventName) → contains same_event names name ≡ has_event (requests_of history name.key) name.id
+  pub held : (name : EventName)
+      → contains same_event names name ≡ has_event (requests_of history name.key) name.id

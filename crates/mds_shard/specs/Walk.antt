@@ -1,5 +1,7 @@
--- A walk over a vehicle's requests, from the last one back to the first, by what a shard keeps beside its history.
-use Rattle.std.specs.Prelude.{◌≡◌, ℕ, ◌+◌, ◌≤◌, ◌++◌, List, [], length, take, reverse, Option, Some, None}
+-- A walk over a vehicle's requests, from the last one back to the first, by what a shard keeps
+-- beside its history.
+use Rattle.std.specs.Prelude.{◌≡◌, ℕ, ◌+◌, ◌≤◌, ◌++◌, List, [], length}
+use Rattle.std.specs.Prelude.{take, reverse, Option, Some, None}
 use Rattle.mds_core.specs.declared.key.Key.{Key}
 use Rattle.mds_core.specs.declared.request.Request.{Request}
 use Rattle.mds_core.specs.Reported.{Reported}
@@ -15,17 +17,22 @@ steps_left (Some place) = place + 1
 -- of one vehicle, the events before the end, and then those found
 abbrev pub HasFound : List Request → Key → ℕ → Option ℕ → List Reported → Type 0
 HasFound history key end at found =
-    IsLastPlaceIf (take end history) key at × (reports (requests_of (take end history) key) ++ reverse found ≡ reports (requests_of history key))
+    IsLastPlaceIf (take end history) key at
+    × (reports (requests_of (take end history) key) ++ reverse found
+    ≡ reports (requests_of history key))
 
--- where the walk stands: before an end, with what it has found behind it, whichever vehicle it goes along
-pub record IsWalk (history : List Request) (last : ℕ) (at : Option ℕ) (found : List Reported) : Type 0 where
+-- where the walk stands: before an end, with what it has found behind it, whichever vehicle it goes
+-- along
+pub record IsWalk (history : List Request) (last : ℕ) (at : Option ℕ) (found : List Reported)
+    : Type 0 where
   pub end : ℕ
   pub within : end ≤ length history
   pub before_end : steps_left at ≤ end
   pub finds : (key : Key) → IsLastPlace history key last → HasFound history key end at found
 
 -- the same along this vehicle, from its last request on
-pub record IsWalkOf (history : List Request) (key : Key) (at : Option ℕ) (found : List Reported) : Type 0 where
+pub record IsWalkOf (history : List Request) (key : Key) (at : Option ℕ) (found : List Reported)
+    : Type 0 where
   pub last : ℕ
   pub from : IsLastPlace history key last
   pub walk : IsWalk history last at found

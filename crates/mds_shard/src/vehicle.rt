@@ -62,7 +62,8 @@ pub fn keep(
     request: &Request,
     vehicle: Vehicle,
 ) -> Result<(), AllocError>
-    requires { report_of request.now ≢ None → get same_key vehicles.old (key_of request.now) ≢ None }
+    requires { report_of request.now ≢ None
+        → get same_key vehicles.old (key_of request.now) ≢ None }
     ensures vehicles { OnOk result
         (PutsVehicle (key_of request.now) vehicle vehicles.old vehicles.new) }
     ensures names { OnOk result (AddsName request.now names.old names.new) }

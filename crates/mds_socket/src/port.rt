@@ -267,7 +267,7 @@ impl<S: System, R: Wait + Copy> WaitingPort<S, R> {
     fn lend(&self, bytes: Vec<u8>) -> Option<(Vec<u8>, Vec<u8>)>
         ensures { IfSome result (λ lent. lent.1.items ≡ bytes.items) }
     {
-        let (spare_room, spare_list) = self.spare(bytes.is_empty());
+        let (spare_room, spare_list) = self.take_spare(bytes.is_empty());
         let room = match spare_room {
             Some(room) => room,
             None => vec![in self.alloc; 0; ROOM_BYTES].ok()?,
@@ -284,7 +284,7 @@ impl<S: System, R: Wait + Copy> WaitingPort<S, R> {
     }
 
     /// Room that is there, and a list, if one is asked for.
-    fn spare(&self, with_list: bool) -> (Option<Vec<u8>>, Option<Vec<u8>>) {
+    fn take_spare(&self, with_list: bool) -> (Option<Vec<u8>>, Option<Vec<u8>>) {
         let mut guard = self.spare.lock(&self.rt);
         let spare = &mut *guard;
         let room = take(spare, Kind::Room);
@@ -398,7 +398,7 @@ impl<S: System, R: Wait + Copy> Port for WaitingPort<S, R> {
     }
 
     fn whole_of<'a>(&self, input: &'a Given) -> Option<(&'a [u8], Head)> {
-        input.whole()
+        input.bytes_with_head()
     }
 
     fn end(&self, input: Given, output: Outgoing<S::Peer>, ending: Ending) {

@@ -25,11 +25,11 @@ impl<P: Peer> Tables<P> {
     /// How long may be waited from this time on, if the clock tells one, in milliseconds. `None` where one was late, and was
     /// let go.
     pub(crate) fn patience(&mut self, now: Option<u64>) -> Option<u64> {
-        if let Some(key) = self.coming.late(now) {
+        if let Some(key) = self.coming.find_late(now) {
             let _ = self.coming.take(key);
             return None;
         }
-        if let Some(key) = self.leaving.late(now) {
+        if let Some(key) = self.leaving.find_late(now) {
             let _ = self.leaving.take(key);
             return None;
         }

@@ -10,9 +10,12 @@ IsOpening rows kinds reported from = Leads rows from kinds reported
 
 -- a set has the states from which an event with these types leads to the one that it reports
 abbrev pub AreOpenings : List Row → List (List ℕ) → State → List State → Type 0
-AreOpenings rows kinds reported openings = (from : State) → Contains openings from ↔ IsOpening rows kinds reported from
+AreOpenings rows kinds reported openings =
+    (from : State) → Contains openings from ↔ IsOpening rows kinds reported from
 
 -- of each number of the last types of an event, a set has the openings
-pub record AreOpeningsOfEnds (rows : List Row) (kinds : List (List ℕ)) (reported : State) (sets : List (List State)) : Type 0 where
+pub record AreOpeningsOfEnds (rows : List Row) (kinds : List (List ℕ)) (reported : State)
+    (sets : List (List State)) : Type 0 where
   pub count : length sets ≡ length kinds + 1
-  pub each : (at n : ℕ) (d : List State) → at + n ≡ length kinds → AreOpenings rows (drop at kinds) reported (slice_index_or sets n d)
+  pub each : (at n : ℕ) (d : List State)
+      → at + n ≡ length kinds → AreOpenings rows (drop at kinds) reported (slice_index_or sets n d)

@@ -18,4 +18,5 @@ IsPrevious rows set kind from = (to : State) × Contains set to × Contains rows
 
 -- the states from which rows of the type lead to a state of the set
 abbrev pub ArePrevious : List Row → List State → List ℕ → List State → Type 0
-ArePrevious rows set kind previous = (from : State) → Contains previous from ↔ IsPrevious rows set kind from
+ArePrevious rows set kind previous =
+    (from : State) → Contains previous from ↔ IsPrevious rows set kind from

@@ -8,8 +8,10 @@ use Rattle.mds_table.specs.Chain.{Passes}
 abbrev pub PassesFrom : List Row → List State → List (List ℕ) → ℕ → Type 0
 PassesFrom rows set kinds n = (from : State) × Contains set from × Passes rows from kinds n
 
--- the first type that no chain from a state of the set passes, or the number of types where all can be passed
-pub record IsStuckFrom (rows : List Row) (set : List State) (kinds : List (List ℕ)) (at : ℕ) : Type 0 where
+-- the first type that no chain from a state of the set passes, or the number of types where all can
+-- be passed
+pub record IsStuckFrom (rows : List Row) (set : List State) (kinds : List (List ℕ)) (at : ℕ)
+    : Type 0 where
   pub within : at ≤ length kinds
   pub passed : (n : ℕ) → n < at → PassesFrom rows set kinds (n + 1)
   pub stuck : at < length kinds → PassesFrom rows set kinds (at + 1) → ⊥

@@ -12,7 +12,7 @@ use Rattle.mds_table.specs.declared.row.Row.{Row}
 use Rattle.mds_table.specs.declared.entry.Entry.{Entry}
 use Rattle.mds_table.specs.Row.{row_of, in_order}
 use Rattle.mds_table.specs.Json.{state_in, type_name_in}
-use Rattle.mds_table.specs.TableFile.{listed, Lists, ListsStates, IsType, IsRowEntry, StandsFor, AreRowsOf}
+use Rattle.mds_table.specs.TableFile.{listed_values, Lists, ListsStates, IsType, IsRowEntry, StandsFor, AreRowsOf}
 use Rattle.mds_table.specs.Entry.{is_marked, HasRow, IsEntryOf, IsRowTo, Adds}
 
 -- what is added in two steps
@@ -122,8 +122,8 @@ named None some = cc
 -- a list of states has one
 some_state : (d : Data) → ListsStates d → (state : State) × Lists state d
 some_state d lists =
-    let first = named (state_in (get_or (listed d) 0 null)) (lists.names 0 null lists.some) in
-    (first.0, (0, rw length-map lists.some, get_or-map state_in (listed d) 0 null (Some first.0) lists.some ∙ first.1))
+    let first = named (state_in (get_or (listed_values d) 0 null)) (lists.names 0 null lists.some) in
+    (first.0, (0, rw length-map lists.some, get_or-map state_in (listed_values d) 0 null (Some first.0) lists.some ∙ first.1))
 
 some_row_of : (from kind to : Option Data) → IsSomeAnd from ListsStates → IsSomeAnd kind IsType → IsSomeAnd to ListsStates
     → (row : Row) × IsSomeAnd from (Lists row.from) × (option_and_then type_name_in kind ≡ Some row.kind) × IsSomeAnd to (Lists row.to)

@@ -11,7 +11,7 @@ use Rattle.mds_table.specs.declared.entry.States.{States}
 use Rattle.mds_table.specs.declared.entry.Entry.{Entry}
 use Rattle.mds_table.specs.State.{code_of}
 use Rattle.mds_table.specs.Json.{state_in, type_name_in}
-use Rattle.mds_table.specs.TableFile.{listed}
+use Rattle.mds_table.specs.TableFile.{listed_values}
 use Rattle.mds_table.specs.Entry.{is_marked, AreMarked, IsEntryOf}
 use Rattle.mds_table.proofs.Rows.{code_of_injective}
 
@@ -40,7 +40,7 @@ marked_more values value state old new names here_marked kept so_far =
 -- an entry with the states and the type that the members of a value name
 pub entry_of : (value from kind to : Data) (entry : Entry)
     → get (codes "from") value ≡ Some from → get (codes "type") value ≡ Some kind → get (codes "to") value ≡ Some to
-    → AreMarked (listed from) entry.from → Some entry.kind ≡ type_name_in kind → AreMarked (listed to) entry.to → IsEntryOf value entry
+    → AreMarked (listed_values from) entry.from → Some entry.kind ≡ type_name_in kind → AreMarked (listed_values to) entry.to → IsEntryOf value entry
 entry_of value from kind to entry is_from is_kind is_to leaves names arrives = record {
   stands = λ row has. record {
     from = rw is_from (leaves.named row.from has.from);

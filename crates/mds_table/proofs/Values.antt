@@ -7,14 +7,14 @@ use Rattle.serde_json.specs.Find.{as_array}
 use Rattle.serde_json.specs.View.{view, items_of, items_view}
 use Rattle.serde_json.specs.declared.value.Value.{Value}
 use Rattle.mds_table.specs.Json.{items_in}
-use Rattle.mds_table.specs.TableFile.{listed, IsStateName, ListsStates}
+use Rattle.mds_table.specs.TableFile.{listed_values, IsStateName, ListsStates}
 
 pub items_in-items_of : (ds : List Data) → items_in (items_of ds) ≡ ds
 items_in-items_of [] = refl
 items_in-items_of (d ∷ ds) = ap (λ rest. d ∷ rest) (items_in-items_of ds)
 
 -- a list lists its items
-pub listed_array : (d : Data) (values : List Value) → Some (items_view values) ≡ as_array d → listed d ≡ map view values
+pub listed_array : (d : Data) (values : List Value) → Some (items_view values) ≡ as_array d → listed_values d ≡ map view values
 listed_array (array ds) values is =
     let same : items_view values ≡ ds = cc in
     ap items_in (sym same) ∙ items_in-items_of (map view values)
@@ -42,7 +42,7 @@ all_at P values i value within is all =
     subst P here (all i (view value) (omega (arith, length-map values view)))
 
 -- values that name states, if there is one, are a list of states
-pub lists_states : (d : Data) (values : List Value) → map view values ≡ listed d → (length values == 0) ≡ false → All IsStateName (map view values) → ListsStates d
+pub lists_states : (d : Data) (values : List Value) → map view values ≡ listed_values d → (length values == 0) ≡ false → All IsStateName (map view values) → ListsStates d
 lists_states d values same some all = record {
   some = subst (λ ds. 1 ≤ length ds) same (rw length-map (not_none (length values) some));
   names = subst (All IsStateName) same all;

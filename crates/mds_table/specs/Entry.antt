@@ -1,12 +1,15 @@
 -- An entry of a table file as the code keeps it, and lists that grow.
-use Rattle.std.specs.Prelude.{◌≡◌, ◌⊎◌, List, Bool, true, false, Some, map, slice_index_or, Contains}
+use Rattle.std.specs.Prelude.{◌≡◌, ◌⊎◌, List, Bool, true, false}
+use Rattle.std.specs.Prelude.{Some, map, slice_index_or, Contains}
 use Rattle.serde_json.specs.Data.{Data}
 use Rattle.mds_table.specs.declared.state.State.{State}
 use Rattle.mds_table.specs.declared.row.Row.{Row}
 use Rattle.mds_table.specs.declared.entry.Entry.{Entry}
 use Rattle.mds_table.specs.declared.entry.States.{States}
 use Rattle.mds_table.specs.declared.table_file.TableFault.{TableFault}
-use Rattle.mds_table.specs.declared.table_file.TableFault.TheVariants.{Memory, TooLong, NotJson, NotRows, BadRow, TooManyRows, TooManyTypes, Empty}
+use Rattle.mds_table.specs.declared.table_file.TableFault.TheVariants.{Memory, TooLong, NotJson}
+use Rattle.mds_table.specs.declared.table_file.TableFault.TheVariants.{NotRows, BadRow, TooManyRows}
+use Rattle.mds_table.specs.declared.table_file.TableFault.TheVariants.{TooManyTypes, Empty}
 use Rattle.mds_table.specs.State.{code_of}
 use Rattle.mds_table.specs.Json.{state_in}
 use Rattle.mds_table.specs.TableFile.{StandsFor, HasRowsFault}
@@ -17,8 +20,10 @@ is_marked states state = slice_index_or states.marks (code_of state) false
 
 -- the states marked are those named by some of the values
 pub record AreMarked (values : List Data) (states : States) : Type 0 where
-  pub named : (state : State) → is_marked states state ≡ true → Contains (map state_in values) (Some state)
-  pub all : (state : State) → Contains (map state_in values) (Some state) → is_marked states state ≡ true
+  pub named : (state : State)
+      → is_marked states state ≡ true → Contains (map state_in values) (Some state)
+  pub all : (state : State)
+      → Contains (map state_in values) (Some state) → is_marked states state ≡ true
 
 -- the entry has the row: both states are marked, and the type is its type
 pub record HasRow (entry : Entry) (row : Row) : Type 0 where

@@ -1,5 +1,6 @@
 -- Texts of JSON, as table files and batches are, and what their values name.
-use Rattle.std.specs.Prelude.{◌≡◌, ℕ, ◌<◌, ◌≤◌, List, [], ◌∷◌, length, nat_le, Option, Some, None, option_and_then, find, if◌then◌else◌, IsUtf8}
+use Rattle.std.specs.Prelude.{◌≡◌, ℕ, ◌<◌, ◌≤◌, List, [], ◌∷◌, length, nat_le, Option}
+use Rattle.std.specs.Prelude.{Some, None, option_and_then, find, if◌then◌else◌, IsUtf8}
 use Rattle.std.specs.Str.{bytes_eq}
 use Rattle.serde_json.specs.Data.{Data, Items, no_items, item}
 use Rattle.serde_json.specs.Find.{as_str, as_number, as_u64}
@@ -23,11 +24,13 @@ IsTextOf bytes value = IsUtf8 bytes × (read bytes ≡ Some value)
 abbrev pub IsShortTextOf : Data → List ℕ → Type 0
 IsShortTextOf value bytes = (length bytes ≤ max_bytes) × IsTextOf bytes value
 
--- why there is no such value: too many bytes, or else no text of JSON; want of memory says nothing of the bytes
+-- why there is no such value: too many bytes, or else no text of JSON; want of memory says nothing
+-- of the bytes
 abbrev pub HasTextFault : List ℕ → TextFault → Type 0
 HasTextFault bytes Memory = Unit {0}
 HasTextFault bytes TooLong = max_bytes < length bytes
-HasTextFault bytes NotJson = (length bytes ≤ max_bytes) × ((value : Data) → IsTextOf bytes value → ⊥)
+HasTextFault bytes NotJson =
+    (length bytes ≤ max_bytes) × ((value : Data) → IsTextOf bytes value → ⊥)
 
 -- the items of a list
 abbrev pub items_in : Items → List Data
@@ -44,12 +47,16 @@ state_in value = option_and_then state_of_name (as_str value)
 
 -- the type name that a value is
 abbrev pub type_name_in : Data → Option (List ℕ)
-type_name_in value = option_and_then (λ text. if is_type_name text then Some text else None) (as_str value)
+type_name_in value =
+    option_and_then (λ text. if is_type_name text then Some text else None) (as_str value)
 
--- the latest time, in milliseconds since the Unix epoch: up to it no two whole numbers are the same double
+-- the latest time, in milliseconds since the Unix epoch: up to it no two whole numbers are the same
+-- double
 abbrev pub max_time : ℕ
 max_time = 9007199254740991
 
 -- the time that a value is: a whole number, not past the latest
 abbrev pub time_in : Data → Option ℕ
-time_in value = option_and_then (λ time. if nat_le time max_time then Some time else None) (option_and_then as_u64 (as_number value))
+time_in value =
+    option_and_then (λ time. if nat_le time max_time then Some time else None)
+    (option_and_then as_u64 (as_number value))

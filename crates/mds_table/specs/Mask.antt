@@ -16,8 +16,11 @@ mask_from masks from = slice_index masks (code_of from)
 
 -- the mask has the states that rows of the type lead to from this state
 abbrev pub IsMask : List Row → List ℕ → State → ℕ → Type 0
-IsMask rows kind from mask = (to : State) → (has_bit mask to ≡ true) ↔ Contains rows (row_of from kind to)
+IsMask rows kind from mask =
+    (to : State) → (has_bit mask to ≡ true) ↔ Contains rows (row_of from kind to)
 
 -- the masks have, for each state, the states that rows of the type lead to from it
 abbrev pub AreMasks : List Row → List ℕ → List ℕ → Type 0
-AreMasks rows kind masks = (from to : State) → (has_bit (mask_from masks from) to ≡ true) ↔ Contains rows (row_of from kind to)
+AreMasks rows kind masks =
+    (from to : State)
+    → (has_bit (mask_from masks from) to ≡ true) ↔ Contains rows (row_of from kind to)

@@ -1,5 +1,6 @@
 -- The index of a table by types, as the code keeps it.
-use Rattle.std.specs.Prelude.{◌≡◌, ◌⊎◌, ℕ, ◌<◌, ◌≤◌, List, length, insert, true, Contains, slice_index_or}
+use Rattle.std.specs.Prelude.{◌≡◌, ◌⊎◌, ℕ, ◌<◌, ◌≤◌, List, length}
+use Rattle.std.specs.Prelude.{insert, true, Contains, slice_index_or}
 use Rattle.std.specs.declared.cmp.Ordering.{Ordering}
 use Rattle.std.specs.Ordering.{nat_cmp}
 use Rattle.std.specs.Cmp.Lexicographic.{slice_cmp}
@@ -28,7 +29,8 @@ pub record HasGapAt (moves : List Moves) (kind : List ℕ) (at : ℕ) : Type 0 w
   pub none : HasKind moves kind → ⊥
   pub order : (m : Moves) → m.kind ≡ kind → ascends moves_cmp (insert moves at m) ≡ true
 
--- moves by type, each type once, which say of it what the rows say, and among which is each type of those seen of the rows
+-- moves by type, each type once, which say of it what the rows say, and among which is each type of
+-- those seen of the rows
 pub record AreMoves (rows seen : List Row) (moves : List Moves) : Type 0 where
   pub order : ascends moves_cmp moves ≡ true
   pub masks : (m : Moves) → Contains moves m → AreMasks rows m.kind m.masks

@@ -13,13 +13,16 @@ row_of from kind to = record { from = from; kind = kind; to = to }
 
 -- the same row: the type's bytes and the two states are the same
 abbrev pub same_row : Row → Row → Bool
-same_row a b = pointwise nat_eq a.kind b.kind && ((code_of a.from == code_of b.from) && (code_of a.to == code_of b.to))
+same_row a b =
+    pointwise nat_eq a.kind b.kind
+    && ((code_of a.from == code_of b.from) && (code_of a.to == code_of b.to))
 
--- rows stand by type, byte by byte, then by the state they lead from, then by the state they lead to
+-- rows stand by type, byte by byte, then by the state they lead from, then by the state they lead
+-- to
 abbrev pub row_cmp : Row → Row → Ordering
 row_cmp a b =
-    ordering_then (slice_cmp nat_cmp a.kind b.kind)
-    (ordering_then (nat_cmp (code_of a.from) (code_of b.from)) (nat_cmp (code_of a.to) (code_of b.to)))
+    ordering_then (slice_cmp nat_cmp a.kind b.kind) (ordering_then
+    (nat_cmp (code_of a.from) (code_of b.from)) (nat_cmp (code_of a.to) (code_of b.to)))
 
 -- each stands before the next one, so each stands once
 abbrev pub ascends : {X : Type 0} → (X → X → Ordering) → List X → Bool

@@ -1,7 +1,9 @@
 -- The states of a vehicle: their codes and their names.
 use Rattle.std.specs.Prelude.{ℕ, List, codes}
 use Rattle.mds_table.specs.declared.state.State.{State}
-use Rattle.mds_table.specs.declared.state.State.TheVariants.{Removed, Available, NonOperational, Reserved, OnTrip, Elsewhere, NonContactable, Missing, InDepot}
+use Rattle.mds_table.specs.declared.state.State.TheVariants.{Removed, Available, NonOperational}
+use Rattle.mds_table.specs.declared.state.State.TheVariants.{Reserved, OnTrip, Elsewhere}
+use Rattle.mds_table.specs.declared.state.State.TheVariants.{NonContactable, Missing, InDepot}
 
 -- the code of a state, by which states are ordered
 abbrev pub code_of : State → ℕ

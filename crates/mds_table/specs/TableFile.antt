@@ -1,5 +1,7 @@
 -- The table file: the rows that it stands for, and its first fault.
-use Rattle.std.specs.Prelude.{◌≡◌, ◌⊎◌, ℕ, ◌+◌, ◌<◌, ◌≤◌, List, [], ◌∷◌, ◌++◌, length, take, codes, true, Option, Some, None, option_map, option_and_then, IsSome, IsSomeAnd, All, Contains, map, slice_get}
+use Rattle.std.specs.Prelude.{◌≡◌, ◌⊎◌, ℕ, ◌+◌, ◌<◌, ◌≤◌, List, [], ◌∷◌, ◌++◌, length, take}
+use Rattle.std.specs.Prelude.{codes, true, Option, Some, None, option_map, option_and_then}
+use Rattle.std.specs.Prelude.{IsSome, IsSomeAnd, All, Contains, map, slice_get}
 use Rattle.std.specs.Ordering.{nat_cmp}
 use Rattle.std.specs.Fmt.{decimal}
 use Rattle.std.specs.Cmp.Lexicographic.{slice_cmp}
@@ -10,7 +12,9 @@ use Rattle.mds_table.specs.declared.row.Row.{Row}
 use Rattle.mds_table.specs.declared.json.TextFault.{TextFault}
 use Rattle.mds_table.specs.declared.json.TextFault.TheVariants as text
 use Rattle.mds_table.specs.declared.table_file.TableFault.{TableFault}
-use Rattle.mds_table.specs.declared.table_file.TableFault.TheVariants.{Memory, TooLong, NotJson, NotRows, BadRow, TooManyRows, TooManyTypes, Empty}
+use Rattle.mds_table.specs.declared.table_file.TableFault.TheVariants.{Memory, TooLong, NotJson}
+use Rattle.mds_table.specs.declared.table_file.TableFault.TheVariants.{NotRows, BadRow, TooManyRows}
+use Rattle.mds_table.specs.declared.table_file.TableFault.TheVariants.{TooManyTypes, Empty}
 use Rattle.mds_table.specs.Row.{ascends, in_order}
 use Rattle.mds_table.specs.Json.{items_in, IsShortTextOf, HasTextFault, state_in, type_name_in}
 
@@ -23,13 +27,13 @@ abbrev pub max_table_types : ℕ
 max_table_types = 64
 
 -- what a value lists: the items of a list, or else itself alone
-abbrev pub listed : Data → List Data
-listed (array ds) = items_in ds
-listed null = null ∷ []
-listed (boolean b) = boolean b ∷ []
-listed (number n) = number n ∷ []
-listed (string s) = string s ∷ []
-listed (object ms) = object ms ∷ []
+abbrev pub listed_values : Data → List Data
+listed_values (array ds) = items_in ds
+listed_values null = null ∷ []
+listed_values (boolean b) = boolean b ∷ []
+listed_values (number n) = number n ∷ []
+listed_values (string s) = string s ∷ []
+listed_values (object ms) = object ms ∷ []
 
 -- a text that is the name of a state
 abbrev pub IsStateName : Data → Type 0
@@ -37,12 +41,12 @@ IsStateName d = IsSome (state_in d)
 
 -- a list of at least one state name, or a single one
 pub record ListsStates (d : Data) : Type 0 where
-  pub some : 1 ≤ length (listed d)
-  pub names : All IsStateName (listed d)
+  pub some : 1 ≤ length (listed_values d)
+  pub names : All IsStateName (listed_values d)
 
 -- the state is one of those listed
 abbrev pub Lists : State → Data → Type 0
-Lists state d = Contains (map state_in (listed d)) (Some state)
+Lists state d = Contains (map state_in (listed_values d)) (Some state)
 
 -- a text that is a type name
 abbrev pub IsType : Data → Type 0
@@ -73,7 +77,8 @@ pub record AreRowsOf (entries : List Data) (rows : List Row) : Type 0 where
 -- the types of rows, each once, in the order of their bytes
 pub record AreTypesOf (rows : List Row) (kinds : List (List ℕ)) : Type 0 where
   pub order : ascends (slice_cmp nat_cmp) kinds ≡ true
-  pub none_else : (kind : List ℕ) → Contains kinds kind → (row : Row) × Contains rows row × (row.kind ≡ kind)
+  pub none_else : (kind : List ℕ)
+      → Contains kinds kind → (row : Row) × Contains rows row × (row.kind ≡ kind)
   pub all : (row : Row) → Contains rows row → Contains kinds row.kind
 
 -- entries without a fault, with their rows and the types of these
@@ -86,9 +91,11 @@ pub record AreGood (entries : List Data) (rows : List Row) (kinds : List (List �
 
 -- the first entries, up to a place, have no fault
 abbrev pub AreGoodBefore : List Data → ℕ → Type 0
-AreGoodBefore entries at = (rows : List Row) × (kinds : List (List ℕ)) × AreGood (take at entries) rows kinds
+AreGoodBefore entries at =
+    (rows : List Row) × (kinds : List (List ℕ)) × AreGood (take at entries) rows kinds
 
--- what can be wrong with an entry: its form, or that with it there are more rows, or more types, than a table may have
+-- what can be wrong with an entry: its form, or that with it there are more rows, or more types,
+-- than a table may have
 pub data EntryFault : Type 0 where
   bad_form : EntryFault
   many_rows : EntryFault
@@ -98,12 +105,15 @@ pub data EntryFault : Type 0 where
 abbrev pub IsFaultAt : List Data → ℕ → EntryFault → Type 0
 IsFaultAt entries at bad_form = IsSomeAnd (slice_get entries at) (λ entry. IsRowEntry entry → ⊥)
 IsFaultAt entries at many_rows =
-    IsSomeAnd (slice_get entries at) IsRowEntry × (rows : List Row) × AreRowsOf (take (at + 1) entries) rows × (max_rows < length rows)
+    IsSomeAnd (slice_get entries at) IsRowEntry × (rows : List Row)
+    × AreRowsOf (take (at + 1) entries) rows × (max_rows < length rows)
 IsFaultAt entries at many_types =
-    IsSomeAnd (slice_get entries at) IsRowEntry × (rows : List Row) × AreRowsOf (take (at + 1) entries) rows × (length rows ≤ max_rows)
+    IsSomeAnd (slice_get entries at) IsRowEntry × (rows : List Row)
+    × AreRowsOf (take (at + 1) entries) rows × (length rows ≤ max_rows)
     × (kinds : List (List ℕ)) × AreTypesOf rows kinds × (max_table_types < length kinds)
 
--- the first fault of entries: the entries before this place have none, and the one at it has this fault
+-- the first fault of entries: the entries before this place have none, and the one at it has this
+-- fault
 pub record IsFirstFault (entries : List Data) (at : ℕ) (fault : EntryFault) : Type 0 where
   pub before : AreGoodBefore entries at
   pub here : IsFaultAt entries at fault
@@ -118,13 +128,15 @@ HasEntries bytes P = (value : Data) × IsShortTextOf value bytes × IsSomeAnd (e
 
 -- the entries are those of a table of these rows: there is one, and each is without a fault
 abbrev pub AreTableOf : List Data → List Row → Type 0
-AreTableOf entries rows = (1 ≤ length entries) × (kinds : List (List ℕ)) × AreGood entries rows kinds
+AreTableOf entries rows =
+    (1 ≤ length entries) × (kinds : List (List ℕ)) × AreGood entries rows kinds
 
 -- the bytes are a table file of these rows
 abbrev pub HasTable : List ℕ → List Row → Type 0
 HasTable bytes rows = HasEntries bytes (λ entries. AreTableOf entries rows)
 
--- the first fault of the entries of a table: there is none, or one of them has a fault; the other faults are a file's
+-- the first fault of the entries of a table: there is none, or one of them has a fault; the other
+-- faults are a file's
 abbrev pub HasRowsFault : List Data → TableFault → Type 0
 HasRowsFault entries Empty = entries ≡ []
 HasRowsFault entries (BadRow at) = IsFirstFault entries at bad_form
@@ -135,8 +147,8 @@ HasRowsFault entries TooLong = ⊥
 HasRowsFault entries NotJson = ⊥
 HasRowsFault entries NotRows = ⊥
 
--- The first fault of a file: those of the file as a whole, then those of its entries, entry by entry. Memory may be
--- wanting whatever the file has.
+-- The first fault of a file: those of the file as a whole, then those of its entries, entry by
+-- entry. Memory may be wanting whatever the file has.
 abbrev pub HasFault : List ℕ → TableFault → Type 0
 HasFault bytes Memory = Unit {0}
 HasFault bytes TooLong = HasTextFault bytes text.TooLong
@@ -166,13 +178,19 @@ fault_text Empty = codes "empty"
 
 -- the rows of a table file are determined by its bytes
 abbrev pub FilesHaveOneTable : Type 0
-FilesHaveOneTable = (bytes : List ℕ) (rows others : List Row) → HasTable bytes rows → HasTable bytes others → rows ≡ others
+FilesHaveOneTable =
+    (bytes : List ℕ) (rows others : List Row)
+    → HasTable bytes rows → HasTable bytes others → rows ≡ others
 
 -- and a table file has no fault, want of memory aside
 abbrev pub TableFilesHaveNoFault : Type 0
-TableFilesHaveNoFault = (bytes : List ℕ) (rows : List Row) (fault : TableFault) → HasTable bytes rows → HasFault bytes fault → fault ≡ Memory
+TableFilesHaveNoFault =
+    (bytes : List ℕ) (rows : List Row) (fault : TableFault)
+    → HasTable bytes rows → HasFault bytes fault → fault ≡ Memory
 
 -- and a file has one first fault, want of memory aside
 abbrev pub FilesHaveOneFault : Type 0
-FilesHaveOneFault = (bytes : List ℕ) (fault other : TableFault) → HasFault bytes fault → HasFault bytes other
+FilesHaveOneFault =
+    (bytes : List ℕ) (fault other : TableFault)
+    → HasFault bytes fault → HasFault bytes other
     → (fault ≡ Memory) ⊎ ((other ≡ Memory) ⊎ (fault ≡ other))

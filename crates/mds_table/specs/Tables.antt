@@ -3,7 +3,8 @@ use Rattle.std.specs.Prelude.{ℕ, List, [], Bool, nat_le, None, option_map, unw
 use Rattle.std.specs.List.{last_or}
 use Rattle.mds_table.specs.declared.row.Row.{Row}
 
--- a table, by its rows, and the time from which it is in force, in milliseconds since the Unix epoch
+-- a table, by its rows, and the time from which it is in force, in milliseconds since the Unix
+-- epoch
 abbrev pub Entry : Type 0
 Entry = ℕ × List Row
 

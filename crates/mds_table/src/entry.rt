@@ -2,7 +2,7 @@
 ghost use Rattle.std.specs.Prelude.{◌≡◌, ◌≢◌, map, IfSome, IfNone, All, true};
 ghost use Rattle.serde_json.specs.View.{view};
 ghost use Rattle.mds_table.specs.State.{code_of};
-ghost use Rattle.mds_table.specs.TableFile.{listed, IsStateName, ListsStates, IsRowEntry};
+ghost use Rattle.mds_table.specs.TableFile.{listed_values, IsStateName, ListsStates, IsRowEntry};
 ghost use Rattle.mds_table.specs.Entry.{is_marked, AreMarked, IsEntryOf};
 
 use crate::json::{state_of, type_name_of};
@@ -55,7 +55,7 @@ impl Entry {
 
 fn states_in(value: &Value) -> Option<States>
     ensures form { IfSome result (λ _. ListsStates (view value.now)) }
-    ensures states { IfSome result (λ states. AreMarked (listed (view value.now)) states) }
+    ensures states { IfSome result (λ states. AreMarked (listed_values (view value.now)) states) }
     ensures none { IfNone result (ListsStates (view value.now) → ⊥) }
 {
     let values = values_in(value);
@@ -66,7 +66,7 @@ fn states_in(value: &Value) -> Option<States>
 }
 
 fn values_in(value: &Value) -> &[Value]
-    ensures { map view result.now ≡ listed (view value.now) }
+    ensures { map view result.now ≡ listed_values (view value.now) }
 {
     match value.as_array() {
         Some(values) => values.as_slice(),

@@ -89,7 +89,8 @@ impl Tally {
     }
 
     fn add_row(&mut self, from: State, to: State)
-        ensures { (kind : List ℕ) → Grows kind self.old self.new (λ row. row ≡ row_of from kind to) }
+        ensures { (kind : List ℕ)
+            → Grows kind self.old self.new (λ row. row ≡ row_of from kind to) }
     {
         let at = usize::from(from.code());
         if mask::has(self.masks[at], to) {

@@ -87,7 +87,8 @@ impl fmt::Display for TableFault {
 }
 
 pub(crate) fn set_in_file(alloc: Global, text: &[u8]) -> Result<RowSet, TableFault>
-    ensures rows { IfOk result (λ set. (rows : List Row) × HasTable text.now rows × AreSet rows set) }
+    ensures rows { IfOk result
+        (λ set. (rows : List Row) × HasTable text.now rows × AreSet rows set) }
     ensures fault { IfErr result (λ fault. HasFault text.now fault) }
 {
     let value = value_of(alloc, text)?;

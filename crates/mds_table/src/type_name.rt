@@ -25,7 +25,7 @@ pub struct TypeName {
 
 impl Model for TypeName {
     ghost use Rattle.std.specs.Prelude.{List, ℕ, length as count, take};
-    ghost use Rattle.mds_table.specs.TypeName.{padded, IsPadded};
+    ghost use Rattle.mds_table.specs.TypeName.{padded_name, IsPadded};
 
     ghost Value = { List ℕ };
 
@@ -33,9 +33,10 @@ impl Model for TypeName {
 
     ghost invariant = { λ name. IsPadded name.bytes name.length };
 
-    ghost inverse = { λ name. record { bytes = padded name; length = count name } };
+    ghost inverse = { λ name. record { bytes = padded_name name; length = count name } };
 
-    ghost inverse_ok = { λ _ padded. λ i. record { bytes = padded.whole i; length = padded.count i } };
+    ghost inverse_ok = { λ _ padded.
+        λ i. record { bytes = padded.whole i; length = padded.count i } };
 }
 
 /// Why a text is no type name.

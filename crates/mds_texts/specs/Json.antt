@@ -1,4 +1,5 @@
--- Compact texts of JSON (RFC 8259). The members of an object stand in ascending order of their names.
+-- Compact texts of JSON (RFC 8259). The members of an object stand in ascending order of their
+-- names.
 use Rattle.std.specs.Prelude.{ℕ, List, [], ◌∷◌, ◌++◌, codes, decimal, Option, Some, None}
 use Rattle.std.specs.List.{flat_map}
 use Rattle.std.specs.Fmt.{signed_decimal}
@@ -21,13 +22,15 @@ with_commas text [] = []
 with_commas text (first ∷ rest) = text first ++ flat_map (λ item. codes "," ++ text item) rest
 
 -- a text of which no character needs to be escaped
-abbrev pub quoted : List ℕ → List ℕ
-quoted text = codes "\"" +++ text +++ codes "\""
+abbrev pub quoted_text : List ℕ → List ℕ
+quoted_text text = codes "\"" +++ text +++ codes "\""
 
 -- a position, or null where there is none
 abbrev pub position_text : Option Position → List ℕ
 position_text None = codes "null"
-position_text (Some position) = codes "{\"lat\":" +++ signed_decimal position.lat +++ codes ",\"lng\":" +++ signed_decimal position.lng +++ codes "}"
+position_text (Some position) =
+    codes "{\"lat\":" +++ signed_decimal position.lat
+    +++ codes ",\"lng\":" +++ signed_decimal position.lng +++ codes "}"
 
 -- a registration of a vehicle
 abbrev pub registration_text : Key → List ℕ
@@ -40,7 +43,7 @@ abbrev pub event_text : Reported → List ℕ
 event_text event =
     (codes "{\"device_id\":\"" +++ hyphenated_text lower event.key.device
     +++ codes "\",\"event_id\":\"" +++ hyphenated_text lower event.id
-    +++ codes "\",\"event_types\":[" +++ with_commas quoted event.types +++ codes "]")
+    +++ codes "\",\"event_types\":[" +++ with_commas quoted_text event.types +++ codes "]")
     ++ (codes ",\"location_e7\":" +++ position_text event.position
     +++ codes ",\"provider_id\":\"" +++ hyphenated_text lower event.key.provider
     +++ codes "\",\"timestamp\":" +++ decimal event.time
@@ -49,7 +52,8 @@ event_text event =
 -- a row of a table, as a table file has it
 abbrev pub row_text : Row → List ℕ
 row_text row =
-    codes "{\"from\":\"" +++ name_of row.from +++ codes "\",\"to\":\"" +++ name_of row.to +++ codes "\",\"type\":\"" +++ row.kind +++ codes "\"}"
+    codes "{\"from\":\"" +++ name_of row.from +++ codes "\",\"to\":\""
+    +++ name_of row.to +++ codes "\",\"type\":\"" +++ row.kind +++ codes "\"}"
 
 -- a table and the time from which it is in force, as a file of several tables has them
 abbrev pub table_text : Entry → List ℕ

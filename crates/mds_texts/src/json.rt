@@ -1,6 +1,6 @@
 //! Texts of JSON (RFC 8259).
 ghost use Rattle.std.specs.Prelude.{Some};
-ghost use Rattle.mds_texts.specs.Json.{with_commas, quoted, position_text, registration_text, event_text, row_text, table_text};
+ghost use Rattle.mds_texts.specs.Json.{with_commas, quoted_text, position_text, registration_text, event_text, row_text, table_text};
 
 use mds_core::{Event, Key, Position};
 use mds_table::{Row, TypeName};
@@ -58,7 +58,7 @@ impl<T: Json> Display for Commas<'_, T> {
 }
 
 impl Json for TypeName {
-    ghost json = { quoted };
+    ghost json = { quoted_text };
 
     fn write_json<W: fmt::Write>(&self, f: &mut Formatter<W>) -> fmt::Result {
         write!(f, "\"{self}\"")

@@ -5,7 +5,7 @@ use Rattle.std.proofs.lemmas.List.{length-set}
 use Rattle.std.proofs.lemmas.List.Sums.{sum_by_push}
 use Rattle.std.proofs.lemmas.Option.{get_or_from_slice_get}
 use Rattle.mds_waiting.specs.declared.waiter.Waiter.{Waiter}
-use Rattle.mds_waiting.specs.Waiting.{HasRoom, HaveLeftFor, LeavesKey, held, weight}
+use Rattle.mds_waiting.specs.Waiting.{HasRoom, HaveLeftFor, LeavesKey, held_bytes, weight}
 use Rattle.mds_waiting.proofs.SlotLemmas.{emptied}
 
 module _ {S : Type 0} where
@@ -16,15 +16,15 @@ module _ {S : Type 0} where
       ap length left.4.3 ∙ length-set left.0 left.4.0 None ∙ length-have_left n count old left.0 left.2
 
   -- no more is held where one left for a key
-  held-leaves : (old new : List (Option (Waiter S))) → LeavesKey old new → held new ≤ held old
-  held-leaves old new (inl (inl same)) = let is : held new ≡ held old = ap held same in omega arith
+  held-leaves : (old new : List (Option (Waiter S))) → LeavesKey old new → held_bytes new ≤ held_bytes old
+  held-leaves old new (inl (inl same)) = let is : held_bytes new ≡ held_bytes old = ap held_bytes same in omega arith
   held-leaves old new (inl (inr grown)) =
-      let is : held new ≡ held (old ++ None ∷ []) = ap held grown in
+      let is : held_bytes new ≡ held_bytes (old ++ None ∷ []) = ap held_bytes grown in
       let more = sum_by_push weight old None in
       omega arith
   held-leaves old new (inr left) =
       let eldest = left.1.1 in
-      let is : held new ≡ held (slice_set old left.1.0 None) = ap held left.1.2 in
+      let is : held_bytes new ≡ held_bytes (slice_set old left.1.0 None) = ap held_bytes left.1.2 in
       let sum = emptied weight refl old left.1.0 eldest.waiter
       (get_or_from_slice_get old left.1.0 (Some eldest.waiter) None eldest.there) in
       omega arith

@@ -12,8 +12,8 @@ use Rattle.mds_waiting.specs.declared.least.Found.{Found}
 use Rattle.mds_waiting.specs.declared.least.Order.{Order}
 use Rattle.mds_waiting.specs.declared.least.Order.TheVariants.{Until, Begun}
 use Rattle.mds_waiting.proofs.SlotLemmas.{emptied}
-use Rattle.mds_waiting.specs.Least.{IsLeast, IsLeastBelow, IsNoSooner, lesser, time_in}
-use Rattle.mds_waiting.specs.Waiting.{HasBegunSince, HasLeft, HasTime, HoldsFewer, IsEldest, IsEldestBefore, IsInTime, IsLate, IsOver, held, weight}
+use Rattle.mds_waiting.specs.Least.{IsLeast, IsLeastBelow, IsNoSooner, lesser_of, time_in}
+use Rattle.mds_waiting.specs.Waiting.{HasBegunSince, HasLeft, HasTime, HoldsFewer, IsEldest, IsEldestBefore, IsInTime, IsLate, IsOver, held_bytes, weight}
 
 module _ {S : Type 0} where
   -- who is told of by when its time is over
@@ -55,7 +55,7 @@ module _ {S : Type 0} where
   -- one more slot is looked at
   pub IsLeastBelow-more : (order : Order) (slots : List (Option (Waiter S))) (key : ℕ) (best : Option Found) (slot : Option (Waiter S)) (own : Option ℕ)
       → key < length slots → slot ≡ get_or slots key slot → time_in order slot ≡ own
-      → IsLeastBelow order slots key best → IsLeastBelow order slots (key + 1) (lesser best key own)
+      → IsLeastBelow order slots key best → IsLeastBelow order slots (key + 1) (lesser_of best key own)
   IsLeastBelow-more order slots key None slot None within is told least =
       more (λ it. time_in order it ≡ None) slots key slot within is least told
   IsLeastBelow-more order slots key (Some found) slot None within is told least = (
@@ -153,7 +153,7 @@ module _ {S : Type 0} where
       fewer bytes waiter (sym (ap (time_in (Begun bytes)) same) ∙ least k d (omega arith) within)
 
   -- where nobody holds a byte, nothing is held
-  pub nothing_held : (slots : List (Option (Waiter S))) → All (HoldsFewer 1) slots → held slots ≡ 0
+  pub nothing_held : (slots : List (Option (Waiter S))) → All (HoldsFewer 1) slots → held_bytes slots ≡ 0
   nothing_held slots fewer =
       let none = sum_by-le weight 0 slots (All-weaker (HoldsFewer 1) (λ slot. weight slot ≤ 0) light slots fewer) in
       omega arith
@@ -186,14 +186,14 @@ module _ {S : Type 0} where
       subst (λ (it : Option (Waiter S)). IfNone it P) (sym (taken_is old key taken eldest is)) tt
 
   pub fewer_held : (old new : List (Option (Waiter S))) (key : ℕ) (taken : Option (Waiter S)) → IsEldest 1 old key
-      → taken ≡ get_or old key None → new ≡ slice_set old key None → IfSome taken (λ _. held new < held old)
+      → taken ≡ get_or old key None → new ≡ slice_set old key None → IfSome taken (λ _. held_bytes new < held_bytes old)
   fewer_held old new key taken eldest is set =
-      subst (λ (it : Option (Waiter S)). IfSome it (λ _. held new < held old)) (sym (taken_is old key taken eldest is)) less where
-        less : held new < held old
+      subst (λ (it : Option (Waiter S)). IfSome it (λ _. held_bytes new < held_bytes old)) (sym (taken_is old key taken eldest is)) less where
+        less : held_bytes new < held_bytes old
         less =
             let holds = eldest.holds in
             let sum = emptied weight refl old key eldest.waiter (get_or_from_slice_get old key (Some eldest.waiter) None eldest.there) in
-            let same : held new ≡ held (slice_set old key None) = ap held set in
+            let same : held_bytes new ≡ held_bytes (slice_set old key None) = ap held_bytes set in
             omega arith
 
 -- what holds anyway holds where there is none

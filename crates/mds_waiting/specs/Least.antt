@@ -33,8 +33,8 @@ module _ {S : Type 0} where
   IsLeast order slots found = IsLeastBelow order slots (length slots) found
 
 -- the one of both with the lesser time
-abbrev pub lesser : Option Found → ℕ → Option ℕ → Option Found
-lesser first key None = first
-lesser None key (Some time) = Some (record { key = key; time = time })
-lesser (Some found) key (Some time) =
+abbrev pub lesser_of : Option Found → ℕ → Option ℕ → Option Found
+lesser_of first key None = first
+lesser_of None key (Some time) = Some (record { key = key; time = time })
+lesser_of (Some found) key (Some time) =
     if nat_le found.time time then Some found else Some (record { key = key; time = time })

@@ -29,12 +29,12 @@ module _ {S : Type 0} where
   weight (Some waiter) = min (vec_len waiter.bytes) max_held
 
   -- what they hold in all
-  abbrev pub held : List (Option (Waiter S)) → ℕ
-  held slots = sum_by weight slots
+  abbrev pub held_bytes : List (Option (Waiter S)) → ℕ
+  held_bytes slots = sum_by weight slots
 
   -- there is room for so many bytes more
   abbrev pub HasRoom : List (Option (Waiter S)) → ℕ → Type 0
-  HasRoom slots count = held slots + min count max_held ≤ max_held
+  HasRoom slots count = held_bytes slots + min count max_held ≤ max_held
 
   -- no connection has this key
   abbrev pub IsVacant : List (Option (Waiter S)) → ℕ → Type 0
@@ -132,6 +132,6 @@ module _ {S : Type 0} where
   pub record IsKept (slots : List (Option (Waiter S))) (count holding soonest : ℕ) : Type 0 where
     pub few : length slots ≤ max_waiting
     pub many : count ≡ count_by is_some slots
-    pub counted : holding ≡ held slots
+    pub counted : holding ≡ held_bytes slots
     pub bounded : holding ≤ max_held
     pub punctual : All (HasTime soonest) slots

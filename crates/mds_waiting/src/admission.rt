@@ -41,7 +41,7 @@ impl<S: Drop> Waiting<S> {
             Ok(None) => {}
             Err(AllocError) => return None,
         }
-        let key = self.eldest(0)?;
+        let key = self.eldest_holding(0)?;
         let _ = self.take(key);
         Some(key)
     }

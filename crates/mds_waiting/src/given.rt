@@ -42,7 +42,7 @@ impl Given {
     }
 
     /// The bytes that are left, and the head with which they begin, where it is known.
-    pub fn whole(&self) -> Option<(&[u8], Head)>
+    pub fn bytes_with_head(&self) -> Option<(&[u8], Head)>
         ensures bytes { IfSome result (λ found. found.0.now ≡ self.now) }
         ensures head { IfSome result (λ found. IsHead found.0.now found.1) }
     {

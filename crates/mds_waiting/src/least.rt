@@ -1,6 +1,6 @@
 //! The connection with the least time.
 ghost use Rattle.std.specs.Prelude.{◌≡◌};
-ghost use Rattle.mds_waiting.specs.Least.{IsLeast, time_in, lesser};
+ghost use Rattle.mds_waiting.specs.Least.{IsLeast, time_in, lesser_of};
 
 use crate::Waiter;
 
@@ -38,8 +38,8 @@ impl Order {
     }
 }
 
-fn lesser(first: Option<Found>, key: usize, time: Option<u64>) -> Option<Found>
-    ensures { result ≡ lesser first key time }
+fn lesser_of(first: Option<Found>, key: usize, time: Option<u64>) -> Option<Found>
+    ensures { result ≡ lesser_of first key time }
 {
     match (first, time) {
         (_, None) => first,
@@ -48,12 +48,12 @@ fn lesser(first: Option<Found>, key: usize, time: Option<u64>) -> Option<Found>
     }
 }
 
-pub(crate) fn least<S>(slots: &[Option<Waiter<S>>], order: Order) -> Option<Found>
+pub(crate) fn find_least<S>(slots: &[Option<Waiter<S>>], order: Order) -> Option<Found>
     ensures { IsLeast order slots.now result }
 {
     let mut best = None;
     for key in 0..slots.len() {
-        best = lesser(best, key, order.time_in(&slots[key]));
+        best = lesser_of(best, key, order.time_in(&slots[key]));
     }
     best
 }

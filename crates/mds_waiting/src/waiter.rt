@@ -18,7 +18,7 @@ pub struct Waiter<S> {
     pub until: u64,
 }
 
-pub(crate) fn counted(len: usize) -> usize
+pub(crate) fn weight_of(len: usize) -> usize
     ensures { result ≡ min len max_held }
 {
     len.min(MAX_HELD)

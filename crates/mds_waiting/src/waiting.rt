@@ -1,9 +1,9 @@
 //! The connections that wait.
 ghost use Rattle.std.specs.Prelude.{◌≡◌, ◌↔◌, ◌⊎◌, ◌+◌, ◌<◌, ◌≤◌, [], All, count_by, is_some, IsSome, IsSomeAnd, IsTrue, IfNone, IfOk, IfSome, OnErr, Some, None, length, slice_index_or, slice_set, vec_len};
-ghost use Rattle.mds_waiting.specs.Waiting.{HasBegunSince, HasLeft, HasRoom, HasTime, HoldsFewer, IsEldest, IsEldestBefore, IsFull, IsInTime, IsLate, IsOver, IsVacant, SameWaiters, held, max_held, max_wait, max_waiting, weight};
+ghost use Rattle.mds_waiting.specs.Waiting.{HasBegunSince, HasLeft, HasRoom, HasTime, HoldsFewer, IsEldest, IsEldestBefore, IsFull, IsInTime, IsLate, IsOver, IsVacant, SameWaiters, held_bytes, max_held, max_wait, max_waiting, weight};
 
-use crate::least::{Found, Order, least};
-use crate::waiter::{MAX_HELD, Waiter, counted};
+use crate::least::{Found, Order, find_least};
+use crate::waiter::{MAX_HELD, Waiter, weight_of};
 use std::alloc::{AllocError, Global};
 use std::marker::Model;
 use std::mem;
@@ -63,8 +63,8 @@ impl<S> Waiting<S> {
     }
 
     /// How much the connections hold.
-    pub fn held(&self) -> usize
-        ensures held { result ≡ held self.now }
+    pub fn held_bytes(&self) -> usize
+        ensures held { result ≡ held_bytes self.now }
         ensures bound { result ≤ max_held }
     {
         self.held
@@ -74,7 +74,7 @@ impl<S> Waiting<S> {
     pub fn has_room(&self, count: usize) -> bool
         ensures { IsTrue result ↔ HasRoom self.now count }
     {
-        counted(count) <= MAX_HELD - self.held
+        weight_of(count) <= MAX_HELD - self.held
     }
 
     /// A key that no connection has, if there is one.
@@ -119,7 +119,7 @@ impl<S> Waiting<S> {
         ensures { self.new ≡ slice_set self.old key (Some waiter) }
     {
         self.count += 1;
-        self.held += counted(waiter.bytes.len());
+        self.held += weight_of(waiter.bytes.len());
         self.soonest = self.soonest.min(waiter.until);
         fill(&mut self.slots, key, waiter);
     }
@@ -129,9 +129,9 @@ impl<S> Waiting<S> {
         ensures taken { result ≡ slice_index_or self.old key None }
         ensures slots { self.new ≡ slice_set self.old key None }
     {
-        let waiter = empty(&mut self.slots, key)?;
+        let waiter = empty_slot(&mut self.slots, key)?;
         self.count -= 1;
-        self.held -= counted(waiter.bytes.len());
+        self.held -= weight_of(waiter.bytes.len());
         if self.spare.len() < MAX_WAITING {
             let _ = self.spare.push(key);
         }
@@ -140,7 +140,7 @@ impl<S> Waiting<S> {
 
     /// The connection whose time is over first, if it is over now. Without a time by the clock it is, whichever that is: so a
     /// clock that fails keeps nobody for ever.
-    pub fn late(&mut self, now: Option<u64>) -> Option<usize>
+    pub fn find_late(&mut self, now: Option<u64>) -> Option<usize>
         ensures late { IfSome result (IsLate now self.old) }
         ensures none { IfNone result (All (IsInTime now) self.old) }
         ensures same { self.new ≡ self.old }
@@ -148,7 +148,7 @@ impl<S> Waiting<S> {
         if is_before(now, self.soonest) {
             return None;
         }
-        match least(&self.slots, Order::Until) {
+        match find_least(&self.slots, Order::Until) {
             None => {
                 self.soonest = u64::MAX;
                 None
@@ -174,11 +174,11 @@ impl<S> Waiting<S> {
     }
 
     /// The connection that began to wait first, of those that hold at least so many bytes.
-    pub fn eldest(&self, bytes: usize) -> Option<usize>
+    pub fn eldest_holding(&self, bytes: usize) -> Option<usize>
         ensures eldest { IfSome result (IsEldest bytes self.now) }
         ensures none { IfNone result (All (HoldsFewer bytes) self.now) }
     {
-        let found = least(&self.slots, Order::Begun { bytes })?;
+        let found = find_least(&self.slots, Order::Begun { bytes })?;
         Some(found.key)
     }
 
@@ -187,7 +187,7 @@ impl<S> Waiting<S> {
         ensures eldest { IfSome result (IsEldestBefore time self.now) }
         ensures none { IfNone result (All (HasBegunSince time) self.now) }
     {
-        match least(&self.slots, Order::Begun { bytes: 0 }) {
+        match find_least(&self.slots, Order::Begun { bytes: 0 }) {
             Some(found) if found.time < time => Some(found.key),
             _ => None,
         }
@@ -198,13 +198,13 @@ impl<S> Waiting<S> {
         ensures left { IfSome result (HasLeft self.old self.new) }
         ensures room { IfNone result (HasRoom self.new count) }
         ensures same { IfNone result (self.new ≡ self.old) }
-        ensures fewer { IfSome result (λ _. held self.new < held self.old) }
+        ensures fewer { IfSome result (λ _. held_bytes self.new < held_bytes self.old) }
         ensures needed { IfSome result (λ _. HasRoom self.old count → ⊥) }
     {
         if self.has_room(count) {
             return None;
         }
-        let key = self.eldest(1)?;
+        let key = self.eldest_holding(1)?;
         self.take(key)
     }
 }
@@ -233,7 +233,7 @@ fn fill<S: Drop>(slots: &mut Vec<Option<Waiter<S>>>, key: usize, waiter: Waiter<
     slots[key] = Some(waiter);
 }
 
-fn empty<S>(slots: &mut Vec<Option<Waiter<S>>>, key: usize) -> Option<Waiter<S>>
+fn empty_slot<S>(slots: &mut Vec<Option<Waiter<S>>>, key: usize) -> Option<Waiter<S>>
     ensures taken { result ≡ slice_index_or slots.old.items key None }
     ensures slots { slots.new.items ≡ slice_set slots.old.items key None }
 {

@@ -26,7 +26,7 @@ fn first_of<I: BatchItem + Drop>(read: Result<Vec<I>, BatchFault>) -> First {
 
 fn first_kept(read: Result<EventItems, BatchFault>) -> First {
     let items = read?;
-    let fault = match items.kept().first() {
+    let fault = match items.kept_items().first() {
         Some(item) => item.fault(),
         None => None,
     };

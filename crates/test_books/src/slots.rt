@@ -72,7 +72,7 @@ fn steps_in<L: ShardLedger>(
     requires logs { (blank.log ≡ L.log) × (blank.marks ≡ L.marks) }
     requires tables { tables ≡ L.tables }
 {
-    let Some((mut slot, mut part)) = Slot::<L, 0>::single(alloc, tables, blank, hasher) else {
+    let Some((mut slot, mut part)) = Slot::<L, 0>::open_single(alloc, tables, blank, hasher) else {
         return Ok([None, None]);
     };
     let first = two_steps(&mut slot, &mut part, requests)?;

@@ -149,7 +149,7 @@ fn handed(alloc: Global, face: &Face, acts: &'static [Act]) -> Option<(bool, boo
     for _ in 0..2 {
         if let Look::Done(head) = coming.look(face, &mut bytes, &mut [0u8; 64]) {
             let given = Given::new(bytes, head);
-            return Some((given.whole().is_some(), given.is_over()));
+            return Some((given.bytes_with_head().is_some(), given.is_over()));
         }
     }
     None

@@ -41,15 +41,15 @@ fn three(alloc: Global) -> Result<Waiting<u32>, AllocError> {
 type Told = ([Option<usize>; 4], [usize; 2], u64);
 
 fn told(waiting: &mut Waiting<u32>) -> Told {
-    let early = waiting.late(Some(109));
-    let late = waiting.late(Some(110)).filter(|_| early.is_none());
+    let early = waiting.find_late(Some(109));
+    let late = waiting.find_late(Some(110)).filter(|_| early.is_none());
     let who = [
-        waiting.eldest(0),
-        waiting.eldest(1),
+        waiting.eldest_holding(0),
+        waiting.eldest_holding(1),
         late,
-        waiting.late(None),
+        waiting.find_late(None),
     ];
-    let counts = [waiting.len(), waiting.held()];
+    let counts = [waiting.len(), waiting.held_bytes()];
     (who, counts, waiting.patience(Some(60)))
 }
 

@@ -21,7 +21,7 @@ fn is_at(items: &EventItems, at: usize, item: &EventItem) -> bool {
     let asks = at < items.count() && items.ask(at, &mut asked);
     match item {
         EventItem::Event(event) => asks && asked == Request::Report(event.copy()),
-        EventItem::Fault(fault) => match items.kept().get(at) {
+        EventItem::Fault(fault) => match items.kept_items().get(at) {
             Some(kept) => !asks && kept.fault() == Some(*fault),
             None => false,
         },

@@ -1,8 +1,8 @@
 //! What becomes of a journal in memory over which a book is opened and asked.
 ghost use Rattle.std.specs.Prelude.{◌≡◌, false, replicate, List};
 ghost use Rattle.mds_core.specs.declared.request.Request.{Request as Requested};
-ghost use Rattle.mds_journal.specs.Lines.{recovered};
-ghost use Rattle.mds_book.specs.Seats.{fresh};
+ghost use Rattle.mds_journal.specs.Lines.{recovered_texts};
+ghost use Rattle.mds_book.specs.Seats.{new_seat};
 ghost use Rattle.mds_follow.specs.Disk.{IsTold};
 ghost use Rattle.mds_follow.specs.Reading.{IsAtFirstRequest};
 
@@ -190,13 +190,13 @@ fn ended_at<D: Device + Drop, L: ShardLedger, M: ShardLedger, J: RecordLog, R: W
     log: BlankLog,
     case: &Case,
 ) -> Result<Result<Disk<D>, (StartFault, D)>, Lack>
-    requires seats { seats.items ≡ replicate 2 (fresh false) }
+    requires seats { seats.items ≡ replicate 2 (new_seat false) }
     requires at_first { IsAtFirstRequest D.seen D.may_leave D.may_be_used D.is_true
         reader.opening }
     requires log { log ≡ J.log }
     requires start { J.start ≡ D.moment reader.opening.device }
     requires held { (told : List Requested)
-        → IsTold (recovered (D.seen reader.opening.device)) told → J.held told }
+        → IsTold (recovered_texts (D.seen reader.opening.device)) told → J.held told }
 {
     if let Some(request) = requests_of(alloc, case.other)?.first() {
         book.call(rt, &mut seats[1], request)?;
@@ -229,7 +229,7 @@ fn ended_in<D: Device + Drop, L: ShardLedger, M: ShardLedger, J: RecordLog, R: W
     requires log { log ≡ J.log }
     requires start { J.start ≡ D.moment reader.opening.device }
     requires held { (told : List Requested)
-        → IsTold (recovered (D.seen reader.opening.device)) told → J.held told }
+        → IsTold (recovered_texts (D.seen reader.opening.device)) told → J.held told }
 {
     let keep = Keep::Accepted;
     match Book::<L, M>::open(alloc, tables, 2, keep, first, second, hashers) {

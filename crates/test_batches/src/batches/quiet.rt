@@ -58,7 +58,7 @@ fn both_of(alloc: Global) -> Result<Both, BatchFault> {
 fn told(both: &Both) -> bool {
     let member = Member::DeviceId;
     let fault = ItemFault::Bad(member);
-    let kept = match both.events.kept().get(1) {
+    let kept = match both.events.kept_items().get(1) {
         Some(kept) => kept.fault(),
         None => None,
     };

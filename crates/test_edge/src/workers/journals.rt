@@ -1,7 +1,7 @@
 //! Books that are served over a journal in memory.
 ghost use Rattle.std.specs.Prelude.{◌≡◌, List};
 ghost use Rattle.mds_core.specs.declared.request.Request.{Request as Requested};
-ghost use Rattle.mds_journal.specs.Lines.{recovered};
+ghost use Rattle.mds_journal.specs.Lines.{recovered_texts};
 ghost use Rattle.mds_book.specs.Books.{IsSeatCount};
 ghost use Rattle.mds_follow.specs.Disk.{IsTold};
 ghost use Rattle.mds_follow.specs.Reading.{IsAtFirstRequest};
@@ -69,7 +69,7 @@ where
     requires log { log ≡ J.log }
     requires start { J.start ≡ D.moment reader.opening.device }
     requires held { (told : List Requested)
-        → IsTold (recovered (D.seen reader.opening.device)) told → J.held told }
+        → IsTold (recovered_texts (D.seen reader.opening.device)) told → J.held told }
 {
     let opened = RecordedBook::<Disk<D>, L, M, J>::open(rt, alloc, opening, reader, log);
     let Ok(book) = opened else {

@@ -40,7 +40,7 @@ type Quiet = (Result<([Outcome; 2], bool), AllocError>, Faults, Told, bool);
 /// What is to be told, where the growths are refused or not.
 fn expected(is_refused: bool) -> Quiet {
     let refused = Outcome::Refused(Refusal::AlreadyRegistered);
-    let seen = Outcome::Seen(Standing::registered());
+    let seen = Outcome::Seen(Standing::at_registration());
     let faults = (Err(ServeFault::Read), Some(ReadError::Device));
     let told = if is_refused {
         (Err(ServeFault::Memory { sent: 74 }), 74, 1)

@@ -79,7 +79,7 @@ type Decided = ([Outcome; 2], Result<(), Refusal>, [Standing; 2]);
 
 fn decided(tables: &Tables, request: &Request) -> Option<Decided> {
     let event = request.event()?;
-    let registered = Standing::registered();
+    let registered = Standing::at_registration();
     let standing = registered.after(event);
     let first = Known {
         standing: Some(registered),

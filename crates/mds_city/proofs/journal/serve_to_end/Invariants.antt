@@ -1,4 +1,4 @@
-use Rattle.mds_journal.specs.Lines.{recovered}
+use Rattle.mds_journal.specs.Lines.{recovered_texts}
 use Rattle.mds_follow.specs.Disk.{IsTold}
 use Rattle.mds_city.proofs.journal.serve_to_end.Given as goal
 
@@ -32,5 +32,5 @@ ghosts-serve_reader-J-Logged g a = record { log = a.log }
 abbrev pub ghosts-serve_reader-J-RecordLog : goal.ghosts-serve_reader-J-RecordLog
 ghosts-serve_reader-J-RecordLog g a = record {
   start = g.H.Journal.Device.moment a.reader.opening.device;
-  held = IsTold (recovered (g.H.Journal.Device.seen a.reader.opening.device));
+  held = IsTold (recovered_texts (g.H.Journal.Device.seen a.reader.opening.device));
 }

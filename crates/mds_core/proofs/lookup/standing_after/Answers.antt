@@ -6,5 +6,5 @@ use Rattle.mds_core.proofs.lookup.standing_after.Goals as goal
 
 pub returns-in-None : goal.returns-in-None
 returns-in-None c = λ requests is few.
-    let before = c.unwrap_or-standing.ensures ∙ ap (λ s. unwrap_or s c.registered.result) is ∙ ap (unwrap_or (standing_if requests)) c.registered.ensures.fields ∙ standing_if-unwrapped requests in
+    let before = c.unwrap_or-standing.ensures ∙ ap (λ s. unwrap_or s c.at_registration.result) is ∙ ap (unwrap_or (standing_if requests)) c.at_registration.ensures.fields ∙ standing_if-unwrapped requests in
     before ∙ sym (standing_of-push_none requests c.args.request.now (sym c.in-None.ensures))

@@ -1,6 +1,6 @@
 use Rattle.std.proofs.Common.{◌≡◌, ◌∙◌, ℕ, ◌++◌, ◌∷◌, [], List, true, length, refl, sym, ap, subst, arith, rules}
 use Rattle.mds_core.specs.declared.request.Request.{Request}
-use Rattle.mds_journal.specs.Opening.{unread}
+use Rattle.mds_journal.specs.Opening.{unread_bytes}
 use Rattle.mds_journal.proofs.MomentLemmas.{still_untouched}
 use Rattle.mds_log.specs.Log.{Acceptance, requests}
 use Rattle.mds_follow.specs.Reading.{IsReadTo}
@@ -15,7 +15,7 @@ requests-init g c =
     let none = c.requires.none in
     let opening = c.args.reader.now.opening in
     let file = g.D.Device.seen opening.device in
-    let left = unread g.D.Device.seen opening in
+    let left = unread_bytes g.D.Device.seen opening in
     let Refilled : List Acceptance → Type 0 = λ w. IsRefilled c.args.seat.now w in
     let Read : List Acceptance → Type 0 = λ w. IsReadTo file (requests w) left in
     let At : List Acceptance → Type 0 = λ w. w ≡ recorded_at (g.D.Device.moment opening.device) (requests w) in
@@ -41,7 +41,7 @@ requests-preserved g c =
     let new = c.take_back.new.keeper in
     let first = c.args.reader.now.opening.device in
     let file = g.D.Device.seen first in
-    let left = unread g.D.Device.seen c.take_back.new.reader.opening in
+    let left = unread_bytes g.D.Device.seen c.take_back.new.reader.opening in
     let Read : List Request → Type 0 = λ w. IsReadTo file w left in
     let Noted : ℕ → Type 0 = λ t. new ≡ old ++ record { tag = t; request = took.request } ∷ [] in
     record {
@@ -53,7 +53,7 @@ requests-preserved g c =
       read = λ truth.
           let before = c.take_back.ensures.was_true truth in
           subst Read (sym (asked_more _ old new took.request took.noted))
-          (read_next file (unread g.D.Device.seen c.requests.reader.opening) left (requests old) took.request (was.read before) (took.tells truth));
+          (read_next file (unread_bytes g.D.Device.seen c.requests.reader.opening) left (requests old) took.request (was.read before) (took.tells truth));
       at_start = λ truth.
           let before = c.take_back.ensures.was_true truth in
           let same = (c.take_back.ensures.untouched truth).time ∙ (was.untouched before).time in

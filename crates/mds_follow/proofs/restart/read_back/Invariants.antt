@@ -1,7 +1,7 @@
 use Rattle.std.proofs.Common.{◌≡◌, ◌+◌, ◌-◌, ◌^◌, length}
 use Rattle.mds_table.specs.Json.{max_bytes}
 use Rattle.mds_journal.specs.Device.{Untouched}
-use Rattle.mds_journal.specs.Opening.{IsReading, limit_of, number_of, place_of, unread}
+use Rattle.mds_journal.specs.Opening.{IsReading, limit_of, number_of, place_of, unread_bytes}
 use Rattle.mds_log.specs.Log.{requests}
 use Rattle.mds_follow.specs.Record.{recorded_at}
 use Rattle.mds_follow.specs.Reading.{IsReadTo}
@@ -17,7 +17,7 @@ invariant-requests g l = record {
   refilled : IsRefilled l.seat l.keeper;
   keep : l.seat.keeps_all ≡ l.initial.seat.keeps_all;
   read : g.D.Device.is_true l.reader.opening.device
-      → IsReadTo (g.D.Device.seen l.initial.reader.opening.device) (requests l.keeper) (unread g.D.Device.seen l.reader.opening);
+      → IsReadTo (g.D.Device.seen l.initial.reader.opening.device) (requests l.keeper) (unread_bytes g.D.Device.seen l.reader.opening);
   at_start : g.D.Device.is_true l.reader.opening.device → l.keeper ≡ recorded_at (g.D.Device.moment l.initial.reader.opening.device) (requests l.keeper);
   untouched : g.D.Device.is_true l.reader.opening.device
       → Untouched g.D.Device.seen g.D.Device.may_leave g.D.Device.moment g.D.Device.left_since l.initial.reader.opening.device l.reader.opening.device;

@@ -1,5 +1,5 @@
 use Rattle.std.proofs.Common.{◌≡◌, ◌∙◌, ℕ, List, sym, subst}
-use Rattle.mds_journal.specs.Lines.{recovered}
+use Rattle.mds_journal.specs.Lines.{recovered_texts}
 use Rattle.mds_log.specs.Log.{requests}
 use Rattle.mds_follow.specs.Disk.{IsTold}
 use Rattle.mds_follow.specs.Record.{recorded_at}
@@ -14,7 +14,7 @@ begin-requires-clause-read g c truth =
     let none = c.read_back.ensures.untouched then in
     let told = c.read_back.new.keeper in
     let opened = c.read_back.new.reader.opening.device in
-    let Told : List ℕ → Type 0 = λ w. IsTold (recovered w) (requests told) in
+    let Told : List ℕ → Type 0 = λ w. IsTold (recovered_texts w) (requests told) in
     let At : ℕ → Type 0 = λ t. told ≡ recorded_at t (requests told) in
     read_only g.D.Device.seen g.D.Device.moment g.D.Device.left_since opened c.in-Ok-into_disk.disk.journal.device told g.J.RecordLog.start (c.requires.start ∙ sym none.time)
     (subst Told (sym none.file) (c.in-Ok.ensures.told then)) (subst At (sym none.time) (c.in-Ok.ensures.at_start then)) (c.in-Ok-into_disk.ensures.any_moment truth)

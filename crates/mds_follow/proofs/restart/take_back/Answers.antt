@@ -1,5 +1,5 @@
 use Rattle.std.proofs.Common.{◌≡◌, true, rules}
-use Rattle.mds_journal.specs.Opening.{unread}
+use Rattle.mds_journal.specs.Opening.{unread_bytes}
 use Rattle.mds_follow.proofs.ReadBack.{refused_behind}
 use Rattle.mds_follow.proofs.restart.take_back.Goals as goal
 
@@ -9,7 +9,7 @@ returns-in-Err-Refused-clause-fault g c truth =
       c.number-number.ensures,
       (
         c.next_request.new.self.request,
-        unread g.D.Device.seen c.next_request.new.self.opening,
+        unread_bytes g.D.Device.seen c.next_request.new.self.opening,
         c.in-Ok-true.ensures.some more truth,
         refused_behind c.args.book.now.tables c.args.seat.now c.args.keeper.now c.next_request.new.self.request c.requires.refilled (c.in-Err-Refused.ensures.refused cc),
       ),

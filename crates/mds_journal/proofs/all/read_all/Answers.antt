@@ -1,5 +1,5 @@
 use Rattle.std.proofs.Common.{ap, ◌∙◌}
-use Rattle.mds_journal.specs.Lines.{recovered}
+use Rattle.mds_journal.specs.Lines.{recovered_texts}
 use Rattle.mds_journal.proofs.LineLemmas.{texts_have_no_feed}
 use Rattle.mds_journal.proofs.GroupLemmas.{recovered-at_rest}
 use Rattle.mds_journal.proofs.RepairLemmas.{opening_leaves}
@@ -11,7 +11,7 @@ returns-in-Ok-finish-clause-same g c = λ is.
     let was = c.read_lines.ensures.was_true then in
     let same = (c.read_lines.ensures.untouched then).file ∙ c.in-Ok.ensures.same was in
     let file = g.D.Device.seen c.read_lines.new.opening.device in
-    ap recovered (c.in-Ok-finish.ensures.at_rest is) ∙ recovered-at_rest (recovered file) (texts_have_no_feed file) ∙ ap recovered same
+    ap recovered_texts (c.in-Ok-finish.ensures.at_rest is) ∙ recovered-at_rest (recovered_texts file) (texts_have_no_feed file) ∙ ap recovered_texts same
 
 pub returns-in-Ok-finish-clause-any_moment : goal.returns-in-Ok-finish-clause-any_moment
 returns-in-Ok-finish-clause-any_moment g c = λ is.

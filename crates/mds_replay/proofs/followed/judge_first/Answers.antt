@@ -37,5 +37,5 @@ pub returns-clause-followed : goal.returns-clause-followed
 returns-clause-followed c =
     let order : AreInCodeOrder c.openings-openings.result = rw c.states.ensures.items at c.states.ensures.order in record {
       openings = (order, openings_of (goal.at.returns-clause-followed c).After-openings-openings);
-      standing = ap Some (c.after.ensures.list (Register c.args.event.now.key ∷ []) (c.registered.ensures.list c.args.event.now.key) (omega arith));
+      standing = ap Some (c.after.ensures.list (Register c.args.event.now.key ∷ []) (c.at_registration.ensures.list c.args.event.now.key) (omega arith));
     }

@@ -9,7 +9,7 @@ returns-in-Event c =
     let one = kept.Event c.in-Event.kept in (
       item_in c.self.inside.names.items one,
       item_at c.self.inside.names.items c.self.inside.items.items c.args.self.now c.args.at c.index.result.now one c.self.view_is c.requires c.index.ensures c.in-Event.is,
-      rw (c.put_report.ensures, c.told.ensures, c.types.ensures, c.deref.ensures.value) refl,
+      rw (c.put_report.ensures, c.told_fields.ensures, c.types.ensures, c.deref.ensures.value) refl,
     )
 
 pub returns-in-Fault : goal.returns-in-Fault

@@ -1,7 +1,7 @@
 use Rattle.std.proofs.Common.{◌≡◌, ◌≤◌, ◌+◌, ◌++◌, refl, sym, ap, subst, ◌∙◌}
 use Rattle.mds_core.specs.History.{key_of}
 use Rattle.mds_book.specs.Shards.{shard_of, count_of}
-use Rattle.mds_book.specs.Seats.{noted}
+use Rattle.mds_book.specs.Seats.{notes_of_call}
 use Rattle.mds_book.specs.Sights.{next_turn}
 use Rattle.mds_book.proofs.Called.{called_first, true_here, true_there, not_one}
 use Rattle.mds_book.proofs.book.Book.call_first.Goals as goal
@@ -9,8 +9,8 @@ use Rattle.mds_book.proofs.book.Book.call_first.Goals as goal
 -- the notes stay true to what the seat saw of either shard
 pub invariant_of-seat-2 : goal.invariant_of-seat-2
 invariant_of-seat-2 g c =
-    let written : c.note_call.new.notes.items ≡ c.seat.inside.notes.items ++ noted c.seat.inside.keeps_all c.args.request.now c.in_ok-reply.reply =
-    c.note_call.ensures ∙ ap (λ w. w ++ noted c.seat.inside.keeps_all c.args.request.now c.in_ok-reply.reply) c.make_room.ensures.items in (
+    let written : c.note_call.new.notes.items ≡ c.seat.inside.notes.items ++ notes_of_call c.seat.inside.keeps_all c.args.request.now c.in_ok-reply.reply =
+    c.note_call.ensures ∙ ap (λ w. w ++ notes_of_call c.seat.inside.keeps_all c.args.request.now c.in_ok-reply.reply) c.make_room.ensures.items in (
       (true_here g.L.ShardLedger.tables 0 c.seat.inside.first.sight.seen c.step_in.new.part.sight.seen c.seat.inside.first.mark c.step_in.new.part.mark c.seat.inside.notes.items c.note_call.new.notes.items
           c.seat.inside.first.count c.step_in.new.part.count c.seat.inside.keeps_all c.args.request.now c.in_ok-reply.reply c.requires c.seat.invariant.0 c.in_ok-reply.ensures.stepped
           c.step_in.ensures.mark written c.in_ok-reply.ensures.count),
@@ -22,14 +22,14 @@ invariant_of-seat-2 g c =
 pub returns-clause-called : goal.returns-clause-called
 returns-clause-called g c =
     let view = c.seat.view_is in
-    let written : c.note_call.new.notes.items ≡ c.seat.inside.notes.items ++ noted c.seat.inside.keeps_all c.args.request.now c.in_ok-reply.reply =
-    c.note_call.ensures ∙ ap (λ w. w ++ noted c.seat.inside.keeps_all c.args.request.now c.in_ok-reply.reply) c.make_room.ensures.items in
+    let written : c.note_call.new.notes.items ≡ c.seat.inside.notes.items ++ notes_of_call c.seat.inside.keeps_all c.args.request.now c.in_ok-reply.reply =
+    c.note_call.ensures ∙ ap (λ w. w ++ notes_of_call c.seat.inside.keeps_all c.args.request.now c.in_ok-reply.reply) c.make_room.ensures.items in
     called_first c.args.self.now.tables g.L.ShardLedger.tables c.args.seat.now _ c.seat.inside.first.sight.seen c.step_in.new.part.sight.seen c.seat.inside.first.mark
     c.args.request.now c.in_ok-reply.reply (sym (ap (λ b. b.tables) c.self.view_is) ∙ c.self.invariant.0) c.requires c.in_ok-reply.ensures.stepped
     (sym (ap (λ s. s.first_seen) view)) refl
     (c.in_ok-reply.ensures.count ∙ ap (λ s. s.first + count_of c.in_ok-reply.reply.outcome) view)
     (c.in_ok-reply.ensures.turn ∙ ap (λ s. next_turn s.first_turns) view) (ap (λ s. s.second) view)
-    (written ∙ ap (λ s. s.notes ++ noted s.keeps_all c.args.request.now c.in_ok-reply.reply) view) (ap (λ s. s.keeps_all) view) (ap (λ s. s.second_seen) view)
+    (written ∙ ap (λ s. s.notes ++ notes_of_call s.keeps_all c.args.request.now c.in_ok-reply.reply) view) (ap (λ s. s.keeps_all) view) (ap (λ s. s.second_seen) view)
     (ap (λ s. s.second_turns) view)
 
 -- what the seat had counted is what its part had

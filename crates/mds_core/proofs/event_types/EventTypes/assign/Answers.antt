@@ -1,5 +1,5 @@
 use Rattle.std.proofs.Common.{◌≡◌, replicate, ◌∙◌, ap}
-use Rattle.mds_core.specs.EventTypes.{blank}
+use Rattle.mds_core.specs.EventTypes.{blank_type}
 use Rattle.mds_core.proofs.Blanks.{are_padded, all_blank}
 use Rattle.mds_core.proofs.event_types.EventTypes.assign.Goals as goal
 

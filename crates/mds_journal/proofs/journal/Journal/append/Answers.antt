@@ -1,5 +1,5 @@
 use Rattle.std.proofs.Common.{◌≡◌, ◌++◌, ℕ, List, sym, ap, ◌∙◌, append-nil}
-use Rattle.mds_journal.specs.Lines.{recovered}
+use Rattle.mds_journal.specs.Lines.{recovered_texts}
 use Rattle.mds_journal.proofs.AppendLemmas.{group_starts, ready_stands, room_and_group}
 use Rattle.mds_journal.proofs.journal.Journal.append.Goals as goal
 
@@ -14,7 +14,7 @@ returns-then-self-bytes-clause-any_moment g c = λ go is.
 pub returns-then-is_empty-clause-acknowledged : goal.returns-then-is_empty-clause-acknowledged
 returns-then-is_empty-clause-acknowledged g c =
     let old = c.args.self.now in
-    let texts = recovered (g.D.Device.seen old.device) in
+    let texts = recovered_texts (g.D.Device.seen old.device) in
     let same : texts ≡ texts ++ c.args.group.now = sym (ap (λ (more : List (List ℕ)). texts ++ more) (c.is_empty.ensures.0 c.if-is_empty.true) ∙ append-nil texts) in
     (c.if-self.false, λ is. ready_stands g.D.Device.seen g.D.Device.may_leave (texts ++ c.args.group.now) old (c.requires.ready c.if-self.false is, same))
 

@@ -1,5 +1,5 @@
 use Rattle.std.proofs.Common.{◌+◌, ◌-◌, ◌++◌, length, take, drop, refl, ap, arith}
-use Rattle.mds_journal.specs.Lines.{recovered}
+use Rattle.mds_journal.specs.Lines.{recovered_texts}
 use Rattle.mds_journal.proofs.AppendLemmas.{are_behind, first_leaves, not_written, group_added, both_leave, ready_stands}
 use Rattle.mds_journal.proofs.journal.Journal.put.Goals as goal
 
@@ -22,7 +22,7 @@ returns-in-NotWritten-clause-not_written g c = λ unit.
     let all = c.bytes-bytes.result.now in
     let behind = are_behind group all c.bytes-bytes.ensures.texts c.bytes-bytes.ensures.at_rest c.bytes-bytes.ensures.short c.requires.some in (
       c.requires.ready,
-      λ is. ready_stands g.D.Device.seen g.D.Device.may_leave (recovered (g.D.Device.seen old.device)) (record { device = c.write_and_sync.new.device; end = old.end; room = old.room; is_lost = old.is_lost })
+      λ is. ready_stands g.D.Device.seen g.D.Device.may_leave (recovered_texts (g.D.Device.seen old.device)) (record { device = c.write_and_sync.new.device; end = old.end; room = old.room; is_lost = old.is_lost })
           (not_written g.D.Device.seen g.D.Device.may_leave old (c.requires.sound.ready c.requires.ready (c.write_and_sync.ensures.was_true is)) group (length (take (length all - 1) (drop 1 all))) behind.few (record { device = c.write_and_sync.new.device; end = old.end; room = old.room; is_lost = old.is_lost }) refl (c.in-NotWritten.ensures.torn is) (c.in-NotWritten.ensures.crash is)),
     )
 
@@ -93,7 +93,7 @@ returns-in-Done-write_and_sync-clause-acknowledged g c =
     let all = c.bytes-bytes.result.now in
     let behind = are_behind group all c.bytes-bytes.ensures.texts c.bytes-bytes.ensures.at_rest c.bytes-bytes.ensures.short c.requires.some in (
       c.requires.ready,
-      λ is. ready_stands g.D.Device.seen g.D.Device.may_leave (recovered (g.D.Device.seen old.device) ++ group) (record { device = c.write_and_sync-2.new.device; end = old.end + (length all - 1); room = old.room; is_lost = old.is_lost })
+      λ is. ready_stands g.D.Device.seen g.D.Device.may_leave (recovered_texts (g.D.Device.seen old.device) ++ group) (record { device = c.write_and_sync-2.new.device; end = old.end + (length all - 1); room = old.room; is_lost = old.is_lost })
           (group_added g.D.Device.seen g.D.Device.may_leave old (c.requires.sound.ready c.requires.ready (c.write_and_sync.ensures.was_true (c.write_and_sync-2.ensures.was_true is))) group (take (length all - 1) (drop 1 all)) behind.few behind.none behind.whole
           c.write_and_sync.new.device (c.in-Done.ensures.written (c.write_and_sync-2.ensures.was_true is)) (c.in-Done.ensures.durable (c.write_and_sync-2.ensures.was_true is))
           (record { device = c.write_and_sync-2.new.device; end = old.end + (length all - 1); room = old.room; is_lost = old.is_lost }) (omega (arith, behind.size)) (c.in-Done-write_and_sync.ensures.written is) (c.in-Done-write_and_sync.ensures.durable is)),

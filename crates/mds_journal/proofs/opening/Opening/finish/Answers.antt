@@ -1,5 +1,5 @@
 use Rattle.std.proofs.Common.{◌≡◌, false, ℕ, ◌+◌, List, sym, ap, subst, ◌∙◌, arith}
-use Rattle.mds_journal.specs.Lines.{recovered, at_rest}
+use Rattle.mds_journal.specs.Lines.{recovered_texts, at_rest}
 use Rattle.mds_journal.specs.Journal.{IsKept}
 use Rattle.mds_journal.proofs.LineLemmas.{texts_have_no_feed}
 use Rattle.mds_journal.proofs.AppendLemmas.{ready_at}
@@ -22,9 +22,9 @@ returns-in-Ok-close_end-clause-sound g c = record {
       let was = c.size.ensures.was_true then in
       let read = c.requires.reading.read was in
       let file = g.D.Device.seen c.args.self.device in
-      let texts = recovered file in
+      let texts = recovered_texts file in
       let new = g.D.Device.seen c.close_end.new.device in
-      let rest : new ≡ at_rest texts = c.in-Ok-close_end.ensures.at_rest is ∙ ap (λ (l : List ℕ). at_rest (recovered l)) (c.size.ensures.untouched then).file in
+      let rest : new ≡ at_rest texts = c.in-Ok-close_end.ensures.at_rest is ∙ ap (λ (l : List ℕ). at_rest (recovered_texts l)) (c.size.ensures.untouched then).file in
       let kept : IsKept texts new = subst (λ (l : List ℕ). IsKept texts l) (sym rest) (kept_rest texts) in
       ready_at g.D.Device.seen g.D.Device.may_leave texts (record { device = c.close_end.new.device; end = c.args.self.end; room = c.args.self.end + 1; is_lost = false }) (texts_have_no_feed file)
       (end_is file c.args.self.end read.within read.lines (c.requires.done was)) kept

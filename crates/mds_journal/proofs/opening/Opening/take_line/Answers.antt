@@ -1,5 +1,5 @@
 use Rattle.std.proofs.Common.{◌+◌, ℕ, List, ◌∷◌, drop, not, sym, ap, subst, ◌∙◌, arith, drop-drop}
-use Rattle.mds_journal.specs.Lines.{recovered}
+use Rattle.mds_journal.specs.Lines.{recovered_texts}
 use Rattle.mds_journal.specs.Opening.{GoesOn}
 use Rattle.mds_journal.proofs.ReadingLemmas.{next_recovered, next_within, next_lines, next_ahead, line_taken}
 use Rattle.mds_journal.proofs.opening.Opening.take_line.Goals as goal
@@ -33,4 +33,4 @@ returns-clause-line g c = λ is.
     let held = drop old.next old.bytes.items in
     let line = line_taken c.deref.result.now old.bytes.items c.clear.new.self.items c.extend_from_slice.new.self.items old.next c.args.size _
     c.deref.ensures.value c.clear.ensures.items (c.is_err.ensures.negation ∙ ap not c.if-is_err.false) c.extend_from_slice.ensures.items in
-    next_recovered file old.end held read.ahead c.args.size c.requires.found ∙ ap (λ (text : List ℕ). text ∷ recovered (drop (old.end + (c.args.size + 2)) file)) (sym line)
+    next_recovered file old.end held read.ahead c.args.size c.requires.found ∙ ap (λ (text : List ℕ). text ∷ recovered_texts (drop (old.end + (c.args.size + 2)) file)) (sym line)

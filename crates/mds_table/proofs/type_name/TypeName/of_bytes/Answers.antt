@@ -1,7 +1,7 @@
 use Rattle.std.proofs.Common.{◌++◌, drop, length, replicate, sym, ◌∙◌, ap, subst}
 use Rattle.std.proofs.Math.Seq.{take-append_seam}
 use Rattle.std.proofs.lemmas.List.{drop-replicate}
-use Rattle.mds_table.specs.TypeName.{IsTypeName, padded}
+use Rattle.mds_table.specs.TypeName.{IsTypeName, padded_name}
 use Rattle.mds_table.proofs.type_name.TypeName.of_bytes.Goals as goal
 
 pub invariant_of-result : goal.invariant_of-result
@@ -13,5 +13,5 @@ invariant_of-result c =
       short = c.requires.short;
       count = ap length front;
       name = subst IsTypeName (sym front) c.requires;
-      whole = ap padded front ∙ ap (λ rest. text ++ rest) (sym zeros);
+      whole = ap padded_name front ∙ ap (λ rest. text ++ rest) (sym zeros);
     })

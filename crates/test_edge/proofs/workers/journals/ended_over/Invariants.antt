@@ -1,5 +1,5 @@
 use Rattle.std.proofs.Common.{length}
-use Rattle.mds_journal.specs.Lines.{recovered}
+use Rattle.mds_journal.specs.Lines.{recovered_texts}
 use Rattle.mds_follow.specs.Disk.{IsTold}
 use Rattle.test_edge.proofs.workers.journals.ended_over.Given as goal
 
@@ -33,5 +33,5 @@ ghosts-ended-J-Logged g a = record { log = a.log }
 abbrev pub ghosts-ended-J-RecordLog : goal.ghosts-ended-J-RecordLog
 ghosts-ended-J-RecordLog g a = record {
   start = length a.reader.opening.device.calls.items;
-  held = IsTold (recovered a.reader.opening.device.bytes.items);
+  held = IsTold (recovered_texts a.reader.opening.device.bytes.items);
 }

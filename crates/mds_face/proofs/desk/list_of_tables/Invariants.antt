@@ -1,6 +1,6 @@
 use Rattle.std.proofs.Common.{◌≡◌, take}
 use Rattle.mds_response.specs.Found.{tables_of}
-use Rattle.mds_face.proofs.desk.listed.Given as goal
+use Rattle.mds_face.proofs.desk.list_of_tables.Given as goal
 
 -- the tables so far are listed
 abbrev pub invariant-loop-at : goal.invariant-loop-at

@@ -1,5 +1,5 @@
 use Rattle.mds_waiting.proofs.LeastLemmas.{IsEldest-from_least}
-use Rattle.mds_waiting.proofs.waiting.Waiting.eldest.Goals as goal
+use Rattle.mds_waiting.proofs.waiting.Waiting.eldest_holding.Goals as goal
 
 pub returns-clause-eldest : goal.returns-clause-eldest
 returns-clause-eldest g c =

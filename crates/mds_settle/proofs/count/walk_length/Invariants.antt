@@ -1,6 +1,6 @@
 use Rattle.std.proofs.Common.{ℕ, ◌<◌, ◌≤◌}
 use Rattle.mds_settle.specs.Notes.{notes_at}
-use Rattle.mds_settle.proofs.count.walked.Given as goal
+use Rattle.mds_settle.proofs.count.walk_length.Given as goal
 
 -- each place so far has an accepted note
 abbrev pub invariant-loop-place : goal.invariant-loop-place

@@ -1,6 +1,6 @@
 use Rattle.std.proofs.Common.{sym, ◌∙◌, ap}
 use Rattle.mds_log.proofs.Steps.{begins_moves}
-use Rattle.mds_log.proofs.history.BlankLog.named.Goals as goal
+use Rattle.mds_log.proofs.history.BlankLog.with_name.Goals as goal
 
 pub compare_exchange-found-requires : goal.compare_exchange-found-requires
 compare_exchange-found-requires g c =

@@ -3,7 +3,7 @@ use Rattle.std.specs.List.{list_any}
 use Rattle.indexmap.specs.IndexMap.{get}
 use Rattle.mds_core.specs.History.{key_of, same_key, same_event, requests_of}
 use Rattle.mds_roster.proofs.Named.{named, repeated_is}
-use Rattle.mds_roster.proofs.roster.Roster.known.Goals as goal
+use Rattle.mds_roster.proofs.roster.Roster.known_of.Goals as goal
 
 pub returns-in-Some : goal.returns-in-Some
 returns-in-Some c = λ tables history is.

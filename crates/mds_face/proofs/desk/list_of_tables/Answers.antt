@@ -1,8 +1,8 @@
 use Rattle.std.proofs.Common.{◌≡◌, Some, sym}
 use Rattle.std.specs.List.{slice_get}
 use Rattle.mds_face.proofs.ListedLemmas.{listed_more, is_there}
-use Rattle.mds_face.proofs.desk.listed.Goals.{in-Some+in_ok-rows+in_ok-push, in_default}
-use Rattle.mds_face.proofs.desk.listed.Goals as goal
+use Rattle.mds_face.proofs.desk.list_of_tables.Goals.{in-Some+in_ok-rows+in_ok-push, in_default}
+use Rattle.mds_face.proofs.desk.list_of_tables.Goals as goal
 
 pub loop-at-preserved : goal.loop-at-preserved
 loop-at-preserved c = elim c.match-entry.branch [

@@ -3,7 +3,7 @@ use Rattle.std.proofs.lemmas.Option.{IfSome_then}
 use Rattle.mds_waiting.specs.Waiting.{IsLate}
 use Rattle.mds_waiting.proofs.LeastLemmas.{HasTime-from_least, InTime-from_time, IsLate-from_least, none_then}
 use Rattle.mds_waiting.proofs.SlotLemmas.{IsKept-time}
-use Rattle.mds_waiting.proofs.waiting.Waiting.late.Goals as goal
+use Rattle.mds_waiting.proofs.waiting.Waiting.find_late.Goals as goal
 
 pub invariant_of-self-in-Some : goal.invariant_of-self-in-Some
 invariant_of-self-in-Some g c =
