@@ -16,9 +16,9 @@ use Rattle.mds_book.proofs.Slots.{requests_after}
 use Rattle.mds_book.proofs.Trues.{requests_prefix, true_call, true_other}
 
 -- what a seat has seen of a shard after its own call there
-seen_after : (tables : Tables) (number : ℕ) (old : List Acceptance) (mark : ℕ) (request : Request) (reply : Reply) (new : List Acceptance)
+seen_after_step : (tables : Tables) (number : ℕ) (old : List Acceptance) (mark : ℕ) (request : Request) (reply : Reply) (new : List Acceptance)
     → (step : IsStepped tables number old mark request reply new) → requests new ≡ next (requests step.log) request reply.outcome
-seen_after tables number old mark request reply new step =
+seen_after_step tables number old mark request reply new step =
     ap (λ (w : List Acceptance). requests w) step.goes_on ∙ requests_after step.log mark request reply.outcome
 
 -- a seat after a call in the shard of this number, whose history was `before`
@@ -63,7 +63,7 @@ pub called_first : (known tables : Tables) (old new : Seated) (log longer : List
     → new.second_turns ≡ old.second_turns → IsCalled known old request reply new
 called_first known tables old new log longer mark request reply is here step saw sees_now first turn second notes keeps other waits =
     let second_is : new.second ≡ old.second + 0 = second ∙ sym (add-zero old.second) in
-    let first_seen_is : new.first_seen ≡ next (requests step.log) request reply.outcome = sees_now ∙ seen_after tables 0 log mark request reply longer step in
+    let first_seen_is : new.first_seen ≡ next (requests step.log) request reply.outcome = sees_now ∙ seen_after_step tables 0 log mark request reply longer step in
     called_in known tables 0 old new log longer mark request reply is here step saw (λ i. record {
       first = first i;
       second = second_is i;
@@ -83,7 +83,7 @@ pub called_second : (known tables : Tables) (old new : Seated) (log longer : Lis
     → new.first_turns ≡ old.first_turns → IsCalled known old request reply new
 called_second known tables old new log longer mark request reply is here step saw sees_now second turn first notes keeps other waits =
     let first_is : new.first ≡ old.first + 0 = first ∙ sym (add-zero old.first) in
-    let second_seen_is : new.second_seen ≡ next (requests step.log) request reply.outcome = sees_now ∙ seen_after tables 1 log mark request reply longer step in
+    let second_seen_is : new.second_seen ≡ next (requests step.log) request reply.outcome = sees_now ∙ seen_after_step tables 1 log mark request reply longer step in
     called_in known tables 1 old new log longer mark request reply is here step saw (λ i. record {
       first = first_is i;
       second = second i;

@@ -54,9 +54,9 @@ at_end [] x = refl
 at_end (y ∷ ys) x = at_end ys x
 
 -- what a seat has seen of the shard of its call is the history with what the call added
-seen_after : (seat : Seated) (before : List Request) (request : Request) (reply : Reply)
+seen_after_call : (seat : Seated) (before : List Request) (request : Request) (reply : Reply)
     → seen_in (after_call seat before request reply) (shard_of (key_of request)) ≡ next before request reply.outcome
-seen_after seat before request reply = by_number (shard_of (key_of request)) (mod_below (from_be_bytes w128 (key_of request).device) 2 (omega arith)) where
+seen_after_call seat before request reply = by_number (shard_of (key_of request)) (mod_below (from_be_bytes w128 (key_of request).device) 2 (omega arith)) where
   by_number : (number : ℕ) → number < 2
       → (if number == 0 then seen_after 0 number before request reply seat.first_seen else (if number == 1 then seen_after 1 number before request reply seat.second_seen else []))
       ≡ next before request reply.outcome
@@ -69,7 +69,7 @@ pub accepted_stands : (tables : Tables) (old new later : Seated) (request : Requ
     → slice_get (seen_in later (shard_of (key_of request))) reply.place ≡ Some request
 accepted_stands tables old new later request reply called done begins =
     let seen : seen_in new (shard_of (key_of request)) ≡ called.before ++ request ∷ [] =
-    ap (λ seat. seen_in seat (shard_of (key_of request))) called.seat ∙ seen_after old called.before request reply ∙ ap (next called.before request) done in
+    ap (λ seat. seen_in seat (shard_of (key_of request))) called.seat ∙ seen_after_call old called.before request reply ∙ ap (next called.before request) done in
     let stood : slice_get (seen_in new (shard_of (key_of request))) reply.place ≡ Some request =
     rw (seen, called.answer.place) (at_end called.before request) in
     prefix_get (seen_in new (shard_of (key_of request))) (seen_in later (shard_of (key_of request))) reply.place request begins stood
