@@ -161,7 +161,9 @@ impl Ord for TypeName {
     ghost matches_eq = { texts_ties };
 
     fn cmp(&self, other: &TypeName) -> Ordering {
-        self.as_str().cmp(&other.as_str())
+        // Names differ early, so that byte by byte costs less than the words that a text is compared by.
+        let order = self.as_bytes().partial_cmp(&other.as_bytes());
+        order.unwrap_or(Ordering::Equal)
     }
 }
 
