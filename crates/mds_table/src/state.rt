@@ -76,16 +76,22 @@ impl State {
         ensures found { IfSome result (λ state. name_of state ≡ name.now) }
         ensures none { IfNone result ((state : State) → name_of state ≢ name.now) }
     {
-        match name {
-            "removed" => Some(State::Removed),
-            "available" => Some(State::Available),
-            "non_operational" => Some(State::NonOperational),
-            "reserved" => Some(State::Reserved),
-            "on_trip" => Some(State::OnTrip),
-            "elsewhere" => Some(State::Elsewhere),
-            "non_contactable" => Some(State::NonContactable),
-            "missing" => Some(State::Missing),
-            "in_depot" => Some(State::InDepot),
+        // The two names of 15 bytes cost less as texts than byte by byte.
+        if name.len() == 15 {
+            return match name {
+                "non_operational" => Some(State::NonOperational),
+                "non_contactable" => Some(State::NonContactable),
+                _ => None,
+            };
+        }
+        match name.as_bytes() {
+            b"removed" => Some(State::Removed),
+            b"available" => Some(State::Available),
+            b"reserved" => Some(State::Reserved),
+            b"on_trip" => Some(State::OnTrip),
+            b"elsewhere" => Some(State::Elsewhere),
+            b"missing" => Some(State::Missing),
+            b"in_depot" => Some(State::InDepot),
             _ => None,
         }
     }
