@@ -39,12 +39,13 @@ impl Member {
         }
     }
 
-    /// Whether a text is the name of the member. It compares the bytes of both, which takes a tenth of what comparing short
-    /// texts does.
+    /// Whether a text is the name of the member. Most texts that aren't have another length, and are told by that alone. It
+    /// compares the bytes of both, which takes a tenth of what comparing short texts does.
     pub(crate) fn is_named(self, name: &str) -> bool
         ensures { result ≡ bytes_eq name.now (member_name self) }
     {
-        name.as_bytes() == self.name().as_bytes()
+        let own = self.name();
+        name.len() == own.len() && name.as_bytes() == own.as_bytes()
     }
 }
 
