@@ -30,7 +30,6 @@ use std::error::Error;
 use std::fmt;
 use std::hash::RandomState;
 use std::marker::Model;
-use std::slice::from_ref;
 use std::sync::{Mutex, Wait};
 
 /// The most seats of a book, and so the most workers that serve it: more threads than a city's machine has processors gain
@@ -198,14 +197,11 @@ fn note_call(notes: &mut Vec<Note>, keeps_all: bool, shard: usize, request: &Req
     if !keeps_all && !is_done(reply) {
         return;
     }
-    let note = Note {
+    notes.push_reserved(Note {
         shard,
         request: *request,
         reply: *reply,
-    };
-    let Ok(()) = notes.extend_from_slice(from_ref(&note)) else {
-        unreachable!();
-    };
+    });
 }
 
 fn copy_in<R: Wait, L: ShardLedger, const N: usize>(
