@@ -11,7 +11,8 @@ use crate::list::{ItemFields, ItemList};
 use crate::taker::TakesItems;
 use crate::tokens::{ReadFault, read_text};
 use crate::vehicle::VehicleFields;
-use crate::{EventItem, EventItems, VehicleItem};
+use crate::{BatchReader, EventItem, EventItems, VehicleItem};
+use json::Scratch;
 use mds_table::MAX_BYTES;
 use simdutf8::compat::from_utf8;
 use std::alloc::Global;
@@ -101,9 +102,7 @@ pub fn read_event_items(alloc: Global, bytes: &[u8]) -> Result<EventItems, Batch
     ensures items { IfOk result (λ items. HasItems IsEventItem bytes.now items) }
     ensures fault { IfErr result (HasFault bytes.now) }
 {
-    let mut items = EventItems::new(alloc);
-    each_event(alloc, bytes, &mut items)?;
-    Ok(items)
+    BatchReader::new(alloc).read(alloc, bytes)
 }
 
 /// Hands the events that a text of JSON lists to a taker, item by item, in their order, as [`read_events`] has them.
@@ -144,9 +143,25 @@ fn each_item<F: ItemFields + Drop, T: TakesItems<Item = F::Item>>(
         × T.took taker.old items taker.new) }
     ensures fault { IfErr result (HasFault bytes.now) }
 {
+    let (mut scratch, mut list) = (Scratch::new(alloc), ItemList::<F>::new());
+    each_item_by(&mut scratch, &mut list, bytes, taker)
+}
+
+/// As [`each_item`], by what batches were read with before.
+pub(crate) fn each_item_by<F: ItemFields + Drop, T: TakesItems<Item = F::Item>>(
+    scratch: &mut Scratch,
+    list: &mut ItemList<F>,
+    bytes: &[u8],
+    taker: &mut T,
+) -> Result<(), BatchFault>
+    requires { T.took taker.old [] taker.old }
+    ensures items { OnOk result ((items : List F.Item) × HasItems F.is_item bytes.now items
+        × T.took taker.old items taker.new) }
+    ensures fault { IfErr result (HasFault bytes.now) }
+{
     let text = text_of(bytes)?;
-    let mut list = ItemList::<F>::new();
-    if !read_text(alloc, text, &mut list, taker)? {
+    list.restart();
+    if !read_text(text, scratch, list, taker)? {
         return Err(BatchFault::NotList);
     }
     if list.is_too_long() {

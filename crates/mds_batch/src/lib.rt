@@ -31,5 +31,5 @@ pub use item::{BatchItem, EventItem, ItemFault, VehicleItem};
 pub use items::EventItems;
 pub use kept::{KeptEvent, KeptItem};
 pub use member::Member;
-pub use reader::{ItemReader, read_item};
+pub use reader::{BatchReader, ItemReader, read_item};
 pub use taker::TakesItems;

@@ -90,6 +90,15 @@ impl<F: ItemFields + Drop> ItemList<F> {
         }
     }
 
+    /// Leaves no items, for another text.
+    pub(crate) fn restart(&mut self)
+        ensures none { self.new.count ≡ 0 }
+        ensures short { self.new.is_too_long ≡ false }
+    {
+        self.count = 0;
+        self.is_too_long = false;
+    }
+
     /// Reads what the next value lists, into a list without items, and hands the items to a taker: the items of a list,
     /// or an object alone. Answers whether it is one of both.
     pub(crate) fn read<T: TakesItems<Item = F::Item>>(

@@ -12,7 +12,7 @@ use crate::number::number_of;
 use crate::taker::TakesItems;
 use json::{Invalid, Reader, Scratch, Token};
 use serde_json::Number;
-use std::alloc::{AllocError, Global};
+use std::alloc::AllocError;
 
 /// How deep lists and objects nest, as `serde_json` has it.
 const MAX_DEPTH: usize = 127;
@@ -211,8 +211,8 @@ pub(crate) fn read_items<T, S: Sequence<T>>(
 /// Reads what a whole text lists, into a list without items, and hands the items to a taker. Answers whether it is a
 /// list or an object.
 pub(crate) fn read_text<F: ItemFields + Drop, T: TakesItems<Item = F::Item>>(
-    alloc: Global,
     text: &str,
+    scratch: &mut Scratch,
     list: &mut ItemList<F>,
     taker: &mut T,
 ) -> Result<bool, ReadFault>
@@ -224,8 +224,7 @@ pub(crate) fn read_text<F: ItemFields + Drop, T: TakesItems<Item = F::Item>>(
         value list.new.count list.new.is_too_long is_list) }
     ensures fault { result ≡ Err not_json → read text.now ≡ None }
 {
-    let mut scratch = Scratch::new(alloc);
-    let mut tokens = Reader::new(text, &mut scratch)?;
+    let mut tokens = Reader::new(text, scratch)?;
     let is_list = list.read(taker, &mut tokens, MAX_DEPTH)?;
     if tokens.next().is_some() {
         return Err(ReadFault::NotJson);
