@@ -41,7 +41,12 @@ TESTED = {
         "add_line",
         "end_page",
     ],
-    ("mds_batch", "test_batches", "call_succeeds_after_a_refused_growth"): ["read_vehicles", "read_events", "read_event_items"],
+    ("mds_batch", "test_batches", "call_succeeds_after_a_refused_growth"): [
+        "read_vehicles",
+        "read_events",
+        "read_event_items",
+        "BatchReader::read",
+    ],
     ("mds_batch", "test_batches", "events_are_handed_on_after_a_refused_growth"): ["each_event"],
     ("mds_batch", "test_batches", "an_item_is_taken_after_a_refused_growth"): ["TakesItems::take"],
     ("mds_batch", "test_batches", "an_item_is_read_after_a_refused_growth"): ["read_item", "ItemReader::read"],

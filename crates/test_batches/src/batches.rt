@@ -5,8 +5,8 @@ mod single;
 mod takers;
 
 use mds_batch::{
-    BatchFault, BatchItem, BatchItems, EventItem, EventItems, ItemFault, Member, VehicleItem,
-    read_event_items, read_events, read_vehicles,
+    BatchFault, BatchItem, BatchItems, BatchReader, EventItem, EventItems, ItemFault, Member,
+    VehicleItem, read_event_items, read_events, read_vehicles,
 };
 use mds_core::Position;
 use mds_table::State;
@@ -95,9 +95,16 @@ fn call_succeeds_after_a_refused_growth(rt: HostRuntime) {
     let vehicles = again!(read_vehicles(rt.alloc(), TWO_ITEMS));
     let events = again!(read_events(rt.alloc(), TWO_ITEMS));
     let kept = again!(read_event_items(rt.alloc(), TWO_ITEMS));
+    let mut reader = BatchReader::new(rt.alloc());
+    let read = again!(reader.read(rt.alloc(), TWO_ITEMS));
     let expected = Ok((2, Some(ItemFault::Missing(Member::DeviceId))));
     assert_eq!(rt;
-        [first_of(vehicles), first_of(events), first_kept(kept)],
-        [expected; 3]
+        [
+            first_of(vehicles),
+            first_of(events),
+            first_kept(kept),
+            first_kept(read)
+        ],
+        [expected; 4]
     );
 }
