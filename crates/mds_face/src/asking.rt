@@ -43,8 +43,16 @@ fn ask_one<D: Desk, I: BatchItems>(
     Ok(())
 }
 
+/// A request whose place others take.
+pub(crate) fn blank_request() -> Request {
+    Request::Look(Key {
+        provider: Uuid::nil(),
+        device: Uuid::nil(),
+    })
+}
+
 /// Puts the request of each item that isn't at fault to the desk, in their order, up to the first for which there is no
-/// memory: the replies. Room for all of them is made before the first call.
+/// memory: the replies. Room for all of them is made before the first call. Each request takes the place of `request`.
 ///
 /// # Errors
 ///
@@ -53,6 +61,7 @@ pub(crate) fn ask_all<D: Desk, I: BatchItems>(
     alloc: Global,
     desk: &mut D,
     items: &I,
+    request: &mut Request,
 ) -> Result<Vec<Reply>, AllocError>
     ensures calls { IfOk result (λ replies.
         AreCalls D.calls desk.old (filter_map I.asked (I.items items.now)) replies.items desk.new) }
@@ -60,12 +69,8 @@ pub(crate) fn ask_all<D: Desk, I: BatchItems>(
 {
     let count = items.count();
     let mut replies = Vec::with_capacity(alloc, count)?;
-    let mut request = Request::Look(Key {
-        provider: Uuid::nil(),
-        device: Uuid::nil(),
-    });
     for at in 0..count {
-        let Ok(()) = ask_one(desk, items, at, &mut request, &mut replies) else {
+        let Ok(()) = ask_one(desk, items, at, request, &mut replies) else {
             return Ok(replies);
         };
     }

@@ -8,7 +8,7 @@ ghost use Rattle.mds_face.specs.Faults.{serve_fault_text};
 ghost use Rattle.mds_face.specs.Reading.{ReadsNoFurther};
 ghost use Rattle.mds_face.specs.Serving.{Finds, FindsNoMemory, IsAnsweredWhole, IsFixedAnswer, IsServed, IsUnwritten, Stops, StopsAsked};
 
-use crate::asking::ask_all;
+use crate::asking::{ask_all, blank_request};
 use crate::{Desk, read_plan};
 use mds_core::Request;
 use mds_io::{MAX_CALLS, ReadError, WriteErrorKind, write_all_of};
@@ -114,7 +114,7 @@ fn answer<W: Write, D: Desk>(
     ensures stopped { IfErr result (StopsAsked D.calls D.gives_events D.gives_rows
         (asked_in plan) desk.old desk.new (W.contents writer.old) (W.contents writer.new)) }
 {
-    let Ok(found) = find(alloc, desk, &plan) else {
+    let Ok(found) = find(alloc, desk, &plan, &mut blank_request()) else {
         return Err(out_of_memory(writer));
     };
     let Ok(bytes) = bytes_of(alloc, &plan, &found) else {
@@ -131,8 +131,13 @@ fn answer<W: Write, D: Desk>(
 }
 
 /// `AllocError` where there is no memory for the replies of a POST, and no call was made then, or for what a GET looks
-/// at.
-pub(crate) fn find<D: Desk>(alloc: Global, desk: &mut D, plan: &Plan) -> Result<Found, AllocError>
+/// at. Each request of a POST takes the place of `request`.
+pub(crate) fn find<D: Desk>(
+    alloc: Global,
+    desk: &mut D,
+    plan: &Plan,
+    request: &mut Request,
+) -> Result<Found, AllocError>
     ensures finds { IfOk result (λ found. Finds D.calls D.gives_events D.gives_rows
         desk.old (asked_in plan.now) (finding_in found) desk.new) }
     ensures memory { OnErr result (FindsNoMemory D.calls D.gives_events D.gives_rows
@@ -140,8 +145,8 @@ pub(crate) fn find<D: Desk>(alloc: Global, desk: &mut D, plan: &Plan) -> Result<
 {
     match plan {
         Plan::Fixed(_) => Ok(Found::Nothing),
-        Plan::Vehicles(items) => Ok(Found::Replies(ask_all(alloc, desk, items)?)),
-        Plan::Events(items) => Ok(Found::Replies(ask_all(alloc, desk, items)?)),
+        Plan::Vehicles(items) => Ok(Found::Replies(ask_all(alloc, desk, items, request)?)),
+        Plan::Events(items) => Ok(Found::Replies(ask_all(alloc, desk, items, request)?)),
         Plan::One(key) => Ok(Found::One(desk.call(&Request::Look(*key))?)),
         Plan::History(key) => Ok(Found::History(desk.event_list(key)?)),
         Plan::Rows => Ok(Found::Rows(desk.rows()?)),

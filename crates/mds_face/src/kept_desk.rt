@@ -7,9 +7,11 @@ ghost use Rattle.mds_face.specs.Kept.{IsInstead, IsKeptAnswer, IsKeptStop, IsSer
 ghost use Rattle.mds_face.specs.Reading.{ReadsNoFurther};
 ghost use Rattle.mds_face.specs.Serving.{IsUnwritten};
 
+use crate::asking::blank_request;
 use crate::connection::{find, out_of_memory, served_of, write_answer};
 use crate::{Desk, ServeFault, Served, read_plan};
-use mds_core::Key;
+use mds_batch::BatchReader;
+use mds_core::{Key, Request};
 use mds_io::{MAX_CALLS, ReadError, write_all_of};
 use mds_request::{Face, Head, Plan};
 use mds_response::{bytes_of, not_kept_bytes};
@@ -87,7 +89,7 @@ pub fn serve_kept<R: Read, W: Write, D: KeptDesk>(
     ensures no_further { ReadsNoFurther (R.remaining reader.old) (R.remaining reader.new) }
 {
     match read_plan(alloc, face, reader) {
-        Ok(plan) => answer_kept(alloc, writer, desk, plan),
+        Ok(plan) => answer_kept(alloc, &mut blank_request(), writer, desk, plan),
         Err(ReadError::Memory) => Err(KeptFault::Serve(out_of_memory(writer))),
         Err(ReadError::Device) => Err(KeptFault::Serve(ServeFault::Read)),
         Err(ReadError::TooManyTurns) => {
@@ -96,13 +98,41 @@ pub fn serve_kept<R: Read, W: Write, D: KeptDesk>(
     }
 }
 
-/// The same of a request that is all there: these are its bytes, and this is its head.
+/// What a worker keeps from one request for the next: what events are read with, and a request, the place of which others
+/// take.
+pub struct Room {
+    reader: BatchReader,
+    request: Request,
+}
+
+// By hand: crates above cite it.
+impl Drop for Room {
+    fn drop(self) {
+        let Room {
+            reader: _,
+            request: _,
+        } = self;
+    }
+}
+
+impl Room {
+    /// What was used for no request yet. It takes no memory.
+    pub fn new(alloc: Global) -> Room {
+        Room {
+            reader: BatchReader::new(alloc),
+            request: blank_request(),
+        }
+    }
+}
+
+/// The same of a request that is all there: these are its bytes, and this is its head. It is read and asked in the room.
 ///
 /// # Errors
 ///
 /// [`KeptFault`] says when each comes, what was done then and what was written.
 pub fn serve_whole<W: Write, D: KeptDesk>(
     alloc: Global,
+    room: &mut Room,
     request: &[u8],
     head: &Head,
     writer: &mut W,
@@ -114,8 +144,8 @@ pub fn serve_whole<W: Write, D: KeptDesk>(
     ensures stopped { IfErr result (StopsWhole D.calls D.gives_events D.gives_rows D.is_kept D.keeps
         request.now desk.old desk.new (W.contents writer.old) (W.contents writer.new)) }
 {
-    match head.plan(alloc, request) {
-        Ok(plan) => answer_kept(alloc, writer, desk, plan),
+    match head.plan(alloc, &mut room.reader, request) {
+        Ok(plan) => answer_kept(alloc, &mut room.request, writer, desk, plan),
         Err(AllocError) => Err(KeptFault::Serve(out_of_memory(writer))),
     }
 }
@@ -123,6 +153,7 @@ pub fn serve_whole<W: Write, D: KeptDesk>(
 /// What was asked and what was found are let go before the answer is written.
 fn answer_kept<W: Write, D: KeptDesk>(
     alloc: Global,
+    request: &mut Request,
     writer: &mut W,
     desk: &mut D,
     plan: Plan,
@@ -132,7 +163,7 @@ fn answer_kept<W: Write, D: KeptDesk>(
     ensures stopped { IfErr result (IsKeptStop D.calls D.gives_events D.gives_rows D.is_kept D.keeps
         (asked_in plan) desk.old desk.new (W.contents writer.old) (W.contents writer.new)) }
 {
-    let Ok(found) = find(alloc, desk, &plan) else {
+    let Ok(found) = find(alloc, desk, &plan, request) else {
         return Err(KeptFault::Serve(out_of_memory(writer)));
     };
     let Ok(bytes) = bytes_of(alloc, &plan, &found) else {

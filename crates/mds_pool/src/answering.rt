@@ -4,7 +4,7 @@ ghost use Rattle.mds_face.specs.Reading.{ReadsNoFurther};
 ghost use Rattle.mds_face.specs.Kept.{IsServedKept, StopsKept};
 
 use crate::{Ending, Port, PortFault};
-use mds_face::{Face, KeptDesk, KeptFault, Served, serve_kept, serve_whole};
+use mds_face::{Face, KeptDesk, KeptFault, Room, Served, serve_kept, serve_whole};
 use std::alloc::Global;
 use std::marker::Model;
 
@@ -46,6 +46,7 @@ impl<P: Port> Connection<P> {
         alloc: Global,
         face: &Face,
         port: &P,
+        room: &mut Room,
         desk: &mut D,
     ) -> Answer<P>
         ensures served { IfOk result.served (IsServedKept D.calls D.gives_events D.gives_rows
@@ -62,7 +63,7 @@ impl<P: Port> Connection<P> {
             mut output,
         } = self;
         let served = match port.whole_of(&input) {
-            Some((bytes, head)) => serve_whole(alloc, bytes, &head, &mut output, desk),
+            Some((bytes, head)) => serve_whole(alloc, room, bytes, &head, &mut output, desk),
             None => serve_kept(alloc, face, &mut input, &mut output, desk),
         };
         Answer {

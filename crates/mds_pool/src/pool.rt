@@ -10,7 +10,7 @@ use crate::recorded_desk::RecordedDesk;
 use crate::worker::{Round, Shift, ShiftFault, Worker, workers_at};
 use crate::{AnswerCount, NoRecord, Port, Recorder};
 use mds_book::{Book, Gate, Seat, ShardLedger};
-use mds_face::{Face, SeatDesk};
+use mds_face::{Face, Room, SeatDesk};
 use std::alloc::Global;
 use std::fmt;
 use std::sync::Wait;
@@ -226,6 +226,7 @@ impl<R: Wait, P: Port, L: ShardLedger, M: ShardLedger, G: Gate, K: Recorder<L, M
     {
         let mut answered = AnswerCount::new();
         let mut receipt = self.recorder.receipt(self.rt);
+        let mut room = Room::new(self.alloc);
         for nth in 0..each {
             let Ok(connection) = Connection::take(self.port) else {
                 return Shift {
@@ -234,7 +235,7 @@ impl<R: Wait, P: Port, L: ShardLedger, M: ShardLedger, G: Gate, K: Recorder<L, M
                 };
             };
             self.gate.enter(number, nth);
-            let answer = self.answer(seat, &mut receipt, connection);
+            let answer = self.answer(seat, &mut receipt, &mut room, connection);
             let is_lost = answer.is_lost();
             answered.add(self.port, answer);
             self.gate.leave(number, nth);
@@ -256,6 +257,7 @@ impl<R: Wait, P: Port, L: ShardLedger, M: ShardLedger, G: Gate, K: Recorder<L, M
         &self,
         seat: &mut Seat<L, M>,
         receipt: &mut K::Receipt,
+        room: &mut Room,
         connection: Connection<P>,
     ) -> Answer<P>
         ensures { HasGrown seat.old seat.new }
@@ -270,7 +272,9 @@ impl<R: Wait, P: Port, L: ShardLedger, M: ShardLedger, G: Gate, K: Recorder<L, M
             recorder: self.recorder,
             receipt,
         };
-        let answer = answer_at_seat(self.alloc, self.face, self.port, connection, &mut desk);
+        let answer = answer_at_seat(
+            self.alloc, self.face, self.port, connection, room, &mut desk,
+        );
         let RecordedDesk {
             desk: SeatDesk {
                 alloc: _,
@@ -290,10 +294,11 @@ fn answer_at_seat<R: Wait, P: Port, L: ShardLedger, M: ShardLedger, K: Recorder<
     face: &Face,
     port: &P,
     connection: Connection<P>,
+    room: &mut Room,
     desk: &mut RecordedDesk<'_, R, L, M, K>,
 ) -> Answer<P>
     ensures same_seat { desk.new.desk.seat.ghost_name ≡ desk.old.desk.seat.ghost_name }
     ensures grown { HasGrown desk.old.desk.seat.now desk.new.desk.seat.now }
 {
-    connection.answer_at(alloc, face, port, desk)
+    connection.answer_at(alloc, face, port, room, desk)
 }

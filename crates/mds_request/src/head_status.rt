@@ -12,6 +12,7 @@ use crate::target::{aim_of, method_of};
 use crate::{Aim, Face, HttpFault, Plan};
 use httparse::Status;
 use httparse::spans::{EMPTY_HEADER_SPAN, HeaderSpan, RequestSpans, parse_request};
+use mds_batch::BatchReader;
 use mds_core::Key;
 use std::alloc::{AllocError, Global};
 use std::str;
@@ -59,12 +60,17 @@ impl Head {
     ghost use Rattle.mds_request.specs.Plan.{IsPlan};
     ghost use Rattle.mds_request.specs.HeadStatus.{HasBody, IsHead};
 
-    /// What a stream asks for that begins with this head: these bytes are all that count.
+    /// What a stream asks for that begins with this head: these bytes are all that count. Events are read by the reader.
     ///
     /// # Errors
     ///
     /// `AllocError` where there is no memory for the items of a body that is all there.
-    pub fn plan(&self, alloc: Global, stream: &[u8]) -> Result<Plan, AllocError>
+    pub fn plan(
+        &self,
+        alloc: Global,
+        reader: &mut BatchReader,
+        stream: &[u8],
+    ) -> Result<Plan, AllocError>
         requires { IsHead stream.now self.now }
         ensures plan { IfOk result (λ plan. IsPlan stream.now (asked_in plan)) }
         ensures memory { OnErr result (HasBody stream.now
@@ -72,7 +78,7 @@ impl Head {
     {
         let Head { aim, start, len } = *self;
         let status = HeadStatus::Complete { aim, start, len };
-        status.plan(alloc, stream)
+        status.plan_by(alloc, reader, stream)
     }
 }
 
@@ -146,11 +152,27 @@ impl HeadStatus {
         ensures plan { IfOk result (λ plan. IsPlan stream.now (asked_in plan)) }
         ensures memory { OnErr result (HasBody stream.now self.now) }
     {
+        self.plan_by(alloc, &mut BatchReader::new(alloc), stream)
+    }
+
+    /// As [`HeadStatus::plan`]. Events are read by the reader.
+    fn plan_by(
+        &self,
+        alloc: Global,
+        reader: &mut BatchReader,
+        stream: &[u8],
+    ) -> Result<Plan, AllocError>
+        requires status { IsHeadStatus stream.now self.now }
+        requires in_reach { IsInReach stream.now self.now }
+        ensures plan { IfOk result (λ plan. IsPlan stream.now (asked_in plan)) }
+        ensures memory { OnErr result (HasBody stream.now self.now) }
+    {
         match self {
             HeadStatus::Partial | HeadStatus::Invalid => Ok(Plan::Fixed(HttpFault::BadHead)),
             HeadStatus::Rejected(fault) => Ok(Plan::Fixed(*fault)),
             HeadStatus::Complete { aim, start, len } => plan_about(
                 alloc,
+                reader,
                 aim,
                 *len,
                 &stream[*start..],

@@ -8,7 +8,7 @@ ghost use Rattle.mds_request.specs.Plan.{is_post, body_fault, IsBatch, IsAsked, 
 ghost use Rattle.mds_request.specs.HeadStatus.{HoldsBody};
 
 use crate::{Aim, Face, HttpFault};
-use mds_batch::{BatchFault, EventItems, VehicleItem, read_event_items, read_vehicles};
+use mds_batch::{BatchFault, BatchReader, EventItems, VehicleItem, read_vehicles};
 use mds_core::Key;
 use std::alloc::{AllocError, Global};
 
@@ -53,11 +53,11 @@ fn plan_of_vehicles(alloc: Global, body: &[u8]) -> Result<Plan, AllocError>
     }
 }
 
-fn plan_of_events(alloc: Global, body: &[u8]) -> Result<Plan, AllocError>
+fn plan_of_events(alloc: Global, reader: &mut BatchReader, body: &[u8]) -> Result<Plan, AllocError>
     requires { length body.now ≤ max_bytes }
     ensures { IfOk result (λ plan. IsBatch IsEventItem Events body.now (asked_in plan)) }
 {
-    match read_event_items(alloc, body) {
+    match reader.read(alloc, body) {
         Ok(items) => Ok(Plan::Events(items)),
         Err(fault) => Ok(Plan::Fixed(fault_of(fault)?)),
     }
@@ -65,6 +65,7 @@ fn plan_of_events(alloc: Global, body: &[u8]) -> Result<Plan, AllocError>
 
 pub(crate) fn plan_about(
     alloc: Global,
+    reader: &mut BatchReader,
     aim: &Aim<Key>,
     len: usize,
     after: &[u8],
@@ -79,7 +80,7 @@ pub(crate) fn plan_about(
         (Aim::History(key), _) => Ok(Plan::History(*key)),
         (Aim::Rows, _) => Ok(Plan::Rows),
         (Aim::Vehicles, Some(body)) => plan_of_vehicles(alloc, body),
-        (Aim::Events, Some(body)) => plan_of_events(alloc, body),
+        (Aim::Events, Some(body)) => plan_of_events(alloc, reader, body),
         (Aim::Vehicles | Aim::Events, None) => Ok(Plan::Fixed(HttpFault::CutShort)),
     }
 }

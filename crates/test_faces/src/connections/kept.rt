@@ -5,7 +5,7 @@ use super::peer_of;
 use crate::cases::{Answer, NO_ROUTE, PROFILE, answer_text};
 use mds_core::{Event, EventList, Fleet, Key, Reply, Request};
 use mds_face::{
-    Desk, Face, Head, KeepFault, KeptDesk, KeptFault, ServeFault, Served, memory_bytes,
+    Desk, Face, Head, KeepFault, KeptDesk, KeptFault, Room, ServeFault, Served, memory_bytes,
     not_kept_bytes, serve_kept, serve_whole,
 };
 use mds_request::HeadStatus;
@@ -138,7 +138,8 @@ fn serve<W: Write>(
 ) -> Result<Served, KeptFault> {
     match face.head_status(request) {
         HeadStatus::Complete { aim, start, len } if is_whole => {
-            serve_whole(alloc, request, &Head { aim, start, len }, writer, desk)
+            let (head, mut room) = (Head { aim, start, len }, Room::new(alloc));
+            serve_whole(alloc, &mut room, request, &head, writer, desk)
         }
         _ => {
             let mut client = pieces_of(request, usize::MAX, ENDS);
