@@ -1,6 +1,7 @@
 //! Serving one connection.
-ghost use Rattle.std.specs.Prelude.{◌≡◌, ◌<◌, ◌≤◌, ℕ, Some, IfOk, IfErr, OnOk, OnErr};
+ghost use Rattle.std.specs.Prelude.{◌≡◌, ◌<◌, ◌≤◌, ℕ, Some, None, IfOk, IfErr, OnOk, OnErr, MatchResult};
 ghost use Rattle.std.specs.Io.KnownBytes.{Appends};
+ghost use Rattle.mds_core.specs.declared.request.Request.TheVariants as Asks;
 ghost use Rattle.mds_request.specs.Asked.{asked_in};
 ghost use Rattle.mds_response.specs.Found.{finding_in, replies_in, accepted_in};
 ghost use Rattle.mds_response.specs.Answer.{answer_to};
@@ -10,7 +11,7 @@ ghost use Rattle.mds_face.specs.Serving.{Finds, FindsNoMemory, IsAnsweredWhole, 
 
 use crate::asking::{ask_all, blank_request};
 use crate::{Desk, read_plan};
-use mds_core::Request;
+use mds_core::{Key, Reply, Request};
 use mds_io::{MAX_CALLS, ReadError, WriteErrorKind, write_all_of};
 use mds_request::{Face, Plan};
 use mds_response::{Found, bytes_of, memory_bytes, status_of};
@@ -147,10 +148,20 @@ pub(crate) fn find<D: Desk>(
         Plan::Fixed(_) => Ok(Found::Nothing),
         Plan::Vehicles(items) => Ok(Found::Replies(ask_all(alloc, desk, items, request)?)),
         Plan::Events(items) => Ok(Found::Replies(ask_all(alloc, desk, items, request)?)),
-        Plan::One(key) => Ok(Found::One(desk.call(&Request::Look(*key))?)),
+        Plan::One(key) => Ok(Found::One(look(desk, key)?)),
         Plan::History(key) => Ok(Found::History(desk.event_list(key)?)),
         Plan::Rows => Ok(Found::Rows(desk.rows()?)),
     }
+}
+
+/// It stands apart, since a function clears the room of its requests where it begins, which takes longer than a look.
+#[inline(never)]
+fn look<D: Desk>(desk: &mut D, key: &Key) -> Result<Reply, AllocError>
+    ensures { MatchResult result
+        (λ reply. D.calls desk.old (Asks.Look key.now) (Some reply) desk.new)
+        (λ _. D.calls desk.old (Asks.Look key.now) None desk.new) }
+{
+    desk.call(&Request::Look(*key))
 }
 
 pub(crate) fn served_of(plan: &Plan, found: &Found) -> Served
