@@ -1,3 +1,4 @@
 -- Definitions that the contracts cite.
 pub mod Laws
 pub mod Retries
+pub mod Tables

@@ -1,6 +1,7 @@
 //! The connections that wait: those whose requests come, and those whose answers leave.
-ghost use Rattle.std.specs.Prelude.{◌≡◌, vec_len};
-ghost use Rattle.mds_waiting.specs.Waiting.{Joins};
+ghost use Rattle.std.specs.Prelude.{◌≡◌, ◌⊎◌, All, IfNone, IfSome, Some, true, false, slice_set, vec_len};
+ghost use Rattle.mds_waiting.specs.Waiting.{HasRoom, IsInTime, IsVacant, Joins};
+ghost use Rattle.mds_socket.specs.Tables.{LeavesLate};
 
 use crate::system::{Ready, System};
 use mds_waiting::{Coming, Leaving, Part, Peer, Waiter, Waiting};
@@ -24,13 +25,20 @@ impl<P: Peer> Tables<P> {
 
     /// How long may be waited from this time on, if the clock tells one, in milliseconds. `None` where one was late, and was
     /// let go.
-    pub(crate) fn patience(&mut self, now: Option<u64>) -> Option<u64> {
-        if let Some(key) = self.coming.find_late(now) {
-            let _ = self.coming.take(key);
+    pub(crate) fn patience(&mut self, now: Option<u64>) -> Option<u64>
+        ensures late { IfNone result
+            ((LeavesLate now self.old.coming self.new.coming × (self.new.leaving ≡ self.old.leaving))
+            ⊎ ((self.new.coming ≡ self.old.coming)
+            × LeavesLate now self.old.leaving self.new.leaving)) }
+        ensures coming { IfSome result (λ _. self.new.coming ≡ self.old.coming) }
+        ensures leaving { IfSome result (λ _. self.new.leaving ≡ self.old.leaving) }
+        ensures none { IfSome result (λ _. All (IsInTime now) self.old.coming
+            × All (IsInTime now) self.old.leaving) }
+    {
+        if let_late_go(&mut self.coming, now) {
             return None;
         }
-        if let Some(key) = self.leaving.find_late(now) {
-            let _ = self.leaving.take(key);
+        if let_late_go(&mut self.leaving, now) {
             return None;
         }
         Some(self.coming.patience(now).min(self.leaving.patience(now)))
@@ -48,9 +56,8 @@ impl<P: Peer> Tables<P> {
         let Some(key) = self.coming.key_for(waiter.bytes.len()) else {
             return;
         };
-        if system.ask(&mut waiter.state.peer, Ready::Coming(key), false) {
-            self.coming.put(key, waiter);
-        }
+        let is_asked = system.ask(&mut waiter.state.peer, Ready::Coming(key), false);
+        put_if(is_asked, &mut self.coming, key, waiter);
     }
 
     /// Lets a connection wait until its client takes more of the answer, or ends behind it.
@@ -66,8 +73,34 @@ impl<P: Peer> Tables<P> {
         let Some(key) = self.leaving.key_for(waiter.bytes.len()) else {
             return;
         };
-        if system.ask(&mut waiter.state.peer, Ready::Leaving(key), for_sending) {
-            self.leaving.put(key, waiter);
+        let is_asked = system.ask(&mut waiter.state.peer, Ready::Leaving(key), for_sending);
+        put_if(is_asked, &mut self.leaving, key, waiter);
+    }
+}
+
+/// Lets go of the connection whose time is over first, if it is over now: whether it is.
+fn let_late_go<S: Drop>(waiting: &mut Waiting<S>, now: Option<u64>) -> bool
+    ensures late { result ≡ true → LeavesLate now waiting.old waiting.new }
+    ensures none { result ≡ false → All (IsInTime now) waiting.old }
+    ensures same { result ≡ false → waiting.new ≡ waiting.old }
+{
+    match waiting.find_late(now) {
+        Some(key) => {
+            let _ = waiting.take(key);
+            true
         }
+        None => false,
+    }
+}
+
+/// Lets a connection wait under this key if the system could be asked about it. Else it is let go.
+fn put_if<S: Drop>(is_asked: bool, waiting: &mut Waiting<S>, key: usize, waiter: Waiter<S>)
+    requires vacant { IsVacant waiting.old key }
+    requires room { HasRoom waiting.old (vec_len waiter.bytes) }
+    ensures waits { is_asked ≡ true → waiting.new ≡ slice_set waiting.old key (Some waiter) }
+    ensures gone { is_asked ≡ false → waiting.new ≡ waiting.old }
+{
+    if is_asked {
+        waiting.put(key, waiter);
     }
 }
