@@ -40,6 +40,7 @@ READS = [
     ("replay --lines -", INPUT, (3, "", cannot_read("-"))),
     ("replay events.json", FILE, (3, "", cannot_read("events.json"))),
     ("replay --lines events.json", FILE, (3, "", cannot_read("events.json"))),
+    ("replay --workers 4 events.json", FILE, (3, "", cannot_read("events.json"))),
     ("table --table table.json", FILE, (3, "", cannot_read("table.json"))),
     (DEBUG, FILE, (3, "", cannot_read("events.json"))),
     # a fault of the lines before isn't told
@@ -123,6 +124,8 @@ FAR = [
     ("replay --lines -", INPUT, LINES, MAX_BYTES + 1, TOO_LONG),
     ("replay long", FILE, SPACES, MAX_BYTES + 1, TOO_LONG),
     ("replay --lines long", FILE, LINES, MAX_BYTES + 1, TOO_LONG),
+    ("replay --workers 4 -", INPUT, SPACES, MAX_BYTES + 1, TOO_LONG),
+    ("replay --workers 4 long", FILE, SPACES, MAX_BYTES + 1, TOO_LONG),
     ("table --table long", FILE, SPACES, MAX_BYTES + 1, (3, "", not_a_table("too_long"))),
     (f"debug long {P} {A}", FILE, SPACES, MAX_BYTES + 1, TOO_LONG),
     (DEBUG, INPUT, "\n" * (MAX_SCRIPT + LONGER), MAX_SCRIPT, (0, STARTED + UNKNOWN * MAX_SCRIPT, "")),
@@ -136,6 +139,8 @@ SHORT = [
     ("replay -", INPUT, "[]", (0, "accepted 0 refused 0\n", "")),
     ("replay --lines -", INPUT, "[]", (1, "0 fault not_object\naccepted 0 refused 1\n", "")),
     ("replay short", FILE, "[]", (0, "accepted 0 refused 0\n", "")),
+    ("replay --workers 4 -", INPUT, "[]", (0, "accepted 0 refused 0\n", "")),
+    ("replay --workers 4 short", FILE, "[]", (0, "accepted 0 refused 0\n", "")),
     ("table --table short", FILE, ONE_ROW, (0, ONE_ROW_PRINTED, "")),
     (DEBUG, INPUT, "[]", (0, STARTED + UNKNOWN, "")),
     (DEBUG, INPUT, "quit\nstep\n", (0, STARTED, "")),
@@ -170,7 +175,13 @@ BEHIND = [
     (f"debug events.json {P} x --table table.json", FILE + 1, (2, "", BAD)),
     *[
         (f"{words} --table faulty", FILE + 1, (3, "", not_a_table("not_json")))
-        for words in ("replay events.json", "replay --lines events.json", f"debug events.json {P} {A}", "vehicles journal")
+        for words in (
+            "replay events.json",
+            "replay --lines events.json",
+            "replay --workers 4 events.json",
+            f"debug events.json {P} {A}",
+            "vehicles journal",
+        )
     ],
 ]
 

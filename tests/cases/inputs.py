@@ -34,7 +34,7 @@ def unread():
     yield Case("replay --lines events.json", status=1, out="0 fault not_object\naccepted 0 refused 1\n", files={"events.json": "7"})
     yield listed(journal(registered(A)), [(A, "removed", 0)])
     yield Case(NO_CONNECTION, out=SERVED)
-    for words in ("table", "replay -", "vehicles -", f"debug events.json {P} {A}", f"debug - {P} {A}"):
+    for words in ("table", "replay -", "replay --workers 4 -", "vehicles -", f"debug events.json {P} {A}", f"debug - {P} {A}"):
         words += " --table bad"
         yield told(words, not_a_table("not_rows"), files=FILES)
     yield told("replay bad", not_a_batch("not_list"), files=FILES)

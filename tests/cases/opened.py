@@ -58,6 +58,7 @@ def pipes_and_devices():
     yield Case("replay --lines /dev/null", out=NOTHING)
     yield told("replay /dev/zero", not_a_batch("too_long"))
     yield told("replay --lines /dev/zero", not_a_batch("too_long"))
+    yield told("replay --workers 4 /dev/zero", not_a_batch("too_long"))
     yield told("table --table /dev/zero", not_a_table("too_long"))
     yield told("vehicles /dev/zero", not_a_journal("form"))
     yield told(f"debug /dev/zero {P} {A}", not_a_batch("too_long"))
