@@ -201,14 +201,18 @@ SERVED_ONE = re.compile(r"listening 127\.0\.0\.1:[0-9]+\naccepted 1\n")
 
 
 def threads_of_workers(program):
-    """Each worker of a replay but one is a thread that is made; a replay of lines, and one without the option, makes none."""
+    """Each worker of a replay, or of a server, but one is a thread that is made; a replay of lines, and one without the option,
+    makes none."""
     events = [event(identifier(2, number), "e1", "provider_drop_off", "available", 1000) for number in range(67)]
-    out = [f"{number} ok available\n" for number in range(67)]
-    out += [f"vehicle {P} {identifier(2, number)} available 1\n" for number in range(67)]
-    out = "".join([*out, "accepted 67 refused 0\n"])
-    runs = [(f"replay --workers {count} -", batch(events), count - 1) for count in WORKERS]
-    runs += [("replay -", batch(events), 0), ("replay --lines --workers 64 -", "\n".join(events), 0)]
-    for words, text, wanted in runs:
+    verdicts = "".join(f"{number} ok available\n" for number in range(67))
+    runs = [(f"{NO_CONNECTION} --workers {count}", SERVED, "", count - 1) for count in WORKERS]
+    for opening, opened in (("", ""), ("--any ", " from removed")):
+        ends = "".join(f"vehicle {P} {identifier(2, number)} available 1{opened}\n" for number in range(67))
+        out = f"{verdicts}{ends}accepted 67 refused 0\n"
+        runs += [(f"replay {opening}--workers {count} -", out, batch(events), count - 1) for count in WORKERS]
+        runs.append((f"replay {opening}-", out, batch(events), 0))
+        runs.append((f"replay {opening}--lines --workers 64 -", out, "\n".join(events), 0))
+    for words, out, text, wanted in runs:
         wrong, counts = counted(program, Case(words, out=out, given=text))
         if counts.threads != wanted:
             wrong.append(f"{counts.threads} threads were made, in place of {wanted}")
