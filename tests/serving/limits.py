@@ -41,6 +41,8 @@ MOST_BESIDE = 5
 """How many seconds another client may wait for its answer meanwhile, on a machine that is busy with other tests."""
 IDLE = 33
 """How long no client comes, in seconds."""
+MOST_IDLE = 1
+"""How many of them the server may have a processor, with its start."""
 OPEN_FILES = 7
 """Standard input, output and error, the listening socket by two descriptors, what the system is asked by about sockets, and one
 connection."""
@@ -293,9 +295,12 @@ def sending_behind_a_granted_request(program):
 
 
 def idle_for_long(program):
-    """A server to which no client comes for a while goes on."""
+    """A server to which no client comes for a while goes on, and does next to nothing meanwhile."""
     with Server(program, 1) as server:
         time.sleep(IDLE)
+        seconds = server.processor_seconds()
+        if seconds > MOST_IDLE:
+            yield f"{seconds} s of a processor while nobody came, in place of {MOST_IDLE} at most"
         yield from talk_over(server, Exchange(NOWHERE, error(404, "not_found")))
         yield from server.end()
 

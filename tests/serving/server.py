@@ -118,6 +118,11 @@ class Server:
         """From now on the most memory is that of what comes."""
         Path(f"/proc/{self.child.pid}/clear_refs").write_text("5")
 
+    def processor_seconds(self):
+        """How many seconds it had a processor."""
+        fields = Path(f"/proc/{self.child.pid}/stat").read_text().rpartition(")")[2].split()
+        return sum(map(int, fields[11:13])) / os.sysconf("SC_CLK_TCK")
+
     def bytes_of(self, name):
         status = Path(f"/proc/{self.child.pid}/status").read_text()
         return int(re.search(rf"{name}:\s*([0-9]+) kB", status).group(1)) * 1024
