@@ -142,6 +142,23 @@ fn lines_share_a_write(rt: HostRuntime) {
     assert_eq!(rt; shared_page(rt.alloc()), Ok([(0, 65_532), (65_538, 0)]));
 }
 
+/// What comes of as many lines that go to a stream, how many calls that takes, and how many bytes the page has then.
+fn paged(alloc: Global, plan: Plan) -> (Result<(), PrintError>, u32, usize) {
+    let mut out = Stream::new(plan);
+    let mut page = String::new(alloc);
+    let mut end = Ok(());
+    for _ in 0..10_923 {
+        end = end.and_then(|()| add_line(&mut out, &mut page, &10_001));
+    }
+    (end, out.calls, page.len())
+}
+
+#[test]
+fn pages_go_out_in_pieces(rt: HostRuntime) {
+    let came = paged(rt.alloc(), (70_000, 1_000, true, ENDS));
+    assert_eq!(rt; came, (Ok(()), 132, 0));
+}
+
 /// What two kinds of reads give behind three bytes, each made again where its growth is refused, which leaves all as it was.
 fn read_again(alloc: Global) -> Result<Vec<u8>, ReadError> {
     let mut bytes = Vec::new(alloc);
