@@ -14,13 +14,13 @@ fn comes_through<R: Threads + Sync, G: Gate + Sync>(
     rt: &R,
     alloc: Global,
     told: &[Told],
-    workers: usize,
+    (opening, workers): (Opening, usize),
     gate: &G,
     expected: &Expected,
 ) -> Result<bool, Lack> {
     let items = items_of(alloc, told)?;
     let tables = profile(alloc)?;
-    match replay_with(rt, alloc, &tables, &items, Opening::Removed, workers, gate) {
+    match replay_with(rt, alloc, &tables, &items, opening, workers, gate) {
         Ok(report) => Ok(is_report(&report, expected)),
         Err(WithFault::Memory) => Err(Lack::Memory),
         Err(WithFault::BadWorkers) => Ok(false),
@@ -30,7 +30,8 @@ fn comes_through<R: Threads + Sync, G: Gate + Sync>(
 /// Whether two workers of which one waits for the other come to the report of the five events, and whether it gave up.
 fn met<R: Threads + Clock + Sync>(rt: &R, alloc: Global) -> Result<(bool, bool), Lack> {
     let gate = MeetingGate::new(rt);
-    let comes = comes_through(rt, alloc, FIVE, 2, &gate, &FIVE_REPORT)?;
+    let pair = (Opening::Removed, 2);
+    let comes = comes_through(rt, alloc, FIVE, pair, &gate, &FIVE_REPORT)?;
     Ok((comes, gate.gave_up()))
 }
 
@@ -103,7 +104,7 @@ fn counted<R: Threads + Sync>(
     rt: &R,
     alloc: Global,
     told: &[Told],
-    workers: usize,
+    workers: (Opening, usize),
     expected: &Expected,
 ) -> Result<(bool, [u64; 3]), Lack> {
     let gate = Counting::new();
@@ -115,21 +116,27 @@ fn counted<R: Threads + Sync>(
 fn other_number<R: Threads + Sync>(
     rt: &R,
     alloc: Global,
-    numbers: &[(usize, u64)],
+    numbers: &[((Opening, usize), u64)],
 ) -> Result<Option<usize>, Lack> {
     for (workers, bits) in numbers {
         let none = counted(rt, alloc, &[], *workers, &NOTHING)?;
         let five = counted(rt, alloc, FIVE, *workers, &FIVE_REPORT)?;
         let each_once = (true, [*bits, *bits, 0]);
         if none != each_once || five != each_once {
-            return Ok(Some(*workers));
+            return Ok(Some(workers.1));
         }
     }
     Ok(None)
 }
 
-/// Numbers of workers, and a bit for each of them.
-const NUMBERS: &[(usize, u64)] = &[(1, 0x1), (4, 0xf), (5, 0x1f), (64, 0xffff_ffff_ffff_ffff)];
+/// Where replays open, numbers of workers, and a bit for each of them.
+const NUMBERS: &[((Opening, usize), u64)] = &[
+    ((Opening::Removed, 1), 0x1),
+    ((Opening::Removed, 4), 0xf),
+    ((Opening::Any, 5), 0x1f),
+    ((Opening::Any, 64), 0xffff_ffff_ffff_ffff),
+    ((Opening::Removed, 64), 0xffff_ffff_ffff_ffff),
+];
 
 #[test]
 fn each_worker_enters_and_leaves(rt: HostRuntime) {
@@ -207,18 +214,10 @@ fn first_taken<R: Threads + Sync>(
     numbers: &[usize],
 ) -> Result<Option<usize>, Lack> {
     let (items, tables) = (items_of(alloc, FIVE)?, profile(alloc)?);
-    let mut taken = None;
+    let (opening, mut taken) = (Opening::Removed, None);
     let _begun = fence(alloc);
     for workers in numbers {
-        let end = replay_with(
-            rt,
-            alloc,
-            &tables,
-            &items,
-            Opening::Removed,
-            *workers,
-            &OpenGate,
-        );
+        let end = replay_with(rt, alloc, &tables, &items, opening, *workers, &OpenGate);
         if end.err() != Some(WithFault::BadWorkers) {
             taken = Some(*workers);
         }
