@@ -197,6 +197,9 @@ const CASES: &[Case] = rows! {
     // No memory is left for one more connection; or it was lost before it was taken.
     (&[Turn::Fails(NO_MEMORY), Turn::Fails(NO_BUFFERS), Turn::Fails(ABORTED), Turn::Comes(WHOLE)],
         Some(1), 9, [18, 0], [0, 2]),
+    // Nobody is let go for that: a request of which a part is there comes whole.
+    (&[Turn::Comes(PART), Turn::Fails(NO_MEMORY), Turn::Fails(ABORTED), Turn::Tells(Ready::Coming(0)), Turn::Comes(WHOLE)],
+        Some(1), 9, [23, 18], [1, 1]),
     // A connection is reset in the head, and another one in the body.
     (&[
         Turn::Comes(CUT), Turn::Tells(Ready::Coming(0)), Turn::Comes(IN_BODY), Turn::Tells(Ready::Coming(0)),

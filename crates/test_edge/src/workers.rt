@@ -17,7 +17,7 @@ use std::random::RandomSource;
 use std::sync::Wait;
 use std::sync::atomic::{AtomicUsize, Ordering};
 use std::thread::Threads;
-use test_fixtures::{Lack, MeetingGate, again, fence, profile_again};
+use test_fixtures::{Lack, MeetingGate, again, fence, profile_again, rows};
 
 /// Requests that register two vehicles, of different shards.
 const A: &[u8] =
@@ -54,7 +54,8 @@ impl Write for Answer<'_> {
 /// What a port in memory gives: requests, each with the number of bytes that its writer takes.
 type Requests = &'static [(&'static [u8], usize)];
 
-/// A port in memory: these requests; then it fails. It counts the connections that ended at once.
+/// A port in memory: these requests, but that it fails once at each without bytes; then it fails. Once it is stopped, it gives
+/// none. It counts the connections that ended at once.
 #[derive(Drop)]
 struct Listed<'a> {
     list: Requests,
@@ -70,7 +71,7 @@ impl<'a> Port for Listed<'a> {
 
     fn accept(&self) -> Result<(&'static [u8], Answer<'a>), PortFault> {
         let place = self.next.fetch_add(1, Ordering::SeqCst);
-        let Some(request) = self.list.get(place) else {
+        let Some(request) = self.list.get(place).filter(|request| !request.0.is_empty()) else {
             return Err(PortFault);
         };
         let good = self.good;
@@ -86,6 +87,10 @@ impl<'a> Port for Listed<'a> {
             self.at_once.fetch_add(1, Ordering::SeqCst);
         }
     }
+
+    fn stop(&self) {
+        self.next.store(self.list.len(), Ordering::SeqCst);
+    }
 }
 
 /// What serving came to: why it ended before its end, if it did; how many seats came back; and how many requests were accepted,
@@ -93,12 +98,7 @@ impl<'a> Port for Listed<'a> {
 type Came = (Option<PoolCause>, usize, Option<u128>);
 
 /// How a port is served: by so many seats, of which each answers so many connections in each of so many rounds.
-#[derive(Clone, Copy)]
-struct Turns {
-    seats: usize,
-    each: usize,
-    rounds: usize,
-}
+type Turns = (usize, usize, usize);
 
 /// The routes, where memory allows at once or at a second try.
 fn routes(alloc: Global) -> Result<Face, Lack> {
@@ -168,7 +168,7 @@ where
     ) -> (Option<PoolCause>, Vec<Seat<L, M>>) {
         let mut cause = None;
         let _begun = fence(self.alloc);
-        for _ in 0..self.turns.rounds {
+        for _ in 0..self.turns.2 {
             let came = self.serve_once(face, book, list);
             let (why, back) = if came.0 == Some(PoolCause::Memory) {
                 self.serve_once(face, book, came.1)
@@ -189,14 +189,8 @@ where
         book: &Book<L, M>,
         list: Vec<Seat<L, M>>,
     ) -> (Option<PoolCause>, Vec<Seat<L, M>>) {
-        let Pool {
-            rt,
-            alloc,
-            port,
-            gate,
-            turns,
-        } = self;
-        match serve(*rt, *alloc, face, *port, book, list, turns.each, *gate) {
+        let (rt, alloc, port, gate) = (self.rt, self.alloc, self.port, self.gate);
+        match serve(rt, alloc, face, port, book, list, self.turns.1, gate) {
             Ok(back) => (None, back),
             Err(fault) => (Some(fault.cause), fault.seats),
         }
@@ -238,7 +232,7 @@ where
     P::In: Send,
     P::Out: Send,
 {
-    let opening = opening(rt, alloc, turns.seats)?;
+    let opening = opening(rt, alloc, turns.0)?;
     let pool = Pool {
         rt,
         alloc,
@@ -269,39 +263,32 @@ fn came_of<R: Threads + Wait + RandomSource + Sync, G: Gate + Sync>(
     Ok((came, counts.0, counts.1))
 }
 
-/// One round of so many seats and connections of each.
-fn once(seats: usize, each: usize) -> Turns {
-    Turns {
-        seats,
-        each,
-        rounds: 1,
-    }
-}
-
 #[test]
 fn two_workers_meet(rt: HostRuntime) {
     let gate = MeetingGate::new(&rt);
     let list = &[(A, 999), (B, 999)];
-    let came = came_of(&rt, rt.alloc(), &gate, list, once(2, 1));
+    let came = came_of(&rt, rt.alloc(), &gate, list, (2, 1, 1));
     assert_eq!(rt;
         (came, gate.gave_up()),
         (Ok(((None, 2, Some(2)), 2, 2)), false)
     );
 }
 
-/// A case: the requests, how many seats there are and how many connections each answers, and what serving comes to.
-type Case = (Requests, usize, usize, (Came, usize, usize));
+/// A case: the requests, how they are served, and what serving comes to.
+type Case = (Requests, Turns, (Came, usize, usize));
 
 /// A worker could take no further connection.
 const FAILED: Option<PoolCause> = Some(PoolCause::Accept);
 
-/// No connections; a peer that stops reading; a port that fails at once, and one that fails once its requests are taken.
-const CASES: &[Case] = &[
-    (&[], 1, 0, ((None, 1, Some(0)), 0, 0)),
-    (&[(A, 10), (B, 999)], 1, 2, ((None, 1, Some(2)), 2, 1)),
-    (&[], 1, 1, ((FAILED, 1, Some(0)), 0, 0)),
-    (&[(A, 999), (B, 999)], 2, 2, ((FAILED, 2, Some(2)), 2, 2)),
-];
+/// No connections; a peer that stops reading; a port that fails at once, one that fails once its requests are taken, and one
+/// that fails once, and goes on.
+const CASES: &[Case] = rows! {
+    (&[], (1, 0, 1), ((None, 1, Some(0)), 0, 0)),
+    (&[(A, 10), (B, 999)], (1, 2, 1), ((None, 1, Some(2)), 2, 1)),
+    (&[], (1, 1, 1), ((FAILED, 1, Some(0)), 0, 0)),
+    (&[(A, 999), (B, 999)], (2, 2, 1), ((FAILED, 2, Some(2)), 2, 2)),
+    (&[(b"", 0), (A, 999)], (1, 1, 2), ((FAILED, 1, Some(1)), 1, 1)),
+};
 
 /// The place of the first of these cases to which serving doesn't come, if there is one.
 fn first_other<R: Threads + Wait + RandomSource + Sync>(
@@ -310,8 +297,8 @@ fn first_other<R: Threads + Wait + RandomSource + Sync>(
     cases: &[Case],
 ) -> Result<Option<usize>, Lack> {
     for (place, case) in cases.iter().enumerate() {
-        let (list, seats, each, expected) = *case;
-        if came_of(rt, alloc, &OpenGate, list, once(seats, each))? != expected {
+        let (list, turns, expected) = *case;
+        if came_of(rt, alloc, &OpenGate, list, turns)? != expected {
             return Ok(Some(place));
         }
     }
@@ -328,7 +315,7 @@ fn stopped<R: Threads + Wait + RandomSource + Sync>(
     rt: &R,
     alloc: Global,
 ) -> Result<(bool, usize, Option<u128>), Lack> {
-    let (came, _, _) = came_of(rt, alloc, &OpenGate, &[], once(64, 1))?;
+    let (came, _, _) = came_of(rt, alloc, &OpenGate, &[], (64, 1, 1))?;
     Ok((came.0.is_some(), came.1, came.2))
 }
 
@@ -346,12 +333,7 @@ fn served_in_two_rounds<R: Threads + Wait + RandomSource + Sync>(
     rt: &R,
     alloc: Global,
 ) -> Result<Came, Lack> {
-    let turns = Turns {
-        seats: 2,
-        each: 1,
-        rounds: 2,
-    };
-    Ok(again!(came_of(rt, alloc, &OpenGate, TWICE, turns))?.0)
+    Ok(again!(came_of(rt, alloc, &OpenGate, TWICE, (2, 1, 2)))?.0)
 }
 
 /// By `tests/refused-growths`, as the other of such a name.

@@ -1,5 +1,5 @@
 //! What a gate is told, and when: after the connection was taken and before its answer, and after the answer.
-use super::{A, once, served};
+use super::{A, served};
 use mds_book::Gate;
 use mds_pool::{Port, PortFault};
 use std::alloc::Global;
@@ -138,7 +138,7 @@ fn steps_of_serving<R: Threads + Wait + RandomSource + Sync>(
         lacked_memory: AtomicBool::new(false),
     };
     let port = Recorded { record: &record };
-    let came = served(rt, alloc, &port, &record, once(WORKERS, EACH))?;
+    let came = served(rt, alloc, &port, &record, (WORKERS, EACH, 1))?;
     let is_whole = came == (None, WORKERS, Some(1)) && !record.lacked_memory.load(Ordering::SeqCst);
     let steps = record.steps.into_inner();
     let told = (is_always_in_order(&steps), are_all_told(&steps));

@@ -1,5 +1,5 @@
 //! Three connections over loopback, of a server and its client in one process.
-use super::{A, Came, once, served};
+use super::{A, Came, served};
 use mds_book::OpenGate;
 use mds_io::{MAX_CALLS, read_front, write_all_of};
 use mds_socket::SocketPort;
@@ -74,7 +74,7 @@ fn served_over_loopback<
     };
     let (came, others) = thread::join(
         rt,
-        || served(rt, alloc, &port, &OpenGate, once(1, 3)),
+        || served(rt, alloc, &port, &OpenGate, (1, 3, 1)),
         || other_answers(rt, alloc, number, TALK),
     );
     Ok((came?, others))
