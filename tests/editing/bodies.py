@@ -8,6 +8,7 @@ from harness.counting import ROOT
 
 HERE = Path(__file__).resolve().parent / "bodies"
 FUNCTION = re.compile(r"^(?P<indent> *)(?:pub(?:\([^)]*\))? )?(?:const )?fn (?P<name>\w+)", re.M)
+CONSTANT = re.compile(r"\b[A-Z][A-Z0-9_]+\b")
 BLOCK = re.compile(r"^(?:pub )?(?:impl|trait)\b(?P<words>[^{;]*)\{$(?P<body>.*?)^\}", re.M | re.S)
 
 
@@ -29,6 +30,8 @@ class Edit:
     changes: tuple
     functions: frozenset
     """Each by the path below the crate by which a check tells of it."""
+    names: frozenset
+    """The names by which a body may call or read what the edit turns: those of the functions, and of constants."""
 
     @property
     def label(self):
@@ -53,7 +56,7 @@ def named_in(text):
 
 
 def last_word(text):
-    return re.search(r"(\w+)\s*$", text).group(1)
+    return re.findall(r"\w+", text)[-1]
 
 
 def plain_head(words):
@@ -102,12 +105,13 @@ def told_as(crate, path, text, place):
 
 
 def functions_in(crate):
-    """The functions of a crate's sources, each as a check tells of it."""
+    """The functions of a crate's sources, each as a check tells of it, with the text from there up to the next one."""
     folder = ROOT / "crates" / crate
     for file in sorted(folder.glob("src/**/*.rt")):
         text = file.read_text()
-        for found in FUNCTION.finditer(text):
-            yield told_as(crate, file.relative_to(folder), text, found.start())
+        starts = [found.start() for found in FUNCTION.finditer(text)]
+        for start, end in zip(starts, [*starts[1:], len(text)]):
+            yield told_as(crate, file.relative_to(folder), text, start), text[start:end]
 
 
 def functions_of(crate, changes):
@@ -122,8 +126,11 @@ def functions_of(crate, changes):
 def edit_of(crate, file):
     text = file.read_text()
     changes = tuple(changes_in(text))
-    functions = frozenset(named_in(text)) or frozenset(functions_of(crate, changes))
-    return Edit(crate, file, changes, functions)
+    named = named_in(text)
+    functions = frozenset(named) or frozenset(functions_of(crate, changes))
+    names = [it.rpartition("::")[2] for it in functions]
+    names += [word for it in changes if named for word in CONSTANT.findall(it.old)]
+    return Edit(crate, file, changes, functions, frozenset(names))
 
 
 def every_edit():

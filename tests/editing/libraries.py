@@ -1,4 +1,4 @@
-"""What the check of a crate stands on: the libraries that `rt` left in the repository, where they are as new as their sources."""
+"""What the check of a crate stands on: the libraries that `rt` left in the repository, where they are of the texts that stand."""
 
 import functools
 import os
@@ -7,15 +7,10 @@ import subprocess
 import tempfile
 from pathlib import Path
 
+from editing.proved import is_proved, kit
 from harness.counting import ROOT
 
 SOURCES = ("src", "specs", "proofs")
-
-
-@functools.cache
-def kit():
-    """The folder of `rt` with its prover and its libraries."""
-    return Path(subprocess.run(["rt", "doc"], capture_output=True, text=True, check=True).stdout.strip()).parent
 
 
 @functools.cache
@@ -45,15 +40,13 @@ def left_by_proof(crate):
     return out / crate if is_program(crate) else out / "rlib" / f"{crate}.rlib" / "format"
 
 
-@functools.cache
-def is_proved(crate):
-    """Whether `rt` proved the crate since its sources and those of the crates below it were changed."""
-    left, folder = left_by_proof(crate), ROOT / "crates" / crate
-    if not left.exists() or not all(is_proved(it) for it in own_libraries(crate)):
-        return False
-    read = [path for part in SOURCES if (folder / part).exists() for path in (folder / part, *(folder / part).rglob("*"))]
-    read += [left_by_proof(it) for it in own_libraries(crate)]
-    return left.stat().st_mtime >= max(it.stat().st_mtime for it in read)
+def kept_of(crate):
+    """The folder in which `rt check`, `rt lib` and `rt run` keep what they checked of the crate. `rt ci` leaves none."""
+    return ROOT / "crates" / crate / "out/incremental"
+
+
+def has_kept(crate):
+    return is_proved(crate) and kept_of(crate).exists()
 
 
 def linked(one, other):
@@ -87,10 +80,10 @@ class Bench:
         return self.room / "rlib" / f"{crate}.rlib"
 
     def kept(self, crate):
-        """What checks of the crate keep for the next, which begins with what `rt check` kept of it."""
-        folder, left = self.room / "kept" / crate, ROOT / "crates" / crate / "out/incremental"
-        if not folder.exists() and left.exists():
-            shutil.copytree(left, folder, symlinks=True, copy_function=linked)
+        """What checks of the crate keep for the next, which begins with what `rt` kept of it."""
+        folder = self.room / "kept" / crate
+        if not folder.exists() and kept_of(crate).exists():
+            shutil.copytree(kept_of(crate), folder, symlinks=True, copy_function=linked)
         folder.mkdir(parents=True, exist_ok=True)
         return folder
 

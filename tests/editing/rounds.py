@@ -102,8 +102,10 @@ def left_of(it, edits):
 def said_of(it, turned, bench):
     """What a check of a round says. It begins again without what rattle doesn't take."""
     strays, only = bench.strays.setdefault(it.crate, set()), [word for name in turned for word in ("--only", name)]
+    names = set().union(*(edit.names for edit in it.edits))
     while True:
-        said = bench.say("check", it.crate, it.texts | supposed(it.crate, turned, strays), "--allow-holes", *only)
+        proofs = supposed(it.crate, turned, names, strays)
+        said = bench.say("check", it.crate, it.texts | proofs, "--allow-holes", *only)
         if strays.issuperset(STRAY.findall(said)):
             return said
         strays.update(STRAY.findall(said))

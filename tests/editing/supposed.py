@@ -1,15 +1,19 @@
 """What a check with edits is given, so that it looks at the functions that are edited, once, and at no other.
 
-`rt` proved the crate as it stands, and an edit turns a body and no contract. So each function that isn't edited has a hole for its
-proof here, and its callers are judged by its contract. Each that is edited has a definition of a wrong type among its answers: rattle
-then doesn't go over it a second time, to offer the answers that it lacks. It isn't proved, edited or not, so what tells of an edit
-is a goal that is open, or an answer of the function that is none any more.
+`rt` proved the crate as it stands, and an edit turns a body and no contract. So a function that isn't edited is judged by its
+contract where an edited one calls it. Its proof is taken from what `rt` kept of its checks. It has a hole in place of a proof where
+`rt` kept none, as after `rt ci`, and where it may call an edited function itself, since its proof would be checked anew.
+
+Each function that is edited has a definition of a wrong type among its answers: rattle then doesn't go over it a second time, to
+offer the answers that it lacks. It isn't proved, edited or not, so what tells of an edit is a goal that is open, or an answer of the
+function that is none any more.
 """
 
 import re
 from functools import cache
 
-from editing.bodies import functions_in
+from editing.bodies import CONSTANT, functions_in
+from editing.libraries import has_kept
 from harness.counting import ROOT
 
 NO_ANSWER = "no_answer"
@@ -19,9 +23,32 @@ STRAY = re.compile(r"^\./(proofs/\S+)/(?:Proof|Answers)\.antt: error", re.M)
 """What rattle says, before it begins, of a file that is none of a function."""
 
 
+CALL = re.compile(r"\w+(?=\(|::<)|(?<=::)\w+")
+"""What may be the name of a function that is called, or passed on."""
+
+
+def names_in(text):
+    """The names of functions and constants in the body with which a text of a function begins, or in more."""
+    body = re.sub(r"//.*", "", text.partition("{\n")[2])
+    return {*CALL.findall(body), *CONSTANT.findall(body)}
+
+
 @cache
-def functions_by_crate(crate):
-    return sorted(set(functions_in(crate)))
+def names_by_function(crate):
+    """What each function of a crate may call or read, by its name. Those that a check tells of by one name are one."""
+    found = {}
+    for function, text in functions_in(crate):
+        found.setdefault(function, set()).update(names_in(text))
+    return found
+
+
+def callers(crate, names):
+    """The functions of a crate whose body has one of these names, or that of another such function."""
+    found, left = set(), set(names)
+    while left:
+        more = {it for it, own in names_by_function(crate).items() if it not in found and not own.isdisjoint(left)}
+        found, left = found | more, {it.rpartition("::")[2] for it in more}
+    return found
 
 
 def folder_of(function):
@@ -35,14 +62,21 @@ def hole(crate, function):
     return f"{head}pub {name}_spec : {{M : Type 1}} → statement M\n{name}_spec = ?\n"
 
 
-def supposed(crate, turned, strays):
-    """The texts of the files of `proofs/` that a check is given, and no text of those that it isn't, by their paths. A folder is one
-    of the strays where rattle takes no such file, as where the function stands in a macro."""
+def holes(crate, functions):
+    """The texts of the files of `proofs/` of these functions: a hole, and no answers."""
     texts = {}
-    for function in functions_by_crate(crate):
+    for function in functions:
         folder = folder_of(function)
-        if function not in turned and folder not in strays:
-            texts |= {f"{folder}/Proof.antt": hole(crate, function), f"{folder}/Answers.antt": None, f"{folder}/Invariants.antt": None}
+        texts |= {f"{folder}/Proof.antt": hole(crate, function), f"{folder}/Answers.antt": None, f"{folder}/Invariants.antt": None}
+    return texts
+
+
+def supposed(crate, turned, names, strays):
+    """The texts of the files of `proofs/` that a check is given, and no text of those that it isn't, by their paths. `names` are
+    those by which bodies may call or read what is edited. A folder is one of the strays where rattle takes no such file, as where the
+    function stands in a macro."""
+    others = callers(crate, names) if has_kept(crate) else names_by_function(crate)
+    texts = holes(crate, [it for it in sorted(others) if it not in turned and folder_of(it) not in strays])
     for folder in {folder_of(function) for function in turned}.difference(strays):
         file = ROOT / "crates" / crate / folder / "Answers.antt"
         if not file.with_name("Proof.antt").exists():
