@@ -92,19 +92,11 @@ pub const TWO_ITEMS: &[u8] =
 /// Each call, made again where its growth is refused (by `tests/refused-growths`).
 #[test]
 fn call_succeeds_after_a_refused_growth(rt: HostRuntime) {
-    let vehicles = again!(read_vehicles(rt.alloc(), TWO_ITEMS));
-    let events = again!(read_events(rt.alloc(), TWO_ITEMS));
-    let kept = again!(read_event_items(rt.alloc(), TWO_ITEMS));
+    let vehicles = first_of(again!(read_vehicles(rt.alloc(), TWO_ITEMS)));
+    let events = first_of(again!(read_events(rt.alloc(), TWO_ITEMS)));
+    let kept = first_kept(again!(read_event_items(rt.alloc(), TWO_ITEMS)));
     let mut reader = BatchReader::new(rt.alloc());
-    let read = again!(reader.read(rt.alloc(), TWO_ITEMS));
+    let read = first_kept(again!(reader.read(rt.alloc(), TWO_ITEMS)));
     let expected = Ok((2, Some(ItemFault::Missing(Member::DeviceId))));
-    assert_eq!(rt;
-        [
-            first_of(vehicles),
-            first_of(events),
-            first_kept(kept),
-            first_kept(read)
-        ],
-        [expected; 4]
-    );
+    assert_eq!(rt; [vehicles, events, kept, read], [expected; 4]);
 }

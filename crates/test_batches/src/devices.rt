@@ -145,8 +145,7 @@ fn lines_share_a_write(rt: HostRuntime) {
 /// What comes of as many lines that go to a stream, how many calls that takes, and how many bytes the page has then.
 fn paged(alloc: Global, plan: Plan) -> (Result<(), PrintError>, u32, usize) {
     let mut out = Stream::new(plan);
-    let mut page = String::new(alloc);
-    let mut end = Ok(());
+    let (mut page, mut end) = (String::new(alloc), Ok(()));
     for _ in 0..10_923 {
         end = end.and_then(|()| add_line(&mut out, &mut page, &10_001));
     }
