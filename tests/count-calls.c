@@ -2,8 +2,9 @@
    are asked for, and the files that are opened. Loaded before the C library by tests/program; no part of the program.
 
    COUNTS: a file of six numbers of 8 bytes: calls of read, calls of write, bytes moved, ends, threads, files. ON: the descriptor.
-   EVERY: where it is given, each call but one in so many is interrupted, and that one moves a byte. MOST: where it is given, no
-   more threads than so many can be made. */
+   EVERY: where it is given, each call but one in so many is interrupted, and that one moves a byte. ERROR: where it is given, the
+   first call fails with the error of this number, and none behind it. MOST: where it is given, no more threads than so many can
+   be made. */
 #define _GNU_SOURCE
 #include <dlfcn.h>
 #include <errno.h>
@@ -19,7 +20,7 @@ enum { READS, WRITES, BYTES, ENDS, THREADS, FILES, NUMBERS };
 
 static int64_t nowhere[NUMBERS], *counts = nowhere;
 static long every, most = -1;
-static int on = -1;
+static int on = -1, error;
 
 static long told(const char *name, long otherwise)
 {
@@ -40,6 +41,7 @@ __attribute__((constructor)) static void ask(void)
     counts = shared;
     on = told("ON", -1);
     every = told("EVERY", 0);
+    error = told("ERROR", 0);
     most = told("MOST", -1);
 }
 
@@ -50,6 +52,15 @@ static size_t allowed(int kind, size_t size)
     if (every == 0)
         return size;
     return size != 0 && number % every == 0;
+}
+
+/* Whether this call of its kind fails. */
+static int fails(int kind)
+{
+    if (error == 0 || __atomic_load_n(&counts[kind], __ATOMIC_SEQ_CST) != 1)
+        return 0;
+    errno = error;
+    return 1;
 }
 
 static ssize_t moved(ssize_t size)
@@ -75,6 +86,8 @@ ssize_t read(int file, void *bytes, size_t size)
     if (file != on)
         return next(file, bytes, size);
     size_t most = allowed(READS, size);
+    if (fails(READS))
+        return -1;
     return most || !size ? moved(next(file, bytes, most)) : interrupted();
 }
 
@@ -86,6 +99,8 @@ ssize_t write(int file, const void *bytes, size_t size)
     if (file != on)
         return next(file, bytes, size);
     size_t most = allowed(WRITES, size);
+    if (fails(WRITES))
+        return -1;
     return most || !size ? moved(next(file, bytes, most)) : interrupted();
 }
 

@@ -1,5 +1,6 @@
 """How often the program reads and writes, how far it reads, how many threads it makes, and output that fails in its middle."""
 
+import errno
 import os
 import re
 import resource
@@ -62,9 +63,9 @@ WRITES = [
 ]
 
 
-def counted(program, case, on=-1, every=0, threads=-1, seconds=SECONDS):
+def counted(program, case, on=-1, every=0, threads=-1, error=0, seconds=SECONDS):
     """What is wrong with the end of a run of the case, and its counts."""
-    with Counting(on, every, threads) as counting:
+    with Counting(on, every, threads, error) as counting:
         case.env = counting.env
         return list(differences(case, *outcome(program, case, seconds))), counting.counts()
 
@@ -98,6 +99,36 @@ def interrupted_in_a_row(program):
             if counts.reads != wanted:
                 wrong.append(f"{counts}, in place of {wanted} reads")
             yield from (f"{case.words}, one read in {every} gives a byte: {complaint}" for complaint in wrong)
+
+
+ERRORS = [errno.EIO, errno.EAGAIN, errno.EBADF, errno.ENOSPC, errno.EPIPE, errno.ETIMEDOUT, errno.ENOMEM, errno.EINVAL]
+FAILING_READS = [
+    *[(words, on, end) for words, on, end in READS if (words, on) != (DEBUG, INPUT)],
+    ("vehicles -", INPUT, (3, "", cannot_read("-"))),
+    ("vehicles journal", FILE, (3, "", cannot_read("journal"))),
+    (DEBUG, INPUT, (0, STARTED, "")),
+]
+# What goes to the descriptor isn't told.
+FAILING_WRITES = [(words, on, (status, "", OUTPUT if on == OUT else "")) for words, on, (status, _, _) in WRITES]
+
+
+def failed(program, words, on, end, name, error):
+    """What is wrong with a run where the first call on a descriptor fails: none is to be made behind it."""
+    status, out, faults = end
+    case = Case(words, status=status, out=out, faults=faults, given="next\n", files=FILES)
+    wrong, counts = counted(program, case, on, error=error)
+    if getattr(counts, name) != 1:
+        wrong.append(f"{counts}, in place of one of {name}")
+    return [f"{words}, {os.strerror(error)} on descriptor {on}: {text}" for text in wrong]
+
+
+def failed_calls(program):
+    """A call that fails is made again for no error but an interruption: the file, the script or the line is given up at once."""
+    runs = [(*it, "reads", error) for it in FAILING_READS for error in ERRORS]
+    runs += [(*it, "writes", error) for it in FAILING_WRITES for error in ERRORS]
+    with ThreadPoolExecutor(os.cpu_count()) as pool:
+        for wrong in pool.map(lambda it: failed(program, *it), runs):
+            yield from wrong
 
 
 SELDOM = 60000
@@ -273,6 +304,7 @@ def into_a_file(program, words, folder, given, room):
 CALLS = [
     interrupted_calls,
     interrupted_in_a_row,
+    failed_calls,
     texts_of_clap,
     read_so_far,
     unread_files,

@@ -67,11 +67,11 @@ files that were opened."""
 
 class Counting:
     """Calls on one descriptor that are counted, the threads that are asked for, and the files that are opened. Of so many calls,
-    if a number is given, one moves a byte, and the others are interrupted. No more threads can be made than are given, or any
-    number for -1. As a context it has the environment of the run that it is for."""
+    if a number is given, one moves a byte, and the others are interrupted. Where an error is given, the first call fails with it. No
+    more threads can be made than are given, or any number for -1. As a context it has the environment of the run that it is for."""
 
-    def __init__(self, on=-1, every=0, threads=-1):
-        self.how = {"ON": str(on), "EVERY": str(every), "MOST": str(threads)}
+    def __init__(self, on=-1, every=0, threads=-1, error=0):
+        self.how = {"ON": str(on), "EVERY": str(every), "MOST": str(threads), "ERROR": str(error)}
         self.shim = built("count-calls.so", "tests/count-calls.c", "-shared", "-fPIC", "-O1", "-ldl")
 
     def __enter__(self):

@@ -242,9 +242,9 @@ fn torn(shard: usize, place: usize, text: &str) -> (u8, bool) {
     (status.code(), faults.rest.is_empty())
 }
 
-/// The same of a writer that is interrupted again and again, and in how many calls.
+/// The same of a writer that takes three bytes and is interrupted from then on, and in how many calls.
 fn torn_in_vain() -> (u8, u32) {
-    let mut faults = Stream::new((0, 1, false, PAUSES));
+    let mut faults = Stream::new((3, 1, true, PAUSES));
     (torn_to(&mut faults, 1, 2).code(), faults.calls)
 }
 
