@@ -1,7 +1,7 @@
 -- A journal whose requests are asked again.
-use Rattle.std.proofs.Common.{◌≡◌, ℕ, zero, suc, ◌+◌, ◌<◌, ◌==◌, List, [], ◌∷◌, ◌++◌, Bool, true, false, length, refl, sym, ap, ◌∙◌, subst, arith, append_assoc, append-nil, length-append}
+use Rattle.std.proofs.Common.{◌≡◌, ℕ, zero, suc, ◌+◌, ◌<◌, ◌==◌, List, [], ◌∷◌, ◌++◌, ◌-◌, ◌^◌, ◌≤◌, ◌≢◌, Bool, true, false, Result, Ok, Err, IfOk, OnOk, length, take, get_or, refl, sym, ap, ◌∙◌, subst, arith, append_assoc, append-nil, length-append}
 use Rattle.std.proofs.lemmas.Bool.Decides.{nat_tests}
-use Rattle.std.proofs.lemmas.List.{length-map, map-append}
+use Rattle.std.proofs.lemmas.List.{length-map, map-append, take_more}
 use Rattle.std.proofs.lemmas.List.Elements.{filter-append}
 use Rattle.mds_table.specs.Tables.{Tables}
 use Rattle.mds_core.specs.declared.key.Key.{Key}
@@ -21,8 +21,8 @@ use Rattle.mds_book.specs.Seats.{Seated, seen_in}
 use Rattle.mds_follow.specs.Parts.{part}
 use Rattle.mds_follow.specs.Record.{recorded_at}
 use Rattle.mds_follow.specs.Disk.{IsTold, MayRead}
-use Rattle.mds_follow.specs.Reading.{HasNoMore, IsEndFault, IsEntryFault, IsReadTo, IsStartFault, TellsNext}
-use Rattle.mds_follow.specs.Restart.{HasAll, IsFilled, IsRead, IsRefilled}
+use Rattle.mds_follow.specs.Reading.{HasNoMore, IsEndFault, IsEndOf, IsLineFault, IsReadTo, IsStartFault, TellsAll, TellsNext}
+use Rattle.mds_follow.specs.Restart.{HasAll, IsAhead, IsAskFault, IsFilled, IsRead, IsRefilled}
 use Rattle.mds_follow.specs.declared.start_fault.StartFault.{StartFault}
 use Rattle.mds_follow.specs.declared.start_fault.StartFault.TheVariants.{Memory, Device, Journal, Shared}
 use Rattle.mds_follow.proofs.Disks.{told_more}
@@ -48,30 +48,124 @@ read_all file left told read none =
     let Told : List (List ℕ) → Type 0 = λ w. IsTold w told in
     subst Told (sym all) read.is_told
 
--- what one request more asks for
-module _ (moment : ℕ) (old new : List Acceptance) (request : Request) (is : new ≡ old ++ record { tag = moment; request = request } ∷ []) where
-  pub asked_more : requests new ≡ requests old ++ request ∷ []
-  asked_more = ap (λ (w : List Acceptance). requests w) is ∙ recorded_requests moment old (request ∷ [])
+-- lines that tell requests, and then one more
+pub tells_more : (bytes : List ℕ) (told : List Request) (mid : List ℕ) (request : Request) (left : List ℕ) → TellsAll bytes told mid → TellsNext mid request left → TellsAll bytes (told ++ request ∷ []) left
+tells_more bytes [] mid request left none next = (left, subst (λ (w : List ℕ). TellsNext w request left) none next, refl)
+tells_more bytes (one ∷ told) mid request left all next = (all.0, all.1, tells_more all.0 told mid request left all.2 next)
 
-  pub longer : length new ≡ length old + 1
-  longer = ap (λ (w : List Acceptance). length w) is ∙ length-append old (record { tag = moment; request = request } ∷ [])
+-- the line of each of the requests that lines tell
+pub tells_split : (bytes : List ℕ) (before : List Request) (request : Request) (rest : List Request) (left : List ℕ) → TellsAll bytes (before ++ request ∷ rest) left
+    → (mid : List ℕ) × (behind : List ℕ) × TellsAll bytes before mid × TellsNext mid request behind
+tells_split bytes [] request rest left all = (bytes, all.0, refl, all.1)
+tells_split bytes (one ∷ before) request rest left all =
+    let later = tells_split all.0 before request rest left all.2 in
+    (later.0, later.1, (all.0, all.1, later.2), later.3)
+
+-- lines tell as many requests more
+pub read_many : (file bytes left : List ℕ) (told requests : List Request) → IsReadTo file told bytes → TellsAll bytes requests left → IsReadTo file (told ++ requests) left
+read_many file bytes left told [] read none =
+    let Told : List Request → Type 0 = λ w. IsReadTo file w left in
+    subst Told (sym (append-nil told)) (subst (λ (w : List ℕ). IsReadTo file told w) (sym none) read)
+read_many file bytes left told (request ∷ requests) read all =
+    let Told : List Request → Type 0 = λ w. IsReadTo file w left in
+    subst Told (append_assoc told (request ∷ []) requests) (read_many file all.0 left (told ++ request ∷ []) requests (read_next file bytes all.0 told request read all.1) all.2)
+
+-- an end has the lines of its requests before it
+pub before_end : (bytes left : List ℕ) (number : ℕ) (told : List Request) (end : Result Bool StartFault) → IsEndOf bytes left number told end → (mid : List ℕ) × TellsAll bytes told mid
+before_end bytes left number told (Ok true) is = (left, is)
+before_end bytes left number told (Ok false) is = (left, is.0)
+before_end bytes left number told (Err fault) is = (is.0, is.1)
+
+-- nothing but the form is read, and what is left comes next
+pub read_none : (file left : List ℕ) (told : List Acceptance) (number : ℕ) (requests_ahead : List Request) (end : Result Bool StartFault) → told ≡ [] → requests_ahead ≡ [] → end ≡ Ok true
+    → recovered_texts file ≡ form_line ∷ recovered_texts left → IsAhead file left (requests told) number requests_ahead end
+read_none file left told number requests_ahead end none empty more form =
+    let Ends : Result Bool StartFault → Type 0 = λ w. IsAhead file left [] number [] w in
+    let Holds : List Request → Type 0 = λ w. IsAhead file left [] number w end in
+    let Told : List Acceptance → Type 0 = λ w. IsAhead file left (requests w) number requests_ahead end in
+    subst Told (sym none) (subst Holds (sym empty) (subst Ends (sym more) (record { bytes = left; read = read_form file left form; end = refl })))
+
+-- where more may come behind a piece, its requests are read too
+pub read_piece : (file left : List ℕ) (recorded : List Request) (number : ℕ) (told : List Request) (end : Result Bool StartFault) → IsAhead file left recorded number told end → end ≡ Ok true
+    → IsReadTo file (recorded ++ told) left
+read_piece file left recorded number told end ahead more =
+    let End : Result Bool StartFault → Type 0 = λ w. IsEndOf ahead.bytes left number told w in
+    read_many file ahead.bytes left recorded told ahead.read (subst End more ahead.end)
+
+-- behind the last one no more lines count, or its end says why
+pub read_last : (file left : List ℕ) (recorded : List Request) (number : ℕ) (told : List Request) (end : Result Bool StartFault) → IsAhead file left recorded number told end → end ≢ Ok true
+    → IfOk end (λ _. HasNoMore left × IsTold (recovered_texts file) (recorded ++ told))
+read_last file left recorded number told (Ok true) ahead last = absurd (last refl)
+read_last file left recorded number told (Ok false) ahead last =
+    let all = read_many file ahead.bytes left recorded told ahead.read ahead.end.0 in
+    (ahead.end.1, read_all file left (recorded ++ told) all ahead.end.1)
+read_last file left recorded number told (Err fault) ahead last = tt
+
+-- what follows from a fact of a success
+pub on_ok : {X Y : Type 0} (result : Result X Y) (P Q : Type 0) → (P → Q) → OnOk result P → OnOk result Q
+on_ok (Ok x) P Q then holds = then holds
+on_ok (Err y) P Q then holds = tt
+
+-- more than how many pieces are to be read behind one, where its lines end at this place
+abbrev pub rounds_left : ℕ → Result Bool StartFault → ℕ
+rounds_left place (Ok true) = 2 ^ 62 + 1 - place
+rounds_left place (Ok false) = 0
+rounds_left place (Err fault) = 0
+
+-- there is one less behind the next one
+pub fewer_rounds : (old new : ℕ) (end : Result Bool StartFault) → old ≤ 2 ^ 62 → IfOk end (λ more. more ≡ true → old < new) → rounds_left new end < rounds_left old (Ok true)
+fewer_rounds old new (Ok true) small further = omega (arith, small, further refl)
+fewer_rounds old new (Ok false) small further = omega (arith, small)
+fewer_rounds old new (Err fault) small further = omega (arith, small)
+
+-- what more requests ask for
+module _ (moment : ℕ) (old new : List Acceptance) (more : List Request) (is : new ≡ old ++ recorded_at moment more) where
+  pub asked_more : requests new ≡ requests old ++ more
+  asked_more = ap (λ (w : List Acceptance). requests w) is ∙ recorded_requests moment old more
+
+  pub longer : length new ≡ length old + length more
+  longer = ap (λ (w : List Acceptance). length w) is ∙ (length-append old (recorded_at moment more) ∙ ap (λ (n : ℕ). length old + n) (length-map more (λ (one : Request). record { tag = moment; request = one })))
 
   -- all were recorded at one moment
   pub at_one_moment : old ≡ recorded_at moment (requests old) → new ≡ recorded_at moment (requests new)
   at_one_moment was =
-      let More : List Acceptance → Type 0 = λ w. new ≡ w ++ record { tag = moment; request = request } ∷ [] in
-      let behind : new ≡ recorded_at moment (requests old) ++ recorded_at moment (request ∷ []) = subst More was is in
-      let both : recorded_at moment (requests old ++ request ∷ []) ≡ recorded_at moment (requests old) ++ recorded_at moment (request ∷ []) =
-      map-append {B = Acceptance} (λ (one : Request). record { tag = moment; request = one }) (requests old) (request ∷ []) in
+      let More : List Acceptance → Type 0 = λ w. new ≡ w ++ recorded_at moment more in
+      let behind : new ≡ recorded_at moment (requests old) ++ recorded_at moment more = subst More was is in
+      let both : recorded_at moment (requests old ++ more) ≡ recorded_at moment (requests old) ++ recorded_at moment more =
+      map-append {B = Acceptance} (λ (one : Request). record { tag = moment; request = one }) (requests old) more in
       behind ∙ sym both ∙ ap (λ (w : List Request). recorded_at moment w) (sym asked_more)
 
-  -- the seat has asked one more
-  pub refilled_more : (seat then : Seated) → IsRefilled seat old → IsFilled seat request then → HasAll then → IsRefilled then new
+  -- the seat has asked them
+  pub refilled_more : (seat then : Seated) → IsRefilled seat old → IsFilled seat more then → HasAll then → IsRefilled then new
   refilled_more seat then refilled filled all = record {
     all = all;
-    first = filled.first ∙ (ap (λ w. w ++ part 0 (request ∷ [])) refilled.first ∙ (sym (filter-append _ (requests old) (request ∷ [])) ∙ ap (λ w. part 0 w) (sym asked_more)));
-    second = filled.second ∙ (ap (λ w. w ++ part 1 (request ∷ [])) refilled.second ∙ (sym (filter-append _ (requests old) (request ∷ [])) ∙ ap (λ w. part 1 w) (sym asked_more)));
+    first = filled.first ∙ (ap (λ w. w ++ part 0 more) refilled.first ∙ (sym (filter-append _ (requests old) more) ∙ ap (λ w. part 0 w) (sym asked_more)));
+    second = filled.second ∙ (ap (λ w. w ++ part 1 more) refilled.second ∙ (sym (filter-append _ (requests old) more) ∙ ap (λ w. part 1 w) (sym asked_more)));
   }
+
+-- the seat has asked one request more behind others
+pub filled_more : (seat mid then : Seated) (told : List Request) (request : Request) → IsFilled seat told mid → IsFilled mid (request ∷ []) then → IsFilled seat (told ++ request ∷ []) then
+filled_more seat mid then told request filled one = record {
+  first = one.first ∙ (ap (λ w. w ++ part 0 (request ∷ [])) filled.first ∙ (append_assoc seat.first_seen (part 0 told) (part 0 (request ∷ [])) ∙ ap (λ w. seat.first_seen ++ w) (sym (filter-append _ told (request ∷ [])))));
+  second = one.second ∙ (ap (λ w. w ++ part 1 (request ∷ [])) filled.second ∙ (append_assoc seat.second_seen (part 1 told) (part 1 (request ∷ [])) ∙ ap (λ w. seat.second_seen ++ w) (sym (filter-append _ told (request ∷ [])))));
+}
+
+-- of some requests those before one, and it
+pub filled_next : (seat mid then : Seated) (all : List Request) (index : ℕ) (request : Request) → IsFilled seat (take index all) mid → IsFilled mid (request ∷ []) then
+    → index < length all → request ≡ get_or all index request → IsFilled seat (take (index + 1) all) then
+filled_next seat mid then all index request filled one within same =
+    let Filled : List Request → Type 0 = λ w. IsFilled seat w then in
+    let longer : take index all ++ request ∷ [] ≡ take (index + 1) all = ap (λ r. take index all ++ r ∷ []) same ∙ sym (take_more all index request within) in
+    subst Filled longer (filled_more seat mid then (take index all) request filled one)
+
+-- those before one of some requests, and those behind it
+pub split_at : (all : List Request) (index : ℕ) (request : Request) → index < length all → request ≡ get_or all index request
+    → (rest : List Request) × (all ≡ take index all ++ request ∷ rest) × (length (take index all) ≡ index)
+split_at [] index request within same = absurd (omega (arith, within))
+split_at (one ∷ all) zero request within same = (all, ap (λ r. r ∷ all) (sym same), refl)
+split_at (one ∷ all) (suc index) request within same =
+    let later = split_at all index request (omega (arith, within)) same in
+    (later.0, ap (λ w. one ∷ w) later.1, ap suc later.2)
 
 -- the requests of a vehicle are those of its shard's part
 own_part : (number : ℕ) (key : Key) (history : List Request) → shard_of key ≡ number → requests_of (part number history) key ≡ requests_of history key
@@ -108,17 +202,54 @@ refused_behind tables seat told request refilled refused may =
     let Given : List Request → Type 0 = λ w. Gives tables w request Done in
     refused (subst Given (sym same) may)
 
--- a fault of the next line is one of the file
-pub start_fault : (tables : Tables) (file bytes : List ℕ) (told : List Request) (number : ℕ) (fault : StartFault) → IsReadTo file told bytes → number ≡ length told + 1
-    → IsEntryFault tables told number bytes fault → IsStartFault tables file fault
-start_fault tables file bytes told number Memory read count why = tt
-start_fault tables file bytes told number Device read count why = tt
-start_fault tables file bytes told number Shared read count why = tt
-start_fault tables file bytes told number (Journal Form) read count why = absurd why
-start_fault tables file bytes told number (Journal (TooLong line)) read count why = (told, bytes, read, why.0 ∙ count, why.1)
-start_fault tables file bytes told number (Journal (BadLine line)) read count why = (told, bytes, read, why.0 ∙ count, why.1)
-start_fault tables file bytes told number (Journal (Refused line)) read count why = (told, bytes, read, why.0 ∙ count, why.1)
-start_fault tables file bytes told number (Journal Damaged) read count why = absurd why
+-- nor is it where the seat had asked those before it of a piece
+pub refused_in : (tables : Tables) (seat then : Seated) (told : List Acceptance) (before : List Request) (request : Request) → IsRefilled seat told → IsFilled seat before then → HasAll then
+    → (MayBeDone tables (seen_in then (shard_of (key_of request))) request → ⊥) → MayBeDone tables (requests told ++ before) request → ⊥
+refused_in tables seat then told before request refilled filled all refused may =
+    let more : List Acceptance = told ++ recorded_at 0 before in
+    let asked : requests more ≡ requests told ++ before = asked_more 0 told more before refl in
+    let May : List Request → Type 0 = λ w. MayBeDone tables w request in
+    refused_behind tables then more request (refilled_more 0 told more before refl seat then refilled filled all) refused (subst May (sym asked) may)
+
+-- a fault of a line that comes behind what was read is one of the file
+pub line_start_fault : (tables : Tables) (file bytes : List ℕ) (told : List Request) (number : ℕ) (fault : StartFault) → IsReadTo file told bytes → number ≡ length told + 1
+    → IsLineFault number bytes fault → IsStartFault tables file fault
+line_start_fault tables file bytes told number Memory read count why = tt
+line_start_fault tables file bytes told number Device read count why = tt
+line_start_fault tables file bytes told number Shared read count why = tt
+line_start_fault tables file bytes told number (Journal Form) read count why = absurd why
+line_start_fault tables file bytes told number (Journal (TooLong line)) read count why = (told, bytes, read, why.0 ∙ count, why.1)
+line_start_fault tables file bytes told number (Journal (BadLine line)) read count why = (told, bytes, read, why.0 ∙ count, why.1)
+line_start_fault tables file bytes told number (Journal (Refused line)) read count why = absurd why
+line_start_fault tables file bytes told number (Journal Damaged) read count why = absurd why
+
+-- and so is that of a piece that was asked
+pub piece_fault : (tables : Tables) (file left : List ℕ) (recorded : List Request) (number : ℕ) (told : List Request) (fault : StartFault) → IsAhead file left recorded number told (Err fault)
+    → number ≡ length recorded + 1 → IsStartFault tables file fault
+piece_fault tables file left recorded number told fault ahead count =
+    let end = ahead.end in
+    line_start_fault tables file end.0 (recorded ++ told) (number + length told) fault (read_many file ahead.bytes end.0 recorded told ahead.read end.1)
+    (omega (arith, count, length-append recorded told)) end.2
+
+-- and that of one which the tables refuse
+pub ask_fault : (tables : Tables) (file left : List ℕ) (recorded : List Request) (number : ℕ) (told : List Request) (end : Result Bool StartFault) (fault : StartFault)
+    → IsAhead file left recorded number told end → number ≡ length recorded + 1 → IsAskFault tables recorded number told fault → IsStartFault tables file fault
+ask_fault tables file left recorded number told end Memory ahead count why = tt
+ask_fault tables file left recorded number told end Device ahead count why = tt
+ask_fault tables file left recorded number told end Shared ahead count why = tt
+ask_fault tables file left recorded number told end (Journal Form) ahead count why = absurd why
+ask_fault tables file left recorded number told end (Journal (TooLong line)) ahead count why = absurd why
+ask_fault tables file left recorded number told end (Journal (BadLine line)) ahead count why = absurd why
+ask_fault tables file left recorded number told end (Journal Damaged) ahead count why = absurd why
+ask_fault tables file left recorded number told end (Journal (Refused line)) ahead count why =
+    let all = before_end ahead.bytes left number told end ahead.end in
+    let at = tells_split ahead.bytes why.before why.request why.rest all.0 (subst (λ (w : List Request). TellsAll ahead.bytes w all.0) why.split all.1) in (
+      recorded ++ why.before,
+      at.0,
+      read_many file ahead.bytes at.0 recorded why.before ahead.read at.2,
+      omega (arith, count, why.count, length-append recorded why.before),
+      (why.request, at.1, at.3, why.refused),
+    )
 
 -- and so is one of its end
 pub end_fault : (tables : Tables) (file : List ℕ) (fault : StartFault) → IsEndFault file fault → IsStartFault tables file fault

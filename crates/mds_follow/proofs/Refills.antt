@@ -42,7 +42,7 @@ module _ (old new : Seated) (request : Request) (reply : Reply) (before : List R
   counted : count_of reply.outcome ≡ 1
   counted = ap count_of done
 
-  filled_first : shard_of (key_of request) ≡ 0 → before ≡ old.first_seen → new ≡ called_seat 0 old before request reply → IsFilled old request new × HasAll new
+  filled_first : shard_of (key_of request) ≡ 0 → before ≡ old.first_seen → new ≡ called_seat 0 old before request reply → IsFilled old (request ∷ []) new × HasAll new
   filled_first here same seat =
       let seen : new.first_seen ≡ old.first_seen ++ request ∷ [] = ap (λ (s : Seated). s.first_seen) seat ∙ (longer ∙ ap (λ w. w ++ request ∷ []) same) in
       let other : new.second_seen ≡ old.second_seen = ap (λ (s : Seated). s.second_seen) seat in
@@ -60,7 +60,7 @@ module _ (old new : Seated) (request : Request) (reply : Reply) (before : List R
         },
       )
 
-  filled_second : shard_of (key_of request) ≡ 1 → before ≡ old.second_seen → new ≡ called_seat 1 old before request reply → IsFilled old request new × HasAll new
+  filled_second : shard_of (key_of request) ≡ 1 → before ≡ old.second_seen → new ≡ called_seat 1 old before request reply → IsFilled old (request ∷ []) new × HasAll new
   filled_second here same seat =
       let seen : new.second_seen ≡ old.second_seen ++ request ∷ [] = ap (λ (s : Seated). s.second_seen) seat ∙ (longer ∙ ap (λ w. w ++ request ∷ []) same) in
       let other : new.first_seen ≡ old.first_seen = ap (λ (s : Seated). s.first_seen) seat in
@@ -80,7 +80,7 @@ module _ (old new : Seated) (request : Request) (reply : Reply) (before : List R
 
 -- an accepted request at the place that the seat expects is seen behind what it had seen of its shard
 pub filled : (tables : Tables) (old new : Seated) (request : Request) (reply : Reply) (shard : ℕ) → IsCalled tables old request reply new → HasAll old
-    → shard_of (key_of request) ≡ shard → shard < 2 → reply.place ≡ accepted_in old shard → reply.outcome ≡ Done → IsFilled old request new × HasAll new
+    → shard_of (key_of request) ≡ shard → shard < 2 → reply.place ≡ accepted_in old shard → reply.outcome ≡ Done → IsFilled old (request ∷ []) new × HasAll new
 filled tables old new request reply zero called all here small expected done =
     filled_first old new request reply called.before all done here (nothing_between tables old new request reply zero called all here small expected)
     (subst (λ n. new ≡ called_seat n old called.before request reply) here called.seat)

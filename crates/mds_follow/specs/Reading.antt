@@ -1,5 +1,6 @@
 -- A journal that is read at a start.
 use Rattle.std.specs.Prelude.{◌≡◌, ◌≢◌, ◌⊎◌, ℕ, List, [], ◌∷◌, ◌++◌, ◌+◌, length}
+use Rattle.std.specs.Prelude.{Bool, true, false, Result, Ok, Err}
 use Rattle.mds_table.specs.Json.{max_bytes}
 use Rattle.mds_table.specs.Tables.{Tables}
 use Rattle.mds_core.specs.declared.request.Request.{Request}
@@ -124,13 +125,6 @@ IsLineFault number bytes Memory = Unit {0}
 IsLineFault number bytes Device = Unit {0}
 IsLineFault number bytes Shared = ⊥
 
--- or why its request isn't in the book, behind these
-abbrev pub IsEntryFault : Tables → List Request → ℕ → List ℕ → StartFault → Type 0
-IsEntryFault tables told number bytes (Journal (Refused line)) =
-    (line ≡ number) × TellsRefused tables told bytes
-IsEntryFault tables told number bytes Shared = Unit {0}
-IsEntryFault tables told number bytes fault = IsLineFault number bytes fault
-
 -- why the end of the file isn't mended: more stands there than a crash leaves
 abbrev pub IsEndFault : List ℕ → StartFault → Type 0
 IsEndFault file (Journal Damaged) = HasShortEnd file → ⊥
@@ -144,6 +138,21 @@ abbrev pub IsOpenFault : List ℕ → StartFault → Type 0
 IsOpenFault file (Journal Form) =
     (file ≢ []) × ((texts : List (List ℕ)) → recovered_texts file ≡ form_line ∷ texts → ⊥)
 IsOpenFault file fault = IsFormFault file fault
+
+-- the first lines tell these requests, one after the other, and these bytes are left
+abbrev pub TellsAll : List ℕ → List Request → List ℕ → Type 0
+TellsAll bytes [] left = left ≡ bytes
+TellsAll bytes (request ∷ requests) left =
+    (behind : List ℕ) × TellsNext bytes request behind × TellsAll behind requests left
+
+-- what comes behind the first lines, which tell these requests, the first one by the line of this
+-- number: these bytes are left, no more lines count, or the next line gives no request
+abbrev pub IsEndOf : List ℕ → List ℕ → ℕ → List Request → Result Bool StartFault → Type 0
+IsEndOf bytes left number requests (Ok true) = TellsAll bytes requests left
+IsEndOf bytes left number requests (Ok false) = TellsAll bytes requests left × HasNoMore left
+IsEndOf bytes left number requests (Err fault) =
+    (behind : List ℕ) × TellsAll bytes requests behind
+    × IsLineFault (number + length requests) behind fault
 
 -- the lines before these bytes are the form's, and others that tell these requests, in their order
 pub record IsReadTo (file : List ℕ) (told : List Request) (left : List ℕ) : Type 0 where

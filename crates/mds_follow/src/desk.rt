@@ -7,7 +7,7 @@ ghost use Rattle.mds_follow.specs.Record.{HasSame, IsBeforeOrAfter, IsDesk, reco
 
 use crate::{Record, RecordFault, RecordLog};
 use mds_core::Request;
-use mds_log::Keeper;
+use mds_log::{Keeper, Tagged};
 
 /// The most requests that are recorded, 2^62.
 const MAX_RECORDED: u64 = 1 << 62;
@@ -20,7 +20,7 @@ pub(crate) struct Desk<F: Record, J: RecordLog> {
 }
 
 /// At run time it only counts.
-fn note<F: Record, J: RecordLog>(keeper: &mut Keeper<J>, file: &F, group: &[Request])
+pub(crate) fn note<F: Tagged, J: RecordLog>(keeper: &mut Keeper<J>, file: &F, group: &[Request])
     requires room { length keeper.old + length group.now < 2 ^ 63 }
     ensures { keeper.new ≡ keeper.old ++ recorded_at (F.tag file.now) group.now }
 {

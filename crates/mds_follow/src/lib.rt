@@ -11,6 +11,7 @@
 //! The file is a [`Record`], whose contract says what a restart reads after a crash at each moment.
 #![tactic(auto)]
 
+mod ahead;
 mod blank;
 mod desk;
 mod disk;

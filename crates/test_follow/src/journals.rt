@@ -20,6 +20,7 @@ use std::hash::RandomState;
 use std::marker::Brand;
 use std::random::RandomSource;
 use std::sync::Wait;
+use std::thread::Threads;
 use test_fixtures::Ask::{Look, Register, Report};
 use test_fixtures::{A, Ask, B, C, DROP_OFF, E0, Lack, profile_again, requests_of, room_behind};
 use test_steps::hasher;
@@ -181,7 +182,13 @@ fn ended_by<D: Device + Drop, L: ShardLedger, M: ShardLedger, J: RecordLog, R: W
 }
 
 /// The same, of a book of two seats that were told nothing: the first asks what the journal tells.
-fn ended_at<D: Device + Drop, L: ShardLedger, M: ShardLedger, J: RecordLog, R: Wait>(
+fn ended_at<
+    D: Device + Drop + Send,
+    L: ShardLedger,
+    M: ShardLedger,
+    J: RecordLog,
+    R: Threads + Wait,
+>(
     rt: &R,
     alloc: Global,
     book: Book<L, M>,
@@ -208,7 +215,13 @@ fn ended_at<D: Device + Drop, L: ShardLedger, M: ShardLedger, J: RecordLog, R: W
 }
 
 /// The same, of a new book.
-fn ended_in<D: Device + Drop, L: ShardLedger, M: ShardLedger, J: RecordLog, R: Wait>(
+fn ended_in<
+    D: Device + Drop + Send,
+    L: ShardLedger,
+    M: ShardLedger,
+    J: RecordLog,
+    R: Threads + Wait,
+>(
     rt: &R,
     alloc: Global,
     tables: Tables,
@@ -241,7 +254,7 @@ fn ended_in<D: Device + Drop, L: ShardLedger, M: ShardLedger, J: RecordLog, R: W
 }
 
 /// The bytes of the file in the end, with logs of its own, and why the book wasn't opened, if it wasn't.
-fn ended<R: RandomSource + Wait>(
+fn ended<R: RandomSource + Threads + Wait>(
     rt: &R,
     alloc: Global,
     case: &Case,
@@ -265,7 +278,7 @@ fn ended<R: RandomSource + Wait>(
 }
 
 /// The same, begun again where there was no memory for another call.
-fn ended_again<R: RandomSource + Wait>(
+fn ended_again<R: RandomSource + Threads + Wait>(
     rt: &R,
     alloc: Global,
     case: &Case,
@@ -278,7 +291,7 @@ fn ended_again<R: RandomSource + Wait>(
 }
 
 /// Whether a case comes to its end. Where the book isn't opened the file is as it was. There may be no memory for its text.
-fn comes_to_its_end<R: RandomSource + Wait>(
+fn comes_to_its_end<R: RandomSource + Threads + Wait>(
     rt: &R,
     alloc: Global,
     case: &Case,
@@ -294,7 +307,10 @@ fn comes_to_its_end<R: RandomSource + Wait>(
 }
 
 /// The number of the first case that comes to another end.
-fn first_difference<R: RandomSource + Wait>(rt: &R, alloc: Global) -> Result<Option<usize>, Lack> {
+fn first_difference<R: RandomSource + Threads + Wait>(
+    rt: &R,
+    alloc: Global,
+) -> Result<Option<usize>, Lack> {
     for (at, case) in CASES.iter().enumerate() {
         let comes = match comes_to_its_end(rt, alloc, case) {
             Err(Lack::Memory) => comes_to_its_end(rt, alloc, case)?,
