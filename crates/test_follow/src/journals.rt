@@ -182,13 +182,7 @@ fn ended_by<D: Device + Drop, L: ShardLedger, M: ShardLedger, J: RecordLog, R: W
 }
 
 /// The same, of a book of two seats that were told nothing: the first asks what the journal tells.
-fn ended_at<
-    D: Device + Drop + Send,
-    L: ShardLedger,
-    M: ShardLedger,
-    J: RecordLog,
-    R: Threads + Wait,
->(
+fn end_at<D: Device + Drop + Send, L: ShardLedger, M: ShardLedger, J: RecordLog, R: Threads + Wait>(
     rt: &R,
     alloc: Global,
     book: Book<L, M>,
@@ -215,13 +209,7 @@ fn ended_at<
 }
 
 /// The same, of a new book.
-fn ended_in<
-    D: Device + Drop + Send,
-    L: ShardLedger,
-    M: ShardLedger,
-    J: RecordLog,
-    R: Threads + Wait,
->(
+fn end_in<D: Device + Drop + Send, L: ShardLedger, M: ShardLedger, J: RecordLog, R: Threads + Wait>(
     rt: &R,
     alloc: Global,
     tables: Tables,
@@ -246,9 +234,7 @@ fn ended_in<
 {
     let keep = Keep::Accepted;
     match Book::<L, M>::open(alloc, tables, 2, keep, first, second, hashers) {
-        Ok((book, seats)) => {
-            ended_at::<D, L, M, J, R>(rt, alloc, book, seats, reader, log, case)
-        }
+        Ok((book, seats)) => { end_at::<D, L, M, J, R>(rt, alloc, book, seats, reader, log, case) }
         Err(_) => Err(Lack::Memory),
     }
 }
@@ -268,7 +254,7 @@ fn ended<R: RandomSource + Threads + Wait>(
             return Ok((Vec::from_slice(alloc, device.bytes())?, Some(fault)));
         }
     };
-    let came = ended_in::<Memory, Brand, Brand, Brand, R>(
+    let came = end_in::<Memory, Brand, Brand, Brand, R>(
         rt, alloc, tables, hashers, first, second, log, reader, case,
     )?;
     match came {
@@ -298,10 +284,7 @@ fn comes_to_its_end<R: RandomSource + Threads + Wait>(
 ) -> Result<bool, Lack> {
     let (bytes, fault) = ended_again(rt, alloc, case)?;
     match case.end {
-        Ok(parts) => {
-            let room = room_behind(&bytes, &text_of(alloc, parts)?);
-            Ok(fault.is_none() && room.is_some())
-        }
+        Ok(parts) => Ok(fault.is_none() && room_behind(&bytes, &text_of(alloc, parts)?).is_some()),
         Err(expected) => Ok(fault == Some(expected) && bytes == text_of(alloc, case.parts)?),
     }
 }
