@@ -20,5 +20,5 @@ pub returns-in-Err-clause-any_moment_err : goal.returns-in-Err-clause-any_moment
 returns-in-Err-clause-any_moment_err g c =
     let device = c.args.reader.opening.device in
     rw c.into_device.ensures (λ truth.
-    keeps_all g.D.Device.seen g.D.Device.may_leave g.D.Device.moment g.D.Device.left_since device device (c.requires.at_first.reading.read truth).durable (g.met.D.Device.only_now device)
+    keeps_all g.D.Device.seen g.D.Device.may_leave g.D.Device.moment g.D.Device.left_since device device (c.requires.at_first.reading.read truth).durable ((g.met.D.Device g.world.𝓛 g.world.𝓜 g.world.𝓡 ((λ s x. x), (λ x. x), (λ x. x), λ x. x)).only_now device)
     (untouched_self g.D.Device.seen g.D.Device.may_leave g.D.Device.moment g.D.Device.left_since device))
