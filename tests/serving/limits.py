@@ -43,6 +43,8 @@ IDLE = 33
 """How long no client comes, in seconds."""
 MOST_IDLE = 1
 """How many of them the server may have a processor, with its start."""
+BETWEEN, LACKING = 1, 20
+"""How many seconds lie between the pieces of a head, and for how many its body then lacks a byte: longer than a head may take."""
 OPEN_FILES = 7
 """Standard input, output and error, the listening socket by two descriptors, what the system is asked by about sockets, and one
 connection."""
@@ -305,6 +307,26 @@ def idle_for_long(program):
         yield from server.end()
 
 
+def idle_while_one_is_waited_for(program):
+    """A server does next to nothing while a client lacks a byte of its body, though its head's time, which began to run, is over.
+    The request is answered once it is whole."""
+    with Server(program, 2) as server:
+        yield from talk_over(server, registered(A))
+        server.count(success=1)
+        with connect(server.port) as slow:
+            slow.sendall(EVENT[:20])
+            time.sleep(BETWEEN)
+            slow.sendall(EVENT[20:-1])
+            before = server.processor_seconds()
+            time.sleep(LACKING)
+            seconds = server.processor_seconds() - before
+            if seconds > MOST_IDLE:
+                yield f"{seconds} s of a processor while one client was waited for, in place of {MOST_IDLE} at most"
+            slow.sendall(EVENT[-1:])
+            yield from differing(read_all(slow), done(1))
+        yield from server.end()
+
+
 def silent_behind_its_answer(program):
     """A client that neither sends nor ends behind its answer."""
     return let_go_behind_its_answer(program, *LAST_READ)
@@ -419,6 +441,7 @@ LIMITS = [
     silent_behind_a_granted_request,
     sending_behind_a_granted_request,
     idle_for_long,
+    idle_while_one_is_waited_for,
     idle_for_a_day,
     lacking_open_files_for_too_long,
     without_memory_for_a_connection,
