@@ -1,5 +1,5 @@
 -- What a shard keeps beside its history.
-use Rattle.std.specs.Prelude.{◌≡◌, ℕ, ◌≤◌, ◌++◌, ◌∷◌, ◌||◌, ◌&&◌, cond, List, []}
+use Rattle.std.specs.Prelude.{◌≡◌, ℕ, ◌≤◌, ◌++◌, ◌∷◌, ◌||◌, ◌&&◌, cond, Bool, false, List, []}
 use Rattle.std.specs.Prelude.{length, take, drop, Option, Some, None, slice_get}
 use Rattle.std.specs.declared.hash.RandomState.{RandomState}
 use Rattle.indexmap.specs.IndexMap.{IndexMap, get}
@@ -8,6 +8,7 @@ use Rattle.mds_table.specs.Tables.{Tables}
 use Rattle.mds_core.specs.declared.key.Key.{Key}
 use Rattle.mds_core.specs.declared.event_name.EventName.{EventName}
 use Rattle.mds_core.specs.declared.request.Request.{Request}
+use Rattle.mds_core.specs.declared.request.Request.TheVariants.{Register, Report, Look}
 use Rattle.mds_core.specs.History.{key_of, same_key, same_event}
 use Rattle.mds_core.specs.History.{requests_of, has_event, standing_of}
 use Rattle.mds_core.specs.Lawful.{IsLawful}
@@ -57,6 +58,13 @@ abbrev pub PutsVehicle : Key → Vehicle → Vehicles → Vehicles → Type 0
 PutsVehicle key vehicle old new =
     (other : Key)
     → get same_key new other ≡ cond (same_key key other) (Some vehicle) (get same_key old other)
+
+-- the name of the event that a request reports is there
+abbrev pub has_name : Names → Request → Bool
+has_name names (Register key) = false
+has_name names (Report event) =
+    contains same_event names (record { key = event.key; id = event.id })
+has_name names (Look key) = false
 
 -- the name of the event that a request reports is kept beside those that were
 abbrev pub AddsName : Request → Names → Names → Type 0

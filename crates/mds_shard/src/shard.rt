@@ -1,5 +1,5 @@
 //! A shard: the machine with its vehicles looked up in maps.
-ghost use Rattle.std.specs.Prelude.{◌≡◌, ◌<◌, ◌≤◌, ◌^◌, [], ◌∷◌, ◌++◌, List, None, Some, length, vec_len, vec_capacity, IfOk, IfNone, IfSome, OnOk, OnErr, option_map};
+ghost use Rattle.std.specs.Prelude.{◌≡◌, ◌<◌, ◌≤◌, ◌^◌, [], ◌∷◌, ◌++◌, List, None, Some, length, vec_len, vec_capacity, not, false, if◌then◌else◌, IfOk, IfNone, IfSome, OnOk, OnErr, option_map};
 ghost use Rattle.mds_core.specs.History.{requests_of, key_of};
 ghost use Rattle.mds_core.specs.Answer.{MayBeDone};
 ghost use Rattle.mds_core.specs.Machine.{Steps, LacksMemory, standing_in as where_it_stands, events_in};
@@ -12,7 +12,7 @@ ghost use mathlib.Core.List.{IsPrefix};
 ghost use Rattle.mds_shard.specs.Replay.{IsEndOf, IsVehicle};
 ghost use Rattle.mds_shard.specs.Walk.{IsStart, IsWalkOf, steps_left};
 
-use crate::vehicle::{Vehicle, events_to, keep, last_in, standing_in};
+use crate::vehicle::{Vehicle, events_to, keep, last_in, make_room, standing_in};
 use crate::walk::{MAX_STEPS, WalkStart, walk_back};
 use indexmap::{IndexMap, IndexSet};
 use mds_core::{
@@ -88,19 +88,26 @@ impl Shard {
         ensures step { IfOk result (λ reply. Steps self.old request.now reply self.new) }
         ensures memory { OnErr result (LacksMemory self.old request.now self.new) }
     {
-        let vehicle = self.vehicle(request.key());
-        let known = Known {
+        let place = self.history.len();
+        let (at, vehicle) = self.find(request.key());
+        // An accepted event's name is looked up only where it is put in, and any other's only here.
+        let mut known = Known {
             standing: standing_in(vehicle),
-            has_event: self.has_event(request),
+            has_event: false,
         };
-        let reply = Reply {
-            place: self.history.len(),
-            outcome: decide(&self.tables, &known, request),
-        };
-        if let Outcome::Done = reply.outcome {
-            self.accept(request, vehicle)?;
+        let outcome = decide(&self.tables, &known, request);
+        if let Outcome::Done = outcome {
+            if self.accept(request, at, vehicle)? {
+                return Ok(Reply { place, outcome });
+            }
+        } else if !self.has_event(request) {
+            return Ok(Reply { place, outcome });
         }
-        Ok(reply)
+        known.has_event = true;
+        Ok(Reply {
+            place,
+            outcome: decide(&self.tables, &known, request),
+        })
     }
 
     fn has_event(&self, request: &Request) -> bool
@@ -122,27 +129,52 @@ impl Shard {
         self.vehicles.get(key).copied()
     }
 
-    fn accept(&mut self, request: &Request, vehicle: Option<Vehicle>) -> Result<(), AllocError>
-        requires accepted { MayBeDone self.old.tables self.old.history request.now }
+    /// The vehicle, and its place in the map, where it can be written without another look-up.
+    fn find(&self, key: &Key) -> (Option<usize>, Option<Vehicle>)
+        ensures { IsVehicle self.now.history key.now result.1 }
+    {
+        match self.vehicles.get_full(key) {
+            Some((place, _, vehicle)) => (Some(place), Some(*vehicle)),
+            None => (None, None),
+        }
+    }
+
+    /// Keeps a request that is accepted unless its event is repeated, and answers whether it was kept.
+    fn accept(
+        &mut self,
+        request: &Request,
+        at: Option<usize>,
+        vehicle: Option<Vehicle>,
+    ) -> Result<bool, AllocError>
+        requires accepted { is_repeated
+            (requests_of self.old.history (key_of request.now)) request.now ≡ false
+            → MayBeDone self.old.tables self.old.history request.now }
         requires vehicle { IsVehicle self.old.history (key_of request.now) vehicle }
         ensures tables { OnOk result (self.new.tables ≡ self.old.tables) }
-        ensures history { OnOk result (self.new.history ≡ self.old.history ++ request.now ∷ []) }
+        ensures new { IfOk result (λ is_new. is_new ≡ not
+            (is_repeated (requests_of self.old.history (key_of request.now)) request.now)) }
+        ensures history { IfOk result (λ is_new. self.new.history
+            ≡ (if is_new then self.old.history ++ request.now ∷ [] else self.old.history)) }
         ensures unchanged { OnErr result (self.new ≡ self.old) }
+        ensures lacked { OnErr result (is_repeated
+            (requests_of self.old.history (key_of request.now)) request.now ≡ false) }
     {
         let before = last_in(vehicle);
         let standing = standing_after(standing_in(vehicle), request);
         let last = self.history.len();
-        self.history.reserve(1)?;
-        self.before.reserve(1)?;
-        keep(
-            &mut self.vehicles,
-            &mut self.names,
-            request,
-            Vehicle { standing, last },
-        )?;
+        let Ok(()) = make_room(&mut self.history, &mut self.before) else {
+            if self.has_event(request) {
+                return Ok(false);
+            }
+            return Err(AllocError);
+        };
+        let vehicle = Vehicle { standing, last };
+        if !keep(&mut self.vehicles, &mut self.names, request, at, vehicle)? {
+            return Ok(false);
+        }
         self.history.extend_from_slice(from_ref(request))?;
         self.before.push(before)?;
-        Ok(())
+        Ok(true)
     }
 
     /// The accepted requests, in the order in which they were accepted.
