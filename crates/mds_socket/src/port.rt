@@ -8,7 +8,7 @@ ghost use Rattle.mds_waiting.specs.Looks.{IfDone};
 ghost use Rattle.mds_waiting.specs.Requests.{BeginsWith};
 
 use crate::retry::{Retry, retry_of};
-use crate::spare::{Kind, LIST_BYTES, is_worth_keeping, keep, take};
+use crate::spare::{LIST_BYTES, Spare, is_worth_keeping};
 use crate::system::{Ready, System};
 use crate::tables::Tables;
 use mds_pool::{Ending, Port, PortFault};
@@ -34,7 +34,7 @@ pub struct WaitingPort<S: System, R: Wait + Copy> {
     face: Face,
     tables: Mutex<Tables<S::Peer>>,
     /// Room that nobody uses. It is kept, so that a request which comes whole is answered, if only with 503, where no memory is left.
-    spare: Mutex<Vec<Vec<u8>>>,
+    spare: Mutex<Spare>,
     turn: AtomicU32,
 }
 
@@ -63,7 +63,7 @@ impl<S: System, R: Wait + Copy> WaitingPort<S, R> {
             system,
             face,
             tables: Mutex::new(Tables::new(alloc)),
-            spare: Mutex::new(Vec::new(alloc)),
+            spare: Mutex::new(Spare::new(alloc)),
             turn: AtomicU32::new(0),
         }
     }
@@ -98,7 +98,10 @@ impl<S: System, R: Wait + Copy> WaitingPort<S, R> {
         pauses: &mut u32,
     ) -> Result<Option<Ends<S::Peer>>, PortFault> {
         match taken {
-            Ok(peer) => Ok(self.look_at_new(peer)),
+            Ok(peer) => {
+                *pauses = 0;
+                Ok(self.look_at_new(peer))
+            }
             Err(error) => self.go_on_after(&error, pauses),
         }
     }
@@ -177,6 +180,7 @@ impl<S: System, R: Wait + Copy> WaitingPort<S, R> {
         let now = self.system.now();
         let mut guard = self.tables.lock(&self.rt);
         let tables = &mut *guard;
+        tables.set_taking(&self.system);
         tables.patience(now)
     }
 
@@ -249,6 +253,7 @@ impl<S: System, R: Wait + Copy> WaitingPort<S, R> {
         let mut guard = self.tables.lock(&self.rt);
         let tables = &mut *guard;
         tables.let_come(&self.system, waiter);
+        tables.set_taking(&self.system);
     }
 
     /// Takes in what came of a request, by way of the room, which is kept.
@@ -258,7 +263,7 @@ impl<S: System, R: Wait + Copy> WaitingPort<S, R> {
         let look = coming.look(&self.face, bytes, &mut room);
         let mut guard = self.spare.lock(&self.rt);
         let spare = &mut *guard;
-        keep(spare, room);
+        spare.keep_room(room);
         look
     }
 
@@ -287,9 +292,9 @@ impl<S: System, R: Wait + Copy> WaitingPort<S, R> {
     fn take_spare(&self, with_list: bool) -> (Option<Vec<u8>>, Option<Vec<u8>>) {
         let mut guard = self.spare.lock(&self.rt);
         let spare = &mut *guard;
-        let room = take(spare, Kind::Room);
+        let room = spare.take_room();
         if with_list {
-            return (room, take(spare, Kind::List));
+            return (room, spare.take_list());
         }
         (room, None)
     }
@@ -302,7 +307,7 @@ impl<S: System, R: Wait + Copy> WaitingPort<S, R> {
         }
         let mut guard = self.spare.lock(&self.rt);
         let spare = &mut *guard;
-        keep(spare, list);
+        spare.keep_list(list);
     }
 
     /// These bytes, which are to wait, in a list with no more room than they need, if there is memory for it. Long lists stay as
@@ -346,6 +351,7 @@ impl<S: System, R: Wait + Copy> WaitingPort<S, R> {
         let mut guard = self.tables.lock(&self.rt);
         let tables = &mut *guard;
         tables.let_leave(&self.system, waiter);
+        tables.set_taking(&self.system);
     }
 
     /// Whether an answer still leaves.

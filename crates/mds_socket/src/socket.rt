@@ -9,11 +9,19 @@ use std::io::{self, ErrorKind, Read};
 use std::net::{Ipv4Addr, Net, Shutdown, SocketAddr, SocketAddrV4, TcpListener, TcpStream};
 use std::os::fd::OwnedFd;
 use std::sync::Wait;
+use std::sync::atomic::{AtomicU32, Ordering};
 use std::thread;
 use std::time::{Clock, Duration};
 
 /// How long a pause is, in milliseconds.
 const PAUSE_MILLIS: u64 = 100;
+
+/// How long a worker waits at most for a new connection, while it may, and then for the first bytes of its request, in milliseconds.
+const MOMENT_MILLIS: u64 = 10;
+
+/// Of how many connections the first bytes aren't waited for, behind one whose didn't come: clients that send nothing keep a worker
+/// for a moment in so many, and no longer.
+const MAX_HASTE: u32 = 1_024;
 
 /// How many bytes of stack a worker finds: more than it needs, which was 140 kB.
 const STACK_BYTES: usize = 262_144;
@@ -32,6 +40,8 @@ pub struct Sockets<R: Clock + Copy> {
     /// The same socket, as one that can be set, and shut down.
     socket: TcpStream,
     watch: Watch,
+    /// Of how many connections the first bytes aren't waited for.
+    haste: AtomicU32,
 }
 
 impl<R: Clock + Copy> Sockets<R> {
@@ -46,6 +56,8 @@ impl<R: Clock + Copy> Sockets<R> {
         // On Linux each connection is set as the socket that it is taken from: what is written is sent at once.
         let socket = TcpStream::from(OwnedFd::from(listener.try_clone()?));
         socket.set_nodelay(true)?;
+        // So long a call waits that takes a connection, while it may, and so long one that reads from it first.
+        socket.set_read_timeout(Some(Duration::from_millis(MOMENT_MILLIS)))?;
         grow_stack(&socket);
         let watch = Watch::new(net)?;
         watch.begin(&listener)?;
@@ -54,6 +66,7 @@ impl<R: Clock + Copy> Sockets<R> {
             listener,
             socket,
             watch,
+            haste: AtomicU32::new(0),
         })
     }
 }
@@ -72,10 +85,23 @@ impl<R: Clock + Copy> System for Sockets<R> {
 
     fn take(&self) -> io::Result<Socket> {
         let (stream, _) = self.listener.accept()?;
-        Socket::new(stream)
+        let haste = self.haste.load(Ordering::SeqCst);
+        if haste > 0 {
+            // That two workers count one connection does no harm.
+            self.haste.store(haste - 1, Ordering::SeqCst);
+        }
+        Socket::new(stream, haste == 0)
+    }
+
+    /// Where the system doesn't set it, a worker may wait a moment beside others, or asks in vain, and no more.
+    fn let_take_wait(&self, may_wait: bool) {
+        let _ = self.listener.set_nonblocking(!may_wait);
     }
 
     fn ask(&self, peer: &mut Socket, ready: Ready, for_sending: bool) -> bool {
+        if peer.is_slow() {
+            self.haste.store(MAX_HASTE, Ordering::SeqCst);
+        }
         self.watch.ask(peer, ready, for_sending)
     }
 

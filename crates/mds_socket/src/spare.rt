@@ -1,8 +1,8 @@
 //! Room that nobody uses at a time, and that is kept.
-use mds_waiting::ROOM_BYTES;
+use std::alloc::Global;
 
-/// How much of it is kept at most: for each worker that there may be, room for bytes that come, and a list.
-const MAX_SPARE: usize = 128;
+/// How much of a kind is kept at most: for each worker that there may be.
+const MAX_SPARE: usize = 64;
 
 /// For how many bytes a list that is kept has room at least: a look, or a report.
 pub(crate) const LIST_BYTES: usize = 4_096;
@@ -10,37 +10,48 @@ pub(crate) const LIST_BYTES: usize = 4_096;
 /// For how many it has room at most: a batch of a hundred events.
 const MAX_LIST_BYTES: usize = 32_768;
 
-/// What is kept for a request.
-#[derive(Clone, Copy, PartialEq, Eq)]
-pub(crate) enum Kind {
-    /// Room for bytes that come, which has so many. It costs more to fill than a request to read.
-    Room,
-    /// A list for the bytes of a request.
-    List,
+/// What is kept for requests. Each kind has places of its own: so neither takes those of the other.
+#[derive(Drop)]
+pub(crate) struct Spare {
+    /// Room for bytes that come. It costs more to fill than a request to read.
+    rooms: Vec<Vec<u8>>,
+    /// Lists for the bytes of a request. Each has those of an earlier one.
+    lists: Vec<Vec<u8>>,
 }
 
-fn kind_of(room: &[u8]) -> Kind {
-    if room.len() == ROOM_BYTES {
-        Kind::Room
-    } else {
-        Kind::List
-    }
-}
-
-/// The last one of this kind, if there is one. A list has bytes of an earlier request.
-pub(crate) fn take(spare: &mut Vec<Vec<u8>>, kind: Kind) -> Option<Vec<u8>> {
-    for at in (0..spare.len()).rev() {
-        if kind_of(&spare[at]) == kind {
-            return Some(spare.swap_remove(at));
+impl Spare {
+    /// Nothing yet.
+    pub(crate) fn new(alloc: Global) -> Spare {
+        Spare {
+            rooms: Vec::new(alloc),
+            lists: Vec::new(alloc),
         }
     }
-    None
+
+    /// The last room, if there is one.
+    pub(crate) fn take_room(&mut self) -> Option<Vec<u8>> {
+        self.rooms.pop()
+    }
+
+    /// The last list, if there is one.
+    pub(crate) fn take_list(&mut self) -> Option<Vec<u8>> {
+        self.lists.pop()
+    }
+
+    /// Keeps a room, unless there are enough.
+    pub(crate) fn keep_room(&mut self, room: Vec<u8>) {
+        keep(&mut self.rooms, room);
+    }
+
+    /// Keeps a list, unless there are enough.
+    pub(crate) fn keep_list(&mut self, list: Vec<u8>) {
+        keep(&mut self.lists, list);
+    }
 }
 
-/// Keeps one more, unless there is enough.
-pub(crate) fn keep(spare: &mut Vec<Vec<u8>>, room: Vec<u8>) {
-    if spare.len() < MAX_SPARE {
-        let _ = spare.push(room);
+fn keep(kept: &mut Vec<Vec<u8>>, one: Vec<u8>) {
+    if kept.len() < MAX_SPARE {
+        let _ = kept.push(one);
     }
 }
 

@@ -14,17 +14,20 @@ pub enum Ready {
 }
 
 /// Where a port has its connections from, who tells it which of them are ready, and its clock. No call waits but
-/// [`System::wait`] and [`System::pause`].
+/// [`System::wait`] and [`System::pause`], and [`System::take`] while it may.
 pub trait System: Drop {
     /// The other side of a connection.
     type Peer: Peer;
 
-    /// Takes a new connection.
+    /// Takes a new connection. While it may wait for one, it does so for a moment at most.
     ///
     /// # Errors
     ///
     /// `WouldBlock` where there is none; others where it can't be taken.
     fn take(&self) -> io::Result<Self::Peer>;
+
+    /// From now on [`System::take`] may wait, or may not. Who waits there already isn't told.
+    fn let_take_wait(&self, may_wait: bool);
 
     /// Asks when this side of a connection is next ready, which is told once, and for what: whether the system can be asked.
     fn ask(&self, peer: &mut Self::Peer, ready: Ready, for_sending: bool) -> bool;

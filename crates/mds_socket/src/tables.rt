@@ -1,5 +1,5 @@
 //! The connections that wait: those whose requests come, and those whose answers leave.
-ghost use Rattle.std.specs.Prelude.{◌≡◌, ◌⊎◌, All, IfNone, IfSome, Some, true, false, slice_set, vec_len};
+ghost use Rattle.std.specs.Prelude.{◌≡◌, ◌↔◌, ◌⊎◌, All, count_by, is_some, IfNone, IfSome, Some, true, false, slice_set, vec_len};
 ghost use Rattle.mds_waiting.specs.Waiting.{HasRoom, IsInTime, IsVacant, Joins};
 ghost use Rattle.mds_socket.specs.Tables.{LeavesLate};
 
@@ -12,6 +12,8 @@ use std::alloc::Global;
 pub(crate) struct Tables<P> {
     pub(crate) coming: Waiting<Coming<P>>,
     pub(crate) leaving: Waiting<Leaving<P>>,
+    /// Whether a worker that takes a new connection may wait for it.
+    may_wait: bool,
 }
 
 impl<P: Peer> Tables<P> {
@@ -20,6 +22,22 @@ impl<P: Peer> Tables<P> {
         Tables {
             coming: Waiting::new(alloc),
             leaving: Waiting::new(alloc),
+            may_wait: false,
+        }
+    }
+
+    /// Lets a worker that takes a new connection wait for it where no connection waits, and else not: who waits there isn't told of
+    /// any other. It takes one call of the system, in place of three.
+    pub(crate) fn set_taking<S: System<Peer = P>>(&mut self, system: &S)
+        ensures coming { self.new.coming ≡ self.old.coming }
+        ensures leaving { self.new.leaving ≡ self.old.leaving }
+        ensures taking { (self.new.may_wait ≡ true) ↔ ((count_by is_some self.old.coming ≡ 0)
+            × (count_by is_some self.old.leaving ≡ 0)) }
+    {
+        let may_wait = self.coming.len() == 0 && self.leaving.len() == 0;
+        if may_wait != self.may_wait {
+            system.let_take_wait(may_wait);
+            self.may_wait = may_wait;
         }
     }
 

@@ -10,34 +10,62 @@ use std::io::{self, ErrorKind, Read, Write};
 use std::net::{Net, Shutdown, TcpListener, TcpStream};
 use std::os::fd::{AsRawFd, RawFd};
 
-/// The socket of a connection. No call at it waits.
+/// The socket of a connection. No call at it waits, but maybe the first one, which waits a moment for the first bytes of a
+/// request. They come with the connection, or right behind it, and to wait for them costs less than to be told of them.
 #[derive(Drop)]
 pub struct Socket {
     stream: TcpStream,
     /// Whether the system was asked about it before.
     is_watched: bool,
+    /// Whether its next call may wait.
+    may_wait: bool,
+    /// Whether it waited, and nothing came.
+    is_slow: bool,
 }
 
 impl Socket {
-    /// The socket of a connection that was just taken.
+    /// The socket of a connection that was just taken. Its first call waits, for so long as is set for the socket that listens, or
+    /// doesn't (socket(7), SO_RCVTIMEO, which Linux hands on to a connection).
     ///
     /// # Errors
     ///
     /// `ConnectionAborted` where its calls can't be made not to wait: the connection is lost, and others can be taken.
-    pub(crate) fn new(stream: TcpStream) -> io::Result<Socket> {
-        match stream.set_nonblocking(true) {
-            Ok(()) => Ok(Socket {
-                stream,
-                is_watched: false,
-            }),
+    pub(crate) fn new(stream: TcpStream, may_wait: bool) -> io::Result<Socket> {
+        let mut socket = Socket {
+            stream,
+            is_watched: false,
+            may_wait,
+            is_slow: false,
+        };
+        if !may_wait {
+            socket.wait_no_longer()?;
+        }
+        Ok(socket)
+    }
+
+    /// From now on no call waits.
+    fn wait_no_longer(&mut self) -> io::Result<()> {
+        self.may_wait = false;
+        match self.stream.set_nonblocking(true) {
+            Ok(()) => Ok(()),
             Err(_) => Err(io::Error::from(ErrorKind::ConnectionAborted)),
         }
+    }
+
+    /// Whether its first bytes were waited for and didn't come, until it is asked about.
+    pub(crate) fn is_slow(&self) -> bool {
+        self.is_slow && !self.is_watched
     }
 }
 
 impl Peer for Socket {
     fn receive(&mut self, room: &mut [u8]) -> io::Result<usize> {
-        self.stream.read(room)
+        let received = self.stream.read(room);
+        if self.may_wait {
+            self.wait_no_longer()?;
+            self.is_slow = received.is_err();
+        }
+        received
     }
 
     fn send(&mut self, bytes: &[u8]) -> io::Result<usize> {

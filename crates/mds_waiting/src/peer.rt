@@ -6,7 +6,7 @@ ghost use Rattle.mds_waiting.specs.Peers.{IsWithout, Receives, Sends, came_by};
 
 use std::io::{self, ErrorKind};
 
-/// The other side of a connection. No call at it waits.
+/// The other side of a connection. No call at it waits, but the first one may, a moment.
 pub trait Peer: Drop {
     // the bytes that it gives from here on, where they are known
     ghost coming: { Self → Option (List ℕ) } = { λ _. None };
