@@ -13,7 +13,7 @@ use mds_book::{
     reconcile,
 };
 use mds_core::Outcome::{Done, Seen};
-use mds_core::{Event, Reply, Request};
+use mds_core::{Key, Reply, Request};
 use mds_table::Tables;
 use std::alloc::{AllocError, Global};
 use std::hash::RandomState;
@@ -163,29 +163,26 @@ fn ask_in_threads<
     );
 }
 
-/// The events of a vehicle, for nobody. They are asked for while the other shard is locked, and don't wait for that one.
-fn listed_beside<L: ShardLedger, M: ShardLedger, R: Wait>(
+/// How many events a vehicle has, if it is registered. A list for the seat has the same as one for nobody, and as many as the
+/// one that takes little memory.
+fn count_of<L: ShardLedger, M: ShardLedger, R: Wait>(
     rt: &R,
     alloc: Global,
     book: &Book<L, M>,
-    device: u64,
-) -> Result<Option<Vec<Event>>, AllocError> {
-    let key = key(device);
-    let other = 1 - book.shard_of(&key);
-    book.with_shard(rt, other, |_| book.vehicle_events(rt, alloc, &key))
-}
-
-/// Whether two lists are the same, or neither is there.
-fn are_same(one: &Option<Vec<Event>>, other: &Option<Vec<Event>>) -> bool {
-    match (one, other) {
-        (Some(one), Some(other)) => one.as_slice() == other.as_slice(),
-        (None, None) => true,
-        _ => false,
+    seat: &mut Seat<L, M>,
+    key: &Key,
+) -> Result<Option<usize>, Lack> {
+    let listed = book.seat_events(rt, alloc, seat, key)?;
+    let events = book.vehicle_events(rt, alloc, key)?;
+    let list = book.seat_list(rt, alloc, seat, key)?;
+    let count = events.as_ref().map(|events| events.len());
+    if listed != events || list.map(|list| list.len()) != count {
+        return Err(Lack::Case);
     }
+    Ok(count)
 }
 
-/// How many events a vehicle has, if it is registered. A list for the seat has the same as one for nobody, and as many as the
-/// one that takes little memory.
+/// The same. The lists are asked for while the other shard is locked, and don't wait for that one.
 fn events_of<L: ShardLedger, M: ShardLedger, R: Wait>(
     rt: &R,
     alloc: Global,
@@ -193,14 +190,9 @@ fn events_of<L: ShardLedger, M: ShardLedger, R: Wait>(
     seat: &mut Seat<L, M>,
     device: u64,
 ) -> Result<Option<usize>, Lack> {
-    let listed = again!(book.seat_events(rt, alloc, seat, &key(device)))?;
-    let events = again!(listed_beside(rt, alloc, book, device))?;
-    let list = again!(book.seat_list(rt, alloc, seat, &key(device)))?;
-    let count = events.as_ref().map(|events| events.len());
-    if !are_same(&listed, &events) || list.map(|list| list.len()) != count {
-        return Err(Lack::Case);
-    }
-    Ok(count)
+    let key = key(device);
+    let other = 1 - book.shard_of(&key);
+    again!(book.with_shard(rt, other, |_| count_of(rt, alloc, book, seat, &key)))
 }
 
 /// What a book tells without memory.
@@ -287,10 +279,7 @@ fn settled_once_missed<L: ShardLedger, M: ShardLedger>(
 
 /// How long a list is, if it is there.
 fn length_of<T>(list: Option<&[T]>) -> Option<usize> {
-    match list {
-        Some(list) => Some(list.len()),
-        None => None,
-    }
+    list.map(|list| list.len())
 }
 
 /// What a settled book tells without memory.
@@ -329,22 +318,6 @@ fn history_of<L: ShardLedger, M: ShardLedger>(
     Ok(Vec::from_slice(alloc, settled.history(shard).ok_or(Lack::Case)?)?)
 }
 
-/// The place of the first step with another reply, once all was asked that takes memory.
-fn other_after<
-    L: ShardLedger + Send + Sync,
-    M: ShardLedger + Send + Sync,
-    R: Threads + Wait + Sync,
->(
-    rt: &R,
-    book: &Book<L, M>,
-    seats: &mut [Seat<L, M>],
-    asking: Asking<'_>,
-) -> Result<Option<usize>, Lack> {
-    let other = first_other(rt, book, seats, asking.steps)?;
-    ask_in_threads(rt, book, seats, asking.each);
-    Ok(other)
-}
-
 /// What is told at these seats before the book is settled: without memory, and how many events A, B and C have.
 fn seen_at<L: ShardLedger + Send + Sync, M: ShardLedger + Send + Sync, R: Threads + Wait + Sync>(
     rt: &R,
@@ -355,17 +328,16 @@ fn seen_at<L: ShardLedger + Send + Sync, M: ShardLedger + Send + Sync, R: Thread
     first: &mut Progress<L>,
     second: &mut Progress<M>,
 ) -> Result<(Shown, [Option<usize>; 3]), Lack> {
-    let other = other_after(rt, book, seats, asking)?;
+    let other = first_other(rt, book, seats, asking.steps)?;
+    ask_in_threads(rt, book, seats, asking.each);
     let events = events_at(rt, alloc, book, seats.first_mut().ok_or(Lack::Case)?)?;
     let within = seats.first().ok_or(Lack::Case)?.is_within(first, second);
     copy_once(rt, alloc, book, first, second)?;
     let _begun = fence(alloc);
     let others = [other, first_other(rt, book, seats, asking.quiet)?];
     let seat = seats.first().ok_or(Lack::Case)?;
-    Ok((
-        shown_by(rt, book, seat, others, first, second, within),
-        events,
-    ))
+    let shown = shown_by(rt, book, seat, others, first, second, within);
+    Ok((shown, events))
 }
 
 /// How many events A, B and C have.
@@ -522,18 +494,14 @@ fn after(calls: u64, events: usize) -> Option<(Shown, End, [Option<usize>; 3])> 
 
 #[test]
 fn calls_succeed_after_a_refused_growth(rt: HostRuntime) {
-    assert_eq!(rt;
-        told_again(&rt, rt.alloc(), 1, REPORTED, &[]),
-        Ok(after(2, 1))
-    );
+    let told = told_again(&rt, rt.alloc(), 1, REPORTED, &[]);
+    assert_eq!(rt; told, Ok(after(2, 1)));
 }
 
 #[test]
 fn books_are_told_of_with_every_growth_refused(rt: HostRuntime) {
-    assert_eq!(rt;
-        told_again(&rt, rt.alloc(), 1, REGISTERED, LOOKED),
-        Ok(after(1, 0))
-    );
+    let told = told_again(&rt, rt.alloc(), 1, REGISTERED, LOOKED);
+    assert_eq!(rt; told, Ok(after(1, 0)));
 }
 
 /// Whether there are books of so many seats.
@@ -551,8 +519,6 @@ fn are_opened<R: Threads + Wait + RandomSource + Sync>(
 
 #[test]
 fn seats_of_a_book(rt: HostRuntime) {
-    assert_eq!(rt;
-        are_opened(&rt, rt.alloc(), &[0, 1, 64, 65]),
-        Ok([false, true, true, false])
-    );
+    let opened = are_opened(&rt, rt.alloc(), &[0, 1, 64, 65]);
+    assert_eq!(rt; opened, Ok([false, true, true, false]));
 }

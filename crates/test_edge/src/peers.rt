@@ -1,4 +1,5 @@
 //! Connections whose clients are played: requests that come, and answers that leave.
+use LookOutcome::{Done, Gone, Waits};
 use mds_request::Face;
 use mds_waiting::{Coming, Given, Leaving, Look, Outgoing, Part, Peer};
 use std::alloc::{AllocError, Global};
@@ -16,13 +17,14 @@ pub(crate) enum Act {
     Fails(ErrorKind),
 }
 
-/// A client that does these things, one at each call, and then nothing. It holds what it was sent.
+/// A client that does these things, one at each call, and then nothing. It holds what it was sent, and counts the ends of that.
 #[derive(Drop)]
 pub(crate) struct Played {
     acts: &'static [Act],
     at: usize,
     sent: [u8; 8],
     count: usize,
+    ends: usize,
 }
 
 impl Played {
@@ -32,6 +34,7 @@ impl Played {
             at: 0,
             sent: [0; 8],
             count: 0,
+            ends: 0,
         }
     }
 
@@ -71,6 +74,7 @@ impl Peer for Played {
     }
 
     fn end_sending(&mut self) -> io::Result<()> {
+        self.ends = self.ends.saturating_add(1);
         Ok(())
     }
 }
@@ -102,15 +106,15 @@ fn outcome_of(look: Look) -> LookOutcome {
 type Request = (&'static [Act], LookOutcome, Part, usize);
 
 const REQUESTS: &[Request] = rows! {
-    (&[Act::Gives(b"GET / HTTP/1.1\r\n\r\n")], LookOutcome::Done(None), Part::Request, 18),
-    (&[Act::Gives(b"GET / HTTP/1.1\r\n\r\nmore")], LookOutcome::Done(None), Part::Request, 22),
-    (&[Act::Gives(b"nothing\r\n")], LookOutcome::Done(None), Part::Request, 9),
-    (&[Act::Gives(b"GET /")], LookOutcome::Waits, Part::Head, 5),
-    (&[LATER], LookOutcome::Waits, Part::Head, 0),
-    (&[Act::Fails(ErrorKind::Interrupted)], LookOutcome::Waits, Part::Head, 0),
-    (&[Act::Gives(b"")], LookOutcome::Done(None), Part::Head, 0),
-    (&[LOST], LookOutcome::Gone, Part::Head, 0),
-    (&[Act::Gives(HEAD)], LookOutcome::Waits, Part::Request, 44),
+    (&[Act::Gives(b"GET / HTTP/1.1\r\n\r\n")], Done(None), Part::Request, 18),
+    (&[Act::Gives(b"GET / HTTP/1.1\r\n\r\nmore")], Done(None), Part::Request, 22),
+    (&[Act::Gives(b"nothing\r\n")], Done(None), Part::Request, 9),
+    (&[Act::Gives(b"GET /")], Waits, Part::Head, 5),
+    (&[LATER], Waits, Part::Head, 0),
+    (&[Act::Fails(ErrorKind::Interrupted)], Waits, Part::Head, 0),
+    (&[Act::Gives(b"")], Done(None), Part::Head, 0),
+    (&[LOST], Gone, Part::Head, 0),
+    (&[Act::Gives(HEAD)], Waits, Part::Request, 44),
 };
 
 /// The place of the first request of which something else becomes.
@@ -174,27 +178,12 @@ fn requests_are_handed_on_with_their_heads(rt: HostRuntime) {
 /// What a client does, and what each of four looks at its request comes to; and how many bytes are there then.
 type Pieces = (&'static [Act], [LookOutcome; 4], usize);
 
-const CUT: [LookOutcome; 4] = [
-    LookOutcome::Waits,
-    LookOutcome::Waits,
-    LookOutcome::Gone,
-    LookOutcome::Gone,
-];
+const CUT: [LookOutcome; 4] = [Waits, Waits, Gone, Gone];
 
-const FOUND: [LookOutcome; 4] = [
-    LookOutcome::Waits,
-    LookOutcome::Waits,
-    LookOutcome::Waits,
-    LookOutcome::Done(None),
-];
+const FOUND: [LookOutcome; 4] = [Waits, Waits, Waits, Done(None)];
 
 /// The same of a request whose head has no fault.
-const WHOLE: [LookOutcome; 4] = [
-    LookOutcome::Waits,
-    LookOutcome::Waits,
-    LookOutcome::Waits,
-    LookOutcome::Done(Some([44, 4])),
-];
+const WHOLE: [LookOutcome; 4] = [Waits, Waits, Waits, Done(Some([44, 4]))];
 
 const PIECES: &[Pieces] = rows! {
     // A body comes in pieces, with nothing between, or is lost.
@@ -210,7 +199,7 @@ const PIECES: &[Pieces] = rows! {
 fn looks(alloc: Global, acts: &'static [Act]) -> Result<([LookOutcome; 4], usize), AllocError> {
     let face = Face::open(alloc)?;
     let (mut coming, mut bytes) = (Coming::new(Played::new(acts)), Vec::new(alloc));
-    let mut looks = [LookOutcome::Waits; 4];
+    let mut looks = [Waits; 4];
     for at in 0..4 {
         looks[at] = outcome_of(coming.look(&face, &mut bytes, &mut [0u8; 64]));
     }
@@ -232,28 +221,28 @@ fn requests_come_in_pieces(rt: HostRuntime) {
     assert_eq!(rt; other_pieces(rt.alloc()), Ok(None));
 }
 
-/// What a client does at an answer of five bytes, whether its request was read to its end, what each of two looks comes to, and how
-/// many bytes it was sent.
-type Answer = (&'static [Act], bool, [LookOutcome; 2], usize);
+/// What a client does at an answer of five bytes, whether its request was read to its end, what each of two looks comes to, how many
+/// bytes it was sent, and how often that was ended.
+type Answer = (&'static [Act], bool, [LookOutcome; 2], (usize, usize));
 
 const ANSWERS: &[Answer] = rows! {
-    (&[Act::Takes(5), LATER], true, [LookOutcome::Gone, LookOutcome::Gone], 5),
-    (&[Act::Takes(2), LATER, Act::Takes(3), LATER], true, [LookOutcome::Waits, LookOutcome::Gone], 5),
-    (&[Act::Takes(2), LOST, LOST], true, [LookOutcome::Gone, LookOutcome::Gone], 2),
-    (&[Act::Takes(0)], true, [LookOutcome::Gone, LookOutcome::Waits], 0),
-    (&[LATER, LATER], true, [LookOutcome::Waits, LookOutcome::Waits], 0),
-    (&[Act::Takes(5), LATER, Act::Gives(b"")], false, [LookOutcome::Waits, LookOutcome::Gone], 5),
-    (&[Act::Takes(5), Act::Gives(b"more"), LATER, LOST], true, [LookOutcome::Waits, LookOutcome::Gone], 5),
+    (&[Act::Takes(5), LATER], true, [Gone, Gone], (5, 0)),
+    (&[Act::Takes(2), LATER, Act::Takes(3), LATER], true, [Waits, Gone], (5, 0)),
+    (&[Act::Takes(2), LOST, LOST], true, [Gone, Gone], (2, 0)),
+    (&[Act::Takes(0)], true, [Gone, Waits], (0, 0)),
+    (&[LATER, LATER], true, [Waits, Waits], (0, 0)),
+    (&[Act::Takes(5), LATER, Act::Gives(b"")], false, [Waits, Gone], (5, 1)),
+    (&[Act::Takes(5), Act::Gives(b"more"), LATER, LOST], true, [Waits, Gone], (5, 1)),
 };
 
 /// The place of the first answer of which something else becomes.
 fn other_answer() -> Option<usize> {
-    for (at, (acts, is_read, looks, count)) in ANSWERS.iter().copied().enumerate() {
+    for (at, (acts, is_read, looks, counts)) in ANSWERS.iter().copied().enumerate() {
         let mut leaving = Leaving::new(Played::new(acts), is_read);
         let first = outcome_of(leaving.look(b"12345"));
         let found = [first, outcome_of(leaving.look(b"12345"))];
-        let is_front = leaving.peer.sent.get(..count) == b"12345".get(..count);
-        if found != looks || leaving.peer.count != count || !is_front {
+        let is_front = leaving.peer.sent.get(..counts.0) == b"12345".get(..counts.0);
+        if found != looks || (leaving.peer.count, leaving.peer.ends) != counts || !is_front {
             return Some(at);
         }
     }
@@ -300,10 +289,8 @@ fn is_lost(alloc: Global) -> bool {
 
 #[test]
 fn what_a_client_does_not_take_is_kept(rt: HostRuntime) {
-    assert_eq!(rt;
-        (other_written(rt.alloc()), is_lost(rt.alloc())),
-        (None, true)
-    );
+    let found = (other_written(rt.alloc()), is_lost(rt.alloc()));
+    assert_eq!(rt; found, (None, true));
 }
 
 /// Whether a request comes whole, and what a client doesn't take of an answer is kept.

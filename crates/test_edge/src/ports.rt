@@ -38,6 +38,8 @@ struct PlayedSystem {
     pauses: AtomicUsize,
     /// Whether a new connection is told, which is told once.
     asks_for_new: AtomicBool,
+    /// Whether a new one may be waited for: each time that it was said a bit, behind a first one.
+    may_wait: AtomicU64,
 }
 
 impl PlayedSystem {
@@ -51,6 +53,7 @@ impl PlayedSystem {
             asked: AtomicUsize::new(0),
             pauses: AtomicUsize::new(0),
             asks_for_new: AtomicBool::new(true),
+            may_wait: AtomicU64::new(1),
         }
     }
 
@@ -97,6 +100,12 @@ impl System for PlayedSystem {
             Some(Turn::Lacks) => Err(io::Error::from_raw_os_error(NO_FILE)),
             None => Err(io::Error::from(ErrorKind::InvalidInput)),
         }
+    }
+
+    fn let_take_wait(&self, may_wait: bool) {
+        let said = self.may_wait.load(Ordering::SeqCst);
+        self.may_wait
+            .store(said << 1 | u64::from(may_wait), Ordering::SeqCst);
     }
 
     fn ask(&self, _peer: &mut Played, _ready: Ready, _for_sending: bool) -> bool {
@@ -191,6 +200,12 @@ const CASES: &[Case] = rows! {
         Turn::Comes(PART), Turn::Fails(NO_FILE), Turn::Tells(Ready::Listener), Turn::Tells(Ready::Coming(0)),
         Turn::Comes(WHOLE),
     ], Some(0), 9, [23, 18], [1, 1]),
+    // Who waited is handed out where its request comes whole then, and isn't let go where no new connection is there.
+    (&[Turn::Comes(PART), Turn::Fails(NO_FILE), Turn::Tells(Ready::Coming(0)), Turn::Comes(WHOLE)],
+        Some(1), 9, [23, 18], [1, 0]),
+    (&[
+        Turn::Comes(PART), Turn::Fails(NO_FILE), Turn::After(0), Turn::Tells(Ready::Coming(0)), Turn::Comes(WHOLE),
+    ], Some(1), 9, [23, 18], [1, 0]),
     // None waits that could be let go: 30 seconds of pauses are made. No connection is there: none is.
     (&[Turn::Lacks], Some(1), 9, [0, 0], [0, 300]),
     (&[Turn::Fails(NO_FILE), Turn::After(0), Turn::Comes(WHOLE)], Some(1), 9, [18, 0], [0, 0]),
@@ -284,4 +299,30 @@ fn other_case<R: Wait + Copy>(rt: R, alloc: Global) -> Result<Option<usize>, All
 #[test]
 fn a_port_goes_on_whatever_its_system_does(rt: HostRuntime) {
     assert_eq!(rt; other_case(rt, rt.alloc()), Ok(None));
+}
+
+/// What a system does, and when a new connection may be waited for.
+const TAKING: &[(&[Turn], u64)] = rows! {
+    // Once nobody waits; not beside a request that comes; and again behind it.
+    (&[Turn::Tells(Ready::Listener), Turn::Comes(PART), Turn::Tells(Ready::Coming(0)), Turn::Comes(WHOLE)], 0b1_101),
+    // Not beside an answer that leaves.
+    (&[Turn::Tells(Ready::Listener), Turn::Comes(SLOW)], 0b1_10),
+};
+
+/// What is said of that for the turns of each row, up to the second connection.
+fn said_of_taking<R: Wait + Copy>(rt: R, alloc: Global) -> Result<Vec<u64>, AllocError> {
+    let mut said = Vec::new(alloc);
+    for (turns, _) in TAKING.iter().copied() {
+        let system = PlayedSystem::new(turns, Some(1_000), 9);
+        let port = WaitingPort::new(alloc, rt, system, Face::open(alloc)?);
+        let _ = taken(&port).and_then(|_| taken(&port));
+        said.push(port.system().may_wait.load(Ordering::SeqCst))?;
+    }
+    Ok(said)
+}
+
+#[test]
+fn a_new_connection_is_waited_for_where_none_waits(rt: HostRuntime) {
+    let expected = [TAKING[0].1, TAKING[1].1];
+    assert!(rt; said_of_taking(rt, rt.alloc()).is_ok_and(|said| said.as_slice() == &expected[..]));
 }

@@ -114,25 +114,21 @@ fn a_key_is_found_after_a_refused_growth(rt: HostRuntime) {
 }
 
 /// Whether room and keys are had where the eldest leave: one that holds more than there is room for, beside one with bytes, and
-/// the eldest of all.
-fn leaves_for_others(alloc: Global) -> Result<(Option<usize>, usize, bool, bool), AllocError> {
+/// the eldest of all; and how long may be waited then, for the time of the first.
+fn leaves_for_others(alloc: Global) -> Result<(Option<usize>, [usize; 2], bool, bool), AllocError> {
     let mut waiting = three(alloc)?;
     let key = waiting.key_for(usize::MAX);
     let count = waiting.len();
     let first = !waiting.let_eldest_go(10) && waiting.let_eldest_go(11);
-    let is_second = waiting.take(0).is_some();
-    Ok((
-        key,
-        count,
-        first && is_second,
-        waiting.let_eldest_go(u64::MAX),
-    ))
+    let is_late = waiting.find_late(Some(115)).is_some();
+    let patience = waiting.patience(Some(115));
+    let is_second = first && !is_late && waiting.take(0).is_some();
+    let is_left = waiting.let_eldest_go(u64::MAX);
+    Ok((key, [count, patience as usize], is_second, is_left))
 }
 
 #[test]
 fn the_eldest_leave_for_others(rt: HostRuntime) {
-    assert_eq!(rt;
-        leaves_for_others(rt.alloc()),
-        Ok((Some(2), 2, true, false))
-    );
+    let expected = Ok((Some(2), [2, 5], true, false));
+    assert_eq!(rt; leaves_for_others(rt.alloc()), expected);
 }

@@ -54,14 +54,38 @@ impl Write for Answer<'_> {
 /// What a port in memory gives: requests, each with the number of bytes that its writer takes.
 type Requests = &'static [(&'static [u8], usize)];
 
+/// How many answers of status 200 were begun, how many connections ended at once, and how many in stages.
+#[derive(Drop)]
+struct Counts {
+    good: AtomicUsize,
+    at_once: AtomicUsize,
+    in_stages: AtomicUsize,
+}
+
+impl Counts {
+    fn new() -> Counts {
+        Counts {
+            good: AtomicUsize::new(0),
+            at_once: AtomicUsize::new(0),
+            in_stages: AtomicUsize::new(0),
+        }
+    }
+}
+
 /// A port in memory: these requests, but that it fails once at each without bytes; then it fails. Once it is stopped, it gives
-/// none. It counts the connections that ended at once.
+/// none.
 #[derive(Drop)]
 struct Listed<'a> {
     list: Requests,
     next: AtomicUsize,
-    good: &'a AtomicUsize,
-    at_once: &'a AtomicUsize,
+    counts: &'a Counts,
+}
+
+impl<'a> Listed<'a> {
+    fn new(list: Requests, counts: &'a Counts) -> Listed<'a> {
+        let next = AtomicUsize::new(0);
+        Listed { list, next, counts }
+    }
 }
 
 impl<'a> Port for Listed<'a> {
@@ -74,18 +98,17 @@ impl<'a> Port for Listed<'a> {
         let Some(request) = self.list.get(place).filter(|request| !request.0.is_empty()) else {
             return Err(PortFault);
         };
-        let good = self.good;
-        let answer = Answer {
-            room: request.1,
-            good,
-        };
-        Ok((request.0, answer))
+        let counts = self.counts;
+        let (room, good) = (request.1, &counts.good);
+        Ok((request.0, Answer { room, good }))
     }
 
     fn end(&self, _input: &'static [u8], _output: Answer<'a>, ending: Ending) {
-        if ending == Ending::AtOnce {
-            self.at_once.fetch_add(1, Ordering::SeqCst);
-        }
+        let ends = match ending {
+            Ending::AtOnce => &self.counts.at_once,
+            Ending::InStages => &self.counts.in_stages,
+        };
+        ends.fetch_add(1, Ordering::SeqCst);
     }
 
     fn stop(&self) {
@@ -141,15 +164,8 @@ where
             second,
             hashers,
         } = opening;
-        let opened = Book::<L, M>::open(
-            self.alloc,
-            tables,
-            seats,
-            Keep::Accepted,
-            first,
-            second,
-            hashers,
-        );
+        let (alloc, keep) = (self.alloc, Keep::Accepted);
+        let opened = Book::<L, M>::open(alloc, tables, seats, keep, first, second, hashers);
         let Ok((book, list)) = opened else {
             return Err(Lack::Memory);
         };
@@ -243,24 +259,20 @@ where
     pool.serve_new::<Brand, Brand>(opening)
 }
 
-/// The same of these requests; how many answers of status 200 were begun; and how many connections ended at once.
+/// The same of these requests; how many answers of status 200 were begun; and how many connections ended at once, and in stages.
 fn came_of<R: Threads + Wait + RandomSource + Sync, G: Gate + Sync>(
     rt: &R,
     alloc: Global,
     gate: &G,
     list: Requests,
     turns: Turns,
-) -> Result<(Came, usize, usize), Lack> {
-    let (good, at_once) = (AtomicUsize::new(0), AtomicUsize::new(0));
-    let port = Listed {
-        list,
-        next: AtomicUsize::new(0),
-        good: &good,
-        at_once: &at_once,
-    };
-    let came = served(rt, alloc, &port, gate, turns)?;
-    let counts = (good.load(Ordering::SeqCst), at_once.load(Ordering::SeqCst));
-    Ok((came, counts.0, counts.1))
+) -> Result<(Came, [usize; 3]), Lack> {
+    let counts = Counts::new();
+    let came = served(rt, alloc, &Listed::new(list, &counts), gate, turns)?;
+    let good = counts.good.load(Ordering::SeqCst);
+    let at_once = counts.at_once.load(Ordering::SeqCst);
+    let in_stages = counts.in_stages.load(Ordering::SeqCst);
+    Ok((came, [good, at_once, in_stages]))
 }
 
 #[test]
@@ -268,14 +280,12 @@ fn two_workers_meet(rt: HostRuntime) {
     let gate = MeetingGate::new(&rt);
     let list = &[(A, 999), (B, 999)];
     let came = came_of(&rt, rt.alloc(), &gate, list, (2, 1, 1));
-    assert_eq!(rt;
-        (came, gate.gave_up()),
-        (Ok(((None, 2, Some(2)), 2, 2)), false)
-    );
+    let expected = Ok(((None, 2, Some(2)), [2, 2, 0]));
+    assert_eq!(rt; (came, gate.gave_up()), (expected, false));
 }
 
 /// A case: the requests, how they are served, and what serving comes to.
-type Case = (Requests, Turns, (Came, usize, usize));
+type Case = (Requests, Turns, (Came, [usize; 3]));
 
 /// A worker could take no further connection.
 const FAILED: Option<PoolCause> = Some(PoolCause::Accept);
@@ -283,11 +293,11 @@ const FAILED: Option<PoolCause> = Some(PoolCause::Accept);
 /// No connections; a peer that stops reading; a port that fails at once, one that fails once its requests are taken, and one
 /// that fails once, and goes on.
 const CASES: &[Case] = rows! {
-    (&[], (1, 0, 1), ((None, 1, Some(0)), 0, 0)),
-    (&[(A, 10), (B, 999)], (1, 2, 1), ((None, 1, Some(2)), 2, 1)),
-    (&[], (1, 1, 1), ((FAILED, 1, Some(0)), 0, 0)),
-    (&[(A, 999), (B, 999)], (2, 2, 1), ((FAILED, 2, Some(2)), 2, 2)),
-    (&[(b"", 0), (A, 999)], (1, 1, 2), ((FAILED, 1, Some(1)), 1, 1)),
+    (&[], (1, 0, 1), ((None, 1, Some(0)), [0, 0, 0])),
+    (&[(A, 10), (B, 999)], (1, 2, 1), ((None, 1, Some(2)), [2, 1, 1])),
+    (&[], (1, 1, 1), ((FAILED, 1, Some(0)), [0, 0, 0])),
+    (&[(A, 999), (B, 999)], (2, 2, 1), ((FAILED, 2, Some(2)), [2, 2, 0])),
+    (&[(b"", 0), (A, 999)], (1, 1, 2), ((FAILED, 1, Some(1)), [1, 1, 0])),
 };
 
 /// The place of the first of these cases to which serving doesn't come, if there is one.
@@ -315,7 +325,7 @@ fn stopped<R: Threads + Wait + RandomSource + Sync>(
     rt: &R,
     alloc: Global,
 ) -> Result<(bool, usize, Option<u128>), Lack> {
-    let (came, _, _) = came_of(rt, alloc, &OpenGate, &[], (64, 1, 1))?;
+    let (came, _) = came_of(rt, alloc, &OpenGate, &[], (64, 1, 1))?;
     Ok((came.0.is_some(), came.1, came.2))
 }
 
@@ -339,10 +349,8 @@ fn served_in_two_rounds<R: Threads + Wait + RandomSource + Sync>(
 /// By `tests/refused-growths`, as the other of such a name.
 #[test]
 fn workers_serve_after_a_refused_growth(rt: HostRuntime) {
-    assert_eq!(rt;
-        served_in_two_rounds(&rt, rt.alloc()),
-        Ok((None, 2, Some(2)))
-    );
+    let came = served_in_two_rounds(&rt, rt.alloc());
+    assert_eq!(rt; came, Ok((None, 2, Some(2))));
 }
 
 /// How many connections each worker of a book answered that served the port, and how many requests the book accepted.
@@ -382,13 +390,8 @@ fn ended_anew<R: Threads + Wait + RandomSource + Sync>(
     rt: &R,
     alloc: Global,
 ) -> Result<Result<(usize, usize, u128), Stop>, Lack> {
-    let (good, at_once) = (AtomicUsize::new(0), AtomicUsize::new(0));
-    let port = Listed {
-        list: TWICE,
-        next: AtomicUsize::new(0),
-        good: &good,
-        at_once: &at_once,
-    };
+    let counts = Counts::new();
+    let port = Listed::new(TWICE, &counts);
     let opening = opening(rt, alloc, 2)?;
     Ok(ended::<R, Listed<'_>, Brand, Brand>(rt, alloc, &port, opening))
 }

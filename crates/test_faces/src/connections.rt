@@ -12,11 +12,12 @@ use std::alloc::{AllocError, Global};
 use std::io::{self, Write};
 use test_fixtures::{ENDS, Last, again, ending, pieces_of};
 
-/// A client's other side, which takes so many bytes.
+/// A client's other side, which takes so many bytes, and so many of them a call at most.
 #[derive(Drop)]
 pub struct Peer {
     pub taken: Vec<u8>,
     pub room: usize,
+    pub piece: usize,
     pub last: Last,
     pub writes: u32,
 }
@@ -26,6 +27,7 @@ pub fn peer_of(alloc: Global) -> Result<Peer, AllocError> {
     Ok(Peer {
         taken: again!(Vec::with_capacity(alloc, 4096))?,
         room: usize::MAX,
+        piece: usize::MAX,
         last: ENDS,
         writes: 0,
     })
@@ -34,7 +36,7 @@ pub fn peer_of(alloc: Global) -> Result<Peer, AllocError> {
 impl Write for Peer {
     fn write(&mut self, buf: &[u8]) -> io::Result<usize> {
         self.writes = self.writes.saturating_add(1);
-        let count = buf.len().min(self.room);
+        let count = buf.len().min(self.room).min(self.piece);
         if count == 0 {
             return ending(self.last);
         }

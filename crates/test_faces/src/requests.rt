@@ -44,13 +44,9 @@ fn plans(alloc: Global, request: &str, events: &[EventItem]) -> Result<bool, All
 fn batches_are_planned(rt: HostRuntime) {
     let no_device = EventItem::Fault(ItemFault::Missing(Member::DeviceId));
     let events = [first_event(A, E1), no_device, first_event(B, E2)];
-    assert_eq!(rt;
-        [
-            plans(rt.alloc(), EMPTY, &[]),
-            plans(rt.alloc(), THREE, &events)
-        ],
-        [Ok(true), Ok(true)]
-    );
+    let none = plans(rt.alloc(), EMPTY, &[]);
+    let three = plans(rt.alloc(), THREE, &events);
+    assert_eq!(rt; (none, three), (Ok(true), Ok(true)));
 }
 
 /// A registration, and an item at fault.
@@ -92,26 +88,12 @@ const HISTORY: &[u8] =
 
 const NOWHERE: &[u8] = b"GET /nothing HTTP/1.1\r\n\r\n";
 
-/// Whether it is a look at A.
-fn is_look(plan: &Result<Plan, AllocError>) -> bool {
-    match plan {
-        Ok(Plan::One(about)) => *about == key(A),
-        _ => false,
-    }
-}
-
-/// Whether it is a look at the events of A.
-fn is_history(plan: &Result<Plan, AllocError>) -> bool {
-    match plan {
-        Ok(Plan::History(about)) => *about == key(A),
-        _ => false,
-    }
-}
-
-/// Whether it is the fault of no route.
-fn is_nowhere(plan: &Result<Plan, AllocError>) -> bool {
-    match plan {
-        Ok(Plan::Fixed(fault)) => *fault == HttpFault::NotFound,
+/// Whether they are a look at A, one at the events of A, and the fault of no route.
+fn are_those(look: &Plan, history: &Plan, fault: &Plan) -> bool {
+    match (look, history, fault) {
+        (Plan::One(one), Plan::History(other), Plan::Fixed(fault)) => {
+            *one == key(A) && *other == key(A) && *fault == HttpFault::NotFound
+        }
         _ => false,
     }
 }
@@ -120,11 +102,11 @@ fn is_nowhere(plan: &Result<Plan, AllocError>) -> bool {
 fn are_planned_quietly(alloc: Global) -> Result<bool, AllocError> {
     let face = Face::open(alloc)?;
     let _begun = fence(alloc);
-    let look = face.head_status(LOOK).plan(alloc, LOOK);
-    let history = plan_of(alloc, &face, HISTORY);
-    let fault = plan_of(alloc, &face, NOWHERE);
+    let look = face.head_status(LOOK).plan(alloc, LOOK)?;
+    let history = plan_of(alloc, &face, HISTORY)?;
+    let fault = plan_of(alloc, &face, NOWHERE)?;
     let _ended = fence(alloc);
-    Ok(is_look(&look) && is_history(&history) && is_nowhere(&fault))
+    Ok(are_those(&look, &history, &fault))
 }
 
 #[test]

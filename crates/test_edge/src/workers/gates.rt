@@ -148,8 +148,6 @@ fn steps_of_serving<R: Threads + Wait + RandomSource + Sync>(
 #[test]
 fn gate_is_entered_and_left_around_each_answer(rt: HostRuntime) {
     let all = 4 * WORKERS * EACH;
-    assert_eq!(rt;
-        steps_of_serving(&rt, rt.alloc()),
-        Ok((true, all, true, true))
-    );
+    let found = steps_of_serving(&rt, rt.alloc());
+    assert_eq!(rt; found, Ok((true, all, true, true)));
 }

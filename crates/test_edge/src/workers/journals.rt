@@ -6,7 +6,7 @@ ghost use Rattle.mds_book.specs.Books.{IsSeatCount};
 ghost use Rattle.mds_follow.specs.Disk.{IsTold};
 ghost use Rattle.mds_follow.specs.Reading.{IsAtFirstRequest};
 
-use super::{Listed, TWICE, opening};
+use super::{Counts, Listed, TWICE, opening};
 use mds_book::ShardLedger;
 use mds_follow::{Disk, RecordLog, RequestReader};
 use mds_journal::{Device, Memory};
@@ -16,7 +16,7 @@ use std::alloc::Global;
 use std::marker::Brand;
 use std::random::RandomSource;
 use std::sync::Wait;
-use std::sync::atomic::{AtomicUsize, Ordering};
+use std::sync::atomic::Ordering;
 use std::thread::Threads;
 use test_fixtures::{Lack, again, room_behind};
 
@@ -87,13 +87,8 @@ fn ended_over<R: Threads + Wait + RandomSource + Sync>(
     rt: &R,
     alloc: Global,
 ) -> Result<(u128, Vec<u8>, usize), Lack> {
-    let (good, at_once) = (AtomicUsize::new(0), AtomicUsize::new(0));
-    let port = Listed {
-        list: TWICE,
-        next: AtomicUsize::new(0),
-        good: &good,
-        at_once: &at_once,
-    };
+    let counts = Counts::new();
+    let port = Listed::new(TWICE, &counts);
     let opening = opening(rt, alloc, 2)?;
     let Ok(reader) = RequestReader::open(alloc, Memory::new(alloc, BEFORE)?) else {
         return Err(Lack::Memory);
@@ -107,7 +102,7 @@ fn ended_over<R: Threads + Wait + RandomSource + Sync>(
         BlankLog::new(),
     )?;
     let bytes = Vec::from_slice(alloc, disk.journal.device.bytes())?;
-    Ok((accepted, bytes, good.load(Ordering::SeqCst)))
+    Ok((accepted, bytes, counts.good.load(Ordering::SeqCst)))
 }
 
 /// Whether the book comes to its end, begun again where there was no memory: with A of the journal and B, both in the journal.

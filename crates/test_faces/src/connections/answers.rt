@@ -12,7 +12,7 @@ pub(super) const BOTH_REGISTER: &str =
 {\"provider_id\":\"00000000-0000-4000-8000-000000000001\",\"device_id\":\"00000000-0000-4000-8000-00000000000b\"}]";
 
 /// A and B are looked at.
-const LOOK_AT_A: &str =
+pub(super) const LOOK_AT_A: &str =
     "GET /vehicles/00000000-0000-4000-8000-000000000001/00000000-0000-4000-8000-00000000000a?x=1 HTTP/1.1\r\n\r\n";
 
 const LOOK_AT_B: &str =

@@ -1,5 +1,5 @@
 //! What is answered where what answers rest on is recorded, and where it isn't.
-use super::answers::{BOTH_REGISTER, fleet_over};
+use super::answers::{BOTH_REGISTER, LOOK_AT_A, fleet_over};
 use super::growths::register;
 use super::peer_of;
 use crate::cases::{Answer, NO_ROUTE, PROFILE, answer_text};
@@ -16,9 +16,9 @@ use test_fixtures::{A, ENDS, Lack, pieces_of, rows};
 
 /// A fleet, and whether what it answers is recorded.
 #[derive(Drop)]
-struct Recorded {
-    fleet: Fleet,
-    end: Result<(), KeepFault>,
+pub struct Recorded {
+    pub fleet: Fleet,
+    pub end: Result<(), KeepFault>,
 }
 
 impl Desk for Recorded {
@@ -68,13 +68,11 @@ impl KeptDesk for Recorded {
     }
 }
 
+/// What is said of a connection: the status of its answer, and how many requests were accepted.
+type Said = Result<(u16, usize), KeptFault>;
+
 /// What is asked, whether what answers rest on is recorded, what is said of the connection, and what is written.
-type Case = (
-    &'static str,
-    Result<(), KeepFault>,
-    Result<Served, KeptFault>,
-    Written,
-);
+type Case = (&'static str, Result<(), KeepFault>, Said, Written);
 
 /// What is written.
 enum Written {
@@ -90,41 +88,23 @@ enum Written {
 
 const NOWHERE: &str = "GET /nothing HTTP/1.1\r\n\r\n";
 
-const LOOK: &str =
-    "GET /vehicles/00000000-0000-4000-8000-000000000001/00000000-0000-4000-8000-00000000000a HTTP/1.1\r\n\r\n";
-
 const REGISTERED: Answer = ok!(
     r#"{"device_id":"00000000-0000-4000-8000-00000000000a","events":0,"last":null,"location_e7":null,"provider_id":"00000000-0000-4000-8000-000000000001","vehicle_state":"removed"}"#
 );
-
-const OK: Result<Served, KeptFault> = Ok(Served {
-    status: 200,
-    accepted: 0,
-});
 
 /// A is registered, and B isn't.
 const B_ALONE: Answer = ok!(
     r#"{"failures":[{"error":"already_registered","index":0}],"success":1,"total":2}"#
 );
 
-const ONE: Result<Served, KeptFault> = Ok(Served {
-    status: 200,
-    accepted: 1,
-});
-
-const NONE: Result<Served, KeptFault> = Ok(Served {
-    status: 404,
-    accepted: 0,
-});
-
 const CASES: &[Case] = rows! {
-    (LOOK, Ok(()), OK, Written::Answer(REGISTERED)),
-    (LOOK, Err(KeepFault::NotKept), Err(KeptFault::NotKept { sent: 127 }), Written::NotKept),
-    (LOOK, Err(KeepFault::Memory), Err(KeptFault::Serve(ServeFault::Memory { sent: 74 })), Written::Memory),
-    (LOOK, Err(KeepFault::Lost), Err(KeptFault::Lost), Written::Nothing),
-    (BOTH_REGISTER, Ok(()), ONE, Written::Answer(B_ALONE)),
+    (LOOK_AT_A, Ok(()), Ok((200, 0)), Written::Answer(REGISTERED)),
+    (LOOK_AT_A, Err(KeepFault::NotKept), Err(KeptFault::NotKept { sent: 127 }), Written::NotKept),
+    (LOOK_AT_A, Err(KeepFault::Memory), Err(KeptFault::Serve(ServeFault::Memory { sent: 74 })), Written::Memory),
+    (LOOK_AT_A, Err(KeepFault::Lost), Err(KeptFault::Lost), Written::Nothing),
+    (BOTH_REGISTER, Ok(()), Ok((200, 1)), Written::Answer(B_ALONE)),
     // A fault of the request rests on nothing.
-    (NOWHERE, Err(KeepFault::Lost), NONE, Written::Answer(NO_ROUTE)),
+    (NOWHERE, Err(KeepFault::Lost), Ok((404, 0)), Written::Answer(NO_ROUTE)),
 };
 
 /// Serves a request: as one that is all there, if it is to be and its head has no fault, or as one that is read.
@@ -148,7 +128,7 @@ fn serve<W: Write>(
     }
 }
 
-/// Whether a fleet in which A is registered answers so.
+/// Whether a fleet in which A is registered answers so, to a client that takes a byte a call where its request is read.
 fn answers_so(alloc: Global, case: &Case, is_whole: bool) -> Result<bool, Lack> {
     let (request, end, said, written) = case;
     let face = Face::open(alloc)?;
@@ -156,20 +136,16 @@ fn answers_so(alloc: Global, case: &Case, is_whole: bool) -> Result<bool, Lack> 
     register(&mut fleet, A)?;
     let mut desk = Recorded { fleet, end: *end };
     let mut peer = peer_of(alloc)?;
-    let served = serve(
-        alloc,
-        &face,
-        request.as_bytes(),
-        is_whole,
-        &mut peer,
-        &mut desk,
-    );
+    peer.piece = if is_whole { usize::MAX } else { 1 };
+    let bytes = request.as_bytes();
+    let served = serve(alloc, &face, bytes, is_whole, &mut peer, &mut desk);
     let is_written = match written {
         Written::Answer(answer) => peer.taken.as_slice() == answer_text(alloc, *answer)?.as_bytes(),
         Written::Memory => peer.taken.as_slice() == memory_bytes(),
         Written::NotKept => peer.taken.as_slice() == not_kept_bytes(),
         Written::Nothing => peer.taken.is_empty(),
     };
+    let served = served.map(|served| (served.status, served.accepted));
     Ok(served == *said && is_written)
 }
 

@@ -125,10 +125,8 @@ fn seen_over<R: Wait + RandomSource>(
 
 #[test]
 fn a_book_answers_as_a_fleet(rt: HostRuntime) {
-    assert_eq!(rt;
-        seen_over(&rt, rt.alloc(), PROFILE, AMONG_THREE),
-        Ok((None, None))
-    );
+    let seen = seen_over(&rt, rt.alloc(), PROFILE, AMONG_THREE);
+    assert_eq!(rt; seen, Ok((None, None)));
 }
 
 /// What a seat tells as a desk, of a second book where there was no memory for the first.
