@@ -2,12 +2,16 @@
 
 import re
 from dataclasses import dataclass
+from functools import cache
 from pathlib import Path
 
 from harness.counting import ROOT
 
 HERE = Path(__file__).resolve().parent / "bodies"
 FUNCTION = re.compile(r"^(?P<indent> *)(?:pub(?:\([^)]*\))? )?(?:const )?fn (?P<name>\w+)", re.M)
+OWN_TACTICS = re.compile(r"#\[tactic\([^\n]*\]\n(?: *#\[[^\n]*\]\n)*\Z")
+CLOSURE = re.compile(r"(?:[(,=]|\bmove)\s*\|[^|\n]*\|")
+SEARCHED = re.compile(r"^# searched$", re.M)
 CONSTANT = re.compile(r"\b[A-Z][A-Z0-9_]+\b")
 BLOCK = re.compile(r"^(?:pub )?(?:impl|trait)\b(?P<words>[^{;]*)\{$(?P<body>.*?)^\}", re.M | re.S)
 
@@ -32,6 +36,9 @@ class Edit:
     """Each by the path below the crate by which a check tells of it."""
     names: frozenset
     """The names by which a body may call or read what the edit turns: those of the functions, and of constants."""
+    breaks_answer: bool
+    """Whether an answer in `proofs/` may tell of it: each function has answers, asks for no tactics of its own, and has no closure,
+    whose goals have no answers, and no line `# searched` says that none does."""
 
     @property
     def label(self):
@@ -55,6 +62,21 @@ def named_in(text):
     return re.findall(r"^# breaks: (\S+)$", text, re.M)
 
 
+@cache
+def with_answers(crate):
+    """The functions of a crate of which answers may tell: they have some, no closure, and ask for no tactics of their own."""
+    folder, found = ROOT / "crates" / crate, set()
+    for file in folder.glob("src/**/*.rt"):
+        text = file.read_text()
+        heads = list(FUNCTION.finditer(text))
+        for head, end in zip(heads, [*(it.start() for it in heads[1:]), len(text)]):
+            function = told_as(crate, file.relative_to(folder), text, head.start())
+            has_some = (folder / folder_of(function) / "Answers.antt").exists()
+            if has_some and not CLOSURE.search(text, head.start(), end) and not OWN_TACTICS.search(text[: head.start()]):
+                found.add(function)
+    return found
+
+
 def last_word(text):
     return re.findall(r"\w+", text)[-1]
 
@@ -75,6 +97,12 @@ def around(text, place):
     return block["words"] if block else "", found[-1]["name"]
 
 
+def is_of_trait(text, place):
+    """Whether a place of a source stands in a trait or in its `impl`."""
+    block = next((it for it in BLOCK.finditer(text) if it.start() < place < it.end()), None)
+    return block is not None and (re.match(r"(?:pub )?trait\b", block[0]) is not None or bool(plain_head(block["words"])[0]))
+
+
 def module_of(path):
     return "::".join(part for part in Path(path).with_suffix("").parts[1:] if part not in ("lib", "main"))
 
@@ -83,6 +111,11 @@ def function_at(path, text, place):
     """The function around a place of a source: the path of its module, the type of its `impl` or no text, and its name."""
     found = around(text, place)
     return found and (module_of(path), plain_head(found[0])[1] if found[0] else "", found[1])
+
+
+def folder_of(function):
+    """The folder of a function's proof, by the name by which a check tells of it."""
+    return "proofs/" + function.replace("::", "/")
 
 
 def home_of(crate, kind, path):
@@ -130,7 +163,9 @@ def edit_of(crate, file):
     functions = frozenset(named) or frozenset(functions_of(crate, changes))
     names = [it.rpartition("::")[2] for it in functions]
     names += [word for it in changes if named for word in CONSTANT.findall(it.old)]
-    return Edit(crate, file, changes, functions, frozenset(names))
+    is_quick = not SEARCHED.search(text) and not any(CLOSURE.search(it.new) for it in changes)
+    breaks_answer = is_quick and functions <= with_answers(crate)
+    return Edit(crate, file, changes, functions, frozenset(names), breaks_answer)
 
 
 def every_edit():
@@ -151,4 +186,18 @@ def applied(texts, changes, folder):
         if text.count(change.old) != 1:
             return None
         made[change.path] = text.replace(change.old, change.new)
+    return made
+
+
+def without_tactics(crate, texts, functions):
+    """The texts by their paths with these functions marked, so that no tactic is tried on their goals: only answers are looked at."""
+    made, folder = dict(texts), ROOT / "crates" / crate
+    for file in folder.glob("src/**/*.rt") if functions else ():
+        path = str(file.relative_to(folder))
+        text = made.get(path) or file.read_text()
+        places = [it for it in FUNCTION.finditer(text) if told_as(crate, path, text, it.start()) in functions]
+        for it in reversed(places):
+            text = f"{text[: it.start()]}{it['indent']}#[tactic(none)]\n{text[it.start() :]}"
+        if places:
+            made[path] = text
     return made

@@ -5,7 +5,9 @@ import os
 import shutil
 import subprocess
 import tempfile
+from collections import Counter
 from pathlib import Path
+from threading import Lock
 
 from editing.proved import is_proved, kit
 from harness.counting import ROOT
@@ -72,22 +74,25 @@ class Bench:
     """A room for checks: what they keep of each crate, and the libraries that have to be built there."""
 
     def __init__(self, room):
-        self.room, self.seconds, self.strays = Path(room), {}, {}
+        self.room, self.seconds, self.strays = Path(room), Counter(), {}
+        self.begun, self.lock = set(), Lock()
 
     def library(self, crate):
         if is_proved(crate):
             return left_by_proof(crate).parent
         return self.room / "rlib" / f"{crate}.rlib"
 
-    def kept(self, crate):
-        """What checks of the crate keep for the next, which begins with what `rt` kept of it."""
-        folder = self.room / "kept" / crate
-        if not folder.exists() and kept_of(crate).exists():
-            shutil.copytree(kept_of(crate), folder, symlinks=True, copy_function=linked)
+    def kept(self, crate, room):
+        """What a check of the crate begins with: the first with what `rt` kept of it, each later one, in a room of its own, with what
+        the first one kept, since several may run at once."""
+        first, own = self.room / "kept" / crate, Path(room) / "kept"
+        found, folder = (first, own) if crate in self.begun else (kept_of(crate), first)
+        if found.exists() and not folder.exists():
+            shutil.copytree(found, folder, symlinks=True, copy_function=linked)
         folder.mkdir(parents=True, exist_ok=True)
         return folder
 
-    def words(self, crate):
+    def words(self, crate, room):
         """The words of a check of the crate, by one processor."""
         of_kit = ["std", *(it for it in uses_of()[crate] if it not in uses_of())]
         found = {it: kit() / "rlibs" / f"{it}.rlib" for it in of_kit} | {it: self.library(it) for it in own_libraries(crate)}
@@ -97,7 +102,7 @@ class Bench:
         for folder in {kit() / "rlibs", *(self.library(it).parent for it in below(crate))}:
             words += ["-L", f"dependency={folder}"]
         words += ["--antt-project", kit() / "rattle/logic/antt-project.json", "--logic-built", kit() / "logic_built"]
-        return [*words, "--links", f"{crate}=", "--jobs", "1", "--incremental", self.kept(crate)]
+        return [*words, "--links", f"{crate}=", "--jobs", "1", "--incremental", self.kept(crate, room)]
 
     def say(self, verb, crate, texts, *more):
         """What a check or a build says of a copy of the crate with these texts. A file without one isn't in the copy."""
@@ -107,7 +112,9 @@ class Bench:
                     shutil.copytree(ROOT / "crates" / crate / part, Path(room) / part)
             for path, text in texts.items():
                 place(Path(room) / path, text)
-            return self.run([kit() / "bin/rattle", verb, *self.words(crate), *more], room, crate)
+            said = self.run([kit() / "bin/rattle", verb, *self.words(crate, room), *more], room, crate)
+            self.begun.add(crate)
+            return said
 
     def run(self, words, room, crate):
         """What a call says. Its processor time is added to that of its crate."""
@@ -116,7 +123,8 @@ class Bench:
             said = call.stdout.read()
             _, status, used = os.wait4(call.pid, 0)
             call.returncode = os.waitstatus_to_exitcode(status)
-        self.seconds[crate] = self.seconds.get(crate, 0) + used.ru_utime + used.ru_stime
+        with self.lock:
+            self.seconds[crate] += used.ru_utime + used.ru_stime
         return said
 
     def prove(self, crate):

@@ -1,9 +1,10 @@
-"""Rounds: edits of a crate that are made together, each of other functions, and one check of these functions."""
+"""Rounds: edits of a crate that are made together, each of other functions or of copies, and one check of these functions."""
 
 import re
-from dataclasses import dataclass, field
+from dataclasses import dataclass, field, replace
 
-from editing.bodies import applied
+from editing.bodies import applied, without_tactics
+from editing.copies import copied
 from editing.supposed import NO_ANSWER, STRAY, supposed
 from harness.counting import ROOT
 
@@ -20,26 +21,41 @@ class Round:
     """Edits of a crate, and the texts of its files with all of them."""
 
     crate: str
+    may_copy: bool = False
+    """Whether an edit may turn a copy of its function, where another one turns the function."""
+    given: list = field(default_factory=list)
     edits: list = field(default_factory=list)
+    """Those that were given, each as one of its function or of a copy."""
     texts: dict = field(default_factory=dict)
 
+    @property
+    def label(self):
+        return f"{self.crate}-{len(self.edits)}-{self.edits[0].file.stem}"
+
     def takes(self, edit, folder):
-        """Makes the edit too, unless it turns a function that another one turns, or its text isn't there once."""
+        """Makes the edit too, unless it turns a function that another one turns and no copy of it, or its text isn't there once."""
         if any(edit.functions & other.functions for other in self.edits):
+            made = self.may_copy and copied(edit, self.texts, len(self.edits))
+        else:
+            texts = applied(self.texts, edit.changes, folder)
+            made = texts and (edit, texts)
+        if not made:
             return False
-        texts = applied(self.texts, edit.changes, folder)
-        if texts is None:
-            return False
-        self.edits, self.texts = [*self.edits, edit], texts
+        self.given, self.edits, self.texts = [*self.given, edit], [*self.edits, made[0]], made[1]
         return True
 
+    def texts_for_check(self):
+        """The texts, in which no tactic is tried on the goals of a function whose answers may tell of its edit."""
+        answered = [it.functions for it in self.edits if it.breaks_answer]
+        return without_tactics(self.crate, self.texts, frozenset().union(*answered))
 
-def rounds_of(crate, edits):
+
+def rounds_of(crate, edits, may_copy=False):
     """The edits in as few rounds as they go, the first come first."""
     found, folder = [], ROOT / "crates" / crate
     for edit in edits:
         if not any(it.takes(edit, folder) for it in found):
-            found.append(Round(crate))
+            found.append(Round(crate, may_copy))
             if not found[-1].takes(edit, folder):
                 raise ValueError(f"{edit.label}: its text isn't in its file exactly once")
     return found
@@ -82,8 +98,8 @@ def is_function(told, function):
 
 
 def complaints(edit, said):
-    """What is wrong with an edit, by what a check of its round said."""
-    own = unproved(said)
+    """What is wrong with an edit, by what a check of its round said: of answers alone, where these may tell of it."""
+    own = wrong_answers(said, False) if edit.breaks_answer else unproved(said)
     if not re.search(r"^only=", said, re.M):
         yield f"it wasn't checked: {next((line for line in said.splitlines() if 'error' in line), said[-300:])}"
     elif not any(is_function(it, function) for it in own for function in edit.functions):
@@ -92,11 +108,14 @@ def complaints(edit, said):
 
 
 def left_of(it, edits):
-    """The rounds in which those of a round's edits are tried again that weren't refused in it. They are made together where others
-    were refused, and else one by one."""
-    shares = [edits] if len(edits) < len(it.edits) else [[edit] for edit in edits]
-    for share in shares:
-        yield from rounds_of(it.crate, share)
+    """Those of a round's edits that weren't refused in it, as they are tried again, in lists of what is made together. Where one turned
+    a copy, or answers alone were looked at, all turn their functions, and all goals are searched. Else they go on without those that
+    were refused, or one by one."""
+    if any(edit.breaks_answer or edit not in it.edits for edit in edits):
+        return [[replace(edit, breaks_answer=False) for edit in edits]]
+    if len(edits) < len(it.edits):
+        return [edits] if edits else []
+    return [[edit] for edit in edits] if len(edits) > 1 else []
 
 
 def said_of(it, turned, bench):
@@ -104,26 +123,22 @@ def said_of(it, turned, bench):
     strays, only = bench.strays.setdefault(it.crate, set()), [word for name in turned for word in ("--only", name)]
     names = set().union(*(edit.names for edit in it.edits))
     while True:
-        proofs = supposed(it.crate, turned, names, strays)
-        said = bench.say("check", it.crate, it.texts | proofs, "--allow-holes", *only)
+        proofs = supposed(it.crate, turned, names, strays, it.texts)
+        said = bench.say("check", it.crate, it.texts_for_check() | proofs, "--allow-holes", *only)
         if strays.issuperset(STRAY.findall(said)):
             return said
         strays.update(STRAY.findall(said))
 
 
 def outcomes(it, bench, told=None):
-    """Each edit of a round, and what is wrong with it, by a check of the functions that the round turns, and of those that they call.
-    An edit that isn't refused is tried again without those that were: goals that wait for a callee's proof aren't looked at where the
-    callee is edited too. What a check says is kept in a folder `told`, if there is one."""
+    """The edits of a round that need no more checks, each with what is wrong with it, by a check of the functions that the round turns,
+    and of those that they call, and lists of the others. Goals that wait for a callee's proof aren't looked at where the callee is
+    edited too, so these are tried again. What a check says is kept in a folder `told`, if there is one."""
     turned = sorted(set().union(*(edit.functions for edit in it.edits)))
     said = said_of(it, turned, bench)
     if told:
         told.mkdir(parents=True, exist_ok=True)
-        (told / f"{it.crate}-{len(it.edits)}-{it.edits[0].file.stem}.txt").write_text(said)
-    found = [(edit, list(complaints(edit, said))) for edit in it.edits]
-    if len(found) == 1:
-        yield from found
-        return
-    yield from ((edit, wrong) for edit, wrong in found if not wrong)
-    for again in left_of(it, [edit for edit, wrong in found if wrong]):
-        yield from outcomes(again, bench, told)
+        (told / f"{it.label}.txt").write_text(said)
+    found = [(given, list(complaints(edit, said))) for given, edit in zip(it.given, it.edits)]
+    again = left_of(it, [edit for edit, wrong in found if wrong])
+    return [(edit, wrong) for edit, wrong in found if not again or not wrong], again

@@ -12,7 +12,7 @@ function that is none any more.
 import re
 from functools import cache
 
-from editing.bodies import CONSTANT, functions_in
+from editing.bodies import CONSTANT, folder_of, functions_in
 from editing.libraries import has_kept
 from harness.counting import ROOT
 
@@ -51,10 +51,6 @@ def callers(crate, names):
     return found
 
 
-def folder_of(function):
-    return "proofs/" + function.replace("::", "/")
-
-
 def hole(crate, function):
     """A whole proof of a function that leaves everything open."""
     home, name = function.replace("::", "."), function.rpartition("::")[2]
@@ -71,15 +67,15 @@ def holes(crate, functions):
     return texts
 
 
-def supposed(crate, turned, names, strays):
+def supposed(crate, turned, names, strays, made):
     """The texts of the files of `proofs/` that a check is given, and no text of those that it isn't, by their paths. `names` are
-    those by which bodies may call or read what is edited. A folder is one of the strays where rattle takes no such file, as where the
+    those by which bodies may call or read what is edited. Some texts were `made` before, as those of copies. A folder is one of the strays where rattle takes no such file, as where the
     function stands in a macro."""
     others = callers(crate, names) if has_kept(crate) else names_by_function(crate)
     texts = holes(crate, [it for it in sorted(others) if it not in turned and folder_of(it) not in strays])
     for folder in {folder_of(function) for function in turned}.difference(strays):
         file = ROOT / "crates" / crate / folder / "Answers.antt"
         if not file.with_name("Proof.antt").exists():
-            answers = file.read_text() if file.exists() else ""
+            answers = made.get(f"{folder}/Answers.antt") or (file.read_text() if file.exists() else "")
             texts[f"{folder}/Answers.antt"] = f"{answers}\n{NO_ANSWER} : Type 0\n{NO_ANSWER} = tt\n"
     return texts
