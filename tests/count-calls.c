@@ -3,8 +3,8 @@
 
    COUNTS: a file of six numbers of 8 bytes: calls of read, calls of write, bytes moved, ends, threads, files. ON: the descriptor.
    EVERY: where it is given, each call but one in so many is interrupted, and that one moves a byte. ERROR: where it is given, the
-   first call fails with the error of this number, and none behind it. MOST: where it is given, no more threads than so many can
-   be made. */
+   first call fails with the error of this number, and none behind it. AT: where it is given, the call of this number is taken for
+   the first, and those before it are only counted. MOST: where it is given, no more threads than so many can be made. */
 #define _GNU_SOURCE
 #include <dlfcn.h>
 #include <errno.h>
@@ -19,7 +19,7 @@
 enum { READS, WRITES, BYTES, ENDS, THREADS, FILES, NUMBERS };
 
 static int64_t nowhere[NUMBERS], *counts = nowhere;
-static long every, most = -1;
+static long every, at = 1, most = -1;
 static int on = -1, error;
 
 static long told(const char *name, long otherwise)
@@ -42,14 +42,15 @@ __attribute__((constructor)) static void ask(void)
     on = told("ON", -1);
     every = told("EVERY", 0);
     error = told("ERROR", 0);
+    at = told("AT", 1);
     most = told("MOST", -1);
 }
 
 /* How many bytes a call of this kind may move: all, one, or none where it is interrupted. */
 static size_t allowed(int kind, size_t size)
 {
-    int64_t number = __atomic_add_fetch(&counts[kind], 1, __ATOMIC_SEQ_CST);
-    if (every == 0)
+    int64_t number = __atomic_add_fetch(&counts[kind], 1, __ATOMIC_SEQ_CST) - (at - 1);
+    if (every == 0 || number < 1)
         return size;
     return size != 0 && number % every == 0;
 }
@@ -57,7 +58,7 @@ static size_t allowed(int kind, size_t size)
 /* Whether this call of its kind fails. */
 static int fails(int kind)
 {
-    if (error == 0 || __atomic_load_n(&counts[kind], __ATOMIC_SEQ_CST) != 1)
+    if (error == 0 || __atomic_load_n(&counts[kind], __ATOMIC_SEQ_CST) != at)
         return 0;
     errno = error;
     return 1;

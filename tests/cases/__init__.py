@@ -3,8 +3,8 @@
 from cases.batches import batches, items
 from cases.calls import CALLS
 from cases.commands import commands, examples, orders, paths, spaced_paths, wrong_words
-from cases.debugging import faults, holds_little, long_sessions, reads_no_script_before_its_start, scripts
-from cases.debugging import starts_before_its_script
+from cases.debugging import faults, holds_little, long_sessions, reads_its_script_before_it_prints
+from cases.debugging import reads_no_script_before_its_start, scripts, starts_before_its_script
 from cases.depot import depots
 from cases.helps import help_asked_for
 from cases.inputs import input_that_stays_open, input_that_tells_enough
@@ -58,6 +58,7 @@ SUBJECTS = [
 INTERPLAYS = [
     starts_before_its_script,
     reads_no_script_before_its_start,
+    reads_its_script_before_it_prints,
     holds_little,
     input_that_stays_open,
     input_that_tells_enough,

@@ -8,19 +8,20 @@ import signal
 import subprocess
 import tempfile
 from concurrent.futures import ThreadPoolExecutor
+from itertools import product
 from pathlib import Path
 
 from cases.commands import MISTAKE
 from cases.debugging import BAD, EVENTS, MAX_SCRIPT, NOBODY, SECOND, START, UNKNOWN
 from cases.helps import ALL
-from cases.inputs import REPLAYED
-from cases.replays import A, B, P, batch, event, identifier, item
+from cases.inputs import ENOUGH, REPLAYED
+from cases.replays import A, B, P, batch, event, history, identifier, item, replayed, turn
 from cases.serve import NO_CONNECTION, SERVED
 from cases.streams import LONG, LONG_FILES
-from cases.tables import ONE_ROW, ONE_ROW_PRINTED, PROFILE, table_printed
+from cases.tables import MOST_ROWS, ONE_ROW, ONE_ROW_PRINTED, PROFILE, table_file, table_printed
 from cases.vehicles import journal, listed, not_a_journal, registered
 from harness.building import Counting
-from harness.case import MAX_BYTES, NOT_TEXT, OUTPUT, Case, cannot_read, not_a_batch, not_a_table, padded, told
+from harness.case import MAX_BYTES, MAX_ITEMS, NOT_TEXT, OUTPUT, Case, cannot_read, not_a_batch, not_a_table, padded, told
 from harness.running import SECONDS, differences, outcome
 
 MOST_CALLS = 5000000
@@ -31,9 +32,17 @@ IN_A_ROW = 1000
 INPUT, OUT, FAULTS, FILE = range(4)
 """The descriptors of the standard streams, and of the first file that is opened."""
 MOVED = MOST_CALLS // EVERY
-FILES = {"events.json": EVENTS, "table.json": ONE_ROW, "journal": journal(registered(A)), "faulty": "7\n{\n7\n7\n"}
+FILES = {
+    "events.json": EVENTS,
+    "table.json": ONE_ROW,
+    "journal": journal(registered(A)),
+    "faulty": "7\n{\n7\n7\n",
+    # of which more is printed than a page
+    **{f"long-{name}": text for name, text in LONG_FILES.items()},
+}
 DEBUG = f"debug events.json {P} {A}"
 STARTED = f"events 2 refused 0\n{START}"
+NOTHING = "accepted 0 refused 0\n"
 
 # On which descriptor calls are interrupted, and what comes of it: the status, the output and the faults.
 READS = [
@@ -44,6 +53,11 @@ READS = [
     ("replay --workers 4 events.json", FILE, (3, "", cannot_read("events.json"))),
     ("table --table table.json", FILE, (3, "", cannot_read("table.json"))),
     (DEBUG, FILE, (3, "", cannot_read("events.json"))),
+    # a file has its calls to itself, also beside a table's
+    *[
+        (f"{words} --table table.json", FILE + 1, (3, "", cannot_read("events.json")))
+        for words in ("replay events.json", "replay --lines events.json", "replay --workers 4 events.json", DEBUG)
+    ],
     # a fault of the lines before isn't told
     ("replay --lines faulty", FILE, (3, "", cannot_read("faulty"))),
     # a script ends where reading fails: with `next`, which has as many bytes as came
@@ -54,6 +68,9 @@ WRITES = [
     ("replay events.json", OUT, (3, "0 ok non_contactable"[:MOVED], OUTPUT)),
     (DEBUG, OUT, (3, STARTED[:MOVED], OUTPUT)),
     ("vehicles journal", OUT, (3, "vehicle"[:MOVED], OUTPUT)),
+    ("table --table long-table.json", OUT, (3, table_printed(MOST_ROWS)[:MOVED], OUTPUT)),
+    ("replay long-events.json", OUT, (3, "0 ok available"[:MOVED], OUTPUT)),
+    ("vehicles long-journal", OUT, (3, "vehicle"[:MOVED], OUTPUT)),
     ("serve --port 0 --each 0", OUT, (3, "listening"[:MOVED], OUTPUT)),
     ("replay missing.json", FAULTS, (3, "", cannot_read("missing.json")[:MOVED])),
     (f"debug events.json {P} {B}", FAULTS, (1, "", NOBODY[:MOVED])),
@@ -61,11 +78,41 @@ WRITES = [
     ("vehicles faulty", FAULTS, (3, "", not_a_journal("form")[:MOVED])),
     ([b"\xff"], FAULTS, (2, "", NOT_TEXT[:MOVED])),
 ]
+# What is read on a descriptor to its end, and what comes of it: as a terminal, it is asked for its end once.
+OPEN_JOURNAL = journal(registered(A), end="")
+LISTED = f"vehicle {P} {A} removed 0\nregistrations 1 events 0\n"
+SHORT = [
+    ("replay -", INPUT, "[]", (0, NOTHING, "")),
+    ("replay --lines -", INPUT, "[]", (1, "0 fault not_object\naccepted 0 refused 1\n", "")),
+    # behind a fault of the lines, too
+    ("replay --lines short", FILE, "{\n", (3, "", not_a_batch("not_json 0"))),
+    ("replay short", FILE, "[]", (0, NOTHING, "")),
+    ("replay --workers 4 -", INPUT, "[]", (0, NOTHING, "")),
+    ("replay --workers 4 short", FILE, "[]", (0, NOTHING, "")),
+    ("table --table short", FILE, ONE_ROW, (0, ONE_ROW_PRINTED, "")),
+    (DEBUG, INPUT, "[]", (0, STARTED + UNKNOWN, "")),
+    (DEBUG, INPUT, "quit\nstep\n", (0, STARTED, "")),
+    ("vehicles -", INPUT, OPEN_JOURNAL, (0, LISTED, "")),
+    ("vehicles short", FILE, OPEN_JOURNAL, (0, LISTED, "")),
+    # nothing but an end
+    ("replay -", INPUT, "", (3, "", not_a_batch("not_json"))),
+    ("replay short", FILE, "", (3, "", not_a_batch("not_json"))),
+    ("replay --lines -", INPUT, "", (0, NOTHING, "")),
+    ("table --table short", FILE, "", (3, "", not_a_table("not_json"))),
+    (DEBUG, INPUT, "", (0, STARTED, "")),
+    ("vehicles -", INPUT, "", (3, "", not_a_journal("form"))),
+    ("vehicles short", FILE, "", (3, "", not_a_journal("form"))),
+]
 
 
-def counted(program, case, on=-1, every=0, threads=-1, error=0, seconds=SECONDS):
+def files_of(words):
+    """The files at hand that the words name."""
+    return {name: text for name, text in FILES.items() if name in words}
+
+
+def counted(program, case, on=-1, every=0, threads=-1, error=0, at=1, seconds=SECONDS):
     """What is wrong with the end of a run of the case, and its counts."""
-    with Counting(on, every, threads, error) as counting:
+    with Counting(on, every, threads, error, at) as counting:
         case.env = counting.env
         return list(differences(case, *outcome(program, case, seconds))), counting.counts()
 
@@ -73,14 +120,15 @@ def counted(program, case, on=-1, every=0, threads=-1, error=0, seconds=SECONDS)
 def interrupted(program, words, on, end, wanted):
     """What is wrong with a run where calls on a descriptor are interrupted, and one in so many isn't."""
     status, out, faults = end
-    case = Case(words, status=status, out=out, faults=faults, given="next\n" * MOVED, files=FILES)
+    case = Case(words, status=status, out=out, faults=faults, given="next\n" * MOVED, files=files_of(words))
     wrong, counts = counted(program, case, on, EVERY)
     wrong += [f"{counts}, in place of {MOST_CALLS} {name}" for name in wanted if getattr(counts, name) != MOST_CALLS]
     return [f"{words}, descriptor {on} interrupted: {text}" for text in wrong]
 
 
 def interrupted_calls(program):
-    """A file, a script and a line are given up after 5000000 calls, those among them that went well: no sooner, and no later."""
+    """A file, a script, a line and a page of lines are given up after 5000000 calls, those among them that went well: no sooner,
+    and no later."""
     runs = [(*it, ["reads"]) for it in READS] + [(*it, ["writes"]) for it in WRITES]
     with ThreadPoolExecutor(os.cpu_count()) as pool:
         for wrong in pool.map(lambda it: interrupted(program, *it), runs):
@@ -88,17 +136,19 @@ def interrupted_calls(program):
 
 
 def interrupted_in_a_row(program):
-    """A journal is given up after 1000 reads in a row that are interrupted. Where one of them isn't, all of it is read, also by
-    more than 5000000 calls."""
-    text = journal(padded(registered(A), MOST_CALLS // IN_A_ROW))
+    """A journal is given up after 1000 reads in a row that are interrupted, at its start or behind a read that gave its requests.
+    Where one of them isn't, all of it is read, also by more than 5000000 calls."""
+    closed = journal(padded(registered(A), MOST_CALLS // IN_A_ROW))
     for name, on in (("journal", FILE), ("-", INPUT)):
-        whole = listed(text, [(A, "removed", 0)], words=f"vehicles {name}", given=text)
-        given_up = told(whole.words, cannot_read(name), files=whole.files, given=text)
-        for case, every, wanted in ((whole, IN_A_ROW, IN_A_ROW * len(text)), (given_up, IN_A_ROW + 1, IN_A_ROW)):
-            wrong, counts = counted(program, case, on, every)
-            if counts.reads != wanted:
-                wrong.append(f"{counts}, in place of {wanted} reads")
-            yield from (f"{case.words}, one read in {every} gives a byte: {complaint}" for complaint in wrong)
+        for text, at, asked in ((closed, 1, len(closed)), (OPEN_JOURNAL, 2, 1)):
+            whole = listed(text, [(A, "removed", 0)], words=f"vehicles {name}", given=text)
+            given_up = told(whole.words, cannot_read(name), files=whole.files, given=text)
+            for case, every, hindered in ((whole, IN_A_ROW, IN_A_ROW * asked), (given_up, IN_A_ROW + 1, IN_A_ROW)):
+                wrong, counts = counted(program, case, on, every, at=at)
+                if counts.reads != at - 1 + hindered:
+                    wrong.append(f"{counts}, in place of {at - 1 + hindered} reads")
+                run = f"{case.words}, one read in {every} from read {at} on isn't interrupted"
+                yield from (f"{run}: {complaint}" for complaint in wrong)
 
 
 ERRORS = [errno.EIO, errno.EAGAIN, errno.EBADF, errno.ENOSPC, errno.EPIPE, errno.ETIMEDOUT, errno.ENOMEM, errno.EINVAL]
@@ -112,22 +162,63 @@ FAILING_READS = [
 FAILING_WRITES = [(words, on, (status, "", OUTPUT if on == OUT else "")) for words, on, (status, _, _) in WRITES]
 
 
-def failed(program, words, on, end, name, error):
-    """What is wrong with a run where the first call on a descriptor fails: none is to be made behind it."""
+def cut_off(words, on, end):
+    """What comes of a file whose bytes were read, but not their end: it can't be read, but a script ends there."""
+    return end if words == DEBUG else (3, "", cannot_read("-" if on == INPUT else "short"))
+
+
+def failed(program, words, on, text, end, name, at, error):
+    """What is wrong with a run where the call of this number on a descriptor fails: none is to be made behind it."""
     status, out, faults = end
-    case = Case(words, status=status, out=out, faults=faults, given="next\n", files=FILES)
-    wrong, counts = counted(program, case, on, error=error)
-    if getattr(counts, name) != 1:
-        wrong.append(f"{counts}, in place of one of {name}")
-    return [f"{words}, {os.strerror(error)} on descriptor {on}: {text}" for text in wrong]
+    case = Case(words, status=status, out=out, faults=faults, given=text, files={**files_of(words), "short": text})
+    wrong, counts = counted(program, case, on, error=error, at=at)
+    if getattr(counts, name) != at:
+        wrong.append(f"{counts}, in place of {at} {name}")
+    return [f"{words}, {os.strerror(error)} at call {at} on descriptor {on}: {complaint}" for complaint in wrong]
 
 
 def failed_calls(program):
-    """A call that fails is made again for no error but an interruption: the file, the script or the line is given up at once."""
-    runs = [(*it, "reads", error) for it in FAILING_READS for error in ERRORS]
-    runs += [(*it, "writes", error) for it in FAILING_WRITES for error in ERRORS]
+    """A call that fails is made again for no error but an interruption: the file, the script, the line or the page is given up at
+    once, also where calls before gave all of the text, or the start of a session went out."""
+    runs = [(words, on, "next\n", end, "reads", 1) for words, on, end in FAILING_READS]
+    runs += [(words, on, "next\n", end, "writes", 1) for words, on, end in FAILING_WRITES]
+    runs += [(words, on, text, cut_off(words, on, end), "reads", 2) for words, on, text, end in SHORT if text]
+    runs.append((DEBUG, OUT, "next\n", (3, STARTED, OUTPUT), "writes", 2))
     with ThreadPoolExecutor(os.cpu_count()) as pool:
-        for wrong in pool.map(lambda it: failed(program, *it), runs):
+        for wrong in pool.map(lambda it: failed(program, *it[0], it[1]), product(runs, ERRORS)):
+            yield from wrong
+
+
+BY_BYTES = 75
+"""Of so many calls one moves a byte of a page. That leaves the longest page fewer than 5000000."""
+ITEMS, ENTRIES, VEHICLES, CHAINS = 4000, MOST_ROWS[:48], 850, 3500
+"""Of each command as much as is printed on two pages, by more calls than a page may take."""
+
+
+def on_two_pages():
+    """Runs that print more than a page."""
+    states = [turn(number)[0] for number in range(ITEMS)]
+    events = batch(history(A, 0, ITEMS))
+    yield replayed(events, [f"ok {state}" for state in states], [(A, states[-1], ITEMS)])
+    yield Case("table --table long", out=table_printed(ENTRIES), files={"long": table_file(ENTRIES)})
+    devices = [identifier(1, number) for number in range(VEHICLES)]
+    yield listed(journal(*map(registered, devices)), [(device, "removed", 0) for device in devices])
+    chains = "removed non_contactable\n" * CHAINS
+    yield Case(DEBUG, out=STARTED + chains, given="chain\n" * CHAINS, files=files_of(DEBUG))
+
+
+def by_bytes(program, case):
+    """What is wrong with a run whose pages go out byte by byte."""
+    wrong, counts = counted(program, case, OUT, BY_BYTES)
+    if counts.writes != BY_BYTES * len(case.out) or counts.writes <= MOST_CALLS:
+        wrong.append(f"{counts}, in place of {BY_BYTES} writes for each byte, and more than {MOST_CALLS} in all")
+    return [f"{case.words}, {complaint}" for complaint in wrong]
+
+
+def pages_by_bytes(program):
+    """Each page has 5000000 calls of its own, and is gone on with behind a byte that went out, and behind an interruption."""
+    with ThreadPoolExecutor(os.cpu_count()) as pool:
+        for wrong in pool.map(lambda case: by_bytes(program, case), on_two_pages()):
             yield from wrong
 
 
@@ -155,6 +246,9 @@ FAR = [
     ("replay --lines -", INPUT, LINES, MAX_BYTES + 1, TOO_LONG),
     ("replay long", FILE, SPACES, MAX_BYTES + 1, TOO_LONG),
     ("replay --lines long", FILE, LINES, MAX_BYTES + 1, TOO_LONG),
+    # behind a fault of the lines, too, since it isn't told where the file can't be read
+    ("replay --lines -", INPUT, "7\n" * (MAX_ITEMS + 1) + LINES, MAX_BYTES + 1, (3, "", not_a_batch("too_many"))),
+    ("replay --lines long", FILE, "{\n" + LINES, MAX_BYTES + 1, (3, "", not_a_batch("not_json 0"))),
     ("replay --workers 4 -", INPUT, SPACES, MAX_BYTES + 1, TOO_LONG),
     ("replay --workers 4 long", FILE, SPACES, MAX_BYTES + 1, TOO_LONG),
     ("table --table long", FILE, SPACES, MAX_BYTES + 1, (3, "", not_a_table("too_long"))),
@@ -163,25 +257,11 @@ FAR = [
 ]
 
 
-# What is read on a descriptor to its end, and what comes of it: as a terminal, it is asked for its end once.
-OPEN_JOURNAL = journal(registered(A), end="")
-LISTED = f"vehicle {P} {A} removed 0\nregistrations 1 events 0\n"
-SHORT = [
-    ("replay -", INPUT, "[]", (0, "accepted 0 refused 0\n", "")),
-    ("replay --lines -", INPUT, "[]", (1, "0 fault not_object\naccepted 0 refused 1\n", "")),
-    ("replay short", FILE, "[]", (0, "accepted 0 refused 0\n", "")),
-    ("replay --workers 4 -", INPUT, "[]", (0, "accepted 0 refused 0\n", "")),
-    ("replay --workers 4 short", FILE, "[]", (0, "accepted 0 refused 0\n", "")),
-    ("table --table short", FILE, ONE_ROW, (0, ONE_ROW_PRINTED, "")),
-    (DEBUG, INPUT, "[]", (0, STARTED + UNKNOWN, "")),
-    (DEBUG, INPUT, "quit\nstep\n", (0, STARTED, "")),
-    ("vehicles -", INPUT, OPEN_JOURNAL, (0, LISTED, "")),
-    ("vehicles short", FILE, OPEN_JOURNAL, (0, LISTED, "")),
-]
 # What is read of a journal, and not to its end: up to a fault, or to a gate that isn't open.
 MIDWAY = [
-    *[(f"vehicles {name}", on, journal(registered(A)), (0, LISTED, "")) for name, on in (("-", INPUT), ("short", FILE))],
-    *[(f"vehicles {name}", on, " {}\n", (3, "", not_a_journal("form"))) for name, on in (("-", INPUT), ("short", FILE))],
+    (f"vehicles {name}", on, text, end)
+    for name, on in (("-", INPUT), ("short", FILE))
+    for text, end in [(journal(registered(A)), (0, LISTED, "")), *ENOUGH]
 ]
 
 
@@ -191,7 +271,7 @@ def read_so_far(program):
     runs = [(words, on, text, (wanted, 0), end) for words, on, text, wanted, end in FAR]
     runs += [(words, on, text, (len(text), ends), end) for ends, some in enumerate((MIDWAY, SHORT)) for words, on, text, end in some]
     for words, on, text, wanted, (status, out, faults) in runs:
-        files = {**FILES, "long": text, "short": text}
+        files = {**files_of(words), "long": text, "short": text}
         case = Case(words, status=status, out=out, faults=faults, given=text, files=files)
         wrong, counts = counted(program, case, on)
         if (counts.bytes, counts.ends) != wanted:
@@ -204,8 +284,16 @@ BEHIND = [
     (f"debug events.json {P} x", FILE, (2, "", BAD)),
     (f"debug events.json {P} x --table table.json", FILE, (2, "", BAD)),
     (f"debug events.json {P} x --table table.json", FILE + 1, (2, "", BAD)),
+    (f"debug events.json x {A}", FILE, (2, "", BAD)),
+    (f"debug events.json x {A} --table table.json", FILE, (2, "", BAD)),
+    (f"debug events.json x {A} --table table.json", FILE + 1, (2, "", BAD)),
     *[
-        (f"{words} --table faulty", FILE + 1, (3, "", not_a_table("not_json")))
+        (f"{words} --table {name}", on, (3, "", told_first))
+        for name, on, told_first in (
+            ("faulty", FILE + 1, not_a_table("not_json")),
+            # it takes no descriptor
+            ("missing", FILE, cannot_read("missing")),
+        )
         for words in (
             "replay events.json",
             "replay --lines events.json",
@@ -218,10 +306,10 @@ BEHIND = [
 
 
 def unread_files(program):
-    """Of a file nothing is read behind a problem that is looked for first, though each one that is named was opened."""
+    """Of a file nothing is read behind a problem that is looked for first, though each one that is named was opened, or tried."""
     for words, on, (status, out, faults) in BEHIND:
-        wrong, counts = counted(program, Case(words, status=status, out=out, faults=faults, files=FILES), on)
-        named = sum(word in FILES for word in words.split())
+        wrong, counts = counted(program, Case(words, status=status, out=out, faults=faults, files=files_of(words)), on)
+        named = sum(word in (*FILES, "missing") for word in words.split())
         if (counts.reads, counts.files) != (0, named):
             wrong.append(f"{counts}, in place of {named} files, and no read on descriptor {on}")
         yield from (f"{words}: {text}" for text in wrong)
@@ -305,6 +393,7 @@ CALLS = [
     interrupted_calls,
     interrupted_in_a_row,
     failed_calls,
+    pages_by_bytes,
     texts_of_clap,
     read_so_far,
     unread_files,

@@ -191,7 +191,17 @@ def paths():
     """Files that can't be read, whose paths are told whole, and files named -."""
     here = {"folder": FOLDER, "events.json": "[]", "-": ONE_ROW}
     for path in UNREADABLE:
-        for words in (["replay", path], ["table", "--table", path], ["replay", "events.json", "--table", path]):
+        for words in (
+            ["replay", path],
+            ["replay", "--lines", path],
+            ["vehicles", path],
+            ["debug", path, P, A],
+            ["table", "--table", path],
+            ["replay", "events.json", "--table", path],
+            ["vehicles", "events.json", "--table", path],
+            ["debug", "events.json", P, A, "--table", path],
+            ["serve", "--port", "0", "--each", "0", "--table", path],
+        ):
             yield told(words, cannot_read(path), files=here)
     for stdin in ("/", CLOSED):
         yield told("replay -", cannot_read("-"), stdin=stdin)

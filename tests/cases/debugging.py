@@ -5,7 +5,8 @@ import re
 import select
 import subprocess
 import tempfile
-from contextlib import contextmanager
+import threading
+from contextlib import contextmanager, suppress
 from pathlib import Path
 
 from cases.replays import A, ANY_RUNS, B, P, batch, event, history, turn
@@ -147,6 +148,39 @@ def starts_before_its_script(program):
         rest, _ = child.communicate(b"step\n", timeout=60)
         if (child.returncode, rest) != (0, STEPPED.encode()):
             yield f"status {child.returncode} and {rest!r} behind `step`"
+
+
+CHAINS = MAX_SCRIPT // len("chain\n")
+"""As many of the command as a script may have: these bytes are more than a pipe holds, and what is printed of them is, too."""
+SECONDS, QUIET = 60, 1
+"""How long a script may take to be read, and what is printed to come; and how long is listened for what comes too early."""
+
+
+def write_script(child, script):
+    """Writes it whole. The process may end before."""
+    with suppress(BrokenPipeError):
+        child.stdin.write(script)
+
+
+def reads_its_script_before_it_prints(program):
+    """A client that writes all of a long script before it reads isn't kept waiting, and nothing is printed before the script's
+    end."""
+    with begun(program, EXAMPLE.with_suffix(".json"), (2, 0)) as (child, wrong):
+        yield from wrong
+        writer = threading.Thread(target=write_script, args=(child, b"chain\n" * CHAINS))
+        writer.start()
+        writer.join(SECONDS)
+        if writer.is_alive():
+            child.kill()
+            writer.join()
+            yield f"not all of the script was read within {SECONDS} s, while nobody read what is printed"
+            return
+        if select.select([child.stdout], [], [], QUIET)[0]:
+            yield f"{child.stdout.read(100)!r} before the end of the script"
+        rest, _ = child.communicate(timeout=SECONDS)
+        wanted = b"removed non_contactable\n" * CHAINS
+        if (child.returncode, rest) != (0, wanted):
+            yield f"status {child.returncode} and {len(rest)} bytes behind the script, in place of {len(wanted)}"
 
 
 MOST_GROWTHS = 1000

@@ -8,7 +8,7 @@ from cases.helps import ALL, SERVE
 from cases.replays import A, B, P
 from cases.serve import NO_CONNECTION, SERVED
 from cases.tables import ONE_ROW, ONE_ROW_PRINTED, PROFILE, table_printed
-from cases.vehicles import journal, listed, not_a_journal, registered
+from cases.vehicles import LONG, journal, listed, not_a_journal, registered
 from harness.building import no_random_numbers
 from harness.case import NO_STREAMS, OPEN, OUTPUT, RANDOM, SOME, Case, cannot_read, not_a_batch, not_a_table, told
 from harness.running import differences, label, outcome, start
@@ -17,6 +17,13 @@ from harness.texts import as_bytes
 SECONDS = 60
 """How long a run may take that waits for nothing."""
 REPLAYED = f"0 ok non_contactable\n1 ok available\nvehicle {P} {A} available 2\naccepted 2 refused 0\n"
+BESIDE_TABLES = [
+    "table",
+    *[f"replay {options}-" for options in ("", "--lines ", "--workers 4 ")],
+    "vehicles -",
+    *[f"debug {name} {P} {A}" for name in ("events.json", "-")],
+]
+"""Words of commands that look at a table file first."""
 FILES = {"events.json": EVENTS, "table.json": ONE_ROW, "bad": "7", "journal": journal(registered(A))}
 
 
@@ -34,13 +41,13 @@ def unread():
     yield Case("replay --lines events.json", status=1, out="0 fault not_object\naccepted 0 refused 1\n", files={"events.json": "7"})
     yield listed(journal(registered(A)), [(A, "removed", 0)])
     yield Case(NO_CONNECTION, out=SERVED)
-    for words in ("table", "replay -", "replay --workers 4 -", "vehicles -", f"debug events.json {P} {A}", f"debug - {P} {A}"):
-        words += " --table bad"
-        yield told(words, not_a_table("not_rows"), files=FILES)
+    for words in BESIDE_TABLES:
+        yield told(f"{words} --table bad", not_a_table("not_rows"), files=FILES)
+        yield told(f"{words} --table missing", cannot_read("missing"), files=FILES)
     yield told("replay bad", not_a_batch("not_list"), files=FILES)
     yield told("vehicles bad", not_a_journal("form"), files=FILES)
     yield told("vehicles -", RANDOM, env=no_random_numbers())
-    for words in ("table --table missing", "replay missing", "replay --lines missing", "vehicles missing", f"debug missing {P} {A}"):
+    for words in ("replay missing", "replay --lines missing", "vehicles missing", f"debug missing {P} {A}"):
         yield told(words, cannot_read("missing"))
     for words in (f"debug events.json {P} x", f"debug - {P} x"):
         yield Case(words, status=2, faults=BAD, files=FILES)
@@ -57,9 +64,13 @@ def input_that_stays_open(program):
 
 
 # Journals that tell enough before their end: by a first line that isn't the form's, by a later fault, by a gate that isn't open.
+# A line is too long as soon as it has a byte too many.
 ENOUGH = [
     (" {}\n", (3, b"", not_a_journal("form"))),
     (journal("{}", end=""), (3, b"", not_a_journal("bad_line 1"))),
+    (journal(registered(A), registered(A), end=""), (3, b"", not_a_journal("refused 2"))),
+    (f" {LONG}", (3, b"", not_a_journal("too_long 0"))),
+    (journal(registered(A), end=f" {LONG}"), (3, b"", not_a_journal("too_long 2"))),
     (journal(), (0, b"registrations 0 events 0\n", "")),
 ]
 

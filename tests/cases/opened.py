@@ -1,6 +1,6 @@
 """Files that the program opens: those that are named, each once, and pipes and devices as well."""
 
-from cases.calls import counted
+from cases.calls import NOTHING, counted
 from cases.debugging import EVENTS, SECOND, START
 from cases.helps import ALL
 from cases.inputs import REPLAYED
@@ -12,7 +12,6 @@ from harness.case import Case, not_a_batch, not_a_table, told
 
 SECONDS = 60
 """How long a run may take."""
-NOTHING = "accepted 0 refused 0\n"
 DEBUGGED = f"events 2 refused 0\n{START}{SECOND}"
 TAKEN = listed(journal(registered(A)), [(A, "removed", 0)]).out
 FILES = {"events.json": EVENTS, "none.json": "[]", "blank": "\n", "table.json": ONE_ROW, "journal": journal(registered(A))}

@@ -163,23 +163,37 @@ def begins_to_write(recording, before):
         time.sleep(0.01)
 
 
+def all_asked(port, requests):
+    """Clients that ask side by side, once all have their answers."""
+    clients = [Asked(port, request) for request in requests]
+    for client in clients:
+        client.join()
+    return clients
+
+
 def slow_answers(server, recording, one, other):
-    """What is wrong with answers about two vehicles, while an event of the first waits for a slow disk."""
+    """What is wrong with answers about two vehicles, while an event of the first waits for a slow disk. Two of the workers wait
+    for that, and the other two don't, also once they have answered."""
     before, begun = recording.number("writes"), time.monotonic()
     report_one = Asked(server.port, reporting(one, 0, 1))
     begins_to_write(recording, before)
-    asked = [Asked(server.port, looking(one)), Asked(server.port, looking(other)), Asked(server.port, listing(other))]
-    for client in [report_one, *asked]:
+    look_one = Asked(server.port, looking(one))
+    look_other, list_other = all_asked(server.port, [looking(other), listing(other)])
+    more = all_asked(server.port, [looking(other)] * (WORKERS - 2))
+    for client in (report_one, look_one):
         client.join()
-    look_one, look_other, list_other = asked
     yield from differing(report_one.answer, done(1), "the report")
     yield from differing(look_one.answer, answer(200, standing(one, 1)), "a look at the vehicle")
     yield from differing(look_other.answer, answer(200, standing(other, 0)), "a look at the other")
     yield from differing(list_other.answer, answer(200, {"events": []}), "a list of the other")
+    for client in more:
+        yield from differing(client.answer, answer(200, standing(other, 0)), "one more look at the other")
     if min(report_one.at, look_one.at) < begun + 2 * SLOW:
         yield f"the first vehicle's event was told after {min(report_one.at, look_one.at) - begun} s, before it was on the disk"
     if max(look_other.at, list_other.at) > begun + SLOW:
         yield f"answers about the other vehicle took {max(look_other.at, list_other.at) - begun} s"
+    if max(client.at for client in more) > begun + 2 * SLOW:
+        yield f"more of them took {max(client.at for client in more) - begun} s"
 
 
 def looks_while_others_report(program):

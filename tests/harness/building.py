@@ -67,11 +67,12 @@ files that were opened."""
 
 class Counting:
     """Calls on one descriptor that are counted, the threads that are asked for, and the files that are opened. Of so many calls,
-    if a number is given, one moves a byte, and the others are interrupted. Where an error is given, the first call fails with it. No
-    more threads can be made than are given, or any number for -1. As a context it has the environment of the run that it is for."""
+    if a number is given, one moves a byte, and the others are interrupted. Where an error is given, the first call fails with it.
+    The call of the number `at` is taken for the first, and those before it are only counted. No more threads can be made than are
+    given, or any number for -1. As a context it has the environment of the run that it is for."""
 
-    def __init__(self, on=-1, every=0, threads=-1, error=0):
-        self.how = {"ON": str(on), "EVERY": str(every), "MOST": str(threads), "ERROR": str(error)}
+    def __init__(self, on=-1, every=0, threads=-1, error=0, at=1):
+        self.how = {"ON": str(on), "EVERY": str(every), "MOST": str(threads), "ERROR": str(error), "AT": str(at)}
         self.shim = built("count-calls.so", "tests/count-calls.c", "-shared", "-fPIC", "-O1", "-ldl")
 
     def __enter__(self):

@@ -26,8 +26,8 @@ PLANTED = [
     ),
     (
         "mds_shard/vehicle.rt",
-        "let Ok(_) = names.insert(name)",
-        "let (Ok(_), 0..=999) = (names.insert(name), names.len())",
+        "let Ok((_, is_new)) = names.insert_full(name)",
+        "let (Ok((_, is_new)), 0..=999) = (names.insert_full(name), names.len())",
     ),
     (
         "mds_response/body.rt",

@@ -23,6 +23,9 @@ KEPT_SECONDS = 8
 """How long a silent client is kept at least."""
 TRIES = 5
 """How often something is tried that a busy machine may be too slow for."""
+SILENT = 600
+AT_ONCE = 3
+"""Within how many seconds a client is answered behind so many silent ones. Each of them would keep a worker for 0.01 seconds."""
 
 
 def silent(connection, seconds):
@@ -226,6 +229,20 @@ def working_beside_silent(program):
         yield from server.end()
 
 
+def behind_silent(program):
+    """Silent clients that came before another keep the only worker for a moment, and not each for one."""
+    with Server(program, 1) as server:
+        quiet = [connect(server.port) for _ in range(SILENT)]
+        start = time.monotonic()
+        yield from talk_over(server, registered(A))
+        waited = time.monotonic() - start
+        if waited > AT_ONCE:
+            yield f"answered {waited:.1f} seconds behind {SILENT} silent clients"
+        for connection in quiet:
+            connection.close()
+        yield from server.end()
+
+
 def answers_of(connections):
     """What is wrong with the answers to silent clients that went on, and looked."""
     for connection in connections:
@@ -245,4 +262,5 @@ CONNECTIONS = [
     hanging_up_before_a_long_answer,
     hanging_up_amid_its_answer,
     silent_beside_working,
+    behind_silent,
 ]

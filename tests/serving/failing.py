@@ -11,9 +11,9 @@ from cases.replays import A, B, P
 from harness.building import Counting
 from harness.case import SOCKET
 from model.http import error
-from serving.connections import SMALL_ROOM, long_list
+from serving.connections import EVENT, SMALL_ROOM, long_list
 from serving.http import Exchange, look, registered
-from serving.limits import moved_on
+from serving.limits import is_over, moved_on, resting
 from serving.server import Server
 from serving.talking import talk_over
 from serving.wire import connect, get, read_all
@@ -44,6 +44,10 @@ STOPPED = 1.5
 """For how many seconds a server is stopped: longer than one wait."""
 MOST_BESIDE = 30
 """Within how many seconds the last line comes, while an answer leaves that nobody reads."""
+LEAVING = 4
+"""For how many seconds behind the last line that answer isn't read still."""
+MOST_AT_ITS_END = 15
+"""Within how many seconds a server ends beside a client whose request isn't whole: it would be waited for 30."""
 
 
 def failing(errors, times=1):
@@ -92,9 +96,23 @@ def ends_at_once(program, env):
     with Server(program, 2, env=env) as server, contextlib.ExitStack() as client:
         with contextlib.suppress(ConnectionError):  # where it has ended
             client.enter_context(connect(server.port))
-        ended, wanted = server.ended(), (3, "", SOCKET)
-        if ended != wanted:
-            yield f"ended with {ended}, in place of {wanted}"
+        yield from ends_without_a_socket(server)
+
+
+def ends_without_a_socket(server):
+    """What is wrong with how a server ends of which a worker could take no further connection."""
+    ended, wanted = server.ended(), (3, "", SOCKET)
+    if ended != wanted:
+        yield f"ended with {ended}, in place of {wanted}"
+
+
+def others_beside_one_at_fault(program):
+    """Where one worker can take no further connection, the other one goes on until it is done. Then the server ends."""
+    for number in AT_FAULT:
+        with Server(program, 2, workers=2, env=failing([number])) as server:
+            yield from talk_over(server, registered(A))
+            yield from talk_over(server, look(A, "removed", 0, None))
+            yield from ends_without_a_socket(server)
 
 
 def stopped_for_a_while(program):
@@ -110,7 +128,7 @@ def stopped_for_a_while(program):
 
 
 def last_line_before_the_last_answer(program):
-    """The last line comes while an answer still leaves, with a journal and without one."""
+    """The last line comes while an answer still leaves, with a journal and without one. It is waited for at rest."""
     with tempfile.TemporaryDirectory() as folder:
         for journal in (None, Path(folder, "journal")):
             yield from last_line_amid_an_answer(program, journal)
@@ -128,12 +146,33 @@ def last_line_amid_an_answer(program, journal):
             seconds = time.monotonic() - start
             if line != wanted or seconds > MOST_BESIDE:
                 yield f"the last line was {line!r} after {seconds:.1f} s, in place of {wanted!r} at once"
+            yield from resting(server, LEAVING, "the last answer left")
             head, _, body = read_all(slow).partition(b"\r\n\r\n")
             if f"content-length: {len(body)}\r\n".encode() not in head + b"\r\n":
                 yield f"of the last answer {len(body)} bytes came behind {head!r}"
         status = server.child.wait(timeout=120)
         if status != 0:
             yield f"ended with {status}"
+
+
+def end_beside_a_request_that_comes(program):
+    """At its end a server waits for no request that comes still, with a journal and without one."""
+    with tempfile.TemporaryDirectory() as folder:
+        for journal in (None, Path(folder, "journal")):
+            yield from end_amid_a_request(program, journal)
+
+
+def end_amid_a_request(program, journal):
+    """What is wrong with when a server ends, where a client lacks a byte of its body, and with what that client reads."""
+    with Server(program, 1, journal=journal) as server, connect(server.port) as slow:
+        slow.sendall(EVENT[:-1])
+        start = time.monotonic()
+        yield from server.end()
+        seconds = time.monotonic() - start
+        if seconds > MOST_AT_ITS_END:
+            yield f"ended after {seconds:.1f} s, in place of at once"
+        if not is_over(slow):
+            yield "something was answered to a request that wasn't whole"
 
 
 def most_workers_over_a_journal(program):
@@ -163,8 +202,10 @@ FAILING = [
     connections_without_a_file,
     files_that_are_lacking_for_good,
     sockets_at_fault,
+    others_beside_one_at_fault,
     stopped_for_a_while,
     last_line_before_the_last_answer,
+    end_beside_a_request_that_comes,
     most_workers_over_a_journal,
     threads_that_are_wanting,
 ]

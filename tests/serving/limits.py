@@ -24,11 +24,11 @@ NOWHERE = get("/")
 HEAD = (8, 20)
 """Between how many seconds a client is let go whose head doesn't come: 10."""
 CALL = (25, 45)
-"""The same for one of whose body nothing more comes: 30."""
+"""The same for one of whose body nothing more comes, or which reads nothing of a long answer: 30."""
 WHOLE = (55, 80)
 """The same for one that goes on sending its request: 60."""
 WRITING = (25, 80)
-"""The same for one that is slow to read a long answer: 30 in which the system takes nothing of it, and 60 in all."""
+"""The same for one that reads a long answer slowly: 30 in which the system takes nothing of it, and 60 in all."""
 LAST_READ = (1, 8)
 """The same for a client that sends nothing behind its answer: 2."""
 AT_ITS_END = (-1, 1)
@@ -43,13 +43,16 @@ IDLE = 33
 """How long no client comes, in seconds."""
 MOST_IDLE = 1
 """How many of them the server may have a processor, with its start."""
-BETWEEN, LACKING = 1, 20
+BETWEEN, LACKING = 4, 16
 """How many seconds lie between the pieces of a head, and for how many its body then lacks a byte: longer than a head may take."""
+MOST_AT_REST = 0.1
+"""How many seconds a server may have a processor while it has only to wait, for 4 seconds or longer: next to none. One that asks
+again and again has twice as many, on the busiest machine that was tried."""
 OPEN_FILES = 7
 """Standard input, output and error, the listening socket by two descriptors, what the system is asked by about sockets, and one
 connection."""
 LACK = 15
-"""A lack of open files, in seconds, that passes."""
+"""A lack of open files, in seconds, that passes: longer than two workers take for the 16 waits of a second that they make anyhow."""
 WAITS, LONGEST, TOO_LONG = 8640, 29, 31
 """How many waits of 10 seconds come before a client does, a day of them; and lacks of the two kinds, on a clock that is moved
 on."""
@@ -89,6 +92,15 @@ class LetGo(threading.Thread):
             yield f"a late client wasn't let go after {self.most} s"
         elif self.seconds < least:
             yield f"a client was let go after {self.seconds:.1f} s, in place of {least} at least"
+
+
+def resting(server, seconds, meanwhile):
+    """What is wrong with how long a server has a processor in the next seconds, in which it has only to wait."""
+    before = server.processor_seconds()
+    time.sleep(seconds)
+    worked = server.processor_seconds() - before
+    if worked > MOST_AT_REST:
+        yield f"{worked:.2f} s of a processor while {meanwhile}, in place of {MOST_AT_REST} at most"
 
 
 def beside(server):
@@ -193,12 +205,13 @@ def trickling_in_its_body(program):
 
 
 def with_a_long_answer(program, reading, least, most):
-    """A client that is slow to read an answer longer than the system takes in is let go. `reading` reads on its connection until
-    it is over."""
+    """A client that is slow to read an answer longer than the system takes in is let go, and the server does next to nothing
+    meanwhile. `reading` reads on its connection until it is over."""
     with Server(program, 5) as server:
         yield from long_list(server, A)
         server.count()
         before, over = server.sockets(), threading.Event()
+        worked = server.processor_seconds()
         with connect(server.port, room=SMALL_ROOM) as keeping:
             reader = threading.Thread(target=reading, args=(keeping, over))
             keeping.sendall(get(f"/vehicles/{P}/{A}/events"))
@@ -210,12 +223,15 @@ def with_a_long_answer(program, reading, least, most):
             finally:
                 over.set()
                 reader.join()
+        seconds = server.processor_seconds() - worked
+        if seconds > MOST_IDLE:
+            yield f"{seconds} s of a processor while one answer left, in place of {MOST_IDLE} at most"
         yield from server.end()
 
 
 def let_go_without_reading(program):
     """A client that reads nothing of a long answer."""
-    return with_a_long_answer(program, lambda connection, over: None, *WRITING)
+    return with_a_long_answer(program, lambda connection, over: None, *CALL)
 
 
 def let_go_though_it_reads(program):
@@ -308,20 +324,16 @@ def idle_for_long(program):
 
 
 def idle_while_one_is_waited_for(program):
-    """A server does next to nothing while a client lacks a byte of its body, though its head's time, which began to run, is over.
-    The request is answered once it is whole."""
+    """A server does next to nothing while a client lacks the end of its head, and then a byte of its body, though its head's time,
+    which began to run, is over. The request is answered once it is whole."""
     with Server(program, 2) as server:
         yield from talk_over(server, registered(A))
         server.count(success=1)
         with connect(server.port) as slow:
             slow.sendall(EVENT[:20])
-            time.sleep(BETWEEN)
+            yield from resting(server, BETWEEN, "a head was waited for")
             slow.sendall(EVENT[20:-1])
-            before = server.processor_seconds()
-            time.sleep(LACKING)
-            seconds = server.processor_seconds() - before
-            if seconds > MOST_IDLE:
-                yield f"{seconds} s of a processor while one client was waited for, in place of {MOST_IDLE} at most"
+            yield from resting(server, LACKING, "a body was waited for")
             slow.sendall(EVENT[-1:])
             yield from differing(read_all(slow), done(1))
         yield from server.end()
@@ -343,11 +355,15 @@ def flooding_behind_its_answer(program):
 
 
 def short_of_open_files(program):
-    """Where there is no file to open for a connection, the eldest one is let go whose request isn't whole."""
+    """Where there is no file to open for a connection, the eldest one is let go whose request isn't whole. While none comes,
+    nobody is let go, and the server does next to nothing."""
     with Server(program, 2, workers=2, open_files=OPEN_FILES) as server:
         yield from talk_over(server, registered(A))
         with connect(server.port) as held:
             held.sendall(EVENT[:-1])
+            yield from resting(server, LACK, "no file could be opened for one more connection")
+            if not silent(held, 0):
+                yield "a client was let go though no other came"
             yield from talk_over(server, look(A, "removed", 0, None))
             if not is_over(held):
                 yield "something was answered to a request that wasn't whole"

@@ -34,9 +34,9 @@ MOST_BESIDE = 8 * 2**20
 WORKERS, EACH = 4, 1000
 MOST_HELD = 64 * 2**20
 """How many bytes of requests that come the server holds at most, in all."""
-MOST_OF_BODIES = 2.0
+MOST_OF_BODIES = 2.5
 """How many times as much memory they may take, with one that each worker looks at: a list of bytes that grows has up to twice
-the room, and the C library keeps pages that others had."""
+the room, and the C library keeps pages that others had, some more from run to run (1.6 to 2.13 times, of 20 runs)."""
 MOST_BY_UNIT = 1.25
 """The same with what the unit tells the C library: it gives pages of long lists back."""
 ENDLESS = 64
