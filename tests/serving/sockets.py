@@ -89,8 +89,17 @@ def is_end_of(number, connection):
             return False
 
 
+def waits_for_nothing(other):
+    """Whether calls at a server's end of a connection come not to wait: the first one may, for a moment."""
+    for _ in range(100 * SECONDS):
+        if fcntl.fcntl(other, fcntl.F_GETFL) & os.O_NONBLOCK:
+            return True
+        time.sleep(0.01)
+    return False
+
+
 def options_of_a_connection(program):
-    """What is written is sent at once, and no call waits."""
+    """What is written is sent at once, and no call but the first one waits."""
     yield from options_at(program, 0)
 
 
@@ -108,7 +117,7 @@ def options_at(program, port):
         with connect(server.port) as connection, taken_by(server, connection) as other:
             if not other.getsockopt(socket.IPPROTO_TCP, socket.TCP_NODELAY):
                 yield "TCP_NODELAY isn't set"
-            if not fcntl.fcntl(other, fcntl.F_GETFL) & os.O_NONBLOCK:
+            if not waits_for_nothing(other):
                 yield "its calls wait"
         yield from server.end()
 
