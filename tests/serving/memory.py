@@ -185,10 +185,11 @@ def answers_that_nobody_reads(program):
     with Server(program, EACH, workers=WORKERS) as server, contextlib.ExitStack() as opened:
         yield from vehicle_of_long_list(server, A)
         whole = server.ask(asked)
-        readers = [opened.enter_context(connect(server.port, room=SMALL_ROOM)) for _ in range(3 * MOST_HELD // len(whole))]
-        for reader in readers:
-            reader.sendall(asked)
-            reader.recv(1, MSG_PEEK)  # the answers leave in this order
+        readers = []
+        for _ in range(3 * MOST_HELD // len(whole)):
+            readers.append(opened.enter_context(connect(server.port, room=SMALL_ROOM)))
+            readers[-1].sendall(asked)
+            readers[-1].recv(1, MSG_PEEK)  # the answers leave in this order
         yield from differing(read_all(readers[-1]), whole)
         if read_all(readers[0], gone=True) == whole:
             yield f"the first of {len(readers)} lists of {len(whole)} bytes was held"
