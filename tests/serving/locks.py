@@ -7,6 +7,7 @@ from pathlib import Path
 
 from cases.replays import A, B, P, batch, event, history, identifier, turn
 from harness.building import built
+from harness.case import MAX_ITEMS
 from harness.counting import Unwell
 from harness.texts import differing
 from model.http import answer
@@ -29,10 +30,13 @@ HALVES = [(A, identifier(2, 1)), (B, identifier(2, 2))]
 """A vehicle of each half, and one of the other half."""
 NEIGHBOUR = identifier(2, 2)
 """A vehicle of A's half."""
-LONG, LISTS, LOOKS, LEAST_LOOKS = 10000, 10, 40, 10
-"""A long list, how often it is asked for, how many looks there are meanwhile at most, and of how many the times count."""
+LONG, LISTS = 50000, 40
+"""A long list, and how often it is asked for at most. To copy all of it takes 20 ms."""
+LOOKS = 1000000
+"""Connections of a worker: more than there are looks while those lists are made."""
 MOST_SECONDS = 0.005
-"""How long the longest of them takes, in the best case: a busy machine lengthens others."""
+"""For how long no look is answered meanwhile, in the best case. What passes while other programs have the processors isn't
+counted: it is so long by the clock, and by the processor time of the server."""
 
 
 class Hold:
@@ -109,35 +113,38 @@ def two_halves(program):
 
 
 def looks_beside(server, whole, same):
-    """How long looks took that were made until a list came, and what is wrong with the answers."""
-    times, found = [], []
+    """For how long no look was answered at the longest, from when a list was asked for until it came, and what is wrong with the
+    answers."""
+    answers, found = [], []
     with connect(server.port) as listing:
+        answers.append((time.monotonic(), server.processor_time()))
         listing.sendall(whole.request)
-        while len(times) < LOOKS and silent(listing, 0):
-            start = time.monotonic()
+        while silent(listing, 0):
             found += talk_over(server, same)
-            times.append(time.monotonic() - start)
+            answers.append((time.monotonic(), server.processor_time()))
+        answers.append((time.monotonic(), server.processor_time()))
         found += differing(read_all(listing), whole.answer)
     server.count()
-    return times, found
+    waits = [min(later - sooner for sooner, later in zip(*pair)) for pair in zip(answers, answers[1:])]
+    return max(waits), found
 
 
 def beside_long_list(program):
     """A long list of a vehicle keeps no look at another one of its half waiting for the whole of it."""
     texts = [listed(number, [turn(number)[1]], turn(number)[0], 1000 + number, A) for number in range(LONG)]
     whole, same = list_of(A, texts), look(NEIGHBOUR, "removed", 0, None)
-    with Server(program, 120, workers=WORKERS) as server:
+    with Server(program, LOOKS, workers=WORKERS) as server:
         yield from talk_over(server, registered(A, NEIGHBOUR))
-        yield from talk_over(server, Exchange(post("/events", batch(history(A, 0, LONG))), done(LONG)))
+        for front in range(0, LONG, MAX_ITEMS):
+            events = batch(history(A, front, front + MAX_ITEMS))
+            yield from talk_over(server, Exchange(post("/events", events), done(MAX_ITEMS)))
         longest = []
-        for _ in range(LISTS):
-            times, found = looks_beside(server, whole, same)
+        while len(longest) < LISTS and min(longest, default=MOST_SECONDS) >= MOST_SECONDS:
+            seconds, found = looks_beside(server, whole, same)
             yield from found
-            if len(times) >= LEAST_LOOKS:
-                longest.append(max(times))
-        if min(longest, default=MOST_SECONDS) >= MOST_SECONDS:
-            yield f"beside a list of {LONG} events a look took this many seconds: {longest}"
-        yield from server.end()
+            longest.append(seconds)
+        if min(longest) >= MOST_SECONDS:
+            yield f"beside a list of {LONG} events no look was answered for so many seconds: {longest}"
 
 
 LOCKS = [two_halves, beside_long_list]
