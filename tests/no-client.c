@@ -3,7 +3,7 @@
 
    IDLE: how many calls that take a connection wait in vain, WAIT seconds each. ERRORS: the numbers, a blank between them, of
    the errors of the next calls, TIMES of each. LACK: for how many seconds behind them there is no open file. Nothing is really
-   waited for. */
+   waited for. STEP: by how many seconds the time of day is set on each time that it is asked for. */
 #define _GNU_SOURCE
 #include <dlfcn.h>
 #include <errno.h>
@@ -14,7 +14,7 @@
 #include <time.h>
 
 static const int64_t SECOND = 1000000000;
-static int64_t idle, wait_seconds, lack, moved, ends, times, failed;
+static int64_t idle, wait_seconds, lack, moved, ends, times, failed, step, steps;
 static const char *errors;
 
 static int64_t told(const char *name)
@@ -29,6 +29,7 @@ __attribute__((constructor)) static void ask(void)
     wait_seconds = told("WAIT");
     lack = told("LACK");
     times = told("TIMES");
+    step = told("STEP");
     errors = getenv("ERRORS");
 }
 
@@ -90,5 +91,7 @@ int clock_gettime(clockid_t clock, struct timespec *moment)
         moment->tv_sec += later / SECOND;
         moment->tv_nsec = later % SECOND;
     }
+    if (came == 0 && clock == CLOCK_REALTIME)
+        moment->tv_sec += step * __atomic_add_fetch(&steps, 1, __ATOMIC_SEQ_CST);
     return came;
 }

@@ -38,8 +38,8 @@ FILES = [errno.EMFILE, errno.ENFILE]
 """What it says where open files are lacking, of the process or of the system."""
 AT_FAULT = [errno.EBADF, errno.EINVAL, errno.ENOTSOCK, errno.ENOTTY]
 """What it says of a listening socket that is none any more."""
-PAUSES = 400
-"""More pauses than a lack of open files is waited for."""
+PAUSES, OFTEN = 400, 100_000
+"""More pauses than a lack of open files is waited for, and more than 16 bits count."""
 STOPPED = 1.5
 """For how many seconds a server is stopped: longer than one wait."""
 MOST_BESIDE = 30
@@ -71,7 +71,7 @@ def connections_that_are_lost(program):
 def connections_that_are_hindered(program):
     """Nor does one that the system can't give at this moment, however often it is tried again."""
     for number in HINDERED:
-        yield from answers_two(program, failing([number], PAUSES))
+        yield from answers_two(program, failing([number], OFTEN))
 
 
 def connections_without_a_file(program):

@@ -4,6 +4,7 @@ These tests wait more than they work. So tests/clients runs them beside the othe
 
 import contextlib
 import os
+import socket
 import threading
 import time
 
@@ -53,9 +54,11 @@ OPEN_FILES = 7
 connection."""
 LACK = 15
 """A lack of open files, in seconds, that passes: longer than two workers take for the 16 waits of a second that they make anyhow."""
-WAITS, LONGEST, TOO_LONG = 8640, 29, 31
-"""How many waits of 10 seconds come before a client does, a day of them; and lacks of the two kinds, on a clock that is moved
-on."""
+WAITS, LONGEST, TOO_LONG = 100_000, 29, 31
+"""How many waits of a second come before a client does, more than a day of them, and than 16 bits count; and lacks of the two
+kinds, on a clock that is moved on."""
+HOUR = 3600
+"""By how many seconds the time of day is set on each time that it is asked for: longer than anybody is waited for."""
 MOST_GROWTHS = 2000
 """More growths of memory than a server makes before its first connection."""
 AT_ONCE = 1 << 16
@@ -234,6 +237,12 @@ def let_go_without_reading(program):
     return with_a_long_answer(program, lambda connection, over: None, *CALL)
 
 
+def let_go_behind_its_end(program):
+    """A client that ends its side behind its request, and reads nothing of a long answer. Its end is there to be read all the
+    time, and the server waits for room alone."""
+    return with_a_long_answer(program, lambda connection, over: connection.shutdown(socket.SHUT_WR), *CALL)
+
+
 def let_go_though_it_reads(program):
     """A client that takes its answer a byte at a time: so slowly that the system may take none from the server for 30 seconds."""
     return with_a_long_answer(program, byte_by_byte, *WRITING)
@@ -288,15 +297,18 @@ def let_go_behind_its_answer(program, least, most, piece=None, pause=0.0):
 
 
 def silent_behind_a_granted_request(program):
-    """A client that neither sends nor ends behind the answer to a granted request is let go at once."""
-    with Server(program, 3) as server:
+    """A client that neither sends nor ends behind the answer to a granted request is let go at once, and one that sent a byte
+    more than its request is looked at for a while: it may send on, and would lose its answer by a reset."""
+    with Server(program, 4) as server:
         yield from talk_over(server, registered(A))
-        server.count()
-        before = server.sockets()
-        with connect(server.port) as kept:
-            kept.sendall(look(A, "removed", 0, None).request)
-            yield from differing(read_all(kept), look(A, "removed", 0, None).answer)
-            yield from LetGo(server, before, AT_ITS_END[1], is_taken=True).within(AT_ITS_END[0])
+        asked = look(A, "removed", 0, None)
+        for more, (least, most) in ((b"", AT_ITS_END), (b"x", LAST_READ)):
+            server.count()
+            before = server.sockets()
+            with connect(server.port) as kept:
+                kept.sendall(asked.request + more)
+                yield from differing(read_all(kept), asked.answer)
+                yield from LetGo(server, before, most, is_taken=True).within(least)
         yield from server.end()
 
 
@@ -334,6 +346,21 @@ def idle_while_one_is_waited_for(program):
             yield from resting(server, BETWEEN, "a head was waited for")
             slow.sendall(EVENT[20:-1])
             yield from resting(server, LACKING, "a body was waited for")
+            slow.sendall(EVENT[-1:])
+            yield from differing(read_all(slow), done(1))
+        yield from server.end()
+
+
+def waited_for_though_the_day_goes_on(program):
+    """A client is waited for as long as ever where the time of day is set on meanwhile, as by whoever keeps the clock right."""
+    with Server(program, 2, env=moved_on(step=HOUR)) as server:
+        yield from talk_over(server, registered(A))
+        server.count(success=1)
+        with connect(server.port) as slow:
+            for piece in (EVENT[:20], EVENT[20:-1]):
+                slow.sendall(piece)
+                if not silent(slow, BETWEEN):
+                    yield "something was answered to a request that wasn't whole, or its client was let go"
             slow.sendall(EVENT[-1:])
             yield from differing(read_all(slow), done(1))
         yield from server.end()
@@ -390,10 +417,12 @@ def short_of_open_files_for_a_while(program):
         yield from server.end()
 
 
-def moved_on(waits=0, lack=0):
-    """The environment of a server for which clients and open files are lacking for so long, on a clock that is moved on."""
+def moved_on(waits=0, lack=0, step=0):
+    """The environment of a server for which clients and open files are lacking for so long, on a clock that is moved on; and of
+    which the time of day is set on by so many seconds each time that it is asked for."""
     shim = built("no-client.so", "tests/no-client.c", "-shared", "-fPIC", "-O1", "-ldl")
-    return {**os.environ, "LD_PRELOAD": str(shim), "IDLE": str(waits), "WAIT": "10", "LACK": str(lack)}
+    how = {"IDLE": str(waits), "WAIT": "1", "LACK": str(lack), "STEP": str(step)}
+    return {**os.environ, **how, "LD_PRELOAD": str(shim)}
 
 
 def idle_for_a_day(program):
@@ -453,11 +482,13 @@ LIMITS = [
     trickling_in_their_heads,
     trickling_in_its_body,
     let_go_without_reading,
+    let_go_behind_its_end,
     let_go_though_it_reads,
     silent_behind_a_granted_request,
     sending_behind_a_granted_request,
     idle_for_long,
     idle_while_one_is_waited_for,
+    waited_for_though_the_day_goes_on,
     idle_for_a_day,
     lacking_open_files_for_too_long,
     without_memory_for_a_connection,
