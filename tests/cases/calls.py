@@ -20,7 +20,7 @@ from cases.serve import NO_CONNECTION, SERVED
 from cases.streams import LONG, LONG_FILES
 from cases.tables import MOST_ROWS, ONE_ROW, ONE_ROW_PRINTED, PROFILE, table_file, table_printed
 from cases.vehicles import journal, listed, not_a_journal, registered
-from harness.building import Counting
+from harness.building import BY_BYTES, Counting
 from harness.case import MAX_BYTES, MAX_ITEMS, NOT_TEXT, OUTPUT, Case, cannot_read, not_a_batch, not_a_table, padded, told
 from harness.running import SECONDS, differences, outcome
 
@@ -189,8 +189,6 @@ def failed_calls(program):
             yield from wrong
 
 
-BY_BYTES = 75
-"""Of so many calls one moves a byte of a page. That leaves the longest page fewer than 5000000."""
 ITEMS, ENTRIES, VEHICLES, CHAINS = 4000, MOST_ROWS[:48], 850, 3500
 """Of each command as much as is printed on two pages, by more calls than a page may take."""
 
@@ -220,6 +218,15 @@ def pages_by_bytes(program):
     with ThreadPoolExecutor(os.cpu_count()) as pool:
         for wrong in pool.map(lambda case: by_bytes(program, case), on_two_pages()):
             yield from wrong
+
+
+def lines_by_bytes(program):
+    """Both lines of a server go out whole, with a journal and without one, where each call takes a byte or is interrupted."""
+    for words, out in ((NO_CONNECTION, SERVED), (f"{NO_CONNECTION} --journal journal", SERVED_ONE)):
+        wrong, counts = counted(program, Case(words, out=out, files=files_of(words)), OUT, BY_BYTES)
+        if counts.writes != BY_BYTES * counts.bytes:
+            wrong.append(f"{counts}, in place of {BY_BYTES} writes for each byte")
+        yield from (f"{words}: {complaint}" for complaint in wrong)
 
 
 SELDOM = 60000
@@ -394,6 +401,7 @@ CALLS = [
     interrupted_in_a_row,
     failed_calls,
     pages_by_bytes,
+    lines_by_bytes,
     texts_of_clap,
     read_so_far,
     unread_files,

@@ -15,10 +15,11 @@ from cases.replays import A
 from cases.vehicles import journal, registered
 from crashing.clients import unanswered
 from crashing.files import Lines, counted, listed_amiss
+from crashing.paths import FAULTS
 from crashing.recording import CUT, SYNC, WRITE, Recording
 from crashing.reports import NOT_KEPT, device_at, listed, listing, looking, registering, reporting, standing
 from crashing.resting import SLOW, begins_to_write
-from harness.building import Refusal
+from harness.building import BY_BYTES, Counting, Refusal
 from harness.case import SOCKET, cannot_read
 from harness.counting import Skipped
 from harness.texts import differing
@@ -188,11 +189,18 @@ def the_signal_of_a_limit(program):
         yield from kept_amiss(path, {DEVICE: FIRST, OTHER: 0})
 
 
+def both(recording, counting):
+    """The environment of a server of which calls on a file are recorded, and calls on a descriptor counted."""
+    shims = f"{recording.env['LD_PRELOAD']} {counting.env['LD_PRELOAD']}"
+    return {**recording.env, **counting.env, "LD_PRELOAD": shims}
+
+
 def full_at_its_end(program):
-    """A server that has had its connections while there is no room: what isn't kept is no end like others."""
-    with tempfile.TemporaryDirectory() as folder:
+    """A server that has had its connections while there is no room: what isn't kept is no end like others. Both lines that tell of
+    it go out whole, byte by byte."""
+    with tempfile.TemporaryDirectory() as folder, Counting(FAULTS, BY_BYTES) as counting:
         path = Path(folder, "journal")
-        with Recording(path) as recording, Server(program, 2, journal=path, env=recording.env) as server:
+        with Recording(path) as recording, Server(program, 2, journal=path, env=both(recording, counting)) as server:
             yield from answered(server, registering(DEVICE), done(1), "before")
             recording.fail(WRITE, many=EACH)
             yield from answered(server, reporting(DEVICE, 0, 1), HELD_BACK, "the last")

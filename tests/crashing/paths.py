@@ -12,7 +12,7 @@ from cases.vehicles import FORM, LONG, journal, not_a_journal, registered
 from crashing.files import AT_REST, counted, listed_by, vehicles_text
 from crashing.recording import Recording
 from crashing.reports import device_at, registering
-from harness.building import no_random_numbers
+from harness.building import BY_BYTES, Counting, no_random_numbers
 from harness.case import RANDOM, SOCKET, cannot_read, not_a_table
 from harness.counting import Skipped
 from harness.texts import differing
@@ -20,6 +20,8 @@ from serving.http import done
 from serving.server import NotListening, Server
 
 IN_USE = "mds_city: journal in use\n"
+FAULTS = 2
+"""The descriptor of standard error."""
 DEVICE, OTHER = device_at(1), device_at(2)
 MOST_BEHIND = 16 << 20
 """Bytes behind the lines that count: a group has no more."""
@@ -122,7 +124,8 @@ def names_in_folders(program):
 
 
 def one_server_at_a_time(program):
-    """A file that another server has: the second one doesn't start, the first goes on, and once it is gone another starts."""
+    """A file that another server has: the second one doesn't start, the first goes on, and once it is gone another starts. What the
+    second one tells goes out whole, also byte by byte."""
     with tempfile.TemporaryDirectory() as folder:
         path = Path(folder, "journal")
         with Server(program, 2, journal=path) as server:
@@ -130,7 +133,8 @@ def one_server_at_a_time(program):
             yield from not_started(program, path, IN_USE)
             link = Path(folder, "link")
             link.symlink_to(path)
-            yield from not_started(program, link, IN_USE)
+            with Counting(FAULTS, BY_BYTES) as counting:
+                yield from not_started(program, link, IN_USE, env=counting.env)
             yield from server.end()
         with Server(program, 1, journal=path) as server:
             server.success = 1

@@ -65,6 +65,10 @@ Counts = namedtuple("Counts", "reads writes bytes ends threads files")
 files that were opened."""
 
 
+BY_BYTES = 75
+"""Of so many calls one moves a byte. That leaves the longest page of a command fewer than 5000000 for all of it."""
+
+
 class Counting:
     """Calls on one descriptor that are counted, the threads that are asked for, and the files that are opened. Of so many calls,
     if a number is given, one moves a byte, and the others are interrupted. Where an error is given, the first call fails with it.

@@ -11,9 +11,10 @@ use crate::journal::OpensJournals;
 use crate::program::{Opens, run, tell_words, words_of};
 use crate::serve::{ListenFault, Listens};
 use mds_file::{DiskFile, FileFault, open_file};
+use mds_io::{MAX_CALLS, write_all_of};
 use mds_socket::{SocketIn, SocketOut, SocketPort};
 use std::alloc::Global;
-use std::io::{self, ErrorKind, Write};
+use std::io::{self, ErrorKind};
 use std::marker::Brand;
 use std::net::Net;
 use std::process::ExitCode;
@@ -67,7 +68,9 @@ impl OpensJournals for Host<HostRuntime> {
     }
 
     fn tell_not_kept(&self) {
-        let _ = self.rt.stderr().write(b"mds_city: journal not kept\n");
+        let mut calls = MAX_CALLS;
+        let line = b"mds_city: journal not kept\n";
+        let _ = write_all_of(&mut self.rt.stderr(), line, &mut calls);
     }
 }
 
