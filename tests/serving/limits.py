@@ -300,11 +300,10 @@ def silent_behind_a_granted_request(program):
     """A client that neither sends nor ends behind the answer to a granted request is let go at once, and one that sent a byte
     more than its request is looked at for a while: it may send on, and would lose its answer by a reset."""
     with Server(program, 4) as server:
+        before, asked = server.sockets(), look(A, "removed", 0, None)
         yield from talk_over(server, registered(A))
-        asked = look(A, "removed", 0, None)
         for more, (least, most) in ((b"", AT_ITS_END), (b"x", LAST_READ)):
             server.count()
-            before = server.sockets()
             with connect(server.port) as kept:
                 kept.sendall(asked.request + more)
                 yield from differing(read_all(kept), asked.answer)
