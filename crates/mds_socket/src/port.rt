@@ -78,17 +78,20 @@ impl<S: System, R: Wait + Copy> WaitingPort<S, R> {
         let Some(longest) = self.next_wait() else {
             return self.go_on_with(self.system.take(), pauses);
         };
-        match self.look_after(longest) {
-            Looked::Whole(ends) => return Ok(Some(ends)),
-            Looked::Other => return Ok(None),
-            Looked::New | Looked::Nothing if longest == 0 => {
-                self.turn.store(0, Ordering::SeqCst);
-            }
-            Looked::New | Looked::Nothing => {}
+        let looked = self.look_after(longest);
+        if longest == 0 && matches!(looked, Looked::New | Looked::Nothing) {
+            self.turn.store(0, Ordering::SeqCst);
         }
-        let taken = self.system.take();
-        self.system.ask_for_new();
-        self.go_on_with(taken, pauses)
+        match looked {
+            Looked::Whole(ends) => Ok(Some(ends)),
+            Looked::Other => Ok(None),
+            Looked::New => {
+                let taken = self.system.take();
+                self.system.ask_for_new();
+                self.go_on_with(taken, pauses)
+            }
+            Looked::Nothing => self.go_on_with(self.system.take(), pauses),
+        }
     }
 
     /// Goes on with a new connection, or with why none could be taken.
@@ -111,9 +114,20 @@ impl<S: System, R: Wait + Copy> WaitingPort<S, R> {
     fn next_wait(&self) -> Option<u64> {
         match self.turn.fetch_add(1, Ordering::SeqCst) / TURNS % 3 {
             0 => None,
+            1 if self.has_none_waiting() => {
+                self.turn.store(0, Ordering::SeqCst);
+                None
+            }
             1 => Some(0),
             _ => Some(MAX_WAIT),
         }
+    }
+
+    /// Whether no connection waits: then who takes a new one may wait for it.
+    fn has_none_waiting(&self) -> bool {
+        let mut guard = self.tables.lock(&self.rt);
+        let tables = &mut *guard;
+        tables.set_taking(&self.system)
     }
 
     /// Goes on where no new connection could be taken.
@@ -180,7 +194,7 @@ impl<S: System, R: Wait + Copy> WaitingPort<S, R> {
         let now = self.system.now();
         let mut guard = self.tables.lock(&self.rt);
         let tables = &mut *guard;
-        tables.set_taking(&self.system);
+        let _ = tables.set_taking(&self.system);
         tables.patience(now)
     }
 
@@ -253,7 +267,7 @@ impl<S: System, R: Wait + Copy> WaitingPort<S, R> {
         let mut guard = self.tables.lock(&self.rt);
         let tables = &mut *guard;
         tables.let_come(&self.system, waiter);
-        tables.set_taking(&self.system);
+        let _ = tables.set_taking(&self.system);
     }
 
     /// Takes in what came of a request, by way of the room, which is kept.
@@ -351,7 +365,7 @@ impl<S: System, R: Wait + Copy> WaitingPort<S, R> {
         let mut guard = self.tables.lock(&self.rt);
         let tables = &mut *guard;
         tables.let_leave(&self.system, waiter);
-        tables.set_taking(&self.system);
+        let _ = tables.set_taking(&self.system);
     }
 
     /// Whether an answer still leaves.

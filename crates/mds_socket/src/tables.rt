@@ -27,18 +27,20 @@ impl<P: Peer> Tables<P> {
     }
 
     /// Lets a worker that takes a new connection wait for it where no connection waits, and else not: who waits there isn't told of
-    /// any other. It takes one call of the system, in place of three.
-    pub(crate) fn set_taking<S: System<Peer = P>>(&mut self, system: &S)
+    /// any other. It takes one call of the system, in place of three. Whether it may.
+    pub(crate) fn set_taking<S: System<Peer = P>>(&mut self, system: &S) -> bool
         ensures coming { self.new.coming ≡ self.old.coming }
         ensures leaving { self.new.leaving ≡ self.old.leaving }
         ensures taking { (self.new.may_wait ≡ true) ↔ ((count_by is_some self.old.coming ≡ 0)
             × (count_by is_some self.old.leaving ≡ 0)) }
+        ensures told { result ≡ self.new.may_wait }
     {
         let may_wait = self.coming.len() == 0 && self.leaving.len() == 0;
         if may_wait != self.may_wait {
             system.let_take_wait(may_wait);
             self.may_wait = may_wait;
         }
+        may_wait
     }
 
     /// How long may be waited from this time on, if the clock tells one, in milliseconds. `None` where one was late, and was
