@@ -50,7 +50,7 @@ PLANTED = [
         "if count < 9 || bytes.extend_from_slice(&room[..count]).is_err()",
     ),
     (
-        "mds_replay/workers.rt",
+        "mds_trace/workers.rt",
         "let parts = replay_parts",
         "if workers > 4 { return Err(WithFault::Memory); } let parts = replay_parts",
     ),

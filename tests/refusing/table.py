@@ -51,14 +51,14 @@ TESTED = {
     ("mds_batch", "test_batches", "an_item_is_taken_after_a_refused_growth"): ["TakesItems::take"],
     ("mds_batch", "test_batches", "an_item_is_read_after_a_refused_growth"): ["read_item", "ItemReader::read"],
     ("mds_lines", "test_batches", "a_stream_is_read_after_a_refused_growth"): ["LineReader::feed", "LineReader::finish"],
-    ("mds_replay", "test_replays", "replay_succeeds_after_a_refused_growth"): ["replay"],
-    ("mds_replay", "test_replays", "replay_with_succeeds_after_a_refused_growth"): ["replay_with"],
-    ("mds_replay", "test_replays", "items_are_taken_after_a_refused_growth"): ["Replayer::take", "Replayer::finish"],
+    ("mds_trace", "test_replays", "replay_succeeds_after_a_refused_growth"): ["replay"],
+    ("mds_trace", "test_replays", "replay_with_succeeds_after_a_refused_growth"): ["replay_with"],
+    ("mds_trace", "test_replays", "items_are_taken_after_a_refused_growth"): ["Replayer::take", "Replayer::finish"],
     ("mds_trace", "test_replays", "session_succeeds_after_a_refused_growth"): ["Session::open", "Session::chain"],
     ("mds_trace", "test_replays", "lines_are_replayed_after_a_refused_growth"): ["LineReplay::feed", "LineReplay::finish"],
-    ("mds_debugger", "test_replays", "a_script_is_read_after_a_refused_growth"): ["read_script", "script_of"],
-    ("mds_debugger", "test_replays", "a_start_is_printed_after_a_refused_growth"): ["print_start"],
-    ("mds_debugger", "test_replays", "a_walk_is_printed_after_a_refused_growth"): ["print_walk"],
+    ("mds_trace", "test_replays", "a_script_is_read_after_a_refused_growth"): ["read_script", "script_of"],
+    ("mds_trace", "test_replays", "a_start_is_printed_after_a_refused_growth"): ["print_start"],
+    ("mds_trace", "test_replays", "a_walk_is_printed_after_a_refused_growth"): ["print_walk"],
     ("mds_commands", "test_replays", "tables_are_had_after_a_refused_growth"): ["tables_in"],
     ("mds_request", "test_faces", "call_succeeds_after_a_refused_growth"): ["Face::open", "plan_of", "HeadStatus::plan"],
     ("mds_response", "test_faces", "answer_is_whole_after_a_refused_growth"): ["bytes_of"],
@@ -111,7 +111,7 @@ WITHOUT = ["mds_table::Tables::new", "mds_io::flush_page"]
 """Calls that take no memory, though their fault is a type that could tell of a lack: that of calls beside them."""
 
 WITHIN = {
-    "mds_core::EventList::reserve": "mds_debugger::print_start",
+    "mds_core::EventList::reserve": "mds_trace::print_start",
     "mds_face::KeptDesk::keep": "mds_face::serve_kept",
     "mds_request::Head::plan": "mds_face::serve_whole",
     "mds_follow::Record::append": "mds_follow::SharedFollower::commit",
@@ -265,13 +265,13 @@ QUIET = {
         "LineReader::feed",
         "LineReader::finish",
     ],
-    ("mds_replay", "test_replays", "nothing_is_replayed_with_every_growth_refused"): [
+    ("mds_trace", "test_replays", "nothing_is_replayed_with_every_growth_refused"): [
         "Replayer::open",
         "Replayer::finish",
         "Verdict::accepts",
     ],
-    ("mds_replay", "test_replays", "a_part_is_within_its_gate_with_every_growth_refused"): ["replay_with"],
-    ("mds_replay", "test_replays", "numbers_are_looked_at_with_every_growth_refused"): ["replay_with"],
+    ("mds_trace", "test_replays", "a_part_is_within_its_gate_with_every_growth_refused"): ["replay_with"],
+    ("mds_trace", "test_replays", "numbers_are_looked_at_with_every_growth_refused"): ["replay_with"],
     ("mds_trace", "test_replays", "sessions_move_with_every_growth_refused"): [
         "Session::place",
         "Session::state",
@@ -282,7 +282,7 @@ QUIET = {
         "Session::run_to",
     ],
     ("mds_trace", "test_replays", "a_stream_begins_with_every_growth_refused"): ["LineReplay::open", "LineReplay::feed"],
-    ("mds_debugger", "test_replays", "lines_are_read_with_every_growth_refused"): ["ScriptCommand::of_line", "print_walk"],
+    ("mds_trace", "test_replays", "lines_are_read_with_every_growth_refused"): ["ScriptCommand::of_line", "print_walk"],
     ("mds_commands", "test_replays", "problems_are_told_with_every_growth_refused"): [
         "Problem::status",
         "Status::code",

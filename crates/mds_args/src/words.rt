@@ -178,7 +178,7 @@ const MAX_PORT: u64 = 65_535;
 const MAX_EACH: u64 = 1_000_000;
 
 /// The most workers. Each of a server takes a seat of the book, which has at most `mds_book::MAX_SEATS` of them, and a
-/// replay has at most `mds_replay::MAX_WORKERS`. It may not be greater than these: the program's proof then fails.
+/// replay has at most `mds_trace::MAX_WORKERS`. It may not be greater than these: the program's proof then fails.
 const MAX_WORKERS: u64 = 64;
 
 fn serve_of<'a>(values: &ArgMatches<'a>) -> Option<Command<'a>>

@@ -2,13 +2,13 @@
 use Rattle.std.specs.Prelude.{◌≡◌, ◌≢◌, ◌⊎◌, ℕ, ◌<◌, ◌≤◌, List, Option, Some}
 use Rattle.std.specs.Prelude.{None, Result, Bool, true, false, codes, option_map}
 use Rattle.std.specs.Io.KnownBytes.{Keeps}
-use Rattle.mds_replay.specs.declared.report.Opening.{Opening}
-use Rattle.mds_replay.specs.declared.report.Opening.TheVariants.{Removed, Any}
+use Rattle.mds_trace.specs.declared.report.Opening.{Opening}
+use Rattle.mds_trace.specs.declared.report.Opening.TheVariants.{Removed, Any}
 use Rattle.mds_commands.specs.declared.commands.ReplayOptions.{ReplayOptions}
 use Rattle.mds_commands.specs.declared.source.Form.{Form}
 use Rattle.mds_commands.specs.declared.source.Form.TheVariants.{Batch, Lines}
 use Rattle.mds_book.specs.Books.{IsSeatCount}
-use Rattle.mds_replay.specs.WithFault.{IsWorkerCount}
+use Rattle.mds_trace.specs.WithFault.{IsWorkerCount}
 use Rattle.mds_commands.specs.declared.problem.Problem.TheVariants as problem
 use Rattle.mds_commands.specs.declared.source.Source.{Source}
 use Rattle.mds_commands.specs.declared.status.Status.{Status}

@@ -6,7 +6,7 @@ ghost use Rattle.mds_book.specs.Books.{IsSeatCount};
 ghost use Rattle.mds_commands.specs.Debug.{Debugs};
 ghost use Rattle.mds_commands.specs.Problem.{Tells};
 ghost use Rattle.mds_io.specs.Page.{AppendsUpTo, with_newline};
-ghost use Rattle.mds_replay.specs.WithFault.{IsWorkerCount};
+ghost use Rattle.mds_trace.specs.WithFault.{IsWorkerCount};
 ghost use Rattle.mds_city.specs.Program.{Carries, CarriesReplay, CarriesServe, CarriesVehicles, Explains, HasWorkers, IsFileNamed, IsFileOf, Runs};
 ghost use Rattle.mds_city.specs.Program.{form_if, opening_if, options_of};
 

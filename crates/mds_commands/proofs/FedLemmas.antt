@@ -7,8 +7,8 @@ use Rattle.mds_lines.specs.Fed.{Fed}
 use Rattle.mds_lines.specs.Stream.{HasLineFault, IsFaultyWith}
 use Rattle.mds_lines.proofs.FeedLemmas.{faulty_now, faulty_with_more}
 use Rattle.mds_table.specs.Tables.{Tables}
-use Rattle.mds_replay.specs.declared.report.Opening.{Opening}
-use Rattle.mds_replay.specs.declared.report.Report.{Report}
+use Rattle.mds_trace.specs.declared.report.Opening.{Opening}
+use Rattle.mds_trace.specs.declared.report.Report.{Report}
 use Rattle.mds_trace.specs.LineReport.{IsLineReport}
 use Rattle.mds_io.specs.Read.{Gains}
 use Rattle.mds_io.proofs.ReadLemmas.{read_from_none}

@@ -5,10 +5,10 @@ use Rattle.mds_table.specs.Tables.{Tables}
 use Rattle.mds_core.specs.declared.key.Key.{Key}
 use Rattle.mds_core.specs.Reported.{Reported}
 use Rattle.mds_batch.specs.declared.item.EventItem.{EventItem}
-use Rattle.mds_replay.specs.Replay.{AreVerdicts}
+use Rattle.mds_trace.specs.Replay.{AreVerdicts}
 use Rattle.mds_trace.specs.Walk.{Walk}
-use Rattle.mds_debugger.specs.declared.line.CountsLine.{CountsLine}
-use Rattle.mds_debugger.specs.Vehicle.{told_of, VehicleReplaying, TookOf}
+use Rattle.mds_trace.specs.declared.line.CountsLine.{CountsLine}
+use Rattle.mds_trace.specs.Vehicle.{told_of, VehicleReplaying, TookOf}
 use Rattle.mds_commands.specs.Debug.{IsOpened}
 
 -- before the first of these events

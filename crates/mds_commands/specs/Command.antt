@@ -3,7 +3,7 @@ use Rattle.std.specs.Prelude.{◌≡◌, ◌⊎◌, ◌==◌, ℕ, List, Option,
 use Rattle.std.specs.Io.KnownBytes.{Appends, Keeps}
 use Rattle.mds_table.specs.Tables.{Tables}
 use Rattle.mds_batch.specs.declared.item.EventItem.{EventItem}
-use Rattle.mds_replay.specs.declared.report.Report.{Report}
+use Rattle.mds_trace.specs.declared.report.Report.{Report}
 use Rattle.mds_commands.specs.declared.source.Source.{Source}
 use Rattle.mds_commands.specs.declared.problem.Problem.{Problem}
 use Rattle.mds_commands.specs.declared.problem.Problem.TheVariants.{CannotRead, NotATable}
@@ -14,9 +14,9 @@ use Rattle.mds_commands.specs.declared.status.Status.TheVariants.{Done, Refused}
 use Rattle.mds_io.specs.Page.{AppendsFront}
 use Rattle.mds_commands.specs.Problem.{status_of, Tells}
 use Rattle.mds_commands.specs.declared.commands.ReplayOptions.{ReplayOptions}
-use Rattle.mds_replay.specs.declared.report.Opening.TheVariants as opening
-use Rattle.mds_replay.specs.Replay.{IsReport}
-use Rattle.mds_replay.specs.Laws.{AreOutcomes}
+use Rattle.mds_trace.specs.declared.report.Opening.TheVariants as opening
+use Rattle.mds_trace.specs.Replay.{IsReport}
+use Rattle.mds_trace.specs.ReplayLaws.{AreOutcomes}
 use Rattle.mds_commands.specs.Source.{HasTablesIn, ExplainsTable, HasItemsIn, ExplainsFile}
 use Rattle.mds_commands.specs.Text.{report_text, table_text}
 

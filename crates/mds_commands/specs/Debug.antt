@@ -6,17 +6,17 @@ use Rattle.mds_table.specs.declared.state.State.TheVariants as state
 use Rattle.mds_table.specs.Tables.{Tables}
 use Rattle.mds_core.specs.declared.key.Key.{Key}
 use Rattle.mds_batch.specs.declared.item.EventItem.{EventItem}
-use Rattle.mds_replay.specs.declared.report.Opening.TheVariants.{Removed}
-use Rattle.mds_replay.specs.declared.report.Verdict.{Verdict}
+use Rattle.mds_trace.specs.declared.report.Opening.TheVariants.{Removed}
+use Rattle.mds_trace.specs.declared.report.Verdict.{Verdict}
 use Rattle.mds_trace.specs.declared.session.Place.{Place}
-use Rattle.mds_replay.specs.Replay.{AreVerdicts, accepted_of, prior_of}
+use Rattle.mds_trace.specs.Replay.{AreVerdicts, accepted_of, prior_of}
 use Rattle.mds_trace.specs.Walk.{Walk}
-use Rattle.mds_debugger.specs.declared.line.CountsLine.{CountsLine}
-use Rattle.mds_debugger.specs.declared.script.ScriptCommand.{ScriptCommand}
-use Rattle.mds_debugger.specs.Input.{IsRead, max_script}
-use Rattle.mds_debugger.specs.Printed.{PrintsStart, PrintsScript, PrintsFront}
-use Rattle.mds_debugger.specs.Script.{IsScript}
-use Rattle.mds_debugger.specs.Vehicle.{told_of}
+use Rattle.mds_trace.specs.declared.line.CountsLine.{CountsLine}
+use Rattle.mds_trace.specs.declared.script.ScriptCommand.{ScriptCommand}
+use Rattle.mds_trace.specs.Input.{IsRead, max_script}
+use Rattle.mds_trace.specs.Printed.{PrintsStart, PrintsScript, PrintsFront}
+use Rattle.mds_trace.specs.Script.{IsScript}
+use Rattle.mds_trace.specs.Vehicle.{told_of}
 use Rattle.mds_io.specs.Page.{AppendsFront, AppendsUpTo, with_newline}
 use Rattle.mds_io.specs.Read.{ConsumesUpTo}
 use Rattle.mds_io.specs.declared.page.PrintError.{PrintError}

@@ -4,8 +4,8 @@ use Rattle.mds_table.specs.Tables.{Tables}
 use Rattle.mds_lines.specs.declared.fault.LineFault.{LineFault}
 use Rattle.mds_lines.specs.Fed.{Fed}
 use Rattle.mds_lines.specs.Stream.{IsFaultyWith}
-use Rattle.mds_replay.specs.declared.report.Opening.{Opening}
-use Rattle.mds_replay.specs.declared.report.Report.{Report}
+use Rattle.mds_trace.specs.declared.report.Opening.{Opening}
+use Rattle.mds_trace.specs.declared.report.Report.{Report}
 use Rattle.mds_trace.specs.LineReport.{IsLineReport}
 use Rattle.mds_io.specs.Read.{HasFront}
 use Rattle.mds_commands.specs.declared.source.Source.{Source}

@@ -9,12 +9,12 @@ use Rattle.mds_table.specs.Tables.{Entry, start_of, rows_of, Tables}
 use Rattle.mds_table.specs.declared.state.State.{State}
 use Rattle.mds_steps.specs.StateSet.{names_of}
 use Rattle.mds_core.specs.declared.reply.Standing.{Standing}
-use Rattle.mds_replay.specs.declared.report.Opening.{Opening}
-use Rattle.mds_replay.specs.declared.report.Opening.TheVariants.{Removed, Any}
-use Rattle.mds_replay.specs.declared.report.Verdict.{Verdict}
-use Rattle.mds_replay.specs.declared.report.VehicleEnd.{VehicleEnd}
-use Rattle.mds_replay.specs.declared.report.Report.{Report}
-use Rattle.mds_replay.specs.Verdict.{verdict_text}
+use Rattle.mds_trace.specs.declared.report.Opening.{Opening}
+use Rattle.mds_trace.specs.declared.report.Opening.TheVariants.{Removed, Any}
+use Rattle.mds_trace.specs.declared.report.Verdict.{Verdict}
+use Rattle.mds_trace.specs.declared.report.VehicleEnd.{VehicleEnd}
+use Rattle.mds_trace.specs.declared.report.Report.{Report}
+use Rattle.mds_trace.specs.Verdict.{verdict_text}
 use Rattle.mds_io.specs.Page.{with_newline}
 
 -- the line of an item: its index, and what is said of it

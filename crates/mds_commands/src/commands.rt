@@ -2,10 +2,10 @@
 ghost use Rattle.std.specs.Prelude.{◌≡◌, ◌≢◌, List, IfOk, IfErr, OnOk};
 ghost use Rattle.std.specs.Io.KnownBytes.{Appends};
 ghost use Rattle.mds_batch.specs.declared.item.EventItem.{EventItem as Item};
-ghost use Rattle.mds_replay.specs.declared.report.Report.{Report};
-ghost use Rattle.mds_replay.specs.Laws.{AreOutcomes};
-ghost use Rattle.mds_replay.specs.Replay.{IsReport};
-ghost use Rattle.mds_replay.specs.WithFault.{IsWorkerCount};
+ghost use Rattle.mds_trace.specs.declared.report.Report.{Report};
+ghost use Rattle.mds_trace.specs.ReplayLaws.{AreOutcomes};
+ghost use Rattle.mds_trace.specs.Replay.{IsReport};
+ghost use Rattle.mds_trace.specs.WithFault.{IsWorkerCount};
 ghost use Rattle.mds_commands.specs.Source.{HasItemsIn, ExplainsFile};
 ghost use Rattle.mds_commands.specs.Text.{report_text};
 ghost use Rattle.mds_commands.specs.Command.{CameToReplay, CameToTable, HasReport, ExplainsReplay, WentOut, Tabled, ExplainsPrint, TableWentOut, status_on};

@@ -4,8 +4,8 @@ ghost use Rattle.uuid.specs.Text.{parsed};
 ghost use Rattle.mds_core.specs.declared.key.Key.{Key as Vehicle};
 ghost use Rattle.mds_batch.specs.declared.item.EventItem.{EventItem as Item};
 ghost use Rattle.mds_trace.specs.Walk.{Walk};
-ghost use Rattle.mds_debugger.specs.declared.line.CountsLine.{CountsLine as Counts};
-ghost use Rattle.mds_debugger.specs.Vehicle.{told_of};
+ghost use Rattle.mds_trace.specs.declared.line.CountsLine.{CountsLine as Counts};
+ghost use Rattle.mds_trace.specs.Vehicle.{told_of};
 ghost use Rattle.mds_commands.specs.Source.{HasItemsIn, ExplainsFile};
 ghost use Rattle.mds_commands.specs.Debug.{Debugs, DebugWentOut, ExplainsDebug, HasSession, IsNamed, IsOpened, IsOther, Shown, StopsShowing, TellsDebug, debug_status_of};
 
@@ -14,11 +14,9 @@ use crate::problem::{Problem, tell};
 use crate::source::{Form, Source, each_item_in, tables_in};
 use crate::status::Status;
 use mds_core::Key;
-use mds_debugger::{
-    VehicleReplay, VehicleSession, print_start, print_walk, read_script, script_of,
-};
 use mds_io::{MAX_CALLS, PrintError, write_all_of};
 use mds_table::Tables;
+use mds_trace::{VehicleReplay, VehicleSession, print_start, print_walk, read_script, script_of};
 use std::alloc::{AllocError, Global};
 use std::io::{Read, Write};
 use uuid::Uuid;

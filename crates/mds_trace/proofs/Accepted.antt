@@ -12,17 +12,17 @@ use Rattle.mds_core.specs.History.{same_key}
 use Rattle.mds_core.proofs.Histories.{same_key_is}
 use Rattle.mds_batch.specs.declared.item.EventItem.{EventItem}
 use Rattle.mds_batch.specs.declared.item.EventItem.TheVariants.{Event, Fault as Faulty}
-use Rattle.mds_replay.specs.declared.report.Opening.{Opening}
-use Rattle.mds_replay.specs.declared.report.Opening.TheVariants.{Removed}
-use Rattle.mds_replay.specs.declared.report.Verdict.{Verdict}
-use Rattle.mds_replay.specs.declared.report.Verdict.TheVariants.{Accepted, Refused, NoOpening, Fault}
-use Rattle.mds_replay.specs.Replay.{accepted_by, accepted_of, prior_of, IsVerdict, IsVerdictOn, AreVerdicts}
+use Rattle.mds_trace.specs.declared.report.Opening.{Opening}
+use Rattle.mds_trace.specs.declared.report.Opening.TheVariants.{Removed}
+use Rattle.mds_trace.specs.declared.report.Verdict.{Verdict}
+use Rattle.mds_trace.specs.declared.report.Verdict.TheVariants.{Accepted, Refused, NoOpening, Fault}
+use Rattle.mds_trace.specs.Replay.{accepted_by, accepted_of, prior_of, IsVerdict, IsVerdictOn, AreVerdicts}
 use Rattle.mds_trace.specs.Session.{AreOpenFrom}
 use Rattle.mds_trace.specs.SessionLaws.{AcceptedEventsOpen}
 use Rattle.mds_trace.proofs.SessionLemmas.{none_open}
 use Rattle.mds_trace.proofs.Lawful.{open_next}
-use Rattle.mds_replay.proofs.Turns.{InTurn, in_turn}
-use Rattle.mds_replay.proofs.Verdicts.{prior_same, prior_other}
+use Rattle.mds_trace.proofs.Turns.{InTurn, in_turn}
+use Rattle.mds_trace.proofs.Verdicts.{prior_same, prior_other}
 
 -- the accepted events of a vehicle have its key
 prior_keys : (key : Key) (accepted : List Reported) → All (λ (one : Reported). one.key ≡ key) (prior_of key accepted)

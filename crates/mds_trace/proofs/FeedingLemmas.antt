@@ -6,12 +6,12 @@ use Rattle.mds_batch.specs.declared.item.EventItem.{EventItem}
 use Rattle.mds_lines.specs.declared.fault.LineFault.{LineFault}
 use Rattle.mds_lines.specs.Fed.{Fed}
 use Rattle.mds_lines.specs.Stream.{HasEndedItems, HasLineItems}
-use Rattle.mds_replay.specs.declared.report.Opening.{Opening}
-use Rattle.mds_replay.specs.declared.report.Opening.TheVariants.{Removed}
-use Rattle.mds_replay.specs.declared.report.Report.{Report}
-use Rattle.mds_replay.specs.Replay.{IsReport}
-use Rattle.mds_replay.specs.Laws.{AreOutcomes}
-use Rattle.mds_replay.specs.Replayer.{Replaying, Took, TookSince}
+use Rattle.mds_trace.specs.declared.report.Opening.{Opening}
+use Rattle.mds_trace.specs.declared.report.Opening.TheVariants.{Removed}
+use Rattle.mds_trace.specs.declared.report.Report.{Report}
+use Rattle.mds_trace.specs.Replay.{IsReport}
+use Rattle.mds_trace.specs.ReplayLaws.{AreOutcomes}
+use Rattle.mds_trace.specs.Replayer.{Replaying, Took, TookSince}
 use Rattle.mds_trace.specs.Feeding.{Feeding}
 use Rattle.mds_trace.specs.LinesTaken.{AreReplayed}
 use Rattle.mds_trace.specs.LineReport.{IsLineReport}

@@ -15,10 +15,10 @@ use Rattle.mds_core.specs.Reported.{Reported}
 use Rattle.mds_core.specs.History.{same_key, state_of}
 use Rattle.mds_core.proofs.Histories.{same_key_refl}
 use Rattle.mds_batch.specs.declared.item.EventItem.TheVariants.{Event}
-use Rattle.mds_replay.specs.declared.report.Opening.TheVariants.{Any}
-use Rattle.mds_replay.specs.declared.report.Verdict.TheVariants.{Accepted}
-use Rattle.mds_replay.specs.Items.{events_of, vehicles_of}
-use Rattle.mds_replay.specs.Replay.{accepted_of, prior_of, as_requests, standing_after, AreOpeningsOf, IsVerdictOn}
+use Rattle.mds_trace.specs.declared.report.Opening.TheVariants.{Any}
+use Rattle.mds_trace.specs.declared.report.Verdict.TheVariants.{Accepted}
+use Rattle.mds_trace.specs.Items.{events_of, vehicles_of}
+use Rattle.mds_trace.specs.Replay.{accepted_of, prior_of, as_requests, standing_after, AreOpeningsOf, IsVerdictOn}
 use Rattle.mds_trace.specs.Session.{AreOpenFrom, held_at, IsNewAfter, FollowsOn}
 use Rattle.mds_trace.specs.SessionLaws.{accepted_before}
 use Rattle.mds_trace.specs.MidwayLaws.{MidwaySessionsShowReports}

@@ -13,13 +13,13 @@ use Rattle.mds_core.specs.History.{same_key, standing_of}
 use Rattle.mds_core.proofs.Histories.{same_key_refl}
 use Rattle.mds_batch.specs.declared.item.EventItem.{EventItem}
 use Rattle.mds_batch.specs.declared.item.EventItem.TheVariants.{Event, Fault as Faulty}
-use Rattle.mds_replay.specs.declared.report.Opening.{Opening}
-use Rattle.mds_replay.specs.declared.report.Opening.TheVariants.{Removed}
-use Rattle.mds_replay.specs.declared.report.Verdict.{Verdict}
-use Rattle.mds_replay.specs.declared.report.Verdict.TheVariants.{Accepted, Refused, NoOpening, Fault}
-use Rattle.mds_replay.specs.declared.report.VehicleEnd.{VehicleEnd}
-use Rattle.mds_replay.specs.Items.{events_of, vehicles_of}
-use Rattle.mds_replay.specs.Replay.{accepted_by, accepted_of, prior_of, as_requests, IsEnd, IsVerdict}
+use Rattle.mds_trace.specs.declared.report.Opening.{Opening}
+use Rattle.mds_trace.specs.declared.report.Opening.TheVariants.{Removed}
+use Rattle.mds_trace.specs.declared.report.Verdict.{Verdict}
+use Rattle.mds_trace.specs.declared.report.Verdict.TheVariants.{Accepted, Refused, NoOpening, Fault}
+use Rattle.mds_trace.specs.declared.report.VehicleEnd.{VehicleEnd}
+use Rattle.mds_trace.specs.Items.{events_of, vehicles_of}
+use Rattle.mds_trace.specs.Replay.{accepted_by, accepted_of, prior_of, as_requests, IsEnd, IsVerdict}
 use Rattle.mds_trace.specs.Session.{held_at}
 use Rattle.mds_trace.specs.SessionLaws.{accepted_before, SessionsShowReports}
 use Rattle.mds_trace.proofs.Accepted.{accepted_events_open}

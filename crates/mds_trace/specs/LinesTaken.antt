@@ -3,7 +3,7 @@ use Rattle.std.specs.Prelude.{ℕ, List, Option, Some, None}
 use Rattle.mds_batch.specs.declared.item.EventItem.{EventItem}
 use Rattle.mds_lines.specs.declared.fault.LineFault.{LineFault}
 use Rattle.mds_lines.specs.Stream.{HasEndedItems}
-use Rattle.mds_replay.specs.Replayer.{Replaying, Took}
+use Rattle.mds_trace.specs.Replayer.{Replaying, Took}
 
 -- without a fault the items of the lines that have ended were taken
 abbrev pub AreReplayed : Option LineFault → List ℕ → Replaying → Type 0

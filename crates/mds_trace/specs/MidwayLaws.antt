@@ -8,12 +8,12 @@ use Rattle.mds_core.specs.declared.reply.Standing.{Standing}
 use Rattle.mds_core.specs.Reported.{Reported}
 use Rattle.mds_batch.specs.declared.item.EventItem.{EventItem}
 use Rattle.mds_batch.specs.declared.item.EventItem.TheVariants.{Event}
-use Rattle.mds_replay.specs.declared.report.Opening.TheVariants.{Any}
-use Rattle.mds_replay.specs.declared.report.Report.{Report}
-use Rattle.mds_replay.specs.declared.report.Verdict.{Verdict}
-use Rattle.mds_replay.specs.declared.report.Verdict.TheVariants.{Accepted}
-use Rattle.mds_replay.specs.declared.report.VehicleEnd.{VehicleEnd}
-use Rattle.mds_replay.specs.Replay.{prior_of, accepted_of, IsReport}
+use Rattle.mds_trace.specs.declared.report.Opening.TheVariants.{Any}
+use Rattle.mds_trace.specs.declared.report.Report.{Report}
+use Rattle.mds_trace.specs.declared.report.Verdict.{Verdict}
+use Rattle.mds_trace.specs.declared.report.Verdict.TheVariants.{Accepted}
+use Rattle.mds_trace.specs.declared.report.VehicleEnd.{VehicleEnd}
+use Rattle.mds_trace.specs.Replay.{prior_of, accepted_of, IsReport}
 use Rattle.mds_trace.specs.Session.{AreOpenFrom, held_at}
 use Rattle.mds_trace.specs.SessionLaws.{accepted_before}
 

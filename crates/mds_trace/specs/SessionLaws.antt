@@ -11,12 +11,12 @@ use Rattle.mds_core.specs.History.{requests_of, reports, state_of}
 use Rattle.mds_core.specs.Lawful.{IsLawful}
 use Rattle.mds_batch.specs.declared.item.EventItem.{EventItem}
 use Rattle.mds_batch.specs.declared.item.EventItem.TheVariants.{Event}
-use Rattle.mds_replay.specs.declared.report.Opening.TheVariants as opening
-use Rattle.mds_replay.specs.declared.report.Report.{Report}
-use Rattle.mds_replay.specs.declared.report.Verdict.{Verdict}
-use Rattle.mds_replay.specs.declared.report.Verdict.TheVariants.{Accepted}
-use Rattle.mds_replay.specs.declared.report.VehicleEnd.{VehicleEnd}
-use Rattle.mds_replay.specs.Replay.{prior_of, accepted_of, AreVerdicts, IsReport}
+use Rattle.mds_trace.specs.declared.report.Opening.TheVariants as opening
+use Rattle.mds_trace.specs.declared.report.Report.{Report}
+use Rattle.mds_trace.specs.declared.report.Verdict.{Verdict}
+use Rattle.mds_trace.specs.declared.report.Verdict.TheVariants.{Accepted}
+use Rattle.mds_trace.specs.declared.report.VehicleEnd.{VehicleEnd}
+use Rattle.mds_trace.specs.Replay.{prior_of, accepted_of, AreVerdicts, IsReport}
 use Rattle.mds_trace.specs.Session.{AreOpenFrom, held_at}
 
 -- in a lawful history, a session over the events of a registered vehicle may be opened from

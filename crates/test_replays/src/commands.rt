@@ -1,5 +1,5 @@
 //! Each command, from bytes to bytes, carried out again where a growth is refused (by `tests/refused-growths`).
-ghost use Rattle.mds_replay.specs.WithFault.{IsWorkerCount};
+ghost use Rattle.mds_trace.specs.WithFault.{IsWorkerCount};
 
 use crate::told::FIVE_EVENTS as FIVE_EVENTS_IN_LINES;
 use mds_commands::{

@@ -1,11 +1,11 @@
 //! The debugger's readers and writers that fail, and its calls where memory is wanting.
 use mds_batch::{BatchFault, each_event};
-use mds_debugger::{
+use mds_io::PrintError;
+use mds_table::State::Removed;
+use mds_trace::{
     Move, ScriptCommand, ScriptEnd, VehicleReplay, VehicleSession, print_start, print_walk,
     read_script, script_of,
 };
-use mds_io::PrintError;
-use mds_table::State::Removed;
 use std::alloc::{AllocError, Global};
 use test_fixtures::{
     A, ENDS, Expects, FAILS, Lack, Last, PAUSES, Stream, again, fence, key, profile, rows,

@@ -3,9 +3,9 @@ use crate::told::{End, Expected, FIVE, FIVE_REPORT, NOTHING, Told, is_report, it
 use mds_batch::{EventItem, ItemFault};
 use mds_core::Refusal;
 use mds_gate::OpenGate;
-use mds_replay::{Opening, Replayer, Report, Verdict, WithFault, replay, replay_with};
 use mds_table::State::{Available, Elsewhere, OnTrip, Removed, Reserved};
 use mds_table::{State, Tables};
+use mds_trace::{Opening, Replayer, Report, Verdict, WithFault, replay, replay_with};
 use std::alloc::{AllocError, Global};
 use std::thread::Threads;
 use test_fixtures::{A, B, E1, E2, E3, Lack, again, fence, profile, profile_again, rows};

@@ -1,9 +1,9 @@
 //! Events in a few words, the worked runs of them, and what replays come to.
 use mds_batch::EventItem;
 use mds_core::{Event, Refusal};
-use mds_replay::{Report, VehicleEnd, Verdict};
 use mds_table::State;
 use mds_table::State::{Available, NonOperational, OnTrip, Removed};
+use mds_trace::{Report, VehicleEnd, Verdict};
 use std::alloc::Global;
 use test_fixtures::{A, B, E1, E2, E3, E4, Lack, event_of, key};
 

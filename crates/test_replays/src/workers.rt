@@ -2,7 +2,7 @@
 use crate::replays::five_again;
 use crate::told::{Expected, FIVE, FIVE_REPORT, NOTHING, Told, is_report, items_of};
 use mds_gate::{Gate, OpenGate};
-use mds_replay::{Opening, WithFault, replay_with};
+use mds_trace::{Opening, WithFault, replay_with};
 use std::alloc::{AllocError, Global};
 use std::sync::atomic::{AtomicBool, AtomicU64, Ordering};
 use std::thread::Threads;

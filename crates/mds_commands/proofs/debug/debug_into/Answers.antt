@@ -2,7 +2,7 @@ use Rattle.std.proofs.Common.{ℕ, List, Option, inr, subst, sym}
 use Rattle.mds_io.specs.declared.page.PrintError.{PrintError}
 use Rattle.mds_io.specs.declared.page.PrintError.TheVariants as write
 use Rattle.mds_trace.specs.Walk.{Walk}
-use Rattle.mds_debugger.specs.declared.line.CountsLine.{CountsLine}
+use Rattle.mds_trace.specs.declared.line.CountsLine.{CountsLine}
 use Rattle.mds_commands.specs.declared.debug.Named.{Named}
 use Rattle.mds_commands.specs.declared.debug.DebugProblem.{DebugProblem}
 use Rattle.mds_commands.specs.declared.debug.DebugProblem.TheVariants.{Other}

@@ -8,8 +8,8 @@ use Rattle.mds_commands.specs.declared.source.Source.{Source}
 use Rattle.mds_commands.specs.Command.{status_on}
 use Rattle.mds_io.specs.declared.page.PrintError.TheVariants as write
 use Rattle.mds_trace.specs.Walk.{Walk}
-use Rattle.mds_debugger.specs.declared.line.CountsLine.{CountsLine}
-use Rattle.mds_debugger.proofs.WalkLemmas.{front_at_least}
+use Rattle.mds_trace.specs.declared.line.CountsLine.{CountsLine}
+use Rattle.mds_trace.proofs.WalkLemmas.{front_at_least}
 use Rattle.mds_commands.specs.Debug.{DebugsFront, DebugWentOut, ExplainsDebug, IsOther}
 use Rattle.mds_commands.proofs.debug.debug_to.Goals as goal
 

@@ -1,5 +1,5 @@
 use Rattle.std.proofs.Common.{◌≢◌, ◌∙◌, arith}
-use Rattle.mds_debugger.specs.Vehicle.{told_of}
+use Rattle.mds_trace.specs.Vehicle.{told_of}
 use Rattle.mds_commands.proofs.OpenedLemmas.{all_counted, is_opened}
 use Rattle.mds_commands.proofs.debug.open_on.Goals as goal
 use Rattle.mds_commands.proofs.debug.open_on.Goals.{else-opened-eq0-via-then-opened-eq0+else-opened-eq0-2, else-opened-eq0-via-else-opened-eq0}

@@ -2,9 +2,9 @@ use Rattle.std.proofs.Common.{◌≤◌, ◌∙◌, ℕ, List, Option, length, i
 use Rattle.std.proofs.KnownBytes.{Appends-trans, Consumes-nil, Keeps-refl}
 use Rattle.mds_io.specs.declared.page.PrintError.{PrintError}
 use Rattle.mds_io.specs.declared.page.PrintError.TheVariants as write
-use Rattle.mds_debugger.specs.Input.{max_script}
-use Rattle.mds_debugger.specs.Printed.{PrintsFront, PrintsScript}
-use Rattle.mds_debugger.specs.Script.{IsScript}
+use Rattle.mds_trace.specs.Input.{max_script}
+use Rattle.mds_trace.specs.Printed.{PrintsFront, PrintsScript}
+use Rattle.mds_trace.specs.Script.{IsScript}
 use Rattle.mds_trace.specs.Walk.{Walk}
 use Rattle.mds_commands.specs.Debug.{DebugsPart, FollowsFront, WalksFront}
 use Rattle.mds_commands.proofs.ErrorLemmas.{passed_on}

@@ -1,5 +1,5 @@
 use Rattle.std.proofs.Common.{◌++◌, refl, rules, string_bytes, get_or}
-use Rattle.mds_replay.specs.declared.report.Verdict.TheVariants.{Accepted}
+use Rattle.mds_trace.specs.declared.report.Verdict.TheVariants.{Accepted}
 use Rattle.mds_table.specs.declared.state.State.TheVariants.{Removed}
 use Rattle.mds_commands.specs.Text.{item_line, item_lines}
 use Rattle.mds_io.specs.Page.{AppendsFront}

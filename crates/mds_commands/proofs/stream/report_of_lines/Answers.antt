@@ -4,7 +4,7 @@ use Rattle.mds_table.specs.Tables.{Tables}
 use Rattle.mds_lines.specs.Stream.{HasLineFault}
 use Rattle.mds_lines.specs.declared.fault.LineFault.{LineFault}
 use Rattle.mds_lines.specs.declared.fault.LineFault.TheVariants.{Memory}
-use Rattle.mds_replay.specs.declared.report.Opening.{Opening}
+use Rattle.mds_trace.specs.declared.report.Opening.{Opening}
 use Rattle.mds_trace.specs.Feeding.{Feeding}
 use Rattle.mds_trace.specs.LineReport.{IsLineReport}
 use Rattle.mds_commands.specs.declared.problem.Problem.{Problem}

@@ -1,6 +1,0 @@
-use Rattle.std.proofs.Common.{◌≡◌, map, Ok}
-use Rattle.mds_replay.proofs.workers.replay_parts.Given as goal
-
--- the parts so far are what the first workers came to
-abbrev pub invariant-loop-result : goal.invariant-loop-result
-invariant-loop-result g l = l.yielded ≡ map Ok l.parts.items
