@@ -157,8 +157,13 @@ impl Watch {
 }
 
 impl Ready {
+    ghost use Rattle.std.specs.Prelude.{◌≡◌};
+    ghost use Rattle.mds_socket.specs.Numbers.{HasKey, number_of};
+
     /// The number under which the system tells it.
-    fn number(self) -> u64 {
+    fn number(self) -> u64
+        ensures { HasKey MAX_WAITING self → result ≡ number_of MAX_WAITING self }
+    {
         let number = match self {
             Ready::Coming(key) => key,
             Ready::Leaving(key) => key.saturating_add(MAX_WAITING),
@@ -168,7 +173,10 @@ impl Ready {
     }
 
     /// What the system tells under this number.
-    fn of(number: u64) -> Ready {
+    fn of(number: u64) -> Ready
+        ensures { (ready : Ready) → HasKey MAX_WAITING ready
+            → number ≡ number_of MAX_WAITING ready → result ≡ ready }
+    {
         let number = number as usize;
         if number < MAX_WAITING {
             Ready::Coming(number)
