@@ -36,6 +36,7 @@ struct PlayedSystem {
     most: usize,
     asked: AtomicUsize,
     pauses: AtomicUsize,
+    stops: AtomicUsize,
     /// Whether a new connection is told, which is told once.
     asks_for_new: AtomicBool,
     /// Whether a new one may be waited for: each time that it was said a bit, behind a first one.
@@ -52,6 +53,7 @@ impl PlayedSystem {
             most,
             asked: AtomicUsize::new(0),
             pauses: AtomicUsize::new(0),
+            stops: AtomicUsize::new(0),
             asks_for_new: AtomicBool::new(true),
             may_wait: AtomicU64::new(1),
         }
@@ -74,14 +76,18 @@ impl PlayedSystem {
     }
 }
 
-/// EMFILE, ENOMEM, ENOBUFS and ECONNABORTED, by Linux's numbers.
+/// EMFILE, ENFILE, ENOMEM, ENOBUFS and ECONNABORTED, by Linux's numbers; and EPERM, EACCES and EOPNOTSUPP.
 const NO_FILE: i32 = 24;
+
+const NO_FILE_IN_SYSTEM: i32 = 23;
 
 const NO_MEMORY: i32 = 12;
 
 const NO_BUFFERS: i32 = 105;
 
 const ABORTED: i32 = 103;
+
+const HINDERED: [i32; 3] = [1, 13, 95];
 
 impl System for PlayedSystem {
     type Peer = Played;
@@ -145,7 +151,9 @@ impl System for PlayedSystem {
         self.pauses.fetch_add(1, Ordering::SeqCst);
     }
 
-    fn stop(&self) {}
+    fn stop(&self) {
+        self.stops.fetch_add(1, Ordering::SeqCst);
+    }
 
     fn end(&self) {}
 }
@@ -195,6 +203,10 @@ const CASES: &[Case] = rows! {
         Turn::Comes(PART), Turn::Comes(PART), Turn::Fails(NO_FILE), Turn::Tells(Ready::Listener),
         Turn::Tells(Ready::Coming(0)), Turn::Comes(WHOLE), Turn::Tells(Ready::Coming(1)),
     ], Some(1), 9, [18, 23], [2, 0]),
+    (&[
+        Turn::Comes(PART), Turn::Comes(PART), Turn::Fails(NO_FILE_IN_SYSTEM), Turn::Tells(Ready::Listener),
+        Turn::Tells(Ready::Coming(0)), Turn::Comes(WHOLE), Turn::Tells(Ready::Coming(1)),
+    ], Some(1), 9, [18, 23], [2, 0]),
     // None is let go that was taken when another worker found none left: a pause is made.
     (&[
         Turn::Comes(PART), Turn::Fails(NO_FILE), Turn::Tells(Ready::Listener), Turn::Tells(Ready::Coming(0)),
@@ -213,8 +225,10 @@ const CASES: &[Case] = rows! {
     (&[Turn::Fails(NO_MEMORY), Turn::Fails(NO_BUFFERS), Turn::Fails(ABORTED), Turn::Comes(WHOLE)],
         Some(1), 9, [18, 0], [0, 2]),
     // Nobody is let go for that: a request of which a part is there comes whole.
-    (&[Turn::Comes(PART), Turn::Fails(NO_MEMORY), Turn::Fails(ABORTED), Turn::Tells(Ready::Coming(0)), Turn::Comes(WHOLE)],
-        Some(1), 9, [23, 18], [1, 1]),
+    (&[
+        Turn::Comes(PART), Turn::Fails(NO_MEMORY), Turn::Fails(NO_BUFFERS), Turn::Fails(HINDERED[0]), Turn::Fails(HINDERED[1]),
+        Turn::Fails(HINDERED[2]), Turn::Fails(ABORTED), Turn::Tells(Ready::Coming(0)), Turn::Comes(WHOLE),
+    ], Some(1), 9, [23, 18], [1, 5]),
     // A connection is reset in the head, and another one in the body.
     (&[
         Turn::Comes(CUT), Turn::Tells(Ready::Coming(0)), Turn::Comes(IN_BODY), Turn::Tells(Ready::Coming(0)),
@@ -267,12 +281,12 @@ fn taken<R: Wait + Copy>(port: &WaitingPort<PlayedSystem, R>) -> Option<usize> {
     Some(count)
 }
 
-/// What a case comes to.
+/// What a case comes to. `None` where the port stopped its system, which other workers may take connections from.
 fn come_to<R: Wait + Copy>(
     rt: R,
     alloc: Global,
     case: Case,
-) -> Result<([usize; 2], [usize; 2]), AllocError> {
+) -> Result<Option<([usize; 2], [usize; 2])>, AllocError> {
     let (turns, pace, most, _, _) = case;
     let face = Face::open(alloc)?;
     let port = WaitingPort::new(alloc, rt, PlayedSystem::new(turns, pace, most), face);
@@ -283,13 +297,14 @@ fn come_to<R: Wait + Copy>(
         system.asked.load(Ordering::SeqCst),
         system.pauses.load(Ordering::SeqCst),
     ];
-    Ok(([first.unwrap_or(0), second.unwrap_or(0)], counts))
+    let came = ([first.unwrap_or(0), second.unwrap_or(0)], counts);
+    Ok((system.stops.load(Ordering::SeqCst) == 0).then_some(came))
 }
 
 /// The place of the first case that comes to something else.
 fn other_case<R: Wait + Copy>(rt: R, alloc: Global) -> Result<Option<usize>, AllocError> {
     for (at, case) in CASES.iter().copied().enumerate() {
-        if come_to(rt, alloc, case)? != (case.3, case.4) {
+        if come_to(rt, alloc, case)? != Some((case.3, case.4)) {
             return Ok(Some(at));
         }
     }
