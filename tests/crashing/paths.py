@@ -4,6 +4,7 @@ import os
 import socket
 import stat
 import tempfile
+import time
 from pathlib import Path
 
 from cases.replays import event
@@ -12,12 +13,14 @@ from cases.vehicles import FORM, LONG, journal, not_a_journal, registered
 from crashing.files import AT_REST, counted, listed_by, vehicles_text
 from crashing.recording import Recording
 from crashing.reports import device_at, registering
+from crashing.resting import SLOW
 from harness.building import BY_BYTES, Counting, no_random_numbers
 from harness.case import RANDOM, SOCKET, cannot_read, not_a_table
 from harness.counting import Skipped
 from harness.texts import differing
 from serving.http import done
-from serving.server import NotListening, Server
+from serving.server import SECONDS, NotListening, Server, numbered_port
+from serving.sockets import addresses_of
 
 IN_USE = "mds_city: journal in use\n"
 FAULTS = 2
@@ -177,6 +180,22 @@ def before_the_port(program):
         yield from refused(program, REGISTERED.encode(), SOCKET, port=port)
 
 
+def not_before_its_book(program):
+    """While a start over a journal waits for the disk, no client can connect, which would wait for its answer so long."""
+    with tempfile.TemporaryDirectory() as folder:
+        path, port = Path(folder, "journal"), numbered_port()
+        path.write_text(f"{REGISTERED[:-1]} {{")
+        with Recording(path, pause=int(SLOW * 1000000)) as recording:
+            server, begun = Server(program, 1, journal=path, port=port, env=recording.env), time.monotonic()
+            while not any(addresses_of(port)) and time.monotonic() < begun + SECONDS:
+                time.sleep(0.01)
+            begun = time.monotonic()
+            with server:
+                seconds = time.monotonic() - begun
+            if recording.number("syncs") < 2 or seconds > SLOW:
+                yield f"it listened {seconds:.1f} s before it said so, of {recording.number('syncs')} syncs"
+
+
 def behind_the_table(program):
     """A table file that is none is told of before the journal is opened or made: no file is there then, and one that is none isn't
     told of."""
@@ -261,6 +280,7 @@ PATHS = [
     one_server_at_a_time,
     files_that_are_none,
     before_the_port,
+    not_before_its_book,
     behind_the_table,
     without_random_numbers,
     too_much_behind_the_lines,

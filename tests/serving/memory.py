@@ -41,6 +41,8 @@ MOST_BY_UNIT = 1.25
 """The same with what the unit tells the C library: it gives pages of long lists back."""
 ENDLESS = 64
 """Clients that each send all of the longest body but its last byte: four times as much as the server holds."""
+ANNOUNCING, LITTLE = 1000, 1 << 20
+"""Heads that each announce the longest body, and a server's kilobytes of address space: a quarter of what they announce."""
 EVENTS = 1000
 """How many events a batch has."""
 LISTED = 100_000
@@ -178,6 +180,25 @@ def endless_bodies(program, env, times):
         yield from server.drain()
 
 
+def heads_that_announce_much(program):
+    """Heads that announce the longest body, of which nothing comes: no memory is kept for that, so that a server in little address
+    space has room for all of them, and for others."""
+    many_open_files(OPEN_FILES)
+    body = padded("[]", MAX_BYTES)
+    request = post("/events", body)
+    with Server(program, EACH, workers=WORKERS, address_space=LITTLE) as server:
+        yield from talk_over(server, registered(A))
+        sockets = server.sockets()
+        with connections(server.port, ANNOUNCING, request[: -len(body)]) as opened:
+            taken_in(server, sockets + ANNOUNCING)
+            yield from talk_over(server, look(A, "removed", 0, None))
+            if closed(opened):
+                yield f"{closed(opened)} of {ANNOUNCING} were closed"
+            opened[-1].sendall(request[-len(body) :])
+            yield from differing(read_all(opened[-1]), EMPTY)
+        yield from server.drain()
+
+
 def answers_that_nobody_reads(program):
     """Lists, three times as much as the server holds of answers, whose clients read nothing: it lets go of the one that came first,
     and the one that came last has its list whole."""
@@ -235,4 +256,11 @@ def stack_of_the_first_thread(program):
         yield from server.end()
 
 
-MEMORY = [memory_of_waiting, bodies_that_never_end, answers_that_nobody_reads, long_list, stack_of_the_first_thread]
+MEMORY = [
+    memory_of_waiting,
+    bodies_that_never_end,
+    heads_that_announce_much,
+    answers_that_nobody_reads,
+    long_list,
+    stack_of_the_first_thread,
+]
