@@ -21,7 +21,8 @@ from cases.streams import LONG, LONG_FILES
 from cases.tables import MOST_ROWS, ONE_ROW, ONE_ROW_PRINTED, PROFILE, table_file, table_printed
 from cases.vehicles import journal, listed, not_a_journal, registered
 from harness.building import BY_BYTES, Counting
-from harness.case import MAX_BYTES, MAX_ITEMS, NOT_TEXT, OUTPUT, Case, cannot_read, not_a_batch, not_a_table, padded, told
+from harness.case import MAX_BYTES, MAX_ITEMS, NO_MEMORY, NOT_TEXT, OUTPUT
+from harness.case import Case, cannot_read, not_a_batch, not_a_table, padded, told
 from harness.running import SECONDS, differences, outcome
 
 MOST_CALLS = 5000000
@@ -220,13 +221,47 @@ def pages_by_bytes(program):
             yield from wrong
 
 
+def whole_by_bytes(program, case, on):
+    """What is wrong with a run where each call of write on a descriptor takes a byte or is interrupted, and nothing is given up."""
+    wrong, counts = counted(program, case, on, BY_BYTES)
+    if counts.writes != BY_BYTES * counts.bytes:
+        wrong.append(f"{counts}, in place of {BY_BYTES} writes for each byte")
+    return [f"{case.words}: {complaint}" for complaint in wrong]
+
+
 def lines_by_bytes(program):
     """Both lines of a server go out whole, with a journal and without one, where each call takes a byte or is interrupted."""
     for words, out in ((NO_CONNECTION, SERVED), (f"{NO_CONNECTION} --journal journal", SERVED_ONE)):
-        wrong, counts = counted(program, Case(words, out=out, files=files_of(words)), OUT, BY_BYTES)
-        if counts.writes != BY_BYTES * counts.bytes:
-            wrong.append(f"{counts}, in place of {BY_BYTES} writes for each byte")
-        yield from (f"{words}: {complaint}" for complaint in wrong)
+        yield from whole_by_bytes(program, Case(words, out=out, files=files_of(words)), OUT)
+
+
+LITTLE = 8 * 2**20
+"""How many bytes the program may take: enough for itself, but not also for a text of the most bytes, and as many for reading it."""
+LARGEST = {
+    "events.json": padded(batch([item()]), MAX_BYTES),
+    "table.json": padded(ONE_ROW, MAX_BYTES),
+    "journal": journal(padded(registered(A), MAX_BYTES)),
+}
+LACKING = {
+    "replay -": LARGEST["events.json"],
+    "replay --lines -": padded(item(), MAX_BYTES),
+    "replay events.json": "",
+    "table --table table.json": "",
+    DEBUG: "",
+    "vehicles -": LARGEST["journal"],
+    "vehicles journal": "",
+    f"{NO_CONNECTION} --table table.json": "",
+    f"{NO_CONNECTION} --journal journal": "",
+}
+"""The words of commands that lack memory then, and their standard input."""
+
+
+def lack_by_bytes(program):
+    """Want of memory is told whole, whichever file it is for, where each call takes a byte or is interrupted."""
+    for words, given in LACKING.items():
+        files = {name: text for name, text in LARGEST.items() if name in words}
+        case = Case(words, memory=LITTLE, status=4, faults=NO_MEMORY, given=given, files=files)
+        yield from whole_by_bytes(program, case, FAULTS)
 
 
 SELDOM = 60000
@@ -402,6 +437,7 @@ CALLS = [
     failed_calls,
     pages_by_bytes,
     lines_by_bytes,
+    lack_by_bytes,
     texts_of_clap,
     read_so_far,
     unread_files,
