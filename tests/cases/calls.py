@@ -361,19 +361,23 @@ WORKERS = (1, 2, 4, 5, 64)
 SERVED_ONE = re.compile(r"listening 127\.0\.0\.1:[0-9]+\naccepted 1\n")
 
 
+def replays_by_workers(vehicles):
+    """Replays of the first events of so many vehicles: the words, what is printed, what is read, and how many threads are made."""
+    events = [event(identifier(2, number), "e1", "provider_drop_off", "available", 1000) for number in range(vehicles)]
+    verdicts = "".join(f"{number} ok available\n" for number in range(vehicles))
+    for opening, opened in (("", ""), ("--any ", " from removed")):
+        ends = "".join(f"vehicle {P} {identifier(2, number)} available 1{opened}\n" for number in range(vehicles))
+        out = f"{verdicts}{ends}accepted {vehicles} refused 0\n"
+        yield from ((f"replay {opening}--workers {count} -", out, batch(events), count - 1) for count in WORKERS)
+        yield f"replay {opening}-", out, batch(events), 0
+        yield f"replay {opening}--lines --workers 64 -", out, "\n".join(events), 0
+
+
 def threads_of_workers(program):
     """Each worker of a replay, or of a server, but one is a thread that is made; a replay of lines, and one without the option,
     makes none."""
-    events = [event(identifier(2, number), "e1", "provider_drop_off", "available", 1000) for number in range(67)]
-    verdicts = "".join(f"{number} ok available\n" for number in range(67))
     runs = [(f"{NO_CONNECTION} --workers {count}", SERVED, "", count - 1) for count in WORKERS]
-    for opening, opened in (("", ""), ("--any ", " from removed")):
-        ends = "".join(f"vehicle {P} {identifier(2, number)} available 1{opened}\n" for number in range(67))
-        out = f"{verdicts}{ends}accepted 67 refused 0\n"
-        runs += [(f"replay {opening}--workers {count} -", out, batch(events), count - 1) for count in WORKERS]
-        runs.append((f"replay {opening}-", out, batch(events), 0))
-        runs.append((f"replay {opening}--lines --workers 64 -", out, "\n".join(events), 0))
-    for words, out, text, wanted in runs:
+    for words, out, text, wanted in [*runs, *replays_by_workers(67), *replays_by_workers(MAX_ITEMS)]:
         wrong, counts = counted(program, Case(words, out=out, given=text))
         if counts.threads != wanted:
             wrong.append(f"{counts.threads} threads were made, in place of {wanted}")

@@ -5,7 +5,7 @@ import tempfile
 
 from cases.debugging import BAD, EVENTS, NOBODY
 from cases.helps import ALL, SERVE
-from cases.replays import A, B, P
+from cases.replays import A, B, P, identifier
 from cases.serve import NO_CONNECTION, SERVED
 from cases.tables import ONE_ROW, ONE_ROW_PRINTED, PROFILE, table_printed
 from cases.vehicles import LONG, journal, listed, not_a_journal, registered
@@ -63,12 +63,15 @@ def input_that_stays_open(program):
         yield from (f"{label(case)}: {it}" for it in differences(case, *outcome(program, case, SECONDS)))
 
 
+MANY = [registered(identifier(1, number)) for number in range(2000)]
+"""More lines than are read at once."""
 # Journals that tell enough before their end: by a first line that isn't the form's, by a later fault, by a gate that isn't open.
 # A line is too long as soon as it has a byte too many.
 ENOUGH = [
     (" {}\n", (3, b"", not_a_journal("form"))),
     (journal("{}", end=""), (3, b"", not_a_journal("bad_line 1"))),
     (journal(registered(A), registered(A), end=""), (3, b"", not_a_journal("refused 2"))),
+    (journal(*MANY, MANY[0], end=""), (3, b"", not_a_journal(f"refused {len(MANY) + 1}"))),
     (f" {LONG}", (3, b"", not_a_journal("too_long 0"))),
     (journal(registered(A), end=f" {LONG}"), (3, b"", not_a_journal("too_long 2"))),
     (journal(), (0, b"registrations 0 events 0\n", "")),

@@ -37,6 +37,7 @@ FAULTS = [
     (" " * (MAX_BYTES + 1), "too_long"),
     ("\n" * (MAX_BYTES + 1), "too_long"),
     (padded("{", MAX_BYTES) + "\n", "too_long"),
+    ("\n" * (MAX_BYTES - 1) + "{", f"not_json {MAX_BYTES - 1}"),
     (padded("7", MAX_BYTES - 1) + "{", "not_json 0"),
     (padded("7", MAX_BYTES + 1), "too_long"),
     (padded("7", MAX_BYTES) + "\n", "too_long"),

@@ -42,6 +42,8 @@ AT_ONCE = 8
 TOLD_WITHIN = 5
 """Seconds in which a fault is told, while an answer leaves that nobody reads, which may take ten times as long."""
 DEVICE, OTHER = device_at(1), device_at(2)
+NEIGHBOUR = device_at(3)
+"""A vehicle of the half of the first."""
 TOLD_NOT_KEPT = "mds_city: journal not kept\n"
 LOST = "mds_city: journal\n"
 HELD_BACK = answer(503, NOT_KEPT)
@@ -72,14 +74,17 @@ def kept_amiss(path, wanted):
 def filled(server, path):
     """What is wrong with a server whose disk becomes full: what was kept stands, answers that rest on what isn't are held back, and
     the others go out."""
-    yield from answered(server, registering(DEVICE, OTHER), done(2), "before")
+    yield from answered(server, registering(DEVICE, OTHER, NEIGHBOUR), done(3), "before")
     yield from answered(server, reporting(DEVICE, 0, FIRST), done(FIRST), "before")
     for request in (reporting(DEVICE, FIRST, FIRST + MORE), reporting(DEVICE, 0, FIRST), looking(DEVICE), listing(DEVICE)):
         yield from answered(server, request, HELD_BACK, f"without room, {request[:40]!r}")
+    for device in (OTHER, NEIGHBOUR):
+        yield from answered(server, looking(device), answer(200, standing(device, 0)), f"without room, a look at {device}")
+        yield from answered(server, listing(device), answer(200, {"events": []}), f"without room, a list of {device}")
     yield from answered(server, get("/table"), answer(200, {"rows": Table().listed()}), "without room, the table")
     yield from answered(server, get("/nowhere"), error(404, "not_found"), "without room, no route")
     yield from answered(server, post("/events", "{"), error(400, "not_json"), "without room, no JSON")
-    yield from kept_amiss(path, {DEVICE: FIRST, OTHER: 0})
+    yield from kept_amiss(path, {DEVICE: FIRST, OTHER: 0, NEIGHBOUR: 0})
     if faults_of(server) != TOLD_NOT_KEPT:
         yield f"without room it told {faults_of(server)!r}"
 
@@ -93,7 +98,7 @@ def filled_no_more(server, path):
     events = [listed(DEVICE, number) for number in range(count)]
     yield from answered(server, listing(DEVICE), answer(200, {"events": events}), "with room again, a list")
     yield from answered(server, reporting(DEVICE, count, count + 1), done(1), "with room again, one more")
-    yield from kept_amiss(path, {DEVICE: count + 1, OTHER: 0})
+    yield from kept_amiss(path, {DEVICE: count + 1, OTHER: 0, NEIGHBOUR: 0})
     if faults_of(server) != TOLD_NOT_KEPT:
         yield f"with room again it told {faults_of(server)!r}"
 
@@ -102,7 +107,7 @@ def over_again(program, path):
     """What is wrong with a server that starts over the file then, and ends by itself."""
     wanted = answer(200, standing(DEVICE, FIRST + MORE + 1))
     with Server(program, 1, journal=path) as server:
-        server.success = FIRST + MORE + 3
+        server.success = FIRST + MORE + 4
         server.count()
         yield from answered(server, looking(DEVICE), wanted, "started anew, a look")
         yield from server.end()

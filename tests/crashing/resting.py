@@ -17,9 +17,10 @@ from crashing.reports import device_at, listed, listing, looking, registering, r
 from harness.counting import Unwell
 from harness.texts import differing
 from model.http import answer, error
+from model.tables import Table
 from serving.http import done
 from serving.server import Server
-from serving.wire import ask
+from serving.wire import ask, get
 
 EACH = 1000
 WORKERS = 4
@@ -179,15 +180,17 @@ def slow_answers(server, recording, one, other):
     begins_to_write(recording, before)
     look_one = Asked(server.port, looking(one))
     look_other, list_other = all_asked(server.port, [looking(other), listing(other)])
-    more = all_asked(server.port, [looking(other)] * (WORKERS - 2))
+    resting = [get("/table"), get("/nowhere")]
+    more = all_asked(server.port, [*[looking(other)] * (WORKERS - 2), *resting])
     for client in (report_one, look_one):
         client.join()
     yield from differing(report_one.answer, done(1), "the report")
     yield from differing(look_one.answer, answer(200, standing(one, 1)), "a look at the vehicle")
     yield from differing(look_other.answer, answer(200, standing(other, 0)), "a look at the other")
     yield from differing(list_other.answer, answer(200, {"events": []}), "a list of the other")
-    for client in more:
-        yield from differing(client.answer, answer(200, standing(other, 0)), "one more look at the other")
+    wanted = [answer(200, standing(other, 0))] * (WORKERS - 2) + [answer(200, {"rows": Table().listed()}), error(404, "not_found")]
+    for client, text in zip(more, wanted):
+        yield from differing(client.answer, text, "what rests on no event of the first")
     if min(report_one.at, look_one.at) < begun + 2 * SLOW:
         yield f"the first vehicle's event was told after {min(report_one.at, look_one.at) - begun} s, before it was on the disk"
     if max(look_other.at, list_other.at) > begun + SLOW:

@@ -37,6 +37,8 @@ struct PlayedSystem {
     asked: AtomicUsize,
     pauses: AtomicUsize,
     stops: AtomicUsize,
+    /// The longest wait that it was asked for, in milliseconds.
+    longest: AtomicU64,
     /// Whether a new connection is told, which is told once.
     asks_for_new: AtomicBool,
     /// Whether a new one may be waited for: each time that it was said a bit, behind a first one.
@@ -54,6 +56,7 @@ impl PlayedSystem {
             asked: AtomicUsize::new(0),
             pauses: AtomicUsize::new(0),
             stops: AtomicUsize::new(0),
+            longest: AtomicU64::new(0),
             asks_for_new: AtomicBool::new(true),
             may_wait: AtomicU64::new(1),
         }
@@ -122,7 +125,9 @@ impl System for PlayedSystem {
         self.asks_for_new.store(true, Ordering::SeqCst);
     }
 
-    fn wait(&self, _millis: u64) -> Option<Ready> {
+    fn wait(&self, millis: u64) -> Option<Ready> {
+        let longest = self.longest.load(Ordering::SeqCst).max(millis);
+        self.longest.store(longest, Ordering::SeqCst);
         match self.turn() {
             Some(Turn::Tells(Ready::Listener)) => {
                 self.go_on();
@@ -281,7 +286,8 @@ fn taken<R: Wait + Copy>(port: &WaitingPort<PlayedSystem, R>) -> Option<usize> {
     Some(count)
 }
 
-/// What a case comes to. `None` where the port stopped its system, which other workers may take connections from.
+/// What a case comes to. `None` where the port stopped its system, which other workers may take connections from, or asked for a wait
+/// of more than a second, beside which who is late stays.
 fn come_to<R: Wait + Copy>(
     rt: R,
     alloc: Global,
@@ -298,7 +304,9 @@ fn come_to<R: Wait + Copy>(
         system.pauses.load(Ordering::SeqCst),
     ];
     let came = ([first.unwrap_or(0), second.unwrap_or(0)], counts);
-    Ok((system.stops.load(Ordering::SeqCst) == 0).then_some(came))
+    let is_well = system.stops.load(Ordering::SeqCst) == 0
+        && system.longest.load(Ordering::SeqCst) <= 1_000;
+    Ok(is_well.then_some(came))
 }
 
 /// The place of the first case that comes to something else.
