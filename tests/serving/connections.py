@@ -1,13 +1,17 @@
 """Connections that are slow, broken, silent, or sent more than is read."""
 
+import contextlib
+import os
 import select
+import socket
 import time
+from concurrent.futures import ThreadPoolExecutor
 
 from cases.replays import A, B, P, batch, history, identifier, item
-from harness.case import MAX_ITEMS
+from harness.case import MAX_BYTES, MAX_ITEMS
 from harness.texts import differing
 from model.http import error
-from serving.http import BAD_HEADS, EMPTY, HEAD_BYTES, Exchange, changed, done, head, look, registered, vehicle
+from serving.http import BAD_HEADS, EMPTY, HEAD_BYTES, MANY, Exchange, changed, done, head, look, registered, vehicle
 from serving.server import Server
 from serving.talking import sent, talk_over
 from serving.wire import close, connect, get, hang_up, post, read_all
@@ -26,6 +30,30 @@ TRIES = 5
 SILENT = 600
 AT_ONCE = 3
 """Within how many seconds a client is answered behind so many silent ones. Each of them would keep a worker for 0.01 seconds."""
+PAUSE = 0.3
+"""For how many seconds a client that read its answer does nothing before each piece that it sends then."""
+READ_ON = 1.8
+"""For how many seconds it is read on at least, in which nothing comes."""
+BODY, CHUNKS, TOO_LONG = b"0" * 1000, b"2\r\n[]\r\n0\r\n\r\n", b"0" * (MAX_BYTES + 1)
+ANNOUNCED = {"body": "", "missing": len(BODY)}
+"""Of a head alone, behind which this body is to come."""
+# What is answered before a body comes, and the body; and requests that are answered whole, with something behind them.
+BEHIND = [
+    (changed(version="HTTP/3.0", **ANNOUNCED), error(400, "bad_head"), BODY),
+    (changed(coding="chunked", lengths=[], body=""), error(501, "transfer_encoding"), CHUNKS),
+    (changed(target="/nowhere", **ANNOUNCED), error(404, "not_found"), BODY),
+    (changed(method="PUT", **ANNOUNCED), error(405, "method_not_allowed", "POST"), BODY),
+    (changed(target="/table", **ANNOUNCED), error(405, "method_not_allowed", "GET"), BODY),
+    (changed(lengths=[], body=""), error(411, "length_required"), BODY),
+    (changed(lengths=["1000", "1000"], body=""), error(400, "bad_length"), BODY),
+    (changed(lengths=["+1000"], body=""), error(400, "bad_length"), BODY),
+    (changed(lengths=[str(len(TOO_LONG))], body=""), error(413, "too_long"), TOO_LONG),
+    (changed(method="GET", target=f"/vehicles/{P}/{A}", **ANNOUNCED), error(404, "unregistered"), BODY),
+    (changed(body="[1,2"), error(400, "not_json"), BODY),
+    (changed(body="7"), error(400, "not_list"), BODY),
+    (changed(body=MANY), error(400, "too_many"), BODY),
+    (changed() + b"x", EMPTY, BODY),
+]
 
 
 def silent(connection, seconds):
@@ -104,6 +132,50 @@ def refused_while_sending(program):
             for complaint in sent(server, [request], wanted):
                 yield f"{request[:40]!r}, {len(request)} bytes: {complaint}"
         yield from server.end()
+
+
+def sending_behind_their_answers(program):
+    """Clients that read their whole answers, and send then what they announced, or more: none meets a reset. All of it is tried
+    again where it took so long that the server may have waited for them no more."""
+    for _ in range(TRIES):
+        found, seconds = sent_behind(program, BEHIND)
+        if not found or seconds < READ_ON:
+            break
+    yield from found
+
+
+def sent_behind(program, requests, env=None):
+    """What is wrong with clients that send on behind their answers, side by side, and how many seconds they took."""
+    with Server(program, len(requests), env=env) as server, contextlib.ExitStack() as kept:
+        connections = [kept.enter_context(connect(server.port)) for _ in requests]
+        server.count(len(requests))
+        with ThreadPoolExecutor(len(requests)) as pool:
+            start = time.monotonic()
+            wrong = list(pool.map(went_on, connections, requests))
+            seconds = time.monotonic() - start
+        found = list(server.end())
+        for (request, _, _), connection, complaints in zip(requests, connections, wrong):
+            # the server is gone: a reset has come by now
+            if fault := connection.getsockopt(socket.SOL_SOCKET, socket.SO_ERROR):
+                complaints.append(f"behind its end, {os.strerror(fault)}")
+            found += [f"{request[:60]!r}: {complaint}" for complaint in complaints]
+        return found, seconds
+
+
+def went_on(connection, exchange):
+    """What is wrong with the answer to a client that sends a body in two pieces behind it, and ends, as far as it can."""
+    request, wanted, body = exchange
+    wrong = []
+    try:
+        connection.sendall(request)
+        wrong += differing(read_all(connection), wanted)
+        for piece in (body[: len(body) // 2], body[len(body) // 2 :]):
+            time.sleep(PAUSE)
+            connection.sendall(piece)
+        connection.shutdown(socket.SHUT_WR)
+    except OSError as fault:
+        wrong.append(f"{type(fault).__name__}: {fault}")
+    return wrong
 
 
 def bad_heads_with_more(program):
@@ -256,6 +328,7 @@ CONNECTIONS = [
     cut_at_each_place,
     ended_at_each_place,
     refused_while_sending,
+    sending_behind_their_answers,
     bad_heads_with_more,
     expecting_interim_answers,
     hanging_up,

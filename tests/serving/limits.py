@@ -15,7 +15,8 @@ from harness.counting import Unwell
 from harness.texts import differing
 from model.http import error
 from model.json_text import compact
-from serving.connections import EVENT, MOST_WORKERS, SMALL_ROOM, long_list, silent
+from serving.connections import BODY, EVENT, MOST_WORKERS, SMALL_ROOM, TRIES, long_list, sent_behind, silent
+from serving.growths import FIXED
 from serving.http import Exchange, done, look, registered, vehicle
 from serving.server import NotListening, Server, numbered_port, success_of
 from serving.talking import talk_over
@@ -464,6 +465,15 @@ def answer_at(server):
         return b""
 
 
+def growth_of_a_request(program):
+    """The number of a growth that a server makes for its first request: where it is refused that is told, without a body."""
+    for number in range(growth_of_a_connection(program), MOST_GROWTHS):
+        with Refusal(number) as refusal, Server(program, 1, env=refusal.env) as server:
+            if answer_at(server) == FIXED:
+                return number
+    raise Unwell("no server told its first client that there was no memory")
+
+
 def without_memory_for_a_connection(program):
     """A connection for which there is no memory is closed. It isn't counted, and the next one is answered."""
     with Refusal(growth_of_a_connection(program)) as refusal:
@@ -472,6 +482,17 @@ def without_memory_for_a_connection(program):
                 yield "an answer where there was no memory for the connection"
             yield from talk_over(server, registered(A))
             yield from server.end()
+
+
+def sending_behind_want_of_memory(program):
+    """A client that is told that there was no memory for its request, and sends more behind that, meets no reset. It is tried
+    again, since the growth of this number may be another one where the machine is busy."""
+    with Refusal(growth_of_a_request(program)) as refusal:
+        for _ in range(TRIES):
+            found, _ = sent_behind(program, [(NOWHERE, FIXED, BODY)], refusal.env)
+            if not found:
+                break
+        yield from found
 
 
 LIMITS = [
@@ -491,6 +512,7 @@ LIMITS = [
     idle_for_a_day,
     lacking_open_files_for_too_long,
     without_memory_for_a_connection,
+    sending_behind_want_of_memory,
     silent_behind_its_answer,
     trickling_behind_its_answer,
     flooding_behind_its_answer,
