@@ -424,16 +424,16 @@ impl<S: System, R: Wait + Copy> Port for WaitingPort<S, R> {
     fn end(&self, input: Given, output: Outgoing<S::Peer>, ending: Ending) {
         // A client that sent more than its request goes on sending, maybe: let go at once, it would lose its answer.
         let is_over = ending == Ending::AtOnce && input.is_over();
-        self.keep_list(input.into_bytes());
         let Outgoing {
             peer,
             rest,
             is_lost,
         } = output;
-        if is_lost {
-            return;
+        if !is_lost {
+            self.look_at_leaving(Leaving::new(peer, is_over), rest, None);
         }
-        self.look_at_leaving(Leaving::new(peer, is_over), rest, None);
+        // The client waits for the end of its connection, and nobody for the list.
+        self.keep_list(input.into_bytes());
     }
 
     fn stop(&self) {

@@ -44,7 +44,7 @@ pub fn print_start<W: Write>(
 /// # Errors
 ///
 /// `Memory` where there was none for a line, `Device` where the writer failed, and then not all went out that the commands
-/// print. A front went out of what the first of them print, and the session may stand at any place.
+/// print. A front went out of what the first of them print. The session may stand at any place, over the same events.
 pub fn print_walk<W: Write>(
     alloc: Global,
     writer: &mut W,
@@ -54,7 +54,7 @@ pub fn print_walk<W: Write>(
     ensures ok { OnOk result ((text : List ℕ) × PrintsScript session.old script.now
         session.new.place text
         × Appends (W.contents writer.old) (W.contents writer.new) text) }
-    ensures kept { OnOk result (KeepsEvents session.old session.new) }
+    ensures kept { KeepsEvents session.old session.new }
     ensures err { IfErr result (λ fault. PrintsFront fault session.old script.now
         (W.contents writer.old) (W.contents writer.new)) }
 {

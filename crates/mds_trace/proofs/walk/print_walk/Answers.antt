@@ -30,6 +30,11 @@ loop-command-preserved g c =
           c.add_answer.new.session.place said.0 (contents c.add_answer.new.writer) (string_bytes c.add_answer.new.page) under on prints said.2;
     }
 
+pub returns-in_err-add_answer-clause-kept : goal.returns-in_err-add_answer-clause-kept
+returns-in_err-add_answer-clause-kept g c =
+    let here = c.loop-command in
+    kept_on c.args.session.now here.session c.add_answer.new.session here.invariant.kept c.add_answer.ensures.kept
+
 pub returns-in_err-add_answer-clause-err : goal.returns-in_err-add_answer-clause-err
 returns-in_err-add_answer-clause-err g c =
     let contents = g.W.Write.contents in
