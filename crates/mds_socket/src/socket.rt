@@ -90,7 +90,7 @@ impl<R: Clock + Copy> System for Sockets<R> {
             // That two workers count one connection does no harm.
             self.haste.store(haste - 1, Ordering::SeqCst);
         }
-        Socket::new(stream, haste == 0)
+        Ok(Socket::new(stream, haste == 0))
     }
 
     /// Where the system doesn't set it, a worker may wait a moment beside others, or asks in vain, and no more.

@@ -1,12 +1,16 @@
 //! Which sockets are ready, as the system tells it (epoll(7)).
+ghost use Rattle.std.specs.Prelude.{◌≤◌, IfOk};
+ghost use Rattle.std.specs.Io.{ReadsAtMost, WritesAtMost};
+
 use crate::system::Ready;
 use libc::net::{
     EPOLL_CTL_ADD, EPOLL_CTL_DEL, EPOLL_CTL_MOD, EPOLLET, EPOLLIN, EPOLLONESHOT, EPOLLOUT,
+    MSG_DONTWAIT, MSG_NOSIGNAL, recv, send,
 };
 use mds_waiting::{MAX_WAITING, Peer};
 use mio::Poll;
-use os::{EpollEvent, epoll_ctl, epoll_wait};
-use std::io::{self, ErrorKind, Read, Write};
+use os::{EpollEvent, epoll_ctl, epoll_wait, errno};
+use std::io::{self, ErrorKind, Read};
 use std::net::{Net, Shutdown, TcpListener, TcpStream};
 use std::os::fd::{AsRawFd, RawFd};
 
@@ -26,29 +30,12 @@ pub struct Socket {
 impl Socket {
     /// The socket of a connection that was just taken. Its first call waits, for so long as is set for the socket that listens, or
     /// doesn't (socket(7), SO_RCVTIMEO, which Linux hands on to a connection).
-    ///
-    /// # Errors
-    ///
-    /// `ConnectionAborted` where its calls can't be made not to wait: the connection is lost, and others can be taken.
-    pub(crate) fn new(stream: TcpStream, may_wait: bool) -> io::Result<Socket> {
-        let mut socket = Socket {
+    pub(crate) fn new(stream: TcpStream, may_wait: bool) -> Socket {
+        Socket {
             stream,
             is_watched: false,
             may_wait,
             is_slow: false,
-        };
-        if !may_wait {
-            socket.wait_no_longer()?;
-        }
-        Ok(socket)
-    }
-
-    /// From now on no call waits.
-    fn wait_no_longer(&mut self) -> io::Result<()> {
-        self.may_wait = false;
-        match self.stream.set_nonblocking(true) {
-            Ok(()) => Ok(()),
-            Err(_) => Err(io::Error::from(ErrorKind::ConnectionAborted)),
         }
     }
 
@@ -60,20 +47,48 @@ impl Socket {
 
 impl Peer for Socket {
     fn receive(&mut self, room: &mut [u8]) -> io::Result<usize> {
-        let received = self.stream.read(room);
-        if self.may_wait {
-            self.wait_no_longer()?;
-            self.is_slow = received.is_err();
+        if !self.may_wait {
+            return receive_at_once(&self.stream, room);
         }
+        self.may_wait = false;
+        let received = self.stream.read(room);
+        self.is_slow = received.is_err();
         received
     }
 
     fn send(&mut self, bytes: &[u8]) -> io::Result<usize> {
-        self.stream.write(bytes)
+        send_at_once(&self.stream, bytes)
     }
 
     fn end_sending(&mut self) -> io::Result<()> {
         self.stream.shutdown(Shutdown::Write)
+    }
+}
+
+/// Puts bytes that came into the room, and waits for none: how many (recv(2), MSG_DONTWAIT). So no call of its own is needed that
+/// makes those of a connection not wait.
+fn receive_at_once(stream: &TcpStream, room: &mut [u8]) -> io::Result<usize>
+    ensures { ReadsAtMost result room.new }
+{
+    let received = unsafe { recv(stream.as_raw_fd(), room, MSG_DONTWAIT) };
+    count_of(received, room.len())
+}
+
+/// Sends as many of the first bytes as there is room for, and waits for none: how many (send(2)).
+fn send_at_once(stream: &TcpStream, bytes: &[u8]) -> io::Result<usize>
+    ensures { WritesAtMost result bytes.now }
+{
+    let sent = unsafe { send(stream.as_raw_fd(), bytes, MSG_DONTWAIT | MSG_NOSIGNAL) };
+    count_of(sent, bytes.len())
+}
+
+/// What a call came to that moves so many bytes at most, and answers their count, or else a negative number.
+fn count_of(answered: isize, most: usize) -> io::Result<usize>
+    ensures { IfOk result (λ count. count ≤ most) }
+{
+    match usize::try_from(answered) {
+        Ok(count) => Ok(count.min(most)),
+        Err(_) => Err(io::Error::from_raw_os_error(errno())),
     }
 }
 
