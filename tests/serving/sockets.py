@@ -2,21 +2,21 @@
 
 import ctypes
 import errno
-import fcntl
 import os
 import socket
+import struct
 import tempfile
 import time
 from pathlib import Path
 
 from cases.replays import A, batch, item
-from harness.building import no_random_numbers
+from harness.building import built, no_random_numbers
 from harness.case import OUTPUT, RANDOM
 from harness.counting import Skipped, Unwell
 from model.http import error
-from serving.http import Exchange, done, registered
+from serving.http import Exchange, done, look, registered
 from serving.server import NotListening, Server, numbered_port
-from serving.talking import talk_over
+from serving.talking import sent, talk_over
 from serving.wire import connect, get, post
 
 LOOPBACK = "0100007F"
@@ -25,6 +25,12 @@ LISTENING = "0A"
 OTHER_ADDRESS = "127.0.0.2"
 PIDFD_GETFD = 438
 SECONDS = 10
+PAUSE = 0.1
+LEAST_AT_ONCE = 5
+"""To each of two requests belong a call for the answer and one for what is behind the request, to the one in pieces one for the
+second piece."""
+
+
 def addresses_of(port):
     """The addresses at which a socket listens on this port, by the system's lists."""
     for name in ("tcp", "tcp6"):
@@ -89,17 +95,8 @@ def is_end_of(number, connection):
             return False
 
 
-def waits_for_nothing(other):
-    """Whether calls at a server's end of a connection come not to wait: the first one may, for a moment."""
-    for _ in range(100 * SECONDS):
-        if fcntl.fcntl(other, fcntl.F_GETFL) & os.O_NONBLOCK:
-            return True
-        time.sleep(0.01)
-    return False
-
-
 def options_of_a_connection(program):
-    """What is written is sent at once, and no call but the first one waits."""
+    """What is written is sent at once."""
     yield from options_at(program, 0)
 
 
@@ -117,9 +114,23 @@ def options_at(program, port):
         with connect(server.port) as connection, taken_by(server, connection) as other:
             if not other.getsockopt(socket.IPPROTO_TCP, socket.TCP_NODELAY):
                 yield "TCP_NODELAY isn't set"
-            if not waits_for_nothing(other):
-                yield "its calls wait"
         yield from server.end()
+
+
+def calls_at_connections(program):
+    """No call at a connection waits but the first one: not for the rest of a request, nor to send its answer, nor behind that."""
+    shim = built("waiting-calls.so", "tests/waiting-calls.c", "-shared", "-fPIC", "-O1", "-ldl")
+    with tempfile.TemporaryDirectory() as folder:
+        path = Path(folder, "calls")
+        path.write_bytes(bytes(16))
+        with Server(program, 2, env={**os.environ, "LD_PRELOAD": str(shim), "CALLS": str(path)}) as server:
+            yield from talk_over(server, registered(A))
+            wanted = look(A, "removed", 0, None)
+            yield from sent(server, [wanted.request[:-1], wanted.request[-1:]], wanted.answer, PAUSE)
+            yield from server.end()
+        at_once, waiting = struct.unpack("=2q", path.read_bytes())
+        if at_once < LEAST_AT_ONCE or waiting:
+            yield f"{at_once} calls that can't wait, and {waiting} that can"
 
 
 def last_line_that_nobody_reads(program):
@@ -168,6 +179,7 @@ SOCKETS = [
     at_one_address,
     options_of_a_connection,
     options_at_a_port_of_a_number,
+    calls_at_connections,
     last_line_that_nobody_reads,
     without_random_numbers,
 ]
