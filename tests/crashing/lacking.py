@@ -439,9 +439,12 @@ def starts_over_without(program, content):
 
 
 def starts_without_memory(program):
-    """Each growth of memory of a start that is refused, over a file with a torn end and over one at rest."""
+    """Each growth of memory of a start that is refused, over a file with a torn end, over one at rest, and over those that it makes a
+    journal of."""
     for end in ('#{"device_id":', "#"):
         yield from starts_over_without(program, journal(registered(DEVICE), registered(OTHER), end=end).encode())
+    for content in (b"", b"#"):
+        yield from starts_over_without(program, content)
 
 
 LACKING = [

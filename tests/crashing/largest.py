@@ -8,7 +8,7 @@ from cases.replays import P
 from cases.tables import table_file
 from cases.timed import MOST_TIME
 from cases.vehicles import journal, registered
-from crashing.files import listed_by, vehicles_text
+from crashing.files import behind, listed_by, vehicles_text
 from crashing.paths import begun
 from crashing.reports import device_at, listing, looking, registering
 from harness.case import MAX_BYTES, MAX_ITEMS, padded
@@ -84,6 +84,13 @@ def told_by_file(program, path, table):
         yield f"`vehicles` said {(status, out[-300:], faults)}"
 
 
+def room_amiss(path):
+    """What is wrong with the end of a long file at rest: a closed gate, and line feeds alone in the room behind it."""
+    rest = behind(path.read_bytes())
+    if rest != b"#":
+        yield f"behind its lines the file has {rest[:200]!r}"
+
+
 def longest_and_most_that_are_recorded(program):
     """The longest events, one at a time and as many as a body has room for, and the most items of a body are recorded, and so
     answered; the file and the next start tell each of them."""
@@ -99,7 +106,7 @@ def longest_and_most_that_are_recorded(program):
                     found += told_of(server, device)
                 found += server.end()
                 success = server.success
-            yield from (f"{life}: {complaint}" for complaint in (*found, *told_by_file(program, path, table)))
+            yield from (f"{life}: {complaint}" for complaint in (*found, *told_by_file(program, path, table), *room_amiss(path)))
 
 
 def long_files(program):

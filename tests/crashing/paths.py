@@ -7,6 +7,7 @@ import tempfile
 import time
 from pathlib import Path
 
+from cases.calls import EVERY, MOST_CALLS, MOVED
 from cases.replays import event
 from cases.tables import ONE_ROW
 from cases.vehicles import FORM, LONG, journal, not_a_journal, registered
@@ -29,6 +30,8 @@ DEVICE, OTHER = device_at(1), device_at(2)
 MOST_BEHIND = 16 << 20
 """Bytes behind the lines that count: a group has no more."""
 LARGE = 2 << 30
+MANY = 1_500
+"""Lines, of which a start reads a piece while it asks those of the one before."""
 REGISTERED = journal(registered(DEVICE))
 DROPPED = event(DEVICE, "0", "provider_drop_off", "available", 1000)
 WAKE = event(DEVICE, "0", "wake", "available", 1000)
@@ -128,7 +131,7 @@ def names_in_folders(program):
 
 def one_server_at_a_time(program):
     """A file that another server has: the second one doesn't start, the first goes on, and once it is gone another starts. What the
-    second one tells goes out whole, also byte by byte."""
+    second one tells goes out whole, also byte by byte, and is given up after as many calls as any line."""
     with tempfile.TemporaryDirectory() as folder:
         path = Path(folder, "journal")
         with Server(program, 2, journal=path) as server:
@@ -138,6 +141,10 @@ def one_server_at_a_time(program):
             link.symlink_to(path)
             with Counting(FAULTS, BY_BYTES) as counting:
                 yield from not_started(program, link, IN_USE, env=counting.env)
+            with Counting(FAULTS, EVERY) as counting:
+                yield from not_started(program, path, IN_USE[:MOVED], env=counting.env)
+                if counting.counts().writes != MOST_CALLS:
+                    yield f"{counting.counts()}, in place of {MOST_CALLS} writes"
             yield from server.end()
         with Server(program, 1, journal=path) as server:
             server.success = 1
@@ -152,6 +159,8 @@ def files_that_are_none(program):
         ("no journal\n", "form"),
         (f" {new}\n#", "form"),
         (f" {FORM}", "form"),
+        (f"#{FORM}\n {new}\n#", "form"),
+        (f"#{FORM[:-1]}0}}\n#", "form"),
         (journal(new, "{}", DROPPED), "bad_line 2"),
         (journal(new, f"[{DROPPED}]"), "bad_line 2"),
         (journal(DROPPED), "refused 1"),
@@ -166,6 +175,7 @@ def files_that_are_none(program):
         (journal(new, RESERVED, new), "refused 2"),
         (journal(new, "{}", RESERVED, LONG), "bad_line 2"),
         (journal(new, LONG, "{}"), "too_long 2"),
+        (journal(new, new, *(registered(device_at(number)) for number in range(2, MANY)), "{}"), "refused 2"),
     ):
         yield from refused(program, text.encode(), not_a_journal(fault))
     yield from refused(program, journal(new, DROPPED).encode(), not_a_journal("refused 2"), table=ONE_ROW)

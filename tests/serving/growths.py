@@ -2,10 +2,12 @@
 
 import os
 import re
+import tempfile
 import time
 import uuid
 from concurrent.futures import ThreadPoolExecutor
 from dataclasses import dataclass
+from pathlib import Path
 
 from cases.replays import A, B, P, batch, item
 from harness.building import Refusal
@@ -124,12 +126,14 @@ def ended_otherwise(server, is_whole, refusal):
         yield f"ended with {ended}, {'all' if is_whole else 'not all'} answered"
 
 
-def refused(program, number):
-    """A run with this growth refused: what is wrong with it, the answers of each turn, and whether the run came to the growth."""
+def refused(program, number, over_journal=False):
+    """A run with this growth refused, over a journal that isn't there yet if it has one: what is wrong with it, the answers of each
+    turn, and whether the run came to the growth."""
     answers = []
-    with Refusal(number) as refusal:
+    with Refusal(number) as refusal, tempfile.TemporaryDirectory() as folder:
+        journal = Path(folder, "journal") if over_journal else None
         try:
-            with Server(program, len(TURNS) + 1, env=refusal.env) as server:
+            with Server(program, len(TURNS) + 1, env=refusal.env, journal=journal) as server:
                 answers = served(server)
                 wrong = [*other_answers(answers), *ended_otherwise(server, len(answers) == len(TURNS), refusal)]
         except NotListening as fault:
@@ -147,7 +151,7 @@ def never_told(came):
             yield f"no growth has {turn.exchange.request[:60]!r} answered {told!r}, and then {then!r}"
 
 
-def each_growth_refused(program):
+def each_growth_refused(program, over_journal=False):
     """Each growth in turn, until they run out: each answer is the right one, or one of the two that say that there was no
     memory, after which the same request is answered; what is accepted is counted; and where the server ends for want of
     memory, it says so. None ends it by a connection. Each want that may be told is, at some growth."""
@@ -155,7 +159,7 @@ def each_growth_refused(program):
     with ThreadPoolExecutor(os.cpu_count()) as pool:
         for start in range(1, MOST, AT_ONCE):
             numbers = range(start, start + AT_ONCE)
-            ends = list(pool.map(lambda number: refused(program, number), numbers))
+            ends = list(pool.map(lambda number: refused(program, number, over_journal), numbers))
             for wrong, answers, _ in ends:
                 yield from wrong
                 for found, answered in zip(came, answers):
@@ -167,6 +171,11 @@ def each_growth_refused(program):
                 yield from never_told(came)
                 return
         yield f"{MOST} growths, and no end"
+
+
+def each_growth_refused_over_a_journal(program):
+    """The same of a server with a journal: want of memory to record what was accepted is told as such, and ends nothing."""
+    yield from each_growth_refused(program, over_journal=True)
 
 
 def registrations(count, start):
@@ -247,4 +256,4 @@ def accepted(out):
     return int(found.group(1)) if found else -1
 
 
-GROWTHS = [each_growth_refused, in_little_address_space]
+GROWTHS = [each_growth_refused, each_growth_refused_over_a_journal, in_little_address_space]
