@@ -77,6 +77,10 @@ WRITES = [
     (f"debug events.json {P} {B}", FAULTS, (1, "", NOBODY[:MOVED])),
     (f"debug events.json {P} x", FAULTS, (2, "", BAD[:MOVED])),
     ("vehicles faulty", FAULTS, (3, "", not_a_journal("form")[:MOVED])),
+    ("replay faulty", FAULTS, (3, "", not_a_batch("not_json")[:MOVED])),
+    ("replay --lines faulty", FAULTS, (3, "", not_a_batch("not_json 1")[:MOVED])),
+    ("table --table faulty", FAULTS, (3, "", not_a_table("not_json")[:MOVED])),
+    (f"debug faulty {P} {A}", FAULTS, (3, "", not_a_batch("not_json")[:MOVED])),
     ([b"\xff"], FAULTS, (2, "", NOT_TEXT[:MOVED])),
 ]
 # What is read on a descriptor to its end, and what comes of it: as a terminal, it is asked for its end once.

@@ -48,6 +48,10 @@ MOST_IDLE = 1
 BETWEEN, LACKING = 4, 16
 """How many seconds lie between the pieces of a head, and for how many its body then lacks a byte: longer than a head may take."""
 MOST_AT_REST = 0.1
+FEW = 8
+"""Clients whose heads aren't whole, beside one."""
+AMID = 0.5
+"""How long a client takes no more of a long answer, in seconds."""
 """How many seconds a server may have a processor while it has only to wait, for 4 seconds or longer: next to none. One that asks
 again and again has twice as many, on the busiest machine that was tried."""
 OPEN_FILES = 7
@@ -312,6 +316,23 @@ def silent_behind_a_granted_request(program):
         yield from server.end()
 
 
+def silent_behind_a_long_answer(program):
+    """The same where the answer had to wait for its client: behind its end, one that sent a byte more is looked at for a while."""
+    with Server(program, 5) as server:
+        yield from long_list(server, A)
+        before = server.sockets()
+        for more, (least, most) in ((b"", AT_ITS_END), (b"x", LAST_READ)):
+            server.count()
+            with connect(server.port, room=SMALL_ROOM) as kept:
+                kept.sendall(get(f"/vehicles/{P}/{A}/events") + more)
+                kept.recv(1)
+                time.sleep(AMID)
+                while kept.recv(AT_ONCE):
+                    pass
+                yield from LetGo(server, before, most, is_taken=True).within(least)
+        yield from server.end()
+
+
 def sending_behind_a_granted_request(program):
     """A client that sent more behind a granted request has its answer whole, and no reset."""
     with Server(program, 2) as server:
@@ -337,10 +358,15 @@ def idle_for_long(program):
 
 def idle_while_one_is_waited_for(program):
     """A server does next to nothing while a client lacks the end of its head, and then a byte of its body, though its head's time,
-    which began to run, is over. The request is answered once it is whole."""
-    with Server(program, 2) as server:
+    which began to run, is over, and so is that of a client that went behind its answer. Others that send nothing more change
+    nothing. The request is answered once it is whole."""
+    with Server(program, 3) as server, contextlib.ExitStack() as others:
         yield from talk_over(server, registered(A))
         server.count(success=1)
+        yield from talk_over(server, Exchange(NOWHERE, error(404, "not_found")))
+        time.sleep(LAST_READ[0] + BETWEEN)
+        for _ in range(FEW):
+            others.enter_context(connect(server.port)).sendall(EVENT[:20])
         with connect(server.port) as slow:
             slow.sendall(EVENT[:20])
             yield from resting(server, BETWEEN, "a head was waited for")
@@ -505,6 +531,7 @@ LIMITS = [
     let_go_behind_its_end,
     let_go_though_it_reads,
     silent_behind_a_granted_request,
+    silent_behind_a_long_answer,
     sending_behind_a_granted_request,
     idle_for_long,
     idle_while_one_is_waited_for,

@@ -232,6 +232,7 @@ const ANSWERS: &[Answer] = rows! {
     (&[Act::Takes(0)], true, [Gone, Waits], (0, 0)),
     (&[LATER, LATER], true, [Waits, Waits], (0, 0)),
     (&[Act::Takes(5), LATER, Act::Gives(b"")], false, [Waits, Gone], (5, 1)),
+    (&[Act::Takes(2), LATER, Act::Takes(3), LATER], false, [Waits, Waits], (5, 1)),
     (&[Act::Takes(5), Act::Gives(b"more"), LATER, LOST], true, [Waits, Gone], (5, 1)),
 };
 

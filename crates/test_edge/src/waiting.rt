@@ -114,7 +114,7 @@ fn a_key_is_found_after_a_refused_growth(rt: HostRuntime) {
 }
 
 /// Whether room and keys are had where the eldest leave: one that holds more than there is room for, beside one with bytes, and
-/// the eldest of all; and how long may be waited then, for the time of the first.
+/// the eldest of all; how long may be waited then, for the time of the first; and whether that is for less than ever once all left.
 fn leaves_for_others(alloc: Global) -> Result<(Option<usize>, [usize; 2], bool, bool), AllocError> {
     let mut waiting = three(alloc)?;
     let key = waiting.key_for(usize::MAX);
@@ -123,7 +123,9 @@ fn leaves_for_others(alloc: Global) -> Result<(Option<usize>, [usize; 2], bool, 
     let is_late = waiting.find_late(Some(115)).is_some();
     let patience = waiting.patience(Some(115));
     let is_second = first && !is_late && waiting.take(0).is_some();
-    let is_left = waiting.let_eldest_go(u64::MAX);
+    let is_left = waiting.let_eldest_go(u64::MAX)
+        || waiting.find_late(Some(1_000)).is_some()
+        || waiting.patience(Some(1_000)) < 1_000;
     Ok((key, [count, patience as usize], is_second, is_left))
 }
 
