@@ -30,8 +30,8 @@ DEVICE, OTHER = device_at(1), device_at(2)
 MOST_BEHIND = 16 << 20
 """Bytes behind the lines that count: a group has no more."""
 LARGE = 2 << 30
-MANY = 1_500
-"""Lines, of which a start reads a piece while it asks those of the one before."""
+MANY = 600
+"""Lines of two pieces, the second of which a start reads while it asks the first."""
 REGISTERED = journal(registered(DEVICE))
 DROPPED = event(DEVICE, "0", "provider_drop_off", "available", 1000)
 WAKE = event(DEVICE, "0", "wake", "available", 1000)
@@ -161,6 +161,7 @@ def files_that_are_none(program):
         (f" {FORM}", "form"),
         (f"#{FORM}\n {new}\n#", "form"),
         (f"#{FORM[:-1]}0}}\n#", "form"),
+        (f"#{FORM}x", "form"),
         (journal(new, "{}", DROPPED), "bad_line 2"),
         (journal(new, f"[{DROPPED}]"), "bad_line 2"),
         (journal(DROPPED), "refused 1"),
