@@ -72,6 +72,8 @@ ENOUGH = [
     (journal("{}", end=""), (3, b"", not_a_journal("bad_line 1"))),
     (journal(registered(A), registered(A), end=""), (3, b"", not_a_journal("refused 2"))),
     (journal(*MANY, MANY[0], end=""), (3, b"", not_a_journal(f"refused {len(MANY) + 1}"))),
+    (journal(*MANY, "{}", end=""), (3, b"", not_a_journal(f"bad_line {len(MANY) + 1}"))),
+    (journal(*MANY, end=f" {LONG}"), (3, b"", not_a_journal(f"too_long {len(MANY) + 1}"))),
     (f" {LONG}", (3, b"", not_a_journal("too_long 0"))),
     (journal(registered(A), end=f" {LONG}"), (3, b"", not_a_journal("too_long 2"))),
     (journal(), (0, b"registrations 0 events 0\n", "")),

@@ -154,7 +154,7 @@ def one_server_at_a_time(program):
 def files_that_are_none(program):
     """Files with a line that is none of a journal, or that isn't accepted, also by the table alone; of more such lines the first is
     told."""
-    new = registered(DEVICE)
+    new, many = registered(DEVICE), [registered(device_at(number)) for number in range(MANY)]
     for text, fault in (
         ("no journal\n", "form"),
         (f" {new}\n#", "form"),
@@ -176,7 +176,10 @@ def files_that_are_none(program):
         (journal(new, RESERVED, new), "refused 2"),
         (journal(new, "{}", RESERVED, LONG), "bad_line 2"),
         (journal(new, LONG, "{}"), "too_long 2"),
-        (journal(new, new, *(registered(device_at(number)) for number in range(2, MANY)), "{}"), "refused 2"),
+        (journal(new, new, *many[2:], "{}"), "refused 2"),
+        (journal(*many, many[0]), f"refused {MANY + 1}"),
+        (journal(*many, "{}"), f"bad_line {MANY + 1}"),
+        (journal(*many, LONG), f"too_long {MANY + 1}"),
     ):
         yield from refused(program, text.encode(), not_a_journal(fault))
     yield from refused(program, journal(new, DROPPED).encode(), not_a_journal("refused 2"), table=ONE_ROW)
