@@ -173,35 +173,36 @@ def all_asked(port, requests):
 
 
 def slow_answers(server, recording, one, other):
-    """What is wrong with answers about two vehicles, while an event of the first waits for a slow disk. Two of the workers wait
-    for that, and the other two don't, also once they have answered."""
+    """What is wrong with answers about two vehicles, while an event of the first waits for a slow disk. All workers but one wait
+    for that. The last one doesn't, also once it has answered: neither with looks at the other, nor with what rests on none."""
     before, begun = recording.number("writes"), time.monotonic()
-    report_one = Asked(server.port, reporting(one, 0, 1))
+    waiting = [Asked(server.port, reporting(one, 0, 1))]
     begins_to_write(recording, before)
-    look_one = Asked(server.port, looking(one))
+    waiting += [Asked(server.port, looking(one)) for _ in range(WORKERS - 2)]
     look_other, list_other = all_asked(server.port, [looking(other), listing(other)])
-    resting = [get("/table"), get("/nowhere")]
-    more = all_asked(server.port, [*[looking(other)] * (WORKERS - 2), *resting])
-    for client in (report_one, look_one):
+    resting = [answer(200, standing(other, 0)), answer(200, {"rows": Table().listed()}), error(404, "not_found")]
+    more = [ask(server.port, request) for request in 2 * [looking(other), get("/table"), get("/nowhere")]]
+    ended = time.monotonic()
+    for client in waiting:
         client.join()
-    yield from differing(report_one.answer, done(1), "the report")
-    yield from differing(look_one.answer, answer(200, standing(one, 1)), "a look at the vehicle")
+    for client, wanted in zip(waiting, [done(1), *[answer(200, standing(one, 1))] * (WORKERS - 2)]):
+        yield from differing(client.answer, wanted, "the report, or a look at the vehicle")
     yield from differing(look_other.answer, answer(200, standing(other, 0)), "a look at the other")
     yield from differing(list_other.answer, answer(200, {"events": []}), "a list of the other")
-    wanted = [answer(200, standing(other, 0))] * (WORKERS - 2) + [answer(200, {"rows": Table().listed()}), error(404, "not_found")]
-    for client, text in zip(more, wanted):
-        yield from differing(client.answer, text, "what rests on no event of the first")
-    if min(report_one.at, look_one.at) < begun + 2 * SLOW:
-        yield f"the first vehicle's event was told after {min(report_one.at, look_one.at) - begun} s, before it was on the disk"
+    for text, wanted in zip(more, 2 * resting):
+        yield from differing(text, wanted, "what rests on no event of the first")
+    soonest = min(client.at for client in waiting)
+    if soonest < begun + 2 * SLOW:
+        yield f"the first vehicle's event was told after {soonest - begun} s, before it was on the disk"
     if max(look_other.at, list_other.at) > begun + SLOW:
         yield f"answers about the other vehicle took {max(look_other.at, list_other.at) - begun} s"
-    if max(client.at for client in more) > begun + 2 * SLOW:
-        yield f"more of them took {max(client.at for client in more) - begun} s"
+    if ended > begun + 2 * SLOW:
+        yield f"more of them took {ended - begun} s"
 
 
 def looks_while_others_report(program):
-    """A look and a list of a vehicle don't wait for the disk where only others of its half were reported; a look at the reported one
-    does."""
+    """A look and a list of a vehicle don't wait for the disk where only others of its half were reported, nor do the table and a
+    fault of a request; a look at the reported one does."""
     one, other = device_at(0), device_at(2)
     with tempfile.TemporaryDirectory() as folder:
         path = Path(folder, "journal")
