@@ -22,6 +22,8 @@ enum Turn {
     After(u64),
     /// A connection comes, and from now on no file is left for one.
     Lacks,
+    /// No memory is left for a connection, however often one is taken. Once so many pauses were made, it tells this.
+    Wants(usize, Ready),
 }
 
 /// A system that does these things, one after the other. Then no connection can be taken any more.
@@ -107,7 +109,10 @@ impl System for PlayedSystem {
             }
             Some(Turn::Tells(_) | Turn::After(_)) => Err(io::Error::from(ErrorKind::WouldBlock)),
             Some(Turn::Lacks) => Err(io::Error::from_raw_os_error(NO_FILE)),
-            None => Err(io::Error::from(ErrorKind::InvalidInput)),
+            Some(Turn::Wants(count, _)) if self.pauses.load(Ordering::SeqCst) / 2 < count => Err(
+                io::Error::from_raw_os_error(NO_BUFFERS),
+            ),
+            Some(Turn::Wants(..)) | None => Err(io::Error::from(ErrorKind::InvalidInput)),
         }
     }
 
@@ -133,7 +138,8 @@ impl System for PlayedSystem {
                 self.go_on();
                 self.new_one()
             }
-            Some(Turn::Tells(ready)) => {
+            Some(Turn::Wants(count, _)) if self.pauses.load(Ordering::SeqCst) < count => None,
+            Some(Turn::Tells(ready) | Turn::Wants(_, ready)) => {
                 self.go_on();
                 Some(ready)
             }
@@ -203,15 +209,12 @@ const LINGERING: &[Act] =
 const CASES: &[Case] = rows! {
     // A request is there when its connection is taken; of another one the rest comes later.
     (&[Turn::Comes(WHOLE), Turn::Comes(PART), Turn::Tells(Ready::Coming(0))], Some(1), 9, [18, 23], [1, 0]),
-    // No file is left for one more connection: the eldest is let go whose request isn't whole.
+    // No file is left for one more, of the process or of the system: each time the eldest is let go whose request isn't whole.
     (&[
-        Turn::Comes(PART), Turn::Comes(PART), Turn::Fails(NO_FILE), Turn::Tells(Ready::Listener),
-        Turn::Tells(Ready::Coming(0)), Turn::Comes(WHOLE), Turn::Tells(Ready::Coming(1)),
-    ], Some(1), 9, [18, 23], [2, 0]),
-    (&[
-        Turn::Comes(PART), Turn::Comes(PART), Turn::Fails(NO_FILE_IN_SYSTEM), Turn::Tells(Ready::Listener),
-        Turn::Tells(Ready::Coming(0)), Turn::Comes(WHOLE), Turn::Tells(Ready::Coming(1)),
-    ], Some(1), 9, [18, 23], [2, 0]),
+        Turn::Comes(PART), Turn::Comes(PART), Turn::Comes(PART), Turn::Fails(NO_FILE), Turn::Tells(Ready::Listener),
+        Turn::Fails(NO_FILE_IN_SYSTEM), Turn::Tells(Ready::Listener), Turn::Tells(Ready::Coming(0)), Turn::Tells(Ready::Coming(1)),
+        Turn::Comes(WHOLE), Turn::Tells(Ready::Coming(2)),
+    ], Some(1), 9, [18, 23], [3, 0]),
     // None is let go that was taken when another worker found none left: a pause is made.
     (&[
         Turn::Comes(PART), Turn::Fails(NO_FILE), Turn::Tells(Ready::Listener), Turn::Tells(Ready::Coming(0)),
@@ -234,6 +237,8 @@ const CASES: &[Case] = rows! {
         Turn::Comes(PART), Turn::Fails(NO_MEMORY), Turn::Fails(NO_BUFFERS), Turn::Fails(HINDERED[0]), Turn::Fails(HINDERED[1]),
         Turn::Fails(HINDERED[2]), Turn::Fails(ABORTED), Turn::Tells(Ready::Coming(0)), Turn::Comes(WHOLE),
     ], Some(1), 9, [23, 18], [1, 5]),
+    // Nor is it left alone while that lasts: its request is handed out that comes whole meanwhile.
+    (&[Turn::Comes(PART), Turn::Wants(100, Ready::Coming(0)), Turn::Comes(WHOLE)], Some(1), 9, [23, 18], [1, 100]),
     // A connection is reset in the head, and another one in the body.
     (&[
         Turn::Comes(CUT), Turn::Tells(Ready::Coming(0)), Turn::Comes(IN_BODY), Turn::Tells(Ready::Coming(0)),
