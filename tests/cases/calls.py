@@ -64,6 +64,18 @@ READS = [
     # a script ends where reading fails: with `next`, which has as many bytes as came
     (DEBUG, INPUT, (0, STARTED + SECOND, "")),
 ]
+# The words of commands, and how each of them ends, with the line of its problem.
+PROBLEMS = [
+    ("replay missing.json", 3, cannot_read("missing.json")),
+    (f"debug events.json {P} {B}", 1, NOBODY),
+    (f"debug events.json {P} x", 2, BAD),
+    ("vehicles faulty", 3, not_a_journal("form")),
+    ("replay faulty", 3, not_a_batch("not_json")),
+    ("replay --lines faulty", 3, not_a_batch("not_json 1")),
+    ("table --table faulty", 3, not_a_table("not_json")),
+    (f"debug faulty {P} {A}", 3, not_a_batch("not_json")),
+    ([b"\xff"], 2, NOT_TEXT),
+]
 WRITES = [
     ("table", OUT, (3, table_printed(PROFILE)[:MOVED], OUTPUT)),
     ("replay events.json", OUT, (3, "0 ok non_contactable"[:MOVED], OUTPUT)),
@@ -73,15 +85,7 @@ WRITES = [
     ("replay long-events.json", OUT, (3, "0 ok available"[:MOVED], OUTPUT)),
     ("vehicles long-journal", OUT, (3, "vehicle"[:MOVED], OUTPUT)),
     ("serve --port 0 --each 0", OUT, (3, "listening"[:MOVED], OUTPUT)),
-    ("replay missing.json", FAULTS, (3, "", cannot_read("missing.json")[:MOVED])),
-    (f"debug events.json {P} {B}", FAULTS, (1, "", NOBODY[:MOVED])),
-    (f"debug events.json {P} x", FAULTS, (2, "", BAD[:MOVED])),
-    ("vehicles faulty", FAULTS, (3, "", not_a_journal("form")[:MOVED])),
-    ("replay faulty", FAULTS, (3, "", not_a_batch("not_json")[:MOVED])),
-    ("replay --lines faulty", FAULTS, (3, "", not_a_batch("not_json 1")[:MOVED])),
-    ("table --table faulty", FAULTS, (3, "", not_a_table("not_json")[:MOVED])),
-    (f"debug faulty {P} {A}", FAULTS, (3, "", not_a_batch("not_json")[:MOVED])),
-    ([b"\xff"], FAULTS, (2, "", NOT_TEXT[:MOVED])),
+    *[(words, FAULTS, (status, "", text[:MOVED])) for words, status, text in PROBLEMS],
 ]
 # What is read on a descriptor to its end, and what comes of it: as a terminal, it is asked for its end once.
 OPEN_JOURNAL = journal(registered(A), end="")
@@ -268,6 +272,13 @@ def lack_by_bytes(program):
         yield from whole_by_bytes(program, case, FAULTS)
 
 
+def problems_by_bytes(program):
+    """The line of a problem is told whole, where each call takes a byte or is interrupted."""
+    for words, status, text in PROBLEMS:
+        case = Case(words, status=status, faults=text, files=files_of(words))
+        yield from whole_by_bytes(program, case, FAULTS)
+
+
 SELDOM = 60000
 """Of so many calls one moves a byte of a text of `clap`. The shortest has a hundred bytes, so that more calls are made of each
 than of any other line."""
@@ -446,6 +457,7 @@ CALLS = [
     pages_by_bytes,
     lines_by_bytes,
     lack_by_bytes,
+    problems_by_bytes,
     texts_of_clap,
     read_so_far,
     unread_files,
