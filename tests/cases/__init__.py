@@ -10,7 +10,7 @@ from cases.helps import help_asked_for
 from cases.inputs import input_that_stays_open, input_that_tells_enough
 from cases.largest import largest
 from cases.lines import line_files
-from cases.opened import files_opened, pipes_and_devices
+from cases.opened import files_opened, pipes_and_devices, table_beside_a_journal
 from cases.pictures import PICTURED
 from cases.replays import replays
 from cases.serve import outputs_of_serve, ports, tables_of_serve, words_of_serve
@@ -63,6 +63,7 @@ INTERPLAYS = [
     input_that_stays_open,
     input_that_tells_enough,
     files_opened,
+    table_beside_a_journal,
     output_that_ends_midway,
     *CALLS,
     *PICTURED,

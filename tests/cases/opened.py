@@ -1,6 +1,6 @@
 """Files that the program opens: those that are named, each once, and pipes and devices as well."""
 
-from cases.calls import NOTHING, counted
+from cases.calls import NOTHING, SERVED_ONE, counted
 from cases.debugging import EVENTS, SECOND, START
 from cases.helps import ALL
 from cases.inputs import REPLAYED
@@ -33,6 +33,9 @@ RUNS = [
     ("vehicles journal --table table.json", "", TAKEN, ["table.json", "journal"]),
     (f"{NO_CONNECTION} --table table.json", "", SERVED, ["table.json"]),
 ]
+SERVE_BOTH = f"{NO_CONNECTION} --table table.json --journal journal"
+SERVED_BOTH = 3
+"""A table, a journal, and the folder that this is in, so that its name is on the disk."""
 
 
 def files_opened(program):
@@ -44,6 +47,16 @@ def files_opened(program):
             if counts.files != len(names):
                 wrong.append(f"{counts.files} files were opened, in place of {len(names)}")
             yield from (f"{words}, over {where}: {complaint}" for complaint in wrong)
+
+
+def table_beside_a_journal(program):
+    """The same of a server with a journal, which is no pipe."""
+    table, laid = {"table.json": FILES["table.json"]}, {"journal": FILES["journal"]}
+    for case in (Case(SERVE_BOTH, out=SERVED_ONE, files=table | laid), Case(SERVE_BOTH, out=SERVED_ONE, files=laid, pipes=table)):
+        wrong, counts = counted(program, case, seconds=SECONDS)
+        if counts.files != SERVED_BOTH:
+            wrong.append(f"{counts.files} files were opened, in place of {SERVED_BOTH}")
+        yield from (f"{SERVE_BOTH}: {complaint}" for complaint in wrong)
 
 
 def pipes_and_devices():

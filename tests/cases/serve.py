@@ -10,6 +10,7 @@ from harness.case import NO_STREAMS, OUTPUT, SOCKET, SOME, Case, cannot_read, no
 
 WRONG = [
     "serve",
+    "serve --port 0 --each 0 --workers 1 --table table.json --journal journal --bogus",
     "serve --port 0",
     "serve --each 1",
     "serve --port 0 --each",

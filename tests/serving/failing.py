@@ -135,11 +135,13 @@ def last_line_before_the_last_answer(program):
 
 
 def last_line_amid_an_answer(program, journal):
-    """What is wrong with when the last line comes, where the last client reads nothing of its answer, and with what it then reads."""
+    """What is wrong with when the last line comes, where the last client reads nothing of its answer, beside one whose request isn't
+    whole, and with what it then reads."""
     with Server(program, 4, journal=journal) as server:
         yield from long_list(server, A)
         server.count(1)
-        with connect(server.port, room=SMALL_ROOM) as slow:
+        with connect(server.port, room=SMALL_ROOM) as slow, connect(server.port) as other:
+            other.sendall(EVENT[:-1])
             slow.sendall(get(f"/vehicles/{P}/{A}/events"))
             start = time.monotonic()
             line, wanted = server.line(), f"accepted {server.success}\n"
@@ -176,12 +178,15 @@ def end_amid_a_request(program, journal):
 
 
 def most_workers_over_a_journal(program):
-    """As many workers as there may be over a journal: each answers, and a journal tells what they accepted."""
-    with tempfile.TemporaryDirectory() as folder:
-        with Server(program, 1, workers=64, journal=Path(folder, "journal")) as server:
+    """As many workers as there may be over a journal: each answers, and a journal tells what they accepted. Each but one is a thread
+    of its own; so is who reads the journal ahead at the start."""
+    with tempfile.TemporaryDirectory() as folder, Counting() as counting:
+        with Server(program, 1, workers=64, journal=Path(folder, "journal"), env=counting.env) as server:
             yield from talk_over(server, registered(A))
             yield from talk_over(server, look(A, "removed", 0, None))
             yield from server.end()
+        if counting.counts().threads != 64:
+            yield f"{counting.counts().threads} threads were asked for, in place of 64"
 
 
 def threads_that_are_wanting(program):

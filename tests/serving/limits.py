@@ -48,7 +48,7 @@ MOST_IDLE = 1
 BETWEEN, LACKING = 4, 16
 """How many seconds lie between the pieces of a head, and for how many its body then lacks a byte: longer than a head may take."""
 MOST_AT_REST = 0.1
-FEW = 8
+FEW = 100
 """Clients whose heads aren't whole, beside one."""
 AMID = 0.5
 """How long a client takes no more of a long answer, in seconds."""
