@@ -44,6 +44,8 @@ STOPPED = 1.5
 """For how many seconds a server is stopped: longer than one wait."""
 MOST_BESIDE = 30
 """Within how many seconds the last line comes, while an answer leaves that nobody reads."""
+COMING = 0.2
+"""How long a server has to take in what came of a request, in seconds."""
 LEAVING = 4
 """For how many seconds behind the last line that answer isn't read still."""
 MOST_AT_ITS_END = 15
@@ -140,8 +142,9 @@ def last_line_amid_an_answer(program, journal):
     with Server(program, 4, journal=journal) as server:
         yield from long_list(server, A)
         server.count(1)
-        with connect(server.port, room=SMALL_ROOM) as slow, connect(server.port) as other:
+        with connect(server.port) as other, connect(server.port, room=SMALL_ROOM) as slow:
             other.sendall(EVENT[:-1])
+            time.sleep(COMING)
             slow.sendall(get(f"/vehicles/{P}/{A}/events"))
             start = time.monotonic()
             line, wanted = server.line(), f"accepted {server.success}\n"
