@@ -18,7 +18,7 @@ TESTED = {
     ("mds_core", "test_rules", "fleet_calls_succeed_after_a_refused_growth"): ["Fleet::step", "Fleet::events", "run"],
     ("mds_core", "test_rules", "a_list_of_events_grows_after_a_refused_growth"): ["EventList::with_room", "EventList::push"],
     ("mds_shard", "test_shards", "step_succeeds_after_a_refused_growth"): ["Shard::step", "Shard::events"],
-    ("mds_roster", "test_shards", "a_roster_takes_after_a_refused_growth"): ["Roster::take"],
+    ("mds_commands", "test_replays", "a_roster_takes_after_a_refused_growth"): ["Roster::take"],
     ("mds_book", "test_books", "calls_succeed_after_a_refused_growth"): [
         "Book::open",
         "Book::call",
@@ -215,7 +215,7 @@ QUIET = {
         "Shard::tables",
         "Shard::len",
     ],
-    ("mds_roster", "test_shards", "rosters_are_told_of_with_every_growth_refused"): [
+    ("mds_commands", "test_replays", "rosters_are_told_of_with_every_growth_refused"): [
         "Roster::open",
         "Roster::take",
         "Roster::vehicle",

@@ -18,7 +18,7 @@ use Rattle.mds_args.specs.declared.words.Command.TheVariants.{Serve, Replay, Deb
 use Rattle.mds_commands.specs.Command.{CameToReplay, CameToTable}
 use Rattle.mds_commands.specs.Debug.{Debugs}
 use Rattle.mds_file.specs.declared.fault.FileFault.{FileFault}
-use Rattle.mds_listing.specs.Listing.{CameToListing}
+use Rattle.mds_commands.specs.Listing.{CameToListing}
 use Rattle.mds_city.specs.Serve.{CameToServe}
 use Rattle.mds_city.specs.Journal.{CameToServeOver}
 use Rattle.mds_commands.specs.Problem.{Tells}

@@ -12,12 +12,11 @@ ghost use Rattle.mds_city.specs.Journal.{ServedBook, ServedOver, StopsBook, Stop
 use crate::page::{ListeningLine, print_line};
 use crate::serve::{ListenFault, Listens, ServeOptions, say_accepted};
 use mds_book::ShardLedger;
-use mds_commands::{Problem, Source, Status, tables_in};
+use mds_commands::{JournalProblem, Problem, Source, Status, tables_in, tell_journal_problem};
 use mds_file::FileFault;
 use mds_follow::{Disk, RecordLog, RequestReader, StartFault};
 use mds_io::{MAX_CALLS, PrintError, write_all_of};
 use mds_journal::Device;
-use mds_listing::{JournalProblem, tell_journal_problem};
 use mds_log::BlankLog;
 use mds_pool::{Alarm, NewBook, RecordedBook, RecordedStop, Stop};
 use std::alloc::Global;
@@ -78,7 +77,7 @@ pub(crate) enum ServeProblem<'a> {
 
 impl<'a> From<Problem<'a>> for ServeProblem<'a> {
     ghost use Rattle.std.specs.Prelude.{◌≡◌};
-    ghost use Rattle.mds_listing.specs.declared.problem.JournalProblem.TheVariants as journal;
+    ghost use Rattle.mds_commands.specs.declared.vehicles.problem.JournalProblem.TheVariants as journal;
     ghost use Rattle.mds_city.specs.declared.journal.ServeProblem.TheVariants.{Journal};
 
     ghost from_gives = { λ problem more. more ≡ Journal (journal.Other problem) };

@@ -15,9 +15,9 @@ use crate::serve::{Listens, ServeOptions, serve_at};
 use mds_args::{Command, WordsError, WordsErrorKind, parse_words};
 use mds_commands::{
     Form, Named, Problem, ReplayOptions, Source, Status, debug_to, replay_to, table_to, tell,
+    vehicles_to,
 };
 use mds_io::{MAX_CALLS, write_all_of};
-use mds_listing::vehicles_to;
 use mds_trace::Opening;
 use std::alloc::Global;
 use std::convert::AsStr;

@@ -3,3 +3,8 @@ pub mod ErrorLemmas
 pub mod OpenedLemmas
 pub mod PrintLemmas
 pub mod FedLemmas
+-- Of the list of a journal's vehicles.
+pub mod NameLemmas
+pub mod Pushed
+pub mod TakingLemmas
+pub mod PlaceLemmas

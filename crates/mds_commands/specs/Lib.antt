@@ -7,3 +7,9 @@ pub mod Command
 pub mod Debug
 pub mod Stream
 pub mod Torn
+-- Of the list of a journal's vehicles.
+pub mod Roster
+pub mod Listing
+pub mod JournalProblem
+pub mod Taking
+pub mod ListingText

@@ -1,5 +1,5 @@
-//! Tests of replays, of the sessions over what they accepted, of what the debugger prints of these, and of the commands and the
-//! words that ask for them.
+//! Tests of replays, of the sessions over what they accepted, of what the debugger prints of these, of rosters, and of the
+//! commands and the words that ask for them.
 #![tactic(auto)]
 
 #[cfg(test)]
@@ -10,6 +10,8 @@ mod debugger;
 mod line_replays;
 #[cfg(test)]
 mod replays;
+#[cfg(test)]
+mod rosters;
 #[cfg(test)]
 mod sessions;
 #[cfg(test)]

@@ -1,10 +1,8 @@
-//! Tests of the shards, of rosters, of what callers note and how it is judged, and of the open gate.
+//! Tests of the shards, of what callers note and how it is judged, and of the open gate.
 #![tactic(auto)]
 
 #[cfg(test)]
 mod gates;
-#[cfg(test)]
-mod rosters;
 #[cfg(test)]
 mod settling;
 #[cfg(test)]

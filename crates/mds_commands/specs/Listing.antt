@@ -1,0 +1,107 @@
+-- What the command does.
+use Rattle.std.specs.Prelude.{◌≡◌, ◌⊎◌, ℕ, List, Option, Some}
+use Rattle.std.specs.Io.KnownBytes.{Appends, Keeps}
+use Rattle.mds_table.specs.Tables.{Tables}
+use Rattle.mds_core.specs.declared.request.Request.{Request}
+use Rattle.mds_core.specs.Lawful.{IsLawful}
+use Rattle.mds_io.specs.Page.{AppendsFront}
+use Rattle.mds_commands.specs.declared.source.Source.{Source}
+use Rattle.mds_commands.specs.declared.status.Status.{Status}
+use Rattle.mds_commands.specs.declared.status.Status.TheVariants.{Done}
+use Rattle.mds_commands.specs.declared.problem.Problem.TheVariants.{CannotRead, NotATable}
+use Rattle.mds_commands.specs.declared.problem.Problem.TheVariants.{NotABatch, NotLines, Socket}
+use Rattle.mds_commands.specs.declared.problem.Problem.TheVariants.{Random, Output, Memory}
+use Rattle.mds_commands.specs.Source.{HasTablesIn, ExplainsTable, IsOpen}
+use Rattle.mds_commands.specs.declared.vehicles.problem.JournalProblem.{JournalProblem}
+use Rattle.mds_commands.specs.declared.vehicles.problem.JournalProblem.TheVariants.{NotAJournal, Other}
+use Rattle.mds_commands.specs.declared.vehicles.taking.TakeError.TheVariants.{Fault}
+use Rattle.mds_commands.specs.JournalProblem.{TellsJournal, journal_status_of}
+use Rattle.mds_commands.specs.Taking.{IsTaken, IsJournalFault}
+use Rattle.mds_commands.specs.ListingText.{listing_text}
+
+-- the file was opened, and its lines tell this history
+abbrev pub IsTakenIn : {R : Type 0} → (R → Option (List ℕ)) → Source R → List Request → Type 0
+IsTakenIn {R} remaining source history =
+    (reader : R) × (source.reader ≡ Some reader) × IsTaken (remaining reader) history
+
+-- why no roster over the tables was had of a file
+abbrev pub ExplainsJournal : {R : Type 0} → (R → Option (List ℕ))
+    → Source R → Tables → JournalProblem → Type 0
+ExplainsJournal {R} remaining source tables (NotAJournal fault) =
+    (reader : R)
+    × (source.reader ≡ Some reader) × IsJournalFault tables (remaining reader) (Fault fault)
+ExplainsJournal remaining source tables (Other (CannotRead path)) = path.now ≡ source.path.now
+ExplainsJournal remaining source tables (Other Memory) = IsOpen source
+ExplainsJournal remaining source tables (Other (NotATable fault)) = ⊥
+ExplainsJournal remaining source tables (Other (NotABatch fault)) = ⊥
+ExplainsJournal remaining source tables (Other (NotLines fault)) = ⊥
+ExplainsJournal remaining source tables (Other Socket) = ⊥
+ExplainsJournal remaining source tables (Other Random) = ⊥
+ExplainsJournal remaining source tables (Other Output) = ⊥
+
+-- of a listing: the known bytes of a table file's reader, the table file if one is given, and the
+-- same of the journal
+module _ {T R : Type 0} (table_bytes : T → Option (List ℕ)) (table : Option (Source T))
+    (file_bytes : R → Option (List ℕ)) (file : Source R) where
+  -- the lines of the journal tell this history, which is lawful under the tables
+  abbrev pub HasHistory : List Request → Type 0
+  HasHistory history =
+      (tables : Tables) × HasTablesIn table_bytes table tables
+      × IsTakenIn file_bytes file history × IsLawful tables history
+
+  -- the listing of the journal's history went out
+  abbrev pub Listed : Option (List ℕ) → Option (List ℕ) → Type 0
+  Listed old new =
+      (history : List Request) × HasHistory history × Appends old new (listing_text history)
+
+  -- a front of it went out, and not all of it
+  abbrev pub ListedFront : Option (List ℕ) → Option (List ℕ) → Type 0
+  ListedFront old new =
+      (history : List Request) × HasHistory history × AppendsFront old new (listing_text history)
+
+  -- the tables were had, and then the problem is one of the journal
+  abbrev pub ExplainsRequests : JournalProblem → Type 0
+  ExplainsRequests problem =
+      (tables : Tables)
+      × HasTablesIn table_bytes table tables × ExplainsJournal file_bytes file tables problem
+
+  -- the problem's cause lies in the file that it names, if it names one; the table file is looked
+  -- at first
+  abbrev pub ExplainsListing : JournalProblem → Type 0
+  ExplainsListing (NotAJournal fault) = ExplainsRequests (NotAJournal fault)
+  ExplainsListing (Other (CannotRead path)) =
+      ExplainsTable table_bytes table (CannotRead path) ⊎ ExplainsRequests (Other (CannotRead path))
+  ExplainsListing (Other (NotATable fault)) = ExplainsTable table_bytes table (NotATable fault)
+  ExplainsListing (Other (NotABatch fault)) = ⊥
+  ExplainsListing (Other (NotLines fault)) = ⊥
+  ExplainsListing (Other Socket) = ⊥
+  ExplainsListing (Other Random) = (tables : Tables) × HasTablesIn table_bytes table tables
+  ExplainsListing (Other Output) = Unit {0}
+  ExplainsListing (Other Memory) = Unit {0}
+
+  -- what went out before a problem: nothing where a file was at fault, a front of the listing where
+  -- the output was
+  abbrev pub ListingWentOut : JournalProblem → Option (List ℕ) → Option (List ℕ) → Type 0
+  ListingWentOut (NotAJournal fault) old new = Keeps old new
+  ListingWentOut (Other (CannotRead path)) old new = Keeps old new
+  ListingWentOut (Other (NotATable fault)) old new = Keeps old new
+  ListingWentOut (Other (NotABatch fault)) old new = ⊥
+  ListingWentOut (Other (NotLines fault)) old new = ⊥
+  ListingWentOut (Other Socket) old new = ⊥
+  ListingWentOut (Other Random) old new = Keeps old new
+  ListingWentOut (Other Output) old new = ListedFront old new
+  ListingWentOut (Other Memory) old new = Keeps old new ⊎ ListedFront old new
+
+  -- a problem has this status, is explained, and was told
+  abbrev pub ListingTold : Status → Option (List ℕ)
+      → Option (List ℕ) → Option (List ℕ) → Option (List ℕ) → Type 0
+  ListingTold status old new faults_old faults_new =
+      (problem : JournalProblem) × (status ≡ journal_status_of problem) × ExplainsListing problem
+      × ListingWentOut problem old new × TellsJournal faults_old faults_new problem
+
+  -- what a listing came to: it was printed and nothing was told, or a problem was told
+  abbrev pub CameToListing : Status → Option (List ℕ)
+      → Option (List ℕ) → Option (List ℕ) → Option (List ℕ) → Type 0
+  CameToListing status old new faults_old faults_new =
+      ((status ≡ Done) × Listed old new × Keeps faults_old faults_new)
+      ⊎ ListingTold status old new faults_old faults_new

@@ -1,0 +1,41 @@
+-- What is printed of a roster.
+use Rattle.std.specs.Prelude.{ℕ, List, ◌++◌, length, codes, decimal}
+use Rattle.std.specs.List.{flat_map}
+use Rattle.uuid.specs.Text.{hyphenated_text, lower}
+use Rattle.mds_table.specs.State.{name_of}
+use Rattle.mds_table.specs.Tables.{Tables}
+use Rattle.mds_core.specs.declared.key.Key.{Key}
+use Rattle.mds_core.specs.declared.request.Request.{Request}
+use Rattle.mds_core.specs.declared.reply.Standing.{Standing}
+use Rattle.mds_core.specs.History.{reports}
+use Rattle.mds_io.specs.Page.{with_newline}
+use Rattle.mds_commands.specs.declared.roster.Roster.{Roster}
+use Rattle.mds_commands.specs.Roster.{IsRosterOf, registered_in, standings_in}
+
+-- the line of a vehicle: its key, the state that it holds, and how many of its events were accepted
+abbrev pub vehicle_line : Key × Standing → List ℕ
+vehicle_line vehicle =
+    codes "vehicle " ++ hyphenated_text lower vehicle.0.provider
+    ++ codes " " ++ hyphenated_text lower vehicle.0.device ++ codes " "
+    ++ name_of vehicle.1.state ++ codes " " ++ decimal vehicle.1.events
+
+-- the last line
+abbrev pub totals_line : ℕ → ℕ → List ℕ
+totals_line registrations events =
+    codes "registrations " ++ decimal registrations ++ codes " events " ++ decimal events
+
+-- a line for each vehicle
+abbrev pub vehicle_lines : List (Key × Standing) → List ℕ
+vehicle_lines vehicles = flat_map (λ vehicle. with_newline (vehicle_line vehicle)) vehicles
+
+-- all that is printed of a history: where each vehicle stands, in the order of registration, and
+-- how many of each there are
+abbrev pub listing_text : List Request → List ℕ
+listing_text history =
+    vehicle_lines (standings_in history)
+    ++ with_newline (totals_line (length (registered_in history)) (length (reports history)))
+
+-- the roster is that of some history
+abbrev pub IsRosterOfSome : Roster → Type 0
+IsRosterOfSome roster =
+    (tables : Tables) × (history : List Request) × IsRosterOf tables history roster

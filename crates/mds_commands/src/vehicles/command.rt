@@ -1,0 +1,85 @@
+//! The command, over any reader, writers and table file.
+ghost use Rattle.std.specs.Prelude.{List, IfOk, IfErr, OnOk};
+ghost use Rattle.mds_core.specs.declared.request.Request.{Request};
+ghost use Rattle.mds_commands.specs.Roster.{IsRosterOf};
+ghost use Rattle.mds_commands.specs.Listing.{CameToListing, ExplainsJournal, ExplainsListing, IsTakenIn, Listed, ListingWentOut};
+
+use crate::problem::Problem;
+use crate::roster::Roster;
+use crate::source::{Source, tables_in};
+use crate::status::Status;
+use crate::vehicles::print::print_roster;
+use crate::vehicles::problem::{JournalProblem, tell_journal_problem};
+use crate::vehicles::taking::{TakeError, roster_of};
+use mds_table::Tables;
+use std::alloc::Global;
+use std::hash::RandomState;
+use std::io::{Read, Write};
+use std::random::RandomSource;
+
+/// Lists the vehicles of a journal over the tables of a table file, or where none is given over the profile's: it prints a
+/// line for each vehicle in the order of registration, and the totals. It answers the status that the program ends with:
+/// `Done`, or the one of the problem, which is told to `faults` in one line: `Fault` for a file that can't be read, is no table
+/// or no journal, where no random numbers are had, or an output fails; `NoMemory` for want of memory. Nothing is printed before
+/// the file was read and each of its requests accepted.
+pub fn vehicles_to<P: RandomSource, T: Read + Drop, R: Read + Drop, W: Write, E: Write>(
+    rt: &P,
+    alloc: Global,
+    table: Option<Source<'_, T>>,
+    file: Source<'_, R>,
+    out: &mut W,
+    faults: &mut E,
+) -> Status
+    ensures { CameToListing T.remaining table.entry R.remaining file.entry result
+        (W.contents out.old) (W.contents out.new) (E.contents faults.old) (E.contents faults.new) }
+{
+    match vehicles_into(rt, alloc, table, file, out) {
+        Ok(()) => Status::Done,
+        Err(problem) => tell_journal_problem(alloc, faults, problem),
+    }
+}
+
+fn vehicles_into<'a, P: RandomSource, T: Read + Drop, R: Read + Drop, W: Write>(
+    rt: &P,
+    alloc: Global,
+    table: Option<Source<'a, T>>,
+    file: Source<'a, R>,
+    out: &mut W,
+) -> Result<(), JournalProblem<'a>>
+    ensures ok { OnOk result (Listed T.remaining table.entry R.remaining file.entry
+        (W.contents out.old) (W.contents out.new)) }
+    ensures err { IfErr result (λ problem.
+        ExplainsListing T.remaining table.entry R.remaining file.entry problem
+        × ListingWentOut T.remaining table.entry R.remaining file.entry problem
+        (W.contents out.old) (W.contents out.new)) }
+{
+    let tables = tables_in(alloc, table)?;
+    let Ok(hasher) = RandomState::new(rt) else {
+        return Err(JournalProblem::Other(Problem::Random));
+    };
+    let roster = roster_in(alloc, tables, hasher, file)?;
+    print_roster(alloc, out, &roster)?;
+    Ok(())
+}
+
+fn roster_in<'a, R: Read + Drop>(
+    alloc: Global,
+    tables: Tables,
+    hasher: RandomState,
+    file: Source<'a, R>,
+) -> Result<Roster, JournalProblem<'a>>
+    ensures ok { IfOk result (λ roster. (history : List Request)
+        × IsTakenIn R.remaining file.entry history × IsRosterOf tables history roster) }
+    ensures err { IfErr result (ExplainsJournal R.remaining file.entry tables) }
+{
+    let path = file.path;
+    let Some(reader) = file.reader else {
+        return Err(JournalProblem::Other(Problem::CannotRead(path)));
+    };
+    match roster_of(alloc, reader, tables, hasher) {
+        Ok(roster) => Ok(roster),
+        Err(TakeError::Memory) => Err(JournalProblem::Other(Problem::Memory)),
+        Err(TakeError::Read) => Err(JournalProblem::Other(Problem::CannotRead(path))),
+        Err(TakeError::Fault(fault)) => Err(JournalProblem::NotAJournal(fault)),
+    }
+}

@@ -1,2 +1,0 @@
-pub mod TakingLemmas
-pub mod PlaceLemmas

@@ -1,4 +1,0 @@
-pub mod Listing
-pub mod Problem
-pub mod Taking
-pub mod Text
