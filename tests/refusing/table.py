@@ -50,7 +50,7 @@ TESTED = {
     ("mds_batch", "test_batches", "events_are_handed_on_after_a_refused_growth"): ["each_event"],
     ("mds_batch", "test_batches", "an_item_is_taken_after_a_refused_growth"): ["TakesItems::take"],
     ("mds_batch", "test_batches", "an_item_is_read_after_a_refused_growth"): ["read_item", "ItemReader::read"],
-    ("mds_lines", "test_batches", "a_stream_is_read_after_a_refused_growth"): ["LineReader::feed", "LineReader::finish"],
+    ("mds_batch", "test_batches", "a_stream_is_read_after_a_refused_growth"): ["LineReader::feed", "LineReader::finish"],
     ("mds_trace", "test_replays", "replay_succeeds_after_a_refused_growth"): ["replay"],
     ("mds_trace", "test_replays", "replay_with_succeeds_after_a_refused_growth"): ["replay_with"],
     ("mds_trace", "test_replays", "items_are_taken_after_a_refused_growth"): ["Replayer::take", "Replayer::finish"],
@@ -260,7 +260,7 @@ QUIET = {
         "each_event",
         "read_item",
     ],
-    ("mds_lines", "test_batches", "a_stream_begins_with_every_growth_refused"): [
+    ("mds_batch", "test_batches", "a_stream_begins_with_every_growth_refused"): [
         "LineReader::open",
         "LineReader::feed",
         "LineReader::finish",

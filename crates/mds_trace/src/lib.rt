@@ -32,7 +32,7 @@ mod workers;
 pub use input::{MAX_SCRIPT, ScriptBytes, ScriptEnd, read_script};
 pub use line::CountsLine;
 pub use line_replay::LineReplay;
-pub use mds_lines::LineFault;
+pub use mds_batch::LineFault;
 pub use one_by_one::Replayer;
 pub use replayer::replay;
 pub use report::{Opening, Report, VehicleEnd, Verdict};

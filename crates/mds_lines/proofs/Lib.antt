@@ -1,6 +1,0 @@
--- Lemmas of this crate.
-pub mod ErrorLemmas
-pub mod LineLemmas
-pub mod FeedLemmas
-pub mod FeedSearch
-pub mod LineLaws
