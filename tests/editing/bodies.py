@@ -8,6 +8,7 @@ from pathlib import Path
 from harness.counting import ROOT
 
 HERE = Path(__file__).resolve().parent / "bodies"
+ANSWERS = Path(__file__).resolve().parent / "answers"
 FUNCTION = re.compile(r"^(?P<indent> *)(?:pub(?:\([^)]*\))? )?(?:const )?fn (?P<name>\w+)", re.M)
 OWN_TACTICS = re.compile(r"#\[tactic\([^\n]*\]\n(?: *#\[[^\n]*\]\n)*\Z")
 CLOSURE = re.compile(r"(?:[(,=]|\bmove)\s*\|[^|\n]*\|")
@@ -38,7 +39,9 @@ class Edit:
     """The names by which a body may call or read what the edit turns: those of the functions, and of constants."""
     breaks_answer: bool
     """Whether an answer in `proofs/` may tell of it: each function has answers, asks for no tactics of its own, and has no closure,
-    whose goals have no answers, and no line `# searched` says that none does."""
+    whose goals have no answers, and no line `# searched` says that none does. Or it has answers of its own."""
+    answers: tuple = ()
+    """Those of `answers/`, which stand in place of its function's: each the line of a proof of one goal, as the function stands."""
 
     @property
     def label(self):
@@ -74,6 +77,16 @@ def with_answers(crate):
             has_some = (folder / folder_of(function) / "Answers.antt").exists()
             if has_some and not CLOSURE.search(text, head.start(), end) and not OWN_TACTICS.search(text[: head.start()]):
                 found.add(function)
+    return found
+
+
+@cache
+def own_answers(crate):
+    """The answers under `answers/` for the edits of a crate, by the edits' names."""
+    file, found = ANSWERS / f"{crate}.txt", {}
+    for line in file.read_text().splitlines() if file.exists() else ():
+        name, _, answer = line.partition(": ")
+        found[name] = (*found.get(name, ()), answer)
     return found
 
 
@@ -118,6 +131,7 @@ def folder_of(function):
     return "proofs/" + function.replace("::", "/")
 
 
+@cache
 def home_of(crate, kind, path):
     """The module of a type of a crate, or that of this file where no single one declares it."""
     folder, declared = ROOT / "crates" / crate, re.compile(rf"\b(?:struct|enum|trait) {kind}\b")
@@ -164,8 +178,9 @@ def edit_of(crate, file):
     names = [it.rpartition("::")[2] for it in functions]
     names += [word for it in changes if named for word in CONSTANT.findall(it.old)]
     is_quick = not SEARCHED.search(text) and not any(CLOSURE.search(it.new) for it in changes)
-    breaks_answer = is_quick and functions <= with_answers(crate)
-    return Edit(crate, file, changes, functions, frozenset(names), breaks_answer)
+    answers = own_answers(crate).get(file.stem, ())
+    breaks_answer = bool(answers) or is_quick and functions <= with_answers(crate)
+    return Edit(crate, file, changes, functions, frozenset(names), breaks_answer, answers)
 
 
 def every_edit():
@@ -197,7 +212,10 @@ def without_tactics(crate, texts, functions):
         text = made.get(path) or file.read_text()
         places = [it for it in FUNCTION.finditer(text) if told_as(crate, path, text, it.start()) in functions]
         for it in reversed(places):
-            text = f"{text[: it.start()]}{it['indent']}#[tactic(none)]\n{text[it.start() :]}"
+            own = OWN_TACTICS.search(text, 0, it.start())
+            start, rest = (own.start(), own[0].partition("\n")[2]) if own else (it.start(), "")
+            mark = "#[tactic(none)]\n" if own else f"{it['indent']}#[tactic(none)]\n"
+            text = f"{text[:start]}{mark}{rest}{text[it.start() :]}"
         if places:
             made[path] = text
     return made

@@ -35,8 +35,9 @@ def proof_of_copy(crate, function, copy):
     return texts
 
 
-def copied(edit, texts, number):
-    """The edit as one of a copy of its function, and the texts by their paths with this copy, or None where none can be made."""
+def copied(edit, texts, number, changes=None):
+    """The edit as one of a copy of its function, and the texts by their paths with this copy, or None where none can be made. Other
+    changes may be made in the copy, or none."""
     folder, paths = ROOT / "crates" / edit.crate, {it.path for it in edit.changes}
     function, path = next(iter(edit.functions)), next(iter(paths))
     if len(edit.functions) > 1 or len(paths) > 1 or (folder / folder_of(function) / "Proof.antt").exists():
@@ -44,7 +45,7 @@ def copied(edit, texts, number):
     text = (folder / path).read_text()
     now = texts.get(path) or text
     stands, place = extent(edit.crate, path, text, function), extent(edit.crate, path, now, function)
-    made = stands and place and applied({path: text[slice(*stands)]}, edit.changes, folder)
+    made = stands and place and applied({path: text[slice(*stands)]}, edit.changes if changes is None else changes, folder)
     if not made:
         return None
     name, copy = function.rpartition("::")[2], f"{function}_{number}"

@@ -27,6 +27,9 @@ class Round:
     edits: list = field(default_factory=list)
     """Those that were given, each as one of its function or of a copy."""
     texts: dict = field(default_factory=dict)
+    standing: dict = field(default_factory=dict)
+    """For each edit with answers of its own, by its label, a copy of its function as it stands. It has these answers too, so the check
+    sees that they prove its goals there."""
 
     @property
     def label(self):
@@ -41,13 +44,38 @@ class Round:
             made = texts and (edit, texts)
         if not made:
             return False
+        made = self.with_standing(edit, *made) if edit.answers else made
         self.given, self.edits, self.texts = [*self.given, edit], [*self.edits, made[0]], made[1]
         return True
+
+    def with_standing(self, given, edit, texts):
+        """The edit, as it was given and as it is made, and the texts by their paths with a copy of its function as it stands. Where none
+        can be made its own answers say nothing, and all goals are searched."""
+        name = f"{next(iter(given.functions))}_as_it_stands"
+        if name not in self.standing.values():
+            made = copied(given, texts, "as_it_stands", changes=())
+            if not made:
+                return replace(edit, answers=(), breaks_answer=False), texts
+            texts = made[1]
+        self.standing[given.label] = name
+        return edit, texts
+
+    def functions(self):
+        """The functions that are checked: those that the edits turn, and copies as they stand."""
+        return sorted({*self.standing.values()}.union(*(it.functions for it in self.edits)))
+
+    def answers(self):
+        """The answers in place of those in `proofs/`, by functions, where edits have their own."""
+        found = {}
+        for given, edit in zip(self.given, self.edits):
+            for function in {*edit.functions, self.standing[given.label]} if edit.answers else ():
+                found[function] = [*dict.fromkeys([*found.get(function, ()), *edit.answers])]
+        return found
 
     def texts_for_check(self):
         """The texts, in which no tactic is tried on the goals of a function whose answers may tell of its edit."""
         answered = [it.functions for it in self.edits if it.breaks_answer]
-        return without_tactics(self.crate, self.texts, frozenset().union(*answered))
+        return without_tactics(self.crate, self.texts, frozenset(self.standing.values()).union(*answered))
 
 
 def rounds_of(crate, edits, may_copy=False):
@@ -97,8 +125,18 @@ def is_function(told, function):
     return parts[: len(path)] == path
 
 
-def complaints(edit, said):
-    """What is wrong with an edit, by what a check of its round said: of answers alone, where these may tell of it."""
+def is_proved_standing(crate, function, said):
+    """Whether a check says that each answer of a copy of a function as it stands is a proof."""
+    told = re.search(rf"^fn {crate}::{function}: (?!could not tell)", said, re.M)
+    wrong = [why for path, why in WRONG_ANSWER.findall(said) if path.replace("/", "::") == function]
+    return bool(told) and all(why.startswith(f"`{NO_ANSWER}`") for why in wrong)
+
+
+def complaints(edit, said, standing=None):
+    """What is wrong with an edit, by what a check of its round said: of answers alone, where these may tell of it. `standing` is the copy
+    of its function that has to be proved, where the answers are its own."""
+    if standing and not is_proved_standing(edit.crate, standing, said):
+        yield "its own answers don't prove their goals of the function as it stands"
     own = wrong_answers(said, False) if edit.breaks_answer else unproved(said)
     if not re.search(r"^only=", said, re.M):
         yield f"it wasn't checked: {next((line for line in said.splitlines() if 'error' in line), said[-300:])}"
@@ -112,7 +150,7 @@ def left_of(it, edits):
     a copy, or answers alone were looked at, all turn their functions, and all goals are searched. Else they go on without those that
     were refused, or one by one."""
     if any(edit.breaks_answer or edit not in it.edits for edit in edits):
-        return [[replace(edit, breaks_answer=False) for edit in edits]]
+        return [[replace(edit, breaks_answer=False, answers=()) for edit in edits]]
     if len(edits) < len(it.edits):
         return [edits] if edits else []
     return [[edit] for edit in edits] if len(edits) > 1 else []
@@ -123,7 +161,7 @@ def said_of(it, turned, bench):
     strays, only = bench.strays.setdefault(it.crate, set()), [word for name in turned for word in ("--only", name)]
     names = set().union(*(edit.names for edit in it.edits))
     while True:
-        proofs = supposed(it.crate, turned, names, strays, it.texts)
+        proofs = supposed(it.crate, turned, names, strays, it.texts, it.answers())
         said = bench.say("check", it.crate, it.texts_for_check() | proofs, "--allow-holes", *only)
         if strays.issuperset(STRAY.findall(said)):
             return said
@@ -134,11 +172,10 @@ def outcomes(it, bench, told=None):
     """The edits of a round that need no more checks, each with what is wrong with it, by a check of the functions that the round turns,
     and of those that they call, and lists of the others. Goals that wait for a callee's proof aren't looked at where the callee is
     edited too, so these are tried again. What a check says is kept in a folder `told`, if there is one."""
-    turned = sorted(set().union(*(edit.functions for edit in it.edits)))
-    said = said_of(it, turned, bench)
+    said = said_of(it, it.functions(), bench)
     if told:
         told.mkdir(parents=True, exist_ok=True)
         (told / f"{it.label}.txt").write_text(said)
-    found = [(given, list(complaints(edit, said))) for given, edit in zip(it.given, it.edits)]
+    found = [(given, list(complaints(edit, said, it.standing.get(given.label)))) for given, edit in zip(it.given, it.edits)]
     again = left_of(it, [edit for edit, wrong in found if wrong])
     return [(edit, wrong) for edit, wrong in found if not again or not wrong], again

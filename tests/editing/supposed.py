@@ -67,15 +67,28 @@ def holes(crate, functions):
     return texts
 
 
-def supposed(crate, turned, names, strays, made):
+def answers_file(crate, function, answers):
+    """A text of answers for a function: each has a goal's name, its arguments and a term."""
+    home = f"Rattle.{crate}.proofs.{function.replace('::', '.')}"
+    parts = ["use Rattle.std.proofs.Common.{arith, rules}", "use Rattle.std.proofs.lemmas.Grind.{common_steps}"]
+    parts.append(f"use {home}.Goals as goal\n")
+    for answer in answers:
+        name = answer.split()[0]
+        parts.append(f"pub {name} : goal.{name}\n{answer}\n")
+    return "\n".join(parts)
+
+
+def supposed(crate, turned, names, strays, made, given):
     """The texts of the files of `proofs/` that a check is given, and no text of those that it isn't, by their paths. `names` are
-    those by which bodies may call or read what is edited. Some texts were `made` before, as those of copies. A folder is one of the strays where rattle takes no such file, as where the
-    function stands in a macro."""
+    those by which bodies may call or read what is edited. Some texts were `made` before, as those of copies. Some functions are
+    `given` answers in place of their own. A folder is one of the strays where rattle takes no such file, as where the function stands
+    in a macro."""
     others = callers(crate, names) if has_kept(crate) else names_by_function(crate)
     texts = holes(crate, [it for it in sorted(others) if it not in turned and folder_of(it) not in strays])
+    own = {folder_of(function): answers_file(crate, function, answers) for function, answers in given.items()}
     for folder in {folder_of(function) for function in turned}.difference(strays):
         file = ROOT / "crates" / crate / folder / "Answers.antt"
         if not file.with_name("Proof.antt").exists():
-            answers = made.get(f"{folder}/Answers.antt") or (file.read_text() if file.exists() else "")
+            answers = own.get(folder) or made.get(f"{folder}/Answers.antt") or (file.read_text() if file.exists() else "")
             texts[f"{folder}/Answers.antt"] = f"{answers}\n{NO_ANSWER} : Type 0\n{NO_ANSWER} = tt\n"
     return texts
