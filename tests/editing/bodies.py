@@ -13,6 +13,8 @@ FUNCTION = re.compile(r"^(?P<indent> *)(?:pub(?:\([^)]*\))? )?(?:const )?fn (?P<
 OWN_TACTICS = re.compile(r"#\[tactic\([^\n]*\]\n(?: *#\[[^\n]*\]\n)*\Z")
 CLOSURE = re.compile(r"(?:[(,=]|\bmove)\s*\|[^|\n]*\|")
 SEARCHED = re.compile(r"^# searched$", re.M)
+TRAIT = re.compile(r"^(?:pub(?:\([^)]*\))? )?trait\b.*?^\}", re.M | re.S)
+LAST_OF_HEAD = re.compile(r"[;{]$", re.M)
 CONSTANT = re.compile(r"\b[A-Z][A-Z0-9_]+\b")
 BLOCK = re.compile(r"^(?:pub )?(?:impl|trait)\b(?P<words>[^{;]*)\{$(?P<body>.*?)^\}", re.M | re.S)
 
@@ -151,14 +153,23 @@ def told_as(crate, path, text, place):
     return "::".join(filter(None, (module, kind + trait, found[1])))
 
 
+def has_no_body(text, place):
+    """Whether the function at a place of a source only stands in a trait, without a body: then it has no proof."""
+    if not any(it.start() < place < it.end() for it in TRAIT.finditer(text)):
+        return False
+    last = LAST_OF_HEAD.search(text, place)
+    return last is not None and last[0] == ";"
+
+
 def functions_in(crate):
-    """The functions of a crate's sources, each as a check tells of it, with the text from there up to the next one."""
+    """The functions of a crate's sources that have a body, each as a check tells of it, with the text from there up to the next one."""
     folder = ROOT / "crates" / crate
     for file in sorted(folder.glob("src/**/*.rt")):
         text = file.read_text()
         starts = [found.start() for found in FUNCTION.finditer(text)]
         for start, end in zip(starts, [*starts[1:], len(text)]):
-            yield told_as(crate, file.relative_to(folder), text, start), text[start:end]
+            if not has_no_body(text, start):
+                yield told_as(crate, file.relative_to(folder), text, start), text[start:end]
 
 
 def functions_of(crate, changes):
