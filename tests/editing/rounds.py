@@ -157,15 +157,18 @@ def left_of(it, edits):
 
 
 def said_of(it, turned, bench):
-    """What a check of a round says. It begins again without what rattle doesn't take."""
+    """What a check of a round says. It begins again without what rattle doesn't take, where this was said in place of verdicts. Where it
+    was said beside them, these hold: that function was proved as ever, and has no hole. Later rounds leave its hole out."""
     strays, only = bench.strays.setdefault(it.crate, set()), [word for name in turned for word in ("--only", name)]
     names = set().union(*(edit.names for edit in it.edits))
     while True:
         proofs = supposed(it.crate, turned, names, strays, it.texts, it.answers())
         said = bench.say("check", it.crate, it.texts_for_check() | proofs, "--allow-holes", *only)
-        if strays.issuperset(STRAY.findall(said)):
+        found = STRAY.findall(said)
+        if strays.issuperset(found) or re.search(r"^only=", said, re.M):
+            strays.update(found)
             return said
-        strays.update(STRAY.findall(said))
+        strays.update(found)
 
 
 def outcomes(it, bench, told=None):
