@@ -47,10 +47,6 @@ def kept_of(crate):
     return ROOT / "crates" / crate / "out/incremental"
 
 
-def has_kept(crate):
-    return is_proved(crate) and kept_of(crate).exists()
-
-
 def linked(one, other):
     """Gives a file that a check only replaces a second name; others are copied."""
     if str(one).endswith(".oantt"):
@@ -75,12 +71,16 @@ class Bench:
 
     def __init__(self, room):
         self.room, self.seconds, self.strays = Path(room), Counter(), {}
-        self.begun, self.lock = set(), Lock()
+        self.begun, self.proved, self.lock = set(), set(), Lock()
 
     def library(self, crate):
         if is_proved(crate):
             return left_by_proof(crate).parent
         return self.room / "rlib" / f"{crate}.rlib"
+
+    def has_kept(self, crate):
+        """Whether the proofs of the crate as it stands are kept: by `rt`, or by a proof here."""
+        return crate in self.proved or is_proved(crate) and kept_of(crate).exists()
 
     def kept(self, crate, room):
         """What a check of the crate begins with: the first with what `rt` kept of it, each later one, in a room of its own, with what
@@ -129,7 +129,8 @@ class Bench:
 
     def prove(self, crate):
         """What a proof of the crate as it stands says, which builds its library too."""
-        if is_program(crate):
-            return self.say("check", crate, {})
         self.library(crate).parent.mkdir(exist_ok=True)
-        return self.say("build", crate, {}, "-o", self.library(crate))
+        words = ("check", crate, {}) if is_program(crate) else ("build", crate, {}, "-o", self.library(crate))
+        said = self.say(*words)
+        self.proved.add(crate)
+        return said

@@ -1,10 +1,9 @@
-"""Which crates are proved as they stand, by the sums of texts that `rt` goes by, whatever the times of files are."""
+"""Which crates are proved as they stand, by the sums of texts that `rt` writes beside what it makes, whatever the times of files are."""
 
 import copy
 import functools
 import importlib.machinery
 import importlib.util
-import json
 import subprocess
 from pathlib import Path
 
@@ -26,7 +25,8 @@ def code_of_rt():
 
 
 def has_stamp(rt, crate):
-    """Whether `rt check`, `rt lib` or `rt run` made what stands in out/, of these texts and of those below."""
+    """Whether `rt check`, `rt lib` or `rt run` made what stands in out/, of these texts and of those below. `rt ci` leaves no such
+    sum, and `rt check` leaves one of each library below the crate that it checks."""
     if not crate.is_program:
         return crate.is_built()
     crate, program = copy.copy(crate), f"{crate.folder}/out/{crate.name}"
@@ -35,30 +35,13 @@ def has_stamp(rt, crate):
     return rt.rtlib.text_of(f"{program}.stamp") == crate.stamp() + rt.rtlib.sum_of(program)
 
 
-def is_kept(rt, crate, kept):
-    """Whether `rt ci` proved these texts over the libraries that stand here, on this machine, and made what stands in out/."""
-    if not kept.made(crate, False):
-        return False
-    for it in crate.below():
-        if it.name not in kept.rlibs:
-            kept.is_built(it)
-    try:
-        made = json.loads(Path(kept.place(crate, False, kept.key(crate)), "made.json").read_text())
-    except OSError:
-        return False
-    return all(rt.rtlib.sum_of(f"{crate.folder}/out/{path}") == sum for path, sum in made["files"])
-
-
 @functools.cache
 def proved():
     """The names of the crates that are proved as they stand, with all below them."""
     rt, found = code_of_rt(), set()
-    rt.Crate.allowed = rt.handles_of(str(ROOT))
-    crates = rt.crates_of(str(ROOT))
-    kept = rt.Kept(crates)
-    for crate in crates:
+    for crate in sorted(rt.rtlib.crates_below(str(ROOT)), key=lambda it: len(it.below())):
         below = {it.name for it in crate.below()}
-        if found.issuperset(below) and (has_stamp(rt, crate) or is_kept(rt, crate, kept)):
+        if found.issuperset(below) and has_stamp(rt, crate):
             found.add(crate.name)
     return found
 

@@ -5,13 +5,13 @@ from dataclasses import dataclass, field, replace
 
 from editing.bodies import applied, without_tactics
 from editing.copies import copied
-from editing.supposed import NO_ANSWER, STRAY, supposed
+from editing.supposed import NO_ANSWER, STRAY, supposed, without_proof
 from harness.counting import ROOT
 
 TOLD = re.compile(r"^fn (\S+): (.*)$")
 OPEN = re.compile(r"^note: \S+: (?:it is not proved that|`search` found no proof)")
-WRONG_ANSWER = re.compile(r"^\./proofs/(\S+)/\w+\.antt:\S+ error: (.*)$", re.M)
-GONE = re.compile(rf"has no field|is not in scope|has no `|was not admitted|^`{NO_ANSWER}`")
+WRONG_ANSWER = re.compile(r"^\./proofs/(\S+)/\w+\.antt:\S+ error: (.*(?:\n  has no .*)?)$", re.M)
+GONE = re.compile(rf"has no (?:field|constructor|member|`)|is not in scope|was not admitted|^`{NO_ANSWER}`")
 """What is said of an answer that names what an edit took away, or of the one that is no answer: neither says anything of the
 contract."""
 
@@ -161,8 +161,9 @@ def said_of(it, turned, bench):
     was said beside them, these hold: that function was proved as ever, and has no hole. Later rounds leave its hole out."""
     strays, only = bench.strays.setdefault(it.crate, set()), [word for name in turned for word in ("--only", name)]
     names = set().union(*(edit.names for edit in it.edits))
+    others = without_proof(it.crate, names, bench.has_kept(it.crate))
     while True:
-        proofs = supposed(it.crate, turned, names, strays, it.texts, it.answers())
+        proofs = supposed(it.crate, turned, others, strays, it.texts, it.answers())
         said = bench.say("check", it.crate, it.texts_for_check() | proofs, "--allow-holes", *only)
         found = STRAY.findall(said)
         if strays.issuperset(found) or re.search(r"^only=", said, re.M):

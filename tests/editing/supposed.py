@@ -2,7 +2,7 @@
 
 `rt` proved the crate as it stands, and an edit turns a body and no contract. So a function that isn't edited is judged by its
 contract where an edited one calls it. Its proof is taken from what `rt` kept of its checks. It has a hole in place of a proof where
-`rt` kept none, as after `rt ci`, and where it may call an edited function itself, since its proof would be checked anew.
+`rt` kept none, and where it may call an edited function itself, since its proof would be checked anew.
 
 Each function that is edited has a definition of a wrong type among its answers: rattle then doesn't go over it a second time, to
 offer the answers that it lacks. It isn't proved, edited or not, so what tells of an edit is a goal that is open, or an answer of the
@@ -13,7 +13,6 @@ import re
 from functools import cache
 
 from editing.bodies import CONSTANT, folder_of, functions_in
-from editing.libraries import has_kept
 from harness.counting import ROOT
 
 NO_ANSWER = "no_answer"
@@ -78,12 +77,16 @@ def answers_file(crate, function, answers):
     return "\n".join(parts)
 
 
-def supposed(crate, turned, names, strays, made, given):
-    """The texts of the files of `proofs/` that a check is given, and no text of those that it isn't, by their paths. `names` are
-    those by which bodies may call or read what is edited. Some texts were `made` before, as those of copies. Some functions are
-    `given` answers in place of their own. A folder is one of the strays where rattle takes no such file, as where the function stands
-    in a macro."""
-    others = callers(crate, names) if has_kept(crate) else names_by_function(crate)
+def without_proof(crate, names, has_kept):
+    """The functions of a crate that get a hole, if they aren't edited. `names` are those by which bodies may call or read what is."""
+    return callers(crate, names) if has_kept else names_by_function(crate)
+
+
+def supposed(crate, turned, others, strays, made, given):
+    """The texts of the files of `proofs/` that a check is given, and no text of those that it isn't, by their paths. The functions that
+    are `turned` are edited, and `others` get a hole. Some texts were `made` before, as those of copies. Some functions are `given`
+    answers in place of their own. A folder is one of the strays where rattle takes no such file, as where the function stands in a
+    macro."""
     texts = holes(crate, [it for it in sorted(others) if it not in turned and folder_of(it) not in strays])
     own = {folder_of(function): answers_file(crate, function, answers) for function, answers in given.items()}
     for folder in {folder_of(function) for function in turned}.difference(strays):
