@@ -103,6 +103,14 @@ def plain_head(words):
     return last_word(trait) if trait else "", last_word(kind)
 
 
+def arguments_of(words):
+    """The names in the arguments of the type that an `impl` is of, where not all are its own parameters."""
+    parameters, head = re.match(r"(<[^<>]*(?:<[^<>]*>[^<>]*)*>)?(.*)", " ".join(words.split())).groups()
+    given = re.search(r"<(.*)>", head.split(" where ")[0].rpartition(" for ")[2])
+    names = re.findall(r"(?<!['\w])\w+", given[1]) if given else []
+    return [] if set(names) <= set(re.findall(r"\w+", parameters or "")) else names
+
+
 def around(text, place):
     """The head of the `impl` or `trait` around a place of a source, or no text, and the name of the function there."""
     found = [it for it in FUNCTION.finditer(text) if it.start() <= place]
@@ -143,14 +151,16 @@ def home_of(crate, kind, path):
 
 def told_as(crate, path, text, place):
     """The name by which a check tells of the function around a place of a source. A method stands below its type, in the type's
-    module. One of a trait stands in the module of its `impl`, and the type's name goes on with the trait's, without a space. What
-    arguments the two have isn't said here, so where they have any an edit names the function."""
+    module. One of a trait stands in the module of its `impl`, and the type's name goes on with the trait's, without a space. Where
+    the type has arguments of its own, their names stand in between. What arguments a trait has isn't said here, so where it has any
+    an edit names the function."""
     found = around(text, place)
     if not found:
         return None
     trait, kind = plain_head(found[0]) if found[0] else ("", "")
     module = home_of(crate, kind, path) if kind and not trait else module_of(path)
-    return "::".join(filter(None, (module, kind + trait, found[1])))
+    names = [kind, *(arguments_of(found[0]) if kind else [])]
+    return "::".join(filter(None, (module, ("" if trait else "+").join(names) + trait, found[1])))
 
 
 def has_no_body(text, place):

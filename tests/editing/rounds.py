@@ -10,8 +10,11 @@ from harness.counting import ROOT
 
 TOLD = re.compile(r"^fn (\S+): (.*)$")
 OPEN = re.compile(r"^note: \S+: (?:it is not proved that|`search` found no proof)")
-WRONG_ANSWER = re.compile(r"^\./proofs/(\S+)/\w+\.antt:\S+ error: (.*(?:\n  has no .*)?)$", re.M)
-GONE = re.compile(rf"has no (?:field|constructor|member|`)|is not in scope|was not admitted|^`{NO_ANSWER}`")
+WRONG_ANSWER = re.compile(r"^\./proofs/(\S+)/\w+\.antt:\S+ error: (.*(?:\n  (?:has no|is not|no constructor) .*)?)$", re.M)
+GONE = re.compile(
+    r"has no (?:field|constructor|member|`)|is not in scope|no constructor `[^`]*` is in scope|is not a field of|projects from a record"
+    rf"|was not admitted|^`{NO_ANSWER}`"
+)
 """What is said of an answer that names what an edit took away, or of the one that is no answer: neither says anything of the
 contract."""
 
