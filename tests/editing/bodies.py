@@ -2,7 +2,7 @@
 
 import re
 from dataclasses import dataclass
-from functools import cache
+from functools import cache, lru_cache
 from pathlib import Path
 
 from harness.counting import ROOT
@@ -111,18 +111,25 @@ def arguments_of(words):
     return [] if set(names) <= set(re.findall(r"\w+", parameters or "")) else names
 
 
+@lru_cache(maxsize=64)
+def parts_of(text):
+    """The heads of the functions of a source, its blocks `impl` and `trait`, and its traits."""
+    return tuple(list(it.finditer(text)) for it in (FUNCTION, BLOCK, TRAIT))
+
+
 def around(text, place):
     """The head of the `impl` or `trait` around a place of a source, or no text, and the name of the function there."""
-    found = [it for it in FUNCTION.finditer(text) if it.start() <= place]
+    heads, blocks, _ = parts_of(text)
+    found = [it for it in heads if it.start() <= place]
     if not found:
         return None
-    block = next((it for it in BLOCK.finditer(text) if it.start() < found[-1].start() < it.end()), None)
+    block = next((it for it in blocks if it.start() < found[-1].start() < it.end()), None)
     return block["words"] if block else "", found[-1]["name"]
 
 
 def is_of_trait(text, place):
     """Whether a place of a source stands in a trait or in its `impl`."""
-    block = next((it for it in BLOCK.finditer(text) if it.start() < place < it.end()), None)
+    block = next((it for it in parts_of(text)[1] if it.start() < place < it.end()), None)
     return block is not None and (re.match(r"(?:pub )?trait\b", block[0]) is not None or bool(plain_head(block["words"])[0]))
 
 
@@ -165,7 +172,7 @@ def told_as(crate, path, text, place):
 
 def has_no_body(text, place):
     """Whether the function at a place of a source only stands in a trait, without a body: then it has no proof."""
-    if not any(it.start() < place < it.end() for it in TRAIT.finditer(text)):
+    if not any(it.start() < place < it.end() for it in parts_of(text)[2]):
         return False
     last = LAST_OF_HEAD.search(text, place)
     return last is not None and last[0] == ";"
@@ -204,10 +211,10 @@ def edit_of(crate, file):
     return Edit(crate, file, changes, functions, frozenset(names), breaks_answer, answers)
 
 
-def every_edit():
-    """The edits under must-fail/ of each crate, and those that stand here, by crates."""
+def every_edit(crates=()):
+    """The edits under must-fail/ of each crate, or of these, and those that stand here, by crates."""
     found = {}
-    for folder in sorted((ROOT / "crates").iterdir()):
+    for folder in sorted(it for it in (ROOT / "crates").iterdir() if not crates or it.name in crates):
         files = [*(folder / "must-fail").glob("*.edit"), *(HERE / folder.name).glob("*.edit")]
         if files:
             found[folder.name] = [edit_of(folder.name, file) for file in sorted(files, key=lambda it: it.stem)]
