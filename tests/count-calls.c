@@ -1,10 +1,11 @@
 /* Counts the calls of read and of write on one descriptor, the bytes that they move, how often its end is met, the threads that
-   are asked for, and the files that are opened. Loaded before the C library by tests/program; no part of the program.
+   are asked for, the files that are opened, and the calls on the descriptor behind one that failed but for an interruption. Loaded
+   before the C library by tests/program; no part of the program.
 
-   COUNTS: a file of six numbers of 8 bytes: calls of read, calls of write, bytes moved, ends, threads, files. ON: the descriptor.
-   EVERY: where it is given, each call but one in so many is interrupted, and that one moves a byte. ERROR: where it is given, the
+   COUNTS: a file of seven numbers of 8 bytes: calls of read, calls of write, bytes moved, ends, threads, files, calls behind a
+   failed one. ON: the descriptor. EVERY: where it is given, each call but one in so many is interrupted, and that one moves a byte. ERROR: where it is given, the
    first call fails with the error of this number, and none behind it. AT: where it is given, the call of this number is taken for
-   the first, and those before it are only counted. MOST: where it is given, no more threads than so many can be made. */
+   the first, and those before it are only counted. MOVES: where it is given, no call moves more bytes than so many. MOST: where it is given, no more threads than so many can be made. */
 #define _GNU_SOURCE
 #include <dlfcn.h>
 #include <errno.h>
@@ -16,11 +17,11 @@
 #include <sys/mman.h>
 #include <unistd.h>
 
-enum { READS, WRITES, BYTES, ENDS, THREADS, FILES, NUMBERS };
+enum { READS, WRITES, BYTES, ENDS, THREADS, FILES, BEHIND, NUMBERS };
 
 static int64_t nowhere[NUMBERS], *counts = nowhere;
-static long every, at = 1, most = -1;
-static int on = -1, error;
+static long every, at = 1, moves, most = -1;
+static int on = -1, error, has_failed;
 
 static long told(const char *name, long otherwise)
 {
@@ -43,15 +44,18 @@ __attribute__((constructor)) static void ask(void)
     every = told("EVERY", 0);
     error = told("ERROR", 0);
     at = told("AT", 1);
+    moves = told("MOVES", 0);
     most = told("MOST", -1);
 }
 
-/* How many bytes a call of this kind may move: all, one, or none where it is interrupted. */
+/* How many bytes a call of this kind may move: all, a few, one, or none where it is interrupted. */
 static size_t allowed(int kind, size_t size)
 {
     int64_t number = __atomic_add_fetch(&counts[kind], 1, __ATOMIC_SEQ_CST) - (at - 1);
+    if (__atomic_load_n(&has_failed, __ATOMIC_SEQ_CST))
+        __atomic_add_fetch(&counts[BEHIND], 1, __ATOMIC_SEQ_CST);
     if (every == 0 || number < 1)
-        return size;
+        return moves > 0 && size > (size_t)moves ? (size_t)moves : size;
     return size != 0 && number % every == 0;
 }
 
@@ -70,6 +74,8 @@ static ssize_t moved(ssize_t size)
         __atomic_add_fetch(&counts[BYTES], size, __ATOMIC_SEQ_CST);
     if (size == 0)
         __atomic_add_fetch(&counts[ENDS], 1, __ATOMIC_SEQ_CST);
+    if (size < 0 && errno != EINTR)
+        __atomic_store_n(&has_failed, 1, __ATOMIC_SEQ_CST);
     return size;
 }
 
@@ -88,7 +94,7 @@ ssize_t read(int file, void *bytes, size_t size)
         return next(file, bytes, size);
     size_t most = allowed(READS, size);
     if (fails(READS))
-        return -1;
+        return moved(-1);
     return most || !size ? moved(next(file, bytes, most)) : interrupted();
 }
 
@@ -101,7 +107,7 @@ ssize_t write(int file, const void *bytes, size_t size)
         return next(file, bytes, size);
     size_t most = allowed(WRITES, size);
     if (fails(WRITES))
-        return -1;
+        return moved(-1);
     return most || !size ? moved(next(file, bytes, most)) : interrupted();
 }
 

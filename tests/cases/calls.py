@@ -98,6 +98,8 @@ SHORT = [
     ("replay short", FILE, "[]", (0, NOTHING, "")),
     ("replay --workers 4 -", INPUT, "[]", (0, NOTHING, "")),
     ("replay --workers 4 short", FILE, "[]", (0, NOTHING, "")),
+    (f"debug short {P} {A}", FILE, "[]", (1, "", NOBODY)),
+    (f"debug short {P} {A}", FILE, EVENTS, (0, STARTED + UNKNOWN, "")),
     ("table --table short", FILE, ONE_ROW, (0, ONE_ROW_PRINTED, "")),
     (DEBUG, INPUT, "[]", (0, STARTED + UNKNOWN, "")),
     (DEBUG, INPUT, "quit\nstep\n", (0, STARTED, "")),
@@ -106,6 +108,7 @@ SHORT = [
     # nothing but an end
     ("replay -", INPUT, "", (3, "", not_a_batch("not_json"))),
     ("replay short", FILE, "", (3, "", not_a_batch("not_json"))),
+    (f"debug short {P} {A}", FILE, "", (3, "", not_a_batch("not_json"))),
     ("replay --lines -", INPUT, "", (0, NOTHING, "")),
     ("table --table short", FILE, "", (3, "", not_a_table("not_json"))),
     (DEBUG, INPUT, "", (0, STARTED, "")),
@@ -119,11 +122,17 @@ def files_of(words):
     return {name: text for name, text in FILES.items() if name in words}
 
 
-def counted(program, case, on=-1, every=0, threads=-1, error=0, at=1, seconds=SECONDS):
+def counted(program, case, on=-1, every=0, threads=-1, error=0, at=1, moves=0, seconds=SECONDS):
     """What is wrong with the end of a run of the case, and its counts."""
-    with Counting(on, every, threads, error, at) as counting:
+    with Counting(on, every, threads, error, at, moves) as counting:
         case.env = counting.env
-        return list(differences(case, *outcome(program, case, seconds))), counting.counts()
+        wrong = list(differences(case, *outcome(program, case, seconds)))
+        return wrong + list(calls_behind(counting.counts())), counting.counts()
+
+
+def calls_behind(counts):
+    if counts.behind:
+        yield f"{counts.behind} calls behind one that failed"
 
 
 def interrupted(program, words, on, end, wanted):
@@ -160,6 +169,8 @@ def interrupted_in_a_row(program):
                 yield from (f"{run}: {complaint}" for complaint in wrong)
 
 
+ANY = 0
+"""A call moves as many bytes as it can."""
 ERRORS = [errno.EIO, errno.EAGAIN, errno.EBADF, errno.ENOSPC, errno.EPIPE, errno.ETIMEDOUT, errno.ENOMEM, errno.EINVAL]
 FAILING_READS = [
     *[(words, on, end) for words, on, end in READS if (words, on) != (DEBUG, INPUT)],
@@ -169,6 +180,8 @@ FAILING_READS = [
 ]
 # What goes to the descriptor isn't told.
 FAILING_WRITES = [(words, on, (status, "", OUTPUT if on == OUT else "")) for words, on, (status, _, _) in WRITES]
+# Of these the front of a page, or of a line, goes out before.
+BROKEN_WRITES = [(words, on, (status, out[:1], faults[: 1 if on == FAULTS else None])) for words, on, (status, out, faults) in WRITES]
 
 
 def cut_off(words, on, end):
@@ -176,11 +189,12 @@ def cut_off(words, on, end):
     return end if words == DEBUG else (3, "", cannot_read("-" if on == INPUT else "short"))
 
 
-def failed(program, words, on, text, end, name, at, error):
-    """What is wrong with a run where the call of this number on a descriptor fails: none is to be made behind it."""
+def failed(program, words, on, text, end, name, at, moves, error):
+    """What is wrong with a run where the call of this number on a descriptor fails, and none before it moves more bytes than are
+    given: none is to be made behind it."""
     status, out, faults = end
     case = Case(words, status=status, out=out, faults=faults, given=text, files={**files_of(words), "short": text})
-    wrong, counts = counted(program, case, on, error=error, at=at)
+    wrong, counts = counted(program, case, on, error=error, at=at, moves=moves)
     if getattr(counts, name) != at:
         wrong.append(f"{counts}, in place of {at} {name}")
     return [f"{words}, {os.strerror(error)} at call {at} on descriptor {on}: {complaint}" for complaint in wrong]
@@ -188,11 +202,12 @@ def failed(program, words, on, text, end, name, at, error):
 
 def failed_calls(program):
     """A call that fails is made again for no error but an interruption: the file, the script, the line or the page is given up at
-    once, also where calls before gave all of the text, or the start of a session went out."""
-    runs = [(words, on, "next\n", end, "reads", 1) for words, on, end in FAILING_READS]
-    runs += [(words, on, "next\n", end, "writes", 1) for words, on, end in FAILING_WRITES]
-    runs += [(words, on, text, cut_off(words, on, end), "reads", 2) for words, on, text, end in SHORT if text]
-    runs.append((DEBUG, OUT, "next\n", (3, STARTED, OUTPUT), "writes", 2))
+    once, also where calls before gave all of the text, a front of the page or line went out, or the start of a session."""
+    runs = [(words, on, "next\n", end, "reads", 1, ANY) for words, on, end in FAILING_READS]
+    runs += [(words, on, "next\n", end, "writes", 1, ANY) for words, on, end in FAILING_WRITES]
+    runs += [(words, on, "next\n", end, "writes", 2, 1) for words, on, end in BROKEN_WRITES]
+    runs += [(words, on, text, cut_off(words, on, end), "reads", 2, ANY) for words, on, text, end in SHORT if text]
+    runs.append((DEBUG, OUT, "next\n", (3, STARTED, OUTPUT), "writes", 2, ANY))
     with ThreadPoolExecutor(os.cpu_count()) as pool:
         for wrong in pool.map(lambda it: failed(program, *it[0], it[1]), product(runs, ERRORS)):
             yield from wrong
@@ -423,31 +438,36 @@ def limit(room):
 
 
 def output_that_is_full(program):
-    """Standard output takes so many bytes and no more: what it took is a front of the whole, and that it failed is told."""
+    """Standard output takes so many bytes and no more: what it took is a front of the whole, that it failed is told, and no call
+    is made behind the one that failed."""
     with tempfile.TemporaryDirectory() as folder:
         for name, text in {**LONG_FILES, "one": batch([item()])}.items():
             Path(folder, name).write_text(text)
         for words, given in {**LONG, "table": "", "replay one": "", "--help": ""}.items():
             whole = subprocess.run([program, *words.split()], cwd=folder, input=given.encode(), stdout=subprocess.PIPE).stdout
             for room in (it for it in ROOMS if it < len(whole)):
-                found = into_a_file(program, words, folder, given, room)
-                if found != (3, whole[:room], OUTPUT.encode()):
-                    yield f"{words}, with room for {room} bytes: {found[0]}, {len(found[1])} bytes, {found[2]!r}"
+                *found, counts = into_a_file(program, words, folder, given, room)
+                wrong = list(calls_behind(counts))
+                if found != [3, whole[:room], OUTPUT.encode()]:
+                    wrong.append(f"{found[0]}, {len(found[1])} bytes, {found[2]!r}")
+                yield from (f"{words}, with room for {room} bytes: {complaint}" for complaint in wrong)
 
 
 def into_a_file(program, words, folder, given, room):
-    """The status of a run whose output is a file that takes so many bytes, what the file then has, and standard error."""
+    """The status of a run whose output is a file that takes so many bytes, what the file then has, standard error, and the counts
+    of the calls on the output."""
     out = Path(folder, "out")
-    with open(out, "wb") as stream:
+    with open(out, "wb") as stream, Counting(OUT) as counting:
         ran = subprocess.run(
             [program, *words.split()],
             cwd=folder,
             input=given.encode(),
             stdout=stream,
             stderr=subprocess.PIPE,
+            env=counting.env,
             preexec_fn=lambda: limit(room),
         )
-    return ran.returncode, out.read_bytes(), ran.stderr
+        return ran.returncode, out.read_bytes(), ran.stderr, counting.counts()
 
 
 CALLS = [

@@ -60,9 +60,9 @@ class Refusal:
         return self.mark.exists()
 
 
-Counts = namedtuple("Counts", "reads writes bytes ends threads files")
-"""Calls of read, calls of write, the bytes that they moved, how often the end was met, the threads that were asked for, and the
-files that were opened."""
+Counts = namedtuple("Counts", "reads writes bytes ends threads files behind")
+"""Calls of read, calls of write, the bytes that they moved, how often the end was met, the threads that were asked for, the files
+that were opened, and the calls behind one that failed but for an interruption."""
 
 
 BY_BYTES = 75
@@ -72,11 +72,13 @@ BY_BYTES = 75
 class Counting:
     """Calls on one descriptor that are counted, the threads that are asked for, and the files that are opened. Of so many calls,
     if a number is given, one moves a byte, and the others are interrupted. Where an error is given, the first call fails with it.
-    The call of the number `at` is taken for the first, and those before it are only counted. No more threads can be made than are
-    given, or any number for -1. As a context it has the environment of the run that it is for."""
+    The call of the number `at` is taken for the first, and those before it are only counted. No call moves more bytes than are
+    given, or any number for 0. No more threads can be made than are given, or any number for -1. As a context it has the
+    environment of the run that it is for."""
 
-    def __init__(self, on=-1, every=0, threads=-1, error=0, at=1):
-        self.how = {"ON": str(on), "EVERY": str(every), "MOST": str(threads), "ERROR": str(error), "AT": str(at)}
+    def __init__(self, on=-1, every=0, threads=-1, error=0, at=1, moves=0):
+        how = {"ON": on, "EVERY": every, "MOST": threads, "ERROR": error, "AT": at, "MOVES": moves}
+        self.how = {name: str(number) for name, number in how.items()}
         self.shim = built("count-calls.so", "tests/count-calls.c", "-shared", "-fPIC", "-O1", "-ldl")
 
     def __enter__(self):
