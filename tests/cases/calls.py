@@ -19,6 +19,7 @@ from cases.replays import A, B, P, batch, event, history, identifier, item, repl
 from cases.serve import NO_CONNECTION, SERVED
 from cases.streams import LONG, LONG_FILES
 from cases.tables import MOST_ROWS, ONE_ROW, ONE_ROW_PRINTED, PROFILE, table_file, table_printed
+from cases.timed import tables_file
 from cases.vehicles import journal, listed, not_a_journal, registered
 from harness.building import BY_BYTES, Counting
 from harness.case import MAX_BYTES, MAX_ITEMS, NO_MEMORY, NOT_TEXT, OUTPUT
@@ -49,6 +50,7 @@ NOTHING = "accepted 0 refused 0\n"
 READS = [
     ("replay -", INPUT, (3, "", cannot_read("-"))),
     ("replay --lines -", INPUT, (3, "", cannot_read("-"))),
+    ("replay --any --lines -", INPUT, (3, "", cannot_read("-"))),
     ("replay events.json", FILE, (3, "", cannot_read("events.json"))),
     ("replay --lines events.json", FILE, (3, "", cannot_read("events.json"))),
     ("replay --workers 4 events.json", FILE, (3, "", cannot_read("events.json"))),
@@ -93,6 +95,9 @@ LISTED = f"vehicle {P} {A} removed 0\nregistrations 1 events 0\n"
 SHORT = [
     ("replay -", INPUT, "[]", (0, NOTHING, "")),
     ("replay --lines -", INPUT, "[]", (1, "0 fault not_object\naccepted 0 refused 1\n", "")),
+    ("replay --any -", INPUT, "[]", (0, NOTHING, "")),
+    ("replay --any --lines -", INPUT, "[]", (1, "0 fault not_object\naccepted 0 refused 1\n", "")),
+    ("replay --any --workers 4 -", INPUT, "[]", (0, NOTHING, "")),
     # behind a fault of the lines, too
     ("replay --lines short", FILE, "{\n", (3, "", not_a_batch("not_json 0"))),
     ("replay short", FILE, "[]", (0, NOTHING, "")),
@@ -316,6 +321,9 @@ TOO_LONG = (3, "", not_a_batch("too_long"))
 FAR = [
     ("replay -", INPUT, SPACES, MAX_BYTES + 1, TOO_LONG),
     ("replay --lines -", INPUT, LINES, MAX_BYTES + 1, TOO_LONG),
+    ("replay --any -", INPUT, SPACES, MAX_BYTES + 1, TOO_LONG),
+    ("replay --any --lines -", INPUT, LINES, MAX_BYTES + 1, TOO_LONG),
+    ("replay --any --workers 4 -", INPUT, SPACES, MAX_BYTES + 1, TOO_LONG),
     ("replay long", FILE, SPACES, MAX_BYTES + 1, TOO_LONG),
     ("replay --lines long", FILE, LINES, MAX_BYTES + 1, TOO_LONG),
     # behind a fault of the lines, too, since it isn't told where the file can't be read
@@ -351,6 +359,35 @@ def read_so_far(program):
         yield from (f"{words}: {complaint}" for complaint in wrong)
 
 
+# What is read byte by byte, and what comes of it.
+BY_BYTE = [
+    ("replay -", INPUT, "[]", NOTHING),
+    ("replay --any -", INPUT, "[]", NOTHING),
+    ("replay --lines -", INPUT, "", NOTHING),
+    ("replay --any --lines -", INPUT, "", NOTHING),
+    ("replay --workers 4 -", INPUT, "[]", NOTHING),
+    ("table --table short", FILE, ONE_ROW, ONE_ROW_PRINTED),
+    (f"debug short {P} {A}", FILE, EVENTS, STARTED + UNKNOWN),
+]
+
+
+def read_by_bytes(program):
+    """A file of the most bytes, of which each call gives one, is read to its end."""
+    with ThreadPoolExecutor(os.cpu_count()) as pool:
+        for wrong in pool.map(lambda it: come_by_bytes(program, *it), BY_BYTE):
+            yield from wrong
+
+
+def come_by_bytes(program, words, on, text, out):
+    """What is wrong with a run that reads the text, and as many spaces behind it as there may be, byte by byte."""
+    text = padded(text, MAX_BYTES)
+    given = text if on == INPUT else "x"
+    wrong, counts = counted(program, Case(words, out=out, given=given, files={"short": text}), on, moves=1)
+    if counts.reads != MAX_BYTES + 1:
+        wrong.append(f"{counts.reads} reads, in place of {MAX_BYTES + 1}")
+    return [f"{words}, byte by byte: {complaint}" for complaint in wrong]
+
+
 # What comes to an end before the file on a descriptor is looked at: that of a table is opened first.
 BEHIND = [
     (f"debug events.json {P} x", FILE, (2, "", BAD)),
@@ -367,9 +404,7 @@ BEHIND = [
             ("missing", FILE, cannot_read("missing")),
         )
         for words in (
-            "replay events.json",
-            "replay --lines events.json",
-            "replay --workers 4 events.json",
+            *[f"replay {opening}{options}events.json" for opening in ("", "--any ") for options in ("", "--lines ", "--workers 4 ")],
             f"debug events.json {P} {A}",
             "vehicles journal",
         )
@@ -388,6 +423,7 @@ def unread_files(program):
 
 
 WORKERS = (1, 2, 4, 5, 64)
+TWO_TABLES = tables_file((start, [("provider_drop_off", "removed", "available")]) for start in (0, 2000))
 SERVED_ONE = re.compile(r"listening 127\.0\.0\.1:[0-9]+\naccepted 1\n")
 
 
@@ -405,10 +441,12 @@ def replays_by_workers(vehicles):
 
 def threads_of_workers(program):
     """Each worker of a replay, or of a server, but one is a thread that is made; a replay of lines, and one without the option,
-    makes none."""
+    makes none. So it is over several tables."""
     runs = [(f"{NO_CONNECTION} --workers {count}", SERVED, "", count - 1) for count in WORKERS]
-    for words, out, text, wanted in [*runs, *replays_by_workers(67), *replays_by_workers(MAX_ITEMS)]:
-        wrong, counts = counted(program, Case(words, out=out, given=text))
+    runs += [*replays_by_workers(67), *replays_by_workers(MAX_ITEMS)]
+    runs += [(f"{words} --table tables", *more) for words, *more in runs]
+    for words, out, text, wanted in runs:
+        wrong, counts = counted(program, Case(words, out=out, given=text, files={"tables": TWO_TABLES}))
         if counts.threads != wanted:
             wrong.append(f"{counts.threads} threads were made, in place of {wanted}")
         yield from (f"{words}: {complaint}" for complaint in wrong)
@@ -480,6 +518,7 @@ CALLS = [
     problems_by_bytes,
     texts_of_clap,
     read_so_far,
+    read_by_bytes,
     unread_files,
     threads_of_workers,
     threads_that_are_wanting,

@@ -19,7 +19,7 @@ SECONDS = 60
 REPLAYED = f"0 ok non_contactable\n1 ok available\nvehicle {P} {A} available 2\naccepted 2 refused 0\n"
 BESIDE_TABLES = [
     "table",
-    *[f"replay {options}-" for options in ("", "--lines ", "--workers 4 ")],
+    *[f"replay {opening}{options}-" for opening in ("", "--any ") for options in ("", "--lines ", "--workers 4 ")],
     "vehicles -",
     *[f"debug {name} {P} {A}" for name in ("events.json", "-")],
 ]
