@@ -1,8 +1,8 @@
 //! Readers and writers that give little, pause, stop and fail.
 use mds_io::WriteErrorKind::{Device, TooManyTurns};
 use mds_io::{
-    MAX_CALLS, PrintError, ReadError, WriteError, WriteErrorKind, add_line, end_page, flush_page,
-    read_front, read_more, read_up_to, write_all_of,
+    MAX_CALLS, PrintError, ReadError, WriteErrorKind, add_line, end_page, flush_page, read_front,
+    read_more, read_up_to, write_all_of,
 };
 use std::alloc::{AllocError, Global};
 use std::io::ErrorKind;
@@ -23,6 +23,8 @@ const READINGS: &[Reading] = rows! {
     (((3, 1, false, BLOCKS), 9), (DEVICE, 4)),
     (((3, 1, false, TIMES_OUT), 9), (DEVICE, 4)),
     (((2, 1, false, PAUSES), 9), (TURNS, 5_000_000)),
+    (((2_499_999, 1, true, ENDS), 3_000_000), (Ok(2_499_999), 5_000_000)),
+    (((2_500_000, 1, true, ENDS), 3_000_000), (TURNS, 5_000_000)),
     // the same far behind the beginning
     (((250, 250, false, FAILS), 300), (DEVICE, 2)),
     (((250, 250, false, PAUSES), 300), (TURNS, 5_000_000)),
@@ -95,8 +97,7 @@ fn writes_end_as_the_stream_does(rt: HostRuntime) {
 /// What a read answers, how many bytes there are then, and how many calls are left.
 type Step = (Result<bool, ReadError>, usize, u32);
 
-/// What a piece that is read of the stream answers, and then reads up to so many bytes, and up to nine, by so many
-/// calls in all.
+/// What reads of a stream answer: of a piece, up to so many bytes, and up to nine, by so many calls in all.
 fn read_in_turn(alloc: Global, plan: Plan, limit: usize, calls: u32) -> [Step; 3] {
     let mut stream = Stream::new(plan);
     let mut bytes = Vec::new(alloc);
@@ -154,8 +155,10 @@ fn paged(alloc: Global, plan: Plan) -> (Result<(), PrintError>, u32, usize) {
 
 #[test]
 fn pages_go_out_in_pieces(rt: HostRuntime) {
-    let came = paged(rt.alloc(), (70_000, 1_000, true, ENDS));
-    assert_eq!(rt; came, (Ok(()), 132, 0));
+    let whole = paged(rt.alloc(), (70_000, 1_000, true, ENDS));
+    let front = paged(rt.alloc(), (65_000, 1_000, true, FAILS));
+    let stop = (Err(PrintError::Device), 132, 65_538);
+    assert_eq!(rt; [whole, front], [(Ok(()), 132, 0), stop]);
 }
 
 /// What two kinds of reads give behind three bytes, each made again where its growth is refused, which leaves all as it was.
@@ -188,8 +191,7 @@ fn two_lines(alloc: Global) -> Result<(Vec<u8>, usize), PrintError> {
 /// Each call that takes memory, made again where its growth is refused (by `tests/refused-growths`).
 #[test]
 fn calls_succeed_after_a_refused_growth(rt: HostRuntime) {
-    let mut calls = MAX_CALLS;
-    let front = again!(read_front(rt.alloc(), &mut b"abc".as_slice(), 9, &mut calls)).map(
+    let front = again!(read_front(rt.alloc(), &mut b"abc".as_slice(), 9, &mut 3)).map(
         |bytes| bytes.len(),
     );
     let bytes = read_again(rt.alloc()).map(|bytes| bytes.as_slice()
@@ -201,15 +203,14 @@ fn calls_succeed_after_a_refused_growth(rt: HostRuntime) {
     assert_eq!(rt; (front, bytes, lines), (Ok(3), Ok(true), Ok((true, 0))));
 }
 
-/// What comes of three bytes and of a page that go out to a stream, how many bytes more that takes, and how many the
-/// page has then.
-type Sent = (Result<(), WriteError>, Result<(), PrintError>, usize, usize);
+/// Whether three bytes go out by three calls, what comes of a page, how many bytes more it takes and the page has, and all calls.
+type Sent = (bool, Result<(), PrintError>, usize, usize, u32);
 
 fn sent(page: &mut String, plan: Plan) -> Sent {
     let mut out = Stream::new(plan);
-    let mut calls = MAX_CALLS;
-    let wrote = write_all_of(&mut out, b"abc", &mut calls);
-    (wrote, flush_page(&mut out, page), out.left, page.len())
+    let wrote = write_all_of(&mut out, b"abc", &mut 3).is_ok();
+    let end = flush_page(&mut out, page);
+    (wrote, end, out.left, page.len(), out.calls)
 }
 
 /// A page that can't be put out whole is kept, and one that can is emptied.
@@ -218,12 +219,11 @@ fn writes_go_out_with_every_growth_refused(rt: HostRuntime) {
     let mut page = String::new(rt.alloc());
     let pushed = page.push_str("accepted 3\n");
     let _begun = fence(rt.alloc());
-    let front = sent(&mut page, (6, 1, false, ENDS));
+    let end = sent(&mut page, (6, 1, false, ENDS));
+    let fault = sent(&mut page, (6, 1, false, FAILS));
     let whole = sent(&mut page, (20, 20, false, ENDS));
     let _ended = fence(rt.alloc());
-    let expected = [
-        (Ok(()), Err(PrintError::Device), 0, 11),
-        (Ok(()), Ok(()), 6, 0),
-    ];
-    assert_eq!(rt; (pushed, [front, whole]), (Ok(()), expected));
+    let stop = (true, Err(PrintError::Device), 0, 11, 7);
+    let expected = [stop, stop, (true, Ok(()), 6, 0, 2)];
+    assert_eq!(rt; (pushed, [end, fault, whole]), (Ok(()), expected));
 }
