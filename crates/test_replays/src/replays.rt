@@ -1,17 +1,17 @@
-//! The worked cases of replays, as a whole, item by item and by several workers.
-use crate::told::{End, Expected, FIVE, FIVE_REPORT, NOTHING, Told, is_report, items_of};
+//! The worked cases of replays, and replays as a whole and item by item.
+use crate::told::{
+    End, Expected, FIVE, FIVE_REPORT, NOTHING, Told, is_report, items_of, items_over,
+};
 use mds_batch::{EventItem, ItemFault};
 use mds_core::Refusal;
-use mds_gate::OpenGate;
 use mds_table::State::{Available, Elsewhere, OnTrip, Removed, Reserved};
 use mds_table::{State, Tables};
-use mds_trace::{Opening, Replayer, Report, Verdict, WithFault, replay, replay_with};
+use mds_trace::{Opening, Replayer, Report, Verdict, replay};
 use std::alloc::{AllocError, Global};
-use std::thread::Threads;
 use test_fixtures::{A, B, E1, E2, E3, Lack, again, fence, profile, profile_again, rows};
 
-/// Events, what vehicles are taken to hold first, and what the replay by the profile comes to.
-type Case = (&'static [Told], Opening, &'static Expected);
+/// Events, over and over for as many verdicts, what vehicles are taken to hold first, and what the replay comes to.
+pub type Case = (&'static [Told], Opening, &'static Expected);
 
 /// The verdict on an event that leads nowhere from removed.
 const NOT_REMOVED: Verdict = Verdict::Refused(Refusal::NoChain {
@@ -23,7 +23,7 @@ const NOT_REMOVED: Verdict = Verdict::Refused(Refusal::NoChain {
 const UNREGISTERED: &[Told] = &[
     Told(A, E1, &["trip_end"], Available, 1000),
     Told(A, E2, &["changed_geographies"], Elsewhere, 2000),
-    Told(B, E3, &["trip_end"], Reserved, 1000),
+    STUCK,
 ];
 
 /// What they come to from any state.
@@ -40,13 +40,31 @@ const FROM_REMOVED: Expected = Expected(
     (0, 3),
 );
 
+const STUCK: Told = Told(B, E3, &["trip_end"], Reserved, 1000);
+
+/// What as many events as a file may have, which all get stuck, come to from any state, and from removed.
+const MANY_FROM_ANY: Expected = Expected(
+    &[Verdict::NoOpening { at: 1 }; 10_000],
+    rows! { End(B, &State::ALL, None) },
+    (0, 10_000),
+);
+
+const MANY_FROM_REMOVED: Expected = Expected(
+    &[NOT_REMOVED; 10_000],
+    rows! { End(B, &[Removed], Some((Removed, 0))) },
+    (0, 10_000),
+);
+
 /// The worked cases: among them openings without registration.
-const CASES: &[Case] = &[
+pub const CASES: &[Case] = &[
     (FIVE, Opening::Removed, &FIVE_REPORT),
     (FIVE, Opening::Any, &FIVE_REPORT),
     (UNREGISTERED, Opening::Any, &FROM_ANY),
     (UNREGISTERED, Opening::Removed, &FROM_REMOVED),
     (&[], Opening::Any, &NOTHING),
+    (&[], Opening::Removed, &NOTHING),
+    (&[STUCK], Opening::Any, &MANY_FROM_ANY),
+    (&[STUCK], Opening::Removed, &MANY_FROM_REMOVED),
 ];
 
 /// The replay of these items, taken one after the other, and again where a growth was refused.
@@ -63,39 +81,20 @@ fn taken(
     replayer.finish()
 }
 
-/// Whether some numbers of workers each come to what is expected.
-fn comes_by_workers<R: Threads + Sync>(
-    rt: &R,
-    alloc: Global,
-    tables: &Tables,
-    items: &[EventItem],
-    (opening, expected): (Opening, &Expected),
-) -> Result<bool, Lack> {
-    for workers in [1, 2, 3, 4, 64] {
-        match replay_with(rt, alloc, tables, items, opening, workers, &OpenGate) {
-            Err(WithFault::Memory) => return Err(Lack::Memory),
-            Ok(report) if is_report(&report, expected) => {}
-            _ => return Ok(false),
-        }
-    }
-    Ok(true)
-}
-
-/// Whether the replay comes to what is expected, in each way.
-fn comes_out<R: Threads + Sync>(rt: &R, alloc: Global, case: &Case) -> Result<bool, Lack> {
+/// Whether the replay comes to what is expected, as a whole and one by one.
+fn comes_out(alloc: Global, case: &Case) -> Result<bool, Lack> {
     let (told, opening, expected) = *case;
-    let items = items_of(alloc, told)?;
+    let items = items_over(alloc, told, expected.0.len())?;
     let tables = profile(alloc)?;
     let whole = replay(alloc, tables.copy(alloc)?, &items, opening)?;
-    let one_by_one = taken(alloc, tables.copy(alloc)?, &items, opening)?;
-    let by_workers = comes_by_workers(rt, alloc, &tables, &items, (opening, expected))?;
-    Ok(is_report(&whole, expected) && is_report(&one_by_one, expected) && by_workers)
+    let one_by_one = taken(alloc, tables, &items, opening)?;
+    Ok(is_report(&whole, expected) && is_report(&one_by_one, expected))
 }
 
 /// The place of the first case that comes to something else.
-fn first_other<R: Threads + Sync>(rt: &R, alloc: Global) -> Result<Option<usize>, Lack> {
+fn first_other(alloc: Global) -> Result<Option<usize>, Lack> {
     for (at, case) in CASES.iter().enumerate() {
-        if !comes_out(rt, alloc, case)? {
+        if !comes_out(alloc, case)? {
             return Ok(Some(at));
         }
     }
@@ -104,7 +103,7 @@ fn first_other<R: Threads + Sync>(rt: &R, alloc: Global) -> Result<Option<usize>
 
 #[test]
 fn worked_replays(rt: HostRuntime) {
-    assert_eq!(rt; first_other(&rt, rt.alloc()), Ok(None));
+    assert_eq!(rt; first_other(rt.alloc()), Ok(None));
 }
 
 /// The items of the five events, made again where a growth is refused.

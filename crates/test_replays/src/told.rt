@@ -33,8 +33,14 @@ pub fn events_of(alloc: Global, told: &[Told]) -> Result<Vec<Event>, Lack> {
 
 /// The items of these events.
 pub fn items_of(alloc: Global, told: &[Told]) -> Result<Vec<EventItem>, Lack> {
+    items_over(alloc, told, told.len())
+}
+
+/// The items of these events over and over, so many in all.
+pub fn items_over(alloc: Global, told: &[Told], count: usize) -> Result<Vec<EventItem>, Lack> {
     let mut items = Vec::new(alloc);
-    for one in told {
+    for at in 0..count {
+        let one = told.get(at % told.len().max(1)).ok_or(Lack::Case)?;
         items.push(EventItem::Event(event_told(one).ok_or(Lack::Case)?))?;
     }
     Ok(items)

@@ -1,24 +1,23 @@
-//! Replays by several workers: their gate, their number, and want of memory in one of them.
-use crate::replays::five_again;
-use crate::told::{Expected, FIVE, FIVE_REPORT, NOTHING, Told, is_report, items_of};
+//! Replays by several workers: what they come to, their gate, their number, and want of memory in one of them.
+use crate::replays::{CASES, Case, five_again};
+use crate::told::{FIVE, FIVE_REPORT, is_report, items_of, items_over};
 use mds_gate::{Gate, OpenGate};
 use mds_trace::{Opening, WithFault, replay_with};
 use std::alloc::{AllocError, Global};
 use std::sync::atomic::{AtomicBool, AtomicU64, Ordering};
 use std::thread::Threads;
 use std::time::Clock;
-use test_fixtures::{Lack, MeetingGate, fence, profile, profile_again};
+use test_fixtures::{Lack, MeetingGate, fence, profile, profile_again, rows};
 
 /// Whether so many workers come to what is expected, through this gate.
 fn comes_through<R: Threads + Sync, G: Gate + Sync>(
     rt: &R,
     alloc: Global,
-    told: &[Told],
-    (opening, workers): (Opening, usize),
+    (told, opening, expected): Case,
+    workers: usize,
     gate: &G,
-    expected: &Expected,
 ) -> Result<bool, Lack> {
-    let items = items_of(alloc, told)?;
+    let items = items_over(alloc, told, expected.0.len())?;
     let tables = profile(alloc)?;
     match replay_with(rt, alloc, &tables, &items, opening, workers, gate) {
         Ok(report) => Ok(is_report(&report, expected)),
@@ -27,17 +26,20 @@ fn comes_through<R: Threads + Sync, G: Gate + Sync>(
     }
 }
 
-/// Whether two workers of which one waits for the other come to the report of the five events, and whether it gave up.
-fn met<R: Threads + Clock + Sync>(rt: &R, alloc: Global) -> Result<(bool, bool), Lack> {
-    let gate = MeetingGate::new(rt);
-    let pair = (Opening::Removed, 2);
-    let comes = comes_through(rt, alloc, FIVE, pair, &gate, &FIVE_REPORT)?;
-    Ok((comes, gate.gave_up()))
+/// The place of the first case that two workers come out of otherwise, or of which one gives up to wait for the other.
+fn first_alone<R: Threads + Clock + Sync>(rt: &R, alloc: Global) -> Result<Option<usize>, Lack> {
+    for (at, case) in CASES.iter().enumerate() {
+        let gate = MeetingGate::new(rt);
+        if !comes_through(rt, alloc, *case, 2, &gate)? || gate.gave_up() {
+            return Ok(Some(at));
+        }
+    }
+    Ok(None)
 }
 
 #[test]
 fn two_workers_meet(rt: HostRuntime) {
-    assert_eq!(rt; met(&rt, rt.alloc()), Ok((true, false)));
+    assert_eq!(rt; first_alone(&rt, rt.alloc()), Ok(None));
 }
 
 /// Who has entered and who has left, a bit for each worker, and who did so more than once.
@@ -99,48 +101,40 @@ impl Gate for Counting {
     }
 }
 
-/// Whether so many workers come to what is expected, and who entered, who left, and who did so more than once.
-fn counted<R: Threads + Sync>(
-    rt: &R,
-    alloc: Global,
-    told: &[Told],
-    workers: (Opening, usize),
-    expected: &Expected,
-) -> Result<(bool, [u64; 3]), Lack> {
-    let gate = Counting::new();
-    let comes = comes_through(rt, alloc, told, workers, &gate, expected)?;
-    Ok((comes, gate.counted()))
-}
+/// Numbers of workers, and a bit for each of them.
+const NUMBERS: &[(usize, u64)] = rows! {
+    (1, 0x1), (2, 0x3), (3, 0x7), (4, 0xf), (5, 0x1f), (64, 0xffff_ffff_ffff_ffff),
+};
 
-/// The first of these numbers of workers that don't all enter once and leave once, over no event and over five.
+/// The first of these numbers of workers that come to something else, or don't all enter once and leave once.
 fn other_number<R: Threads + Sync>(
     rt: &R,
     alloc: Global,
-    numbers: &[((Opening, usize), u64)],
+    case: Case,
 ) -> Result<Option<usize>, Lack> {
-    for (workers, bits) in numbers {
-        let none = counted(rt, alloc, &[], *workers, &NOTHING)?;
-        let five = counted(rt, alloc, FIVE, *workers, &FIVE_REPORT)?;
-        let each_once = (true, [*bits, *bits, 0]);
-        if none != each_once || five != each_once {
-            return Ok(Some(workers.1));
+    for (workers, bits) in NUMBERS {
+        let gate = Counting::new();
+        let comes = comes_through(rt, alloc, case, *workers, &gate)?;
+        if !comes || gate.counted() != [*bits, *bits, 0] {
+            return Ok(Some(*workers));
         }
     }
     Ok(None)
 }
 
-/// Where replays open, numbers of workers, and a bit for each of them.
-const NUMBERS: &[((Opening, usize), u64)] = &[
-    ((Opening::Removed, 1), 0x1),
-    ((Opening::Removed, 4), 0xf),
-    ((Opening::Any, 5), 0x1f),
-    ((Opening::Any, 64), 0xffff_ffff_ffff_ffff),
-    ((Opening::Removed, 64), 0xffff_ffff_ffff_ffff),
-];
+/// The place of the first case of which there is such a number, and that.
+fn first_other<R: Threads + Sync>(rt: &R, alloc: Global) -> Result<Option<(usize, usize)>, Lack> {
+    for (at, case) in CASES.iter().enumerate() {
+        if let Some(workers) = other_number(rt, alloc, *case)? {
+            return Ok(Some((at, workers)));
+        }
+    }
+    Ok(None)
+}
 
 #[test]
 fn each_worker_enters_and_leaves(rt: HostRuntime) {
-    assert_eq!(rt; other_number(&rt, rt.alloc(), NUMBERS), Ok(None));
+    assert_eq!(rt; first_other(&rt, rt.alloc()), Ok(None));
 }
 
 /// A gate between whose two ends growths may be refused, and whether one was.
