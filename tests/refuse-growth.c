@@ -1,7 +1,7 @@
 /* Refuses growths of memory. Loaded before the C library by tests/refused-growths and tests/clients; no part of the program.
 
    REFUSE: the number of the growth that is refused, counted from 1 over all threads; LACK: how many are, from it on, 1 unless
-   given. BETWEEN: where a growth has this many bytes each growth behind it is refused, up to and with the next one that has as
+   given. OF: where it is given, growths of this many bytes alone are counted, and refused. BETWEEN: where a growth has this many bytes each growth behind it is refused, up to and with the next one that has as
    many. The file REFUSED is made when the first growth of a number is refused, and the last one of BETWEEN. */
 #define _GNU_SOURCE
 #include <dlfcn.h>
@@ -10,7 +10,7 @@
 #include <stdlib.h>
 #include <unistd.h>
 
-static long first, behind, between, count, bounds;
+static long first, behind, only, between, count, bounds;
 
 static long told(const char *name, long otherwise)
 {
@@ -23,6 +23,7 @@ __attribute__((constructor)) static void ask(void)
 {
     first = told("REFUSE", 0);
     behind = first + told("LACK", 1);
+    only = told("OF", 0);
     between = told("BETWEEN", 0);
 }
 
@@ -48,6 +49,8 @@ static int is_between(size_t size)
 
 static int is_refused(size_t size)
 {
+    if (only != 0 && size != (size_t)only)
+        return 0;
     long number = __atomic_add_fetch(&count, 1, __ATOMIC_SEQ_CST);
     int refused = is_between(size) || (first != 0 && number >= first && number < behind);
     if (refused && number == first)

@@ -25,7 +25,7 @@ from harness.counting import Skipped
 from harness.texts import differing
 from model.http import answer, error
 from model.tables import Table
-from serving.connections import SMALL_ROOM, long_list
+from serving.connections import BODY, SMALL_ROOM, long_list, sent_behind_at
 from serving.http import done
 from serving.limits import TOO_LONG, moved_on
 from serving.server import NotListening, Server
@@ -73,11 +73,13 @@ def kept_amiss(path, wanted):
 
 def filled(server, path):
     """What is wrong with a server whose disk becomes full: what was kept stands, answers that rest on what isn't are held back, and
-    the others go out."""
+    the others go out. Who reads that it was held back, and sends more then, meets no reset."""
     yield from answered(server, registering(DEVICE, OTHER, NEIGHBOUR), done(3), "before")
     yield from answered(server, reporting(DEVICE, 0, FIRST), done(FIRST), "before")
-    for request in (reporting(DEVICE, FIRST, FIRST + MORE), reporting(DEVICE, 0, FIRST), looking(DEVICE), listing(DEVICE)):
+    held_back = (reporting(DEVICE, FIRST, FIRST + MORE), registering(DEVICE), looking(DEVICE), listing(DEVICE))
+    for request in (*held_back, reporting(DEVICE, 0, FIRST)):
         yield from answered(server, request, HELD_BACK, f"without room, {request[:40]!r}")
+    yield from sent_behind_at(server.port, [(request, HELD_BACK, BODY) for request in held_back])
     for device in (OTHER, NEIGHBOUR):
         yield from answered(server, looking(device), answer(200, standing(device, 0)), f"without room, a look at {device}")
         yield from answered(server, listing(device), answer(200, {"events": []}), f"without room, a list of {device}")

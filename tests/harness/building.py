@@ -39,12 +39,12 @@ def no_random_numbers():
 
 
 class Refusal:
-    """Growths of memory that are refused: so many from the one of this number on, counted from 1, or none for 0; and all between
-    two that have so many bytes. As a context it has the environment of the run that it is for, and says whether the run came to
+    """Growths of memory that are refused: so many from the one of this number on, counted from 1, or none for 0; of those alone
+    that have so many bytes, if that is given; and all between two that have so many bytes. As a context it has the environment of the run that it is for, and says whether the run came to
     them."""
 
-    def __init__(self, number, many=1, between=0):
-        self.growths = {"REFUSE": str(number), "LACK": str(many), "BETWEEN": str(between)}
+    def __init__(self, number, many=1, between=0, of=0):
+        self.growths = {"REFUSE": str(number), "LACK": str(many), "BETWEEN": str(between), "OF": str(of)}
         self.shim = built("refuse-growth.so", "tests/refuse-growth.c", "-shared", "-fPIC", "-O1", "-ldl")
 
     def __enter__(self):

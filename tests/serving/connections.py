@@ -149,17 +149,35 @@ def sent_behind(program, requests, env=None):
     with Server(program, len(requests), env=env) as server, contextlib.ExitStack() as kept:
         connections = [kept.enter_context(connect(server.port)) for _ in requests]
         server.count(len(requests))
-        with ThreadPoolExecutor(len(requests)) as pool:
-            start = time.monotonic()
-            wrong = list(pool.map(went_on, connections, requests))
-            seconds = time.monotonic() - start
-        found = list(server.end())
-        for (request, _, _), connection, complaints in zip(requests, connections, wrong):
+        found, seconds = went_on_together(connections, requests)
+        found += server.end()
+        for (request, _, _), connection in zip(requests, connections):
             # the server is gone: a reset has come by now
             if fault := connection.getsockopt(socket.SOL_SOCKET, socket.SO_ERROR):
-                complaints.append(f"behind its end, {os.strerror(fault)}")
-            found += [f"{request[:60]!r}: {complaint}" for complaint in complaints]
+                found.append(f"{request[:60]!r}: behind its end, {os.strerror(fault)}")
         return found, seconds
+
+
+def sent_behind_at(port, requests):
+    """What is wrong with clients of a server that goes on, which send on behind their answers, side by side. It is tried again, as
+    above."""
+    for _ in range(TRIES):
+        with contextlib.ExitStack() as kept:
+            connections = [kept.enter_context(connect(port)) for _ in requests]
+            found, seconds = went_on_together(connections, requests)
+        if not found or seconds < READ_ON:
+            break
+    yield from found
+
+
+def went_on_together(connections, requests):
+    """What is wrong with the answers to these clients, side by side, and how many seconds they took."""
+    with ThreadPoolExecutor(len(requests)) as pool:
+        start = time.monotonic()
+        wrong = list(pool.map(went_on, connections, requests))
+        seconds = time.monotonic() - start
+    labels = [f"{request[:60]!r}: " for request, _, _ in requests]
+    return [label + complaint for label, complaints in zip(labels, wrong) for complaint in complaints], seconds
 
 
 def went_on(connection, exchange):

@@ -3,6 +3,7 @@
 These tests wait more than they work. So tests/clients runs them beside the others, each in a thread of its own."""
 
 import contextlib
+import functools
 import os
 import socket
 import threading
@@ -15,8 +16,8 @@ from harness.counting import Unwell
 from harness.texts import differing
 from model.http import error
 from model.json_text import compact
-from serving.connections import BODY, EVENT, MOST_WORKERS, SMALL_ROOM, TRIES, long_list, sent_behind, silent
-from serving.growths import FIXED
+from serving.connections import BODY, EVENT, MOST_WORKERS, REGISTER, SMALL_ROOM, TRIES, long_list, sent_behind, silent
+from serving.growths import FIXED, out_of_memory
 from serving.http import Exchange, done, look, registered, vehicle
 from serving.server import NotListening, Server, numbered_port, success_of
 from serving.talking import talk_over
@@ -66,6 +67,8 @@ HOUR = 3600
 """By how many seconds the time of day is set on each time that it is asked for: longer than anybody is waited for."""
 MOST_GROWTHS = 2000
 """More growths of memory than a server makes before its first connection."""
+OTHERS = 3
+"""Requests that come where no memory is left."""
 AT_ONCE = 1 << 16
 TAKEN = 5
 """How many seconds the server may take to take a connection, on a machine that is busy with other tests."""
@@ -469,6 +472,7 @@ def lacking_open_files_for_too_long(program):
             yield f"ended with {ended}, in place of {wanted}"
 
 
+@functools.cache
 def growth_of_a_connection(program):
     """The number of the growth that a server's first connection makes first: where it is refused, that is closed, and the next one
     is answered."""
@@ -483,21 +487,21 @@ def growth_of_a_connection(program):
     raise Unwell("no server closed its first connection and answered the next")
 
 
-def answer_at(server):
+def answer_at(server, request=NOWHERE):
     """What is answered to a client, which may be let go."""
     try:
-        return ask(server.port, NOWHERE)
+        return ask(server.port, request)
     except ConnectionError:
         return b""
 
 
-def growth_of_a_request(program):
-    """The number of a growth that a server makes for its first request: where it is refused that is told, without a body."""
+def growth_of_a_request(program, request, told):
+    """The number of a growth that a server makes for its first request, this one: where it is refused this is told."""
     for number in range(growth_of_a_connection(program), MOST_GROWTHS):
         with Refusal(number) as refusal, Server(program, 1, env=refusal.env) as server:
-            if answer_at(server) == FIXED:
+            if answer_at(server, request) == told:
                 return number
-    raise Unwell("no server told its first client that there was no memory")
+    raise Unwell(f"no server answered {told!r}")
 
 
 def without_memory_for_a_connection(program):
@@ -510,15 +514,30 @@ def without_memory_for_a_connection(program):
             yield from server.end()
 
 
-def sending_behind_want_of_memory(program):
-    """A client that is told that there was no memory for its request, and sends more behind that, meets no reset. It is tried
-    again, since the growth of this number may be another one where the machine is busy."""
-    with Refusal(growth_of_a_request(program)) as refusal:
-        for _ in range(TRIES):
-            found, _ = sent_behind(program, [(NOWHERE, FIXED, BODY)], refusal.env)
-            if not found:
+def answered_where_no_memory_is_left(program):
+    """From some growth on no memory is left: once a request was answered, others are told so, in the room that it left. None of them
+    is closed."""
+    wanted = [error(404, "not_found"), *OTHERS * [FIXED]]
+    for number in range(growth_of_a_connection(program), MOST_GROWTHS):
+        with Refusal(number, many=MOST_GROWTHS) as refusal, Server(program, len(wanted), env=refusal.env) as server:
+            found = [answer_at(server) for _ in wanted]
+            if found == wanted:
+                return
+            if not refusal.came():
                 break
-        yield from found
+    yield f"no growth behind which all others are refused, and {OTHERS} requests told so"
+
+
+def sending_behind_want_of_memory(program):
+    """A client that is told that there was no memory for its request, or for an item of it, and sends more behind that, meets no
+    reset. It is tried again, since the growth of this number may be another one where the machine is busy."""
+    for request, told in ((NOWHERE, FIXED), (REGISTER, out_of_memory(0))):
+        with Refusal(growth_of_a_request(program, request, told)) as refusal:
+            for _ in range(TRIES):
+                found, _ = sent_behind(program, [(request, told, BODY)], refusal.env)
+                if not found:
+                    break
+            yield from found
 
 
 LIMITS = [
@@ -539,6 +558,7 @@ LIMITS = [
     idle_for_a_day,
     lacking_open_files_for_too_long,
     without_memory_for_a_connection,
+    answered_where_no_memory_is_left,
     sending_behind_want_of_memory,
     silent_behind_its_answer,
     trickling_behind_its_answer,

@@ -1,5 +1,5 @@
-"""How much memory connections take that wait, bodies that never end, and a long list, who is let go where more come than may wait,
-and the stack of the first thread."""
+"""How much memory connections take that wait, bodies that never end, and a long list, who is let go where more come than may wait or
+memory is wanting for others, and the stack of the first thread."""
 
 import contextlib
 import os
@@ -10,6 +10,7 @@ from pathlib import Path
 from socket import MSG_PEEK
 
 from cases.replays import A, P, batch, history
+from harness.building import Refusal
 from harness.case import MAX_BYTES, MAX_ITEMS, padded
 from harness.counting import ROOT, Unwell
 from harness.texts import differing
@@ -17,7 +18,9 @@ from model.http import error
 from serving.connections import SMALL_ROOM
 from serving.connections import long_list as vehicle_of_long_list
 from serving.crowds import many_open_files
+from serving.growths import FIXED
 from serving.http import EMPTY, Exchange, done, look, registered
+from serving.limits import MOST_GROWTHS, answer_at, growth_of_a_connection
 from serving.looking import Looks
 from serving.server import Server
 from serving.talking import talk_over
@@ -27,6 +30,12 @@ WAITING = 4096
 REQUEST = post("/events", padded("[]", 4000))
 FRONT, REST = REQUEST[:1000], REQUEST[1000:]
 """What each of them sends of its request, and what it lacks."""
+LONGER = post("/events", padded("[]", 10000))
+"""A request for whose bytes more memory is taken than one had before."""
+ROOM_BYTES = 65536
+"""How many bytes the room has by way of which a worker reads a request. It is kept for the next one."""
+CROWD = 32
+"""Silent clients that come at once, each of which keeps a worker and its room for a moment."""
 ELDEST = 16
 """How many of them may come first, by the server's clock."""
 MOST_BESIDE = 8 * 2**20
@@ -135,6 +144,63 @@ def memory_of_waiting(program):
             yield from one_more(server, opened)
             yield from looks.once()
         yield from looks.judged(f"{WAITING} connections that wait")
+        yield from server.drain()
+
+
+def gone_from(server, sockets):
+    """Waits until the server has no more than so many sockets, or had time for it."""
+    end = time.monotonic() + BUSY
+    while server.sockets() > sockets and time.monotonic() < end:
+        time.sleep(0.1)
+
+
+def read_beside(waiting):
+    """What is answered to a client whose request waited for its rest, or nothing where it was let go."""
+    with contextlib.suppress(ConnectionError):
+        waiting.sendall(REST)
+        return read_all(waiting)
+    return b""
+
+
+def one_and_another(server):
+    """What is answered to a client that waits for a while, and to one that comes meanwhile."""
+    with connect(server.port) as waiting:
+        waiting.sendall(FRONT)
+        taken_in(server)
+        other = answer_at(server, LONGER)
+        return read_beside(waiting), other
+
+
+def waiting_beside_a_refused_growth(program):
+    """One connection waits while another comes, and each growth of memory is refused in turn: that is one of theirs, and the client
+    of the other one has its answer."""
+    for number in range(growth_of_a_connection(program), MOST_GROWTHS):
+        with Refusal(number) as refusal, Server(program, 2, env=refusal.env) as server:
+            found = one_and_another(server)
+            if not refusal.came():
+                return
+            if EMPTY not in found or not {*found} <= {EMPTY, FIXED, b""}:
+                yield f"growth {number}: {found[0]!r} to who waited, and {found[1]!r} to who came"
+    yield f"{MOST_GROWTHS} growths, and no end"
+
+
+def waiting_beside_others_without_room(program):
+    """One connection waits while others come for which there is no memory for room: they are closed, and it is answered."""
+    with (
+        Refusal(2, many=MOST_GROWTHS, of=ROOM_BYTES) as refusal,
+        Server(program, CROWD // 4, workers=CROWD, env=refusal.env) as server,
+        connect(server.port) as waiting,
+    ):
+        waiting.sendall(FRONT)
+        taken_in(server)
+        sockets = server.sockets()
+        with connections(server.port, CROWD, b"") as others:
+            if not closed_in_time(others):
+                yield "none was closed for which there was no room"
+            if closed([waiting]):
+                yield "one that waited was closed for want of room for others"
+        gone_from(server, sockets)
+        yield from differing(read_beside(waiting), EMPTY)
         yield from server.drain()
 
 
@@ -258,6 +324,8 @@ def stack_of_the_first_thread(program):
 
 MEMORY = [
     memory_of_waiting,
+    waiting_beside_a_refused_growth,
+    waiting_beside_others_without_room,
     bodies_that_never_end,
     heads_that_announce_much,
     answers_that_nobody_reads,

@@ -1,8 +1,11 @@
 """What a server does at its edges: the address at which it listens, the options of its connections, its last line."""
 
+import contextlib
 import ctypes
 import errno
 import os
+import select
+import signal
 import socket
 import struct
 import tempfile
@@ -11,13 +14,15 @@ from pathlib import Path
 
 from cases.replays import A, batch, item
 from harness.building import built, no_random_numbers
-from harness.case import OUTPUT, RANDOM
+from harness.case import OUTPUT, RANDOM, SOCKET
 from harness.counting import Skipped, Unwell
+from harness.texts import differing
 from model.http import error
+from serving.crowds import many_open_files
 from serving.http import Exchange, done, look, registered
 from serving.server import NotListening, Server, numbered_port
 from serving.talking import sent, talk_over
-from serving.wire import connect, get, post
+from serving.wire import Connection, connect, get, post, read_all
 
 LOOPBACK = "0100007F"
 """127.0.0.1, as the system's list of sockets has it."""
@@ -26,6 +31,11 @@ OTHER_ADDRESS = "127.0.0.2"
 PIDFD_GETFD = 438
 SECONDS = 10
 PAUSE = 0.1
+CROWD = 1000
+"""Clients that come while a server is stopped. The system may connect fewer that nobody takes."""
+MOST_UNTAKEN = Path("/proc/sys/net/core/somaxconn")
+CONNECTED = 0.5
+"""Within how many seconds they are connected: the system tries again after a second where it couldn't."""
 LEAST_AT_ONCE = 5
 """To each of two requests belong a call for the answer and one for what is behind the request, to the one in pieces one for the
 second piece."""
@@ -55,6 +65,48 @@ def at_one_address(program):
         except ConnectionRefusedError:
             pass
         yield from server.end()
+
+
+def second_at_its_port(program):
+    """Where a server listens no other one does."""
+    with Server(program, 1) as server:
+        yield from differing_end(program, None, server.port, SOCKET, None)
+        yield from server.end()
+
+
+def come_while_it_is_stopped(program):
+    """Clients that come while the server takes none are connected at once, and answered when it goes on."""
+    many_open_files()
+    count = min(CROWD, int(MOST_UNTAKEN.read_text()))
+    with Server(program, count) as server, contextlib.ExitStack() as opened:
+        server.child.send_signal(signal.SIGSTOP)
+        clients = [opened.enter_context(coming(server.port)) for _ in range(count)]
+        time.sleep(CONNECTED)
+        connected = sum(map(is_connected, clients))
+        server.child.send_signal(signal.SIGCONT)
+        if connected != count:
+            yield f"{connected} of {count} clients were connected"
+            return
+        server.count(count)
+        for client in clients:
+            client.settimeout(SECONDS)
+            client.sendall(get("/"))
+            yield from differing(read_all(client), error(404, "not_found"))
+        yield from server.end()
+
+
+def coming(port):
+    """A connection that isn't waited for."""
+    connection = Connection(socket.AF_INET, socket.SOCK_STREAM)
+    connection.setblocking(False)
+    connection.connect_ex(("127.0.0.1", port))
+    return connection
+
+
+def is_connected(connection):
+    poll = select.poll()  # takes a descriptor of any number
+    poll.register(connection, select.POLLOUT)
+    return poll.poll(0) == [(connection.fileno(), select.POLLOUT)]
 
 
 def taken_by(server, connection):
@@ -177,6 +229,8 @@ def differing_end(program, table, port, told, env):
 
 SOCKETS = [
     at_one_address,
+    second_at_its_port,
+    come_while_it_is_stopped,
     options_of_a_connection,
     options_at_a_port_of_a_number,
     calls_at_connections,
