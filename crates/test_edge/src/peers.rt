@@ -228,7 +228,7 @@ type Answer = (&'static [Act], bool, [LookOutcome; 2], (usize, usize));
 const ANSWERS: &[Answer] = rows! {
     (&[Act::Takes(5), LATER], true, [Gone, Gone], (5, 0)),
     (&[Act::Takes(2), LATER, Act::Takes(3), LATER], true, [Waits, Gone], (5, 0)),
-    (&[Act::Takes(2), LOST, LOST], true, [Gone, Gone], (2, 0)),
+    (&[Act::Takes(2), LOST, Act::Fails(ErrorKind::BrokenPipe)], true, [Gone, Gone], (2, 0)),
     (&[Act::Takes(0)], true, [Gone, Waits], (0, 0)),
     (&[LATER, LATER], true, [Waits, Waits], (0, 0)),
     (&[Act::Takes(5), LATER, Act::Gives(b"")], false, [Waits, Gone], (5, 1)),

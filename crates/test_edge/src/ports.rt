@@ -239,11 +239,11 @@ const CASES: &[Case] = rows! {
     ], Some(1), 9, [23, 18], [1, 5]),
     // Nor is it left alone while that lasts: its request is handed out that comes whole meanwhile.
     (&[Turn::Comes(PART), Turn::Wants(100, Ready::Coming(0)), Turn::Comes(WHOLE)], Some(1), 9, [23, 18], [1, 100]),
-    // A connection is reset in the head, and another one in the body.
+    // A connection is reset in the head, and another one in the body. The eldest stays.
     (&[
-        Turn::Comes(CUT), Turn::Tells(Ready::Coming(0)), Turn::Comes(IN_BODY), Turn::Tells(Ready::Coming(0)),
-        Turn::Tells(Ready::Coming(0)), Turn::Comes(WHOLE),
-    ], Some(1), 9, [18, 0], [3, 0]),
+        Turn::Comes(PART), Turn::Comes(CUT), Turn::Tells(Ready::Coming(1)), Turn::Comes(IN_BODY), Turn::Tells(Ready::Coming(1)),
+        Turn::Tells(Ready::Coming(1)), Turn::Tells(Ready::Coming(0)), Turn::Comes(WHOLE),
+    ], Some(1), 9, [23, 18], [4, 0]),
     // One is reset in the answer, of which it took two bytes.
     (&[Turn::Comes(IN_ANSWER), Turn::Tells(Ready::Leaving(0)), Turn::Comes(WHOLE)], Some(1), 9, [18, 18], [1, 0]),
     // The clock fails: who waits is let go, and a request that is there is handed out.
