@@ -1,5 +1,5 @@
 //! A connection, from the port that gave it to its answer, and the count of those that a worker answered.
-ghost use Rattle.std.specs.Prelude.{◌≡◌, ◌↔◌, ◌+◌, ◌<◌, ◌^◌, IfOk, IfErr, IsOkAnd};
+ghost use Rattle.std.specs.Prelude.{◌≡◌, ◌↔◌, ◌+◌, ◌<◌, ◌^◌, Err, IfOk, IfErr, IsOkAnd, IsTrue};
 ghost use Rattle.mds_face.specs.Reading.{ReadsNoFurther};
 ghost use Rattle.mds_face.specs.Kept.{IsServedKept, StopsKept};
 
@@ -87,7 +87,9 @@ impl<P: Port> Answer<P> {
     }
 
     /// Whether it stays open what is recorded: no more answers that rest on it can be given.
-    pub(crate) fn is_lost(&self) -> bool {
+    pub(crate) fn is_lost(&self) -> bool
+        ensures { IsTrue result ↔ (self.now.served ≡ Err KeptFault.Lost) }
+    {
         matches!(&self.served, Err(KeptFault::Lost))
     }
 }

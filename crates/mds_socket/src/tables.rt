@@ -44,11 +44,11 @@ impl<P: Peer> Tables<P> {
     }
 
     /// How long may be waited from this time on, if the clock tells one, in milliseconds. `None` where one was late, and was
-    /// let go.
+    /// let go: a late request goes before a late answer.
     pub(crate) fn patience(&mut self, now: Option<u64>) -> Option<u64>
         ensures late { IfNone result
             ((LeavesLate now self.old.coming self.new.coming × (self.new.leaving ≡ self.old.leaving))
-            ⊎ ((self.new.coming ≡ self.old.coming)
+            ⊎ ((self.new.coming ≡ self.old.coming) × All (IsInTime now) self.old.coming
             × LeavesLate now self.old.leaving self.new.leaving)) }
         ensures coming { IfSome result (λ _. self.new.coming ≡ self.old.coming) }
         ensures leaving { IfSome result (λ _. self.new.leaving ≡ self.old.leaving) }

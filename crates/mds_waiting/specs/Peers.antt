@@ -1,7 +1,9 @@
 -- What calls at the other side of a connection do to the bytes that are known.
 use Rattle.std.specs.Prelude.{◌≡◌, ℕ, ◌+◌, ◌-◌, ◌<◌, ◌≤◌, ◌==◌, List, [], ◌++◌}
-use Rattle.std.specs.Prelude.{length, max, take, drop, Option, ⊤, if◌then◌else◌}
+use Rattle.std.specs.Prelude.{length, max, take, drop, Option, if◌then◌else◌}
 use Rattle.std.specs.Io.KnownBytes.{Appends, Consumes, IsAtEnd, Keeps}
+use Rattle.std.specs.declared.io.ErrorKind.{ErrorKind}
+use Rattle.std.specs.declared.io.ErrorKind.TheVariants.{Interrupted, WouldBlock}
 use Rattle.mds_waiting.specs.declared.peer.Came.{Came}
 use Rattle.mds_waiting.specs.declared.peer.Came.TheVariants.{Bytes, Ended, Nothing, Lost}
 
@@ -9,12 +11,12 @@ use Rattle.mds_waiting.specs.declared.peer.Came.TheVariants.{Bytes, Ended, Nothi
 abbrev pub came_by : ℕ → Came
 came_by count = if count == 0 then Ended else Bytes count
 
--- a call that failed came to this
-abbrev pub IsWithout : Came → Type 0
-IsWithout (Bytes count) = ⊥
-IsWithout Ended = ⊥
-IsWithout Nothing = ⊤
-IsWithout Lost = ⊤
+-- a call that failed in this way came to no byte yet, where it would have waited or was interrupted;
+-- else the connection is lost
+abbrev pub came_without : ErrorKind → Came
+came_without WouldBlock = Nothing
+came_without Interrupted = Nothing
+came_without kind = Lost
 
 -- what a call for bytes did to those that the other side gives: it took a front of them into the
 -- room, or none

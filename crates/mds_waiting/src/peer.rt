@@ -1,8 +1,9 @@
 //! The other side of a connection, which is asked for bytes, and given them, without waiting for it.
-ghost use Rattle.std.specs.Prelude.{◌≡◌, ◌↔◌, ◌⊎◌, ℕ, List, Option, None, length, IsTrue, IfOk, OnErr};
+ghost use Rattle.std.specs.Prelude.{◌≡◌, ℕ, List, Option, None, length, IfErr, IfOk};
 ghost use Rattle.std.specs.Io.{ReadsAtMost, WritesAtMost};
 ghost use Rattle.std.specs.Io.KnownBytes.{Keeps, ReadConsumes, WriteAppends};
-ghost use Rattle.mds_waiting.specs.Peers.{IsWithout, Receives, Sends, came_by};
+ghost use Rattle.std.specs.IoError.{error_kind};
+ghost use Rattle.mds_waiting.specs.Peers.{Receives, Sends, came_by, came_without};
 
 use std::io::{self, ErrorKind};
 
@@ -57,20 +58,22 @@ pub(crate) enum Came {
 
 fn came_of(called: io::Result<usize>) -> Came
     ensures ok { IfOk called (λ count. result ≡ came_by count) }
-    ensures none { OnErr called (IsWithout result) }
+    ensures failed { IfErr called (λ error. result ≡ came_without (error_kind error)) }
 {
     match called {
         Ok(0) => Came::Ended,
         Ok(count) => Came::Bytes(count),
-        Err(error) if may_pass(error.kind()) => Came::Nothing,
-        Err(_) => Came::Lost,
+        Err(error) => came_without(error.kind()),
     }
 }
 
-fn may_pass(kind: ErrorKind) -> bool
-    ensures { IsTrue result ↔ ((kind ≡ ErrorKind.WouldBlock) ⊎ (kind ≡ ErrorKind.Interrupted)) }
+fn came_without(kind: ErrorKind) -> Came
+    ensures { result ≡ came_without kind }
 {
-    matches!(kind, ErrorKind::WouldBlock | ErrorKind::Interrupted)
+    match kind {
+        ErrorKind::WouldBlock | ErrorKind::Interrupted => Came::Nothing,
+        _ => Came::Lost,
+    }
 }
 
 pub(crate) fn receive<S: Peer>(peer: &mut S, room: &mut [u8]) -> Came
