@@ -19,8 +19,10 @@ from cases.replays import A, B, P, batch, event, history, identifier, item, repl
 from cases.serve import NO_CONNECTION, SERVED
 from cases.streams import LONG, LONG_FILES
 from cases.tables import MOST_ROWS, ONE_ROW, ONE_ROW_PRINTED, PROFILE, table_file, table_printed
-from cases.timed import tables_file
-from cases.vehicles import journal, listed, not_a_journal, registered
+from cases.tables import bad as bad_row
+from cases.timed import in_table, tables_file, tables_printed
+from cases.vehicles import LONG as LONG_LINE
+from cases.vehicles import WOKEN, journal, listed, not_a_journal, registered
 from harness.building import BY_BYTES, Counting
 from harness.case import MAX_BYTES, MAX_ITEMS, NO_MEMORY, NOT_TEXT, OUTPUT
 from harness.case import Case, cannot_read, not_a_batch, not_a_table, padded, told
@@ -39,6 +41,14 @@ FILES = {
     "table.json": ONE_ROW,
     "journal": journal(registered(A)),
     "faulty": "7\n{\n7\n7\n",
+    # one of each further kind of fault
+    "unread-journal": journal("{"),
+    "early-journal": journal(WOKEN),
+    "wide-journal": journal(LONG_LINE),
+    "bad-row.json": bad_row("7")[0],
+    "bad-tables.json": in_table([("Wake", "removed", "available")], "bad_row 0")[0],
+    "many.json": f"[{','.join(['7'] * (MAX_ITEMS + 1))}]",
+    "many": "7\n" * (MAX_ITEMS + 1),
     # of which more is printed than a page
     **{f"long-{name}": text for name, text in LONG_FILES.items()},
 }
@@ -50,6 +60,7 @@ NOTHING = "accepted 0 refused 0\n"
 READS = [
     ("replay -", INPUT, (3, "", cannot_read("-"))),
     ("replay --lines -", INPUT, (3, "", cannot_read("-"))),
+    ("replay --any -", INPUT, (3, "", cannot_read("-"))),
     ("replay --any --lines -", INPUT, (3, "", cannot_read("-"))),
     ("replay events.json", FILE, (3, "", cannot_read("events.json"))),
     ("replay --lines events.json", FILE, (3, "", cannot_read("events.json"))),
@@ -72,6 +83,13 @@ PROBLEMS = [
     (f"debug events.json {P} {B}", 1, NOBODY),
     (f"debug events.json {P} x", 2, BAD),
     ("vehicles faulty", 3, not_a_journal("form")),
+    ("vehicles unread-journal", 3, not_a_journal("bad_line 1")),
+    ("vehicles early-journal", 3, not_a_journal("refused 1")),
+    ("vehicles wide-journal", 3, not_a_journal("too_long 1")),
+    ("table --table bad-row.json", 3, not_a_table("bad_row 0")),
+    ("table --table bad-tables.json", 3, not_a_table("table 0 bad_row 0")),
+    ("replay many.json", 3, not_a_batch("too_many")),
+    ("replay --lines many", 3, not_a_batch("too_many")),
     ("replay faulty", 3, not_a_batch("not_json")),
     ("replay --lines faulty", 3, not_a_batch("not_json 1")),
     ("table --table faulty", 3, not_a_table("not_json")),
@@ -227,7 +245,13 @@ def on_two_pages():
     states = [turn(number)[0] for number in range(ITEMS)]
     events = batch(history(A, 0, ITEMS))
     yield replayed(events, [f"ok {state}" for state in states], [(A, states[-1], ITEMS)])
+    lines = "\n".join(history(A, 0, ITEMS))
+    ways = [("replay --any -", events, ["removed"]), ("replay --lines -", lines, []), ("replay --workers 4 -", events, [])]
+    for words, given, opened in ways:
+        yield replayed(given, [f"ok {state}" for state in states], [(A, states[-1], ITEMS, *opened)], words)
     yield Case("table --table long", out=table_printed(ENTRIES), files={"long": table_file(ENTRIES)})
+    tables = [(start, ENTRIES) for start in (0, 1)]
+    yield Case("table --table two", out=tables_printed(tables), files={"two": tables_file(tables)})
     devices = [identifier(1, number) for number in range(VEHICLES)]
     yield listed(journal(*map(registered, devices)), [(device, "removed", 0) for device in devices])
     chains = "removed non_contactable\n" * CHAINS

@@ -1,5 +1,6 @@
 """The debugger: scripts, and what they print of a session."""
 
+import json
 import os
 import re
 import select
@@ -10,7 +11,7 @@ from contextlib import contextmanager, suppress
 from pathlib import Path
 
 from cases.replays import A, ANY_RUNS, B, P, batch, event, history, turn
-from cases.tables import ONE_ROW
+from cases.tables import ONE_ROW, PROFILE, table_file
 from harness.building import Refusal
 from harness.case import CLOSED, FOLDER, MAX_BYTES, MAX_ITEMS, NO_MEMORY, NO_STREAMS, OUTPUT, Case
 from harness.case import cannot_read, not_a_batch, not_a_table, told
@@ -128,9 +129,10 @@ def start_of(child, length):
 
 
 @contextmanager
-def begun(program, file, counts):
-    """The debugger on the first vehicle of a file, before it reads a script, and what is wrong with its first two lines."""
-    words = [program, "debug", str(file), P, A]
+def begun(program, file, counts, more=()):
+    """The debugger on the first vehicle of a file, by some more words, before it reads a script, and what is wrong with its first two
+    lines."""
+    words = [program, "debug", str(file), P, A, *more]
     child = subprocess.Popen(words, stdin=subprocess.PIPE, stdout=subprocess.PIPE, bufsize=0)
     try:
         wanted = ("events {} refused {}\n".format(*counts) + START).encode()
@@ -164,8 +166,20 @@ def write_script(child, script):
 
 def reads_its_script_before_it_prints(program):
     """A client that writes all of a long script before it reads isn't kept waiting, and nothing is printed before the script's
-    end."""
-    with begun(program, EXAMPLE.with_suffix(".json"), (2, 0)) as (child, wrong):
+    end: also over a table, and over two."""
+    table = json.loads(table_file(PROFILE))
+    tables = {"table.json": table, "tables.json": {"tables": [{"from_time": start, **table} for start in (0, 1)]}}
+    with tempfile.TemporaryDirectory() as folder:
+        yield from read_before_printed(program)
+        for name, file in tables.items():
+            Path(folder, name).write_text(json.dumps(file))
+            for wrong in read_before_printed(program, ["--table", str(Path(folder, name))]):
+                yield f"{name}: {wrong}"
+
+
+def read_before_printed(program, more=()):
+    """What is wrong with a run by some more words over such a script."""
+    with begun(program, EXAMPLE.with_suffix(".json"), (2, 0), more) as (child, wrong):
         yield from wrong
         writer = threading.Thread(target=write_script, args=(child, b"chain\n" * CHAINS))
         writer.start()
