@@ -148,13 +148,15 @@ def head(start, *fields):
     return b"".join(as_bytes(line) + b"\r\n" for line in (start, *fields, b""))
 
 
-def long_head(length):
-    """A head of so many bytes, of a vehicle that isn't there."""
-    start, more = f"GET /vehicles/{P}/{A} HTTP/1.1", "more: "
-    return head(start, more + "x" * (length - len(head(start, more))))
-
-
 START = f"GET /vehicles/{P}/{A} HTTP/1.1"
+
+
+def long_head(length, start=START, *fields):
+    """A head of so many bytes, of a vehicle that isn't there, or of another request."""
+    more = "more: "
+    return head(start, *fields, more + "x" * (length - len(head(start, *fields, more))))
+
+
 # Heads that nothing behind them can mend: they are answered though the client doesn't end its side.
 BAD_HEADS = [
     b"GET /table HTTP/2.0\r\n\r\n",
@@ -436,6 +438,8 @@ def bodies():
         zeros = changed(target=target, body=padded("[]", MAX_BYTES), lengths=["0" * 3000 + str(MAX_BYTES)])
         more = changed(target=target, body=" [] 7", lengths=["4"])
         yield Talk([Exchange(zeros, EMPTY, name="most bytes behind zeros"), Exchange(more, EMPTY, name="more than the body")])
+        longest = long_head(HEAD_BYTES, f"POST {target} HTTP/1.1", f"Content-Length: {MAX_BYTES}")
+        yield Talk([Exchange(longest + padded("[]", MAX_BYTES).encode(), EMPTY, name="most bytes behind the longest head")])
     for name, text in GOOD:
         sent = Exchange(post("/events", text), done(1), name=name)
         yield Talk([registered(A), sent, look(A, "available", 1, 1000)])

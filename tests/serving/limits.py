@@ -8,6 +8,7 @@ import os
 import socket
 import threading
 import time
+from pathlib import Path
 
 from cases.replays import A, B, P
 from harness.building import Refusal, built
@@ -70,6 +71,11 @@ MOST_GROWTHS = 2000
 OTHERS = 3
 """Requests that come where no memory is left."""
 AT_ONCE = 1 << 16
+A_LITTLE, NOW_AND_THEN = 25_000, 0.5
+"""How many bytes of a long answer a client takes at a time, and how many seconds it does nothing then: so the system takes some of
+the answer in time, and not all of it until a lack is told."""
+UNTIL_TOLD = 50
+"""How many seconds a lack may last beside it until it is told: more than the server waits, and less than an answer may take."""
 TAKEN = 5
 """How many seconds the server may take to take a connection, on a machine that is busy with other tests."""
 SLOW = MOST_WORKERS + 16
@@ -472,6 +478,41 @@ def lacking_open_files_for_too_long(program):
             yield f"ended with {ended}, in place of {wanted}"
 
 
+def lacking_open_files_beside_an_answer(program):
+    """Such a lack while a long answer leaves, of which its client goes on taking a little: it goes out whole before the server ends."""
+    asked = get(f"/vehicles/{P}/{A}/events")
+    with Server(program, 6, open_files=OPEN_FILES) as server:
+        yield from long_list(server, A)
+        whole = server.ask(asked)
+        with connect(server.port, room=SMALL_ROOM) as slow:
+            slow.sendall(asked)
+            front = slow.recv(1)
+            with connect(server.port):
+                front += taken_until_told(server, slow)
+                yield from differing(front + taken(slow, len(whole)), whole)
+                ended, wanted = server.ended(), (3, "", SOCKET)
+            if ended != wanted:
+                yield f"ended with {ended}, in place of {wanted}"
+
+
+def taken(connection, most):
+    """The next bytes of an answer, so many at most, as far as they come."""
+    found = b""
+    with contextlib.suppress(ConnectionError):
+        while piece := connection.recv(min(most - len(found), AT_ONCE)):
+            found += piece
+    return found
+
+
+def taken_until_told(server, slow):
+    """What a client takes of an answer, a little now and then, until the server tells a fault, or has had time to."""
+    found, end = b"", time.monotonic() + UNTIL_TOLD
+    while time.monotonic() < end and not Path(server.folder.name, "faults").read_bytes():
+        found += taken(slow, A_LITTLE)
+        time.sleep(NOW_AND_THEN)
+    return found
+
+
 @functools.cache
 def growth_of_a_connection(program):
     """The number of the growth that a server's first connection makes first: where it is refused, that is closed, and the next one
@@ -557,6 +598,7 @@ LIMITS = [
     waited_for_though_the_day_goes_on,
     idle_for_a_day,
     lacking_open_files_for_too_long,
+    lacking_open_files_beside_an_answer,
     without_memory_for_a_connection,
     answered_where_no_memory_is_left,
     sending_behind_want_of_memory,

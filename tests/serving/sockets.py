@@ -53,8 +53,14 @@ def addresses_of(port):
 
 
 def at_one_address(program):
-    """It listens at 127.0.0.1, and at no other address of this machine."""
-    with Server(program, 1) as server:
+    """It listens at 127.0.0.1, and at no other address of this machine, at a free port and at one that was asked for by its number."""
+    yield from address_at(program, 0)
+    yield from address_at(program, numbered_port())
+
+
+def address_at(program, port):
+    """What is wrong with the address of a server at this port, 0 for a free one."""
+    with Server(program, 1, port=port) as server:
         addresses = list(addresses_of(server.port))
         if addresses != [LOOPBACK]:
             yield f"it listens at {addresses}, in place of {[LOOPBACK]}"

@@ -128,7 +128,7 @@ fn serve<W: Write>(
     }
 }
 
-/// Whether a fleet in which A is registered answers so, to a client that takes a byte a call where its request is read.
+/// Whether a fleet in which A is registered answers so, to a client that takes a byte a call.
 fn answers_so(alloc: Global, case: &Case, is_whole: bool) -> Result<bool, Lack> {
     let (request, end, said, written) = case;
     let face = Face::open(alloc)?;
@@ -136,7 +136,7 @@ fn answers_so(alloc: Global, case: &Case, is_whole: bool) -> Result<bool, Lack> 
     register(&mut fleet, A)?;
     let mut desk = Recorded { fleet, end: *end };
     let mut peer = peer_of(alloc)?;
-    peer.piece = if is_whole { usize::MAX } else { 1 };
+    peer.piece = 1;
     let bytes = request.as_bytes();
     let served = serve(alloc, &face, bytes, is_whole, &mut peer, &mut desk);
     let is_written = match written {
