@@ -199,6 +199,8 @@ FAILING_READS = [
     *[(words, on, end) for words, on, end in READS if (words, on) != (DEBUG, INPUT)],
     ("vehicles -", INPUT, (3, "", cannot_read("-"))),
     ("vehicles journal", FILE, (3, "", cannot_read("journal"))),
+    ("vehicles journal --table table.json", FILE + 1, (3, "", cannot_read("journal"))),
+    *[(f"{words} --table table.json", FILE, (3, "", cannot_read("table.json"))) for words in ("replay -", DEBUG, "vehicles journal")],
     (DEBUG, INPUT, (0, STARTED, "")),
 ]
 # What goes to the descriptor isn't told.

@@ -6,6 +6,7 @@ from cases.debugging import debugged
 from cases.replays import A, B, P, batch, event, identifier, replayed
 from cases.tables import BAD, MOST_ROWS, MOST_TYPES, ONE_MORE, ONE_ROW, ONE_ROW_PRINTED, PROFILE, WAKE
 from cases.tables import entry, table_printed
+from cases.vehicles import journal, listed, not_a_journal, registered
 from harness.case import MAX_BYTES, Case, lists, not_a_table, padded, started, told
 
 MOST_TABLES = 64
@@ -244,6 +245,11 @@ def changing_tables():
     others = batch(event(*of_event) for of_event, _ in OPENED)
     verdicts = [verdict for _, verdict in OPENED]
     yield replayed(others, verdicts, OPENED_ENDS, "replay --any - --table table.json", files=files)
+    recorded = [event(*of_event) for of_event, verdict in CHANGING if verdict.startswith("ok ")]
+    lines, words = [registered(A), registered(B), *recorded], "vehicles journal --table table.json"
+    yield Case(words, out=listed(journal(*lines), ENDS).out, files={**files, "journal": journal(*lines)})
+    refused = journal(*lines, event(A, "e4", "wake", "available", 2000))
+    yield told(words, not_a_journal(f"refused {len(lines) + 1}"), files={**files, "journal": refused})
     script, lines = ("".join(f"{line}\n" for line in column) for column in zip(*WALK))
     words = ["debug", "events.json", P, A, "--table", "table.json"]
     yield debugged(script, lines, texts, (2, 2), words=words, files=files, name="tables that change")

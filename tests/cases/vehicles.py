@@ -113,6 +113,7 @@ def journal_faults():
     yield told("vehicles journal", not_a_journal("too_long 2"), files={"journal": journal(*NEW, end=f" {LONG}")})
     yield told("vehicles nowhere", cannot_read("nowhere"))
     yield told("vehicles nowhere --table no-table", cannot_read("no-table"))
+    yield told("vehicles nowhere --table table.json", cannot_read("nowhere"), files={"table.json": ONE_ROW})
     yield told("vehicles journal", cannot_read("journal"), files={"journal": FOLDER})
     yield told("vehicles -", cannot_read("-"), stdin=CLOSED)
     for words in ("vehicles journal --table table.json", "vehicles nowhere --table table.json"):

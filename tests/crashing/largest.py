@@ -4,7 +4,7 @@ import tempfile
 from pathlib import Path
 
 from cases.largest import LONG_TYPES
-from cases.replays import P
+from cases.replays import P, history
 from cases.tables import table_file
 from cases.timed import MOST_TIME
 from cases.vehicles import journal, registered
@@ -27,7 +27,7 @@ DEVICES = [device_at(number) for number in range(MAX_ITEMS)]
 LONG = DEVICES[:2]
 """The vehicles of the longest events, one of each half. Each other one has one short event."""
 EACH = 20
-LONG_LINES, MANY_LINES = 20, 200_000
+LONG_LINES, MANY_LINES, MANY_EVENTS = 20, 200_000, 100_000
 
 
 def event(device, number, types):
@@ -109,16 +109,28 @@ def longest_and_most_that_are_recorded(program):
             yield from (f"{life}: {complaint}" for complaint in (*found, *told_by_file(program, path, table), *room_amiss(path)))
 
 
+def of_many_vehicles(count, length):
+    """A file of so many registrations, each of a line that is so long, and how many events each vehicle has."""
+    devices = [device_at(number) for number in range(count)]
+    return journal(*(padded(registered(device), length) for device in devices)), dict.fromkeys(devices, 0)
+
+
+def of_many_events():
+    """A file of a vehicle's events, of two vehicles, and how many events each has."""
+    devices = DEVICES[:2]
+    lines = (it for device in devices for it in (registered(device), *history(device, 0, MANY_EVENTS)))
+    return journal(*lines), dict.fromkeys(devices, MANY_EVENTS)
+
+
 def long_files(program):
-    """Files of some of the longest lines, and of many, are read to their ends, and stay as they are."""
-    for count, length in ((LONG_LINES, MAX_BYTES), (MANY_LINES, 0)):
-        devices = [device_at(number) for number in range(count)]
-        content = journal(*(padded(registered(device), length) for device in devices))
+    """Files of some of the longest lines, of many, and of many events of a vehicle, are read to their ends, and stay as they are."""
+    for content, events in (of_many_vehicles(LONG_LINES, MAX_BYTES), of_many_vehicles(MANY_LINES, 0), of_many_events()):
+        count = len(events) + sum(events.values())
         yield from (f"{count} lines: {it}" for it in begun(program, content.encode(), count, content.encode()))
         with tempfile.TemporaryDirectory() as folder:
             path = Path(folder, "journal")
             path.write_text(content)
-            found, wanted = listed_by(program, path), (0, vehicles_text(dict.fromkeys(devices, 0)), "")
+            found, wanted = listed_by(program, path), (0, vehicles_text(events), "")
         if found != wanted:
             yield f"{count} lines: `vehicles` said {str(found)[:300]}"
 
