@@ -195,6 +195,15 @@ def interrupted_in_a_row(program):
 ANY = 0
 """A call moves as many bytes as it can."""
 ERRORS = [errno.EIO, errno.EAGAIN, errno.EBADF, errno.ENOSPC, errno.EPIPE, errno.ETIMEDOUT, errno.ENOMEM, errno.EINVAL]
+OTHERS = sorted({*errno.errorcode} - {*ERRORS, errno.EINTR})
+"""All that a call may fail with besides, but for an interruption."""
+# Of each command a file, a script, its output and the line of a problem: there each error is tried.
+PLAIN = [
+    *[(words, INPUT) for words in ("replay -", "replay --lines -", "vehicles -", DEBUG)],
+    *[(words, FILE) for words in ("table --table table.json", "vehicles journal", DEBUG)],
+    *[(words, OUT) for words in ("table", "replay events.json", "vehicles journal", DEBUG)],
+    *[(words, FAULTS) for words in ("replay missing.json", "vehicles faulty")],
+]
 FAILING_READS = [
     *[(words, on, end) for words, on, end in READS if (words, on) != (DEBUG, INPUT)],
     ("vehicles -", INPUT, (3, "", cannot_read("-"))),
@@ -233,8 +242,9 @@ def failed_calls(program):
     runs += [(words, on, "next\n", end, "writes", 2, 1) for words, on, end in BROKEN_WRITES]
     runs += [(words, on, text, cut_off(words, on, end), "reads", 2, ANY) for words, on, text, end in SHORT if text]
     runs.append((DEBUG, OUT, "next\n", (3, STARTED, OUTPUT), "writes", 2, ANY))
+    plain = [run for run in runs if run[:2] in PLAIN and run[-2:] == (1, ANY)]
     with ThreadPoolExecutor(os.cpu_count()) as pool:
-        for wrong in pool.map(lambda it: failed(program, *it[0], it[1]), product(runs, ERRORS)):
+        for wrong in pool.map(lambda it: failed(program, *it[0], it[1]), [*product(runs, ERRORS), *product(plain, OTHERS)]):
             yield from wrong
 
 
