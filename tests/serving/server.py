@@ -57,7 +57,8 @@ class Server:
         self.faults = open(Path(self.folder.name, "faults"), "w+b")
         self.child = subprocess.Popen(
             words,
-            stdin=subprocess.DEVNULL,
+            # it stays open, and gives nothing: a server that read it would never serve
+            stdin=subprocess.PIPE,
             stdout=subprocess.PIPE,
             stderr=self.faults,
             env=env,
@@ -87,6 +88,7 @@ class Server:
         if self.child.poll() is None:
             self.child.kill()
             self.child.wait()
+        self.child.stdin.close()
         self.child.stdout.close()
         self.faults.close()
         self.folder.cleanup()
