@@ -266,6 +266,8 @@ def on_two_pages():
     yield Case("table --table two", out=tables_printed(tables), files={"two": tables_file(tables)})
     devices = [identifier(1, number) for number in range(VEHICLES)]
     yield listed(journal(*map(registered, devices)), [(device, "removed", 0) for device in devices])
+    first = batch(it for device in devices for it in history(device, 0, 1))
+    yield replayed(first, ["ok available"] * VEHICLES, [(device, "available", 1) for device in devices])
     chains = "removed non_contactable\n" * CHAINS
     yield Case(DEBUG, out=STARTED + chains, given="chain\n" * CHAINS, files=files_of(DEBUG))
 
