@@ -116,10 +116,9 @@ def of_many_vehicles(count, length):
 
 
 def of_many_events():
-    """A file of a vehicle's events, of two vehicles, and how many events each has."""
-    devices = DEVICES[:2]
-    lines = (it for device in devices for it in (registered(device), *history(device, 0, MANY_EVENTS)))
-    return journal(*lines), dict.fromkeys(devices, MANY_EVENTS)
+    """A file of a vehicle's events, and how many it has."""
+    device = DEVICES[0]
+    return journal(registered(device), *history(device, 0, MANY_EVENTS)), {device: MANY_EVENTS}
 
 
 def long_files(program):
