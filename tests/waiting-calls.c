@@ -1,17 +1,19 @@
 /* Counts the calls of recv and of send at connections that were taken: those that can't wait, since they have MSG_DONTWAIT, and those
-   that can, but for the first recv of a connection. Loaded before the C library by tests/clients; no part of the program.
+   that can, but for the first recv of a connection; and keeps the longest time that epoll_wait was asked to wait for. Loaded before
+   the C library by tests/clients; no part of the program.
 
-   CALLS: a file of two numbers of 8 bytes: the calls that can't wait, and those that can. */
+   CALLS: a file of three numbers of 8 bytes: the calls that can't wait, those that can, and that time in milliseconds. */
 #define _GNU_SOURCE
 #include <dlfcn.h>
 #include <fcntl.h>
 #include <stdint.h>
 #include <stdlib.h>
+#include <sys/epoll.h>
 #include <sys/mman.h>
 #include <sys/socket.h>
 #include <unistd.h>
 
-enum { AT_ONCE, WAITING, NUMBERS };
+enum { AT_ONCE, WAITING, LONGEST, NUMBERS };
 enum { OTHER, TAKEN, READ, FILES = 4096 };
 
 static int64_t nowhere[NUMBERS], *calls = nowhere;
@@ -37,6 +39,15 @@ static void count(int file, int flags, int may_wait)
     stages[file] = READ;
     if (!is_first)
         __atomic_add_fetch(&calls[flags & MSG_DONTWAIT ? AT_ONCE : WAITING], 1, __ATOMIC_SEQ_CST);
+}
+
+int epoll_wait(int file, struct epoll_event *events, int most, int millis)
+{
+    int (*next)(int, struct epoll_event *, int, int) = dlsym(RTLD_NEXT, "epoll_wait");
+    int64_t asked = millis < 0 ? INT64_MAX : millis, longest = __atomic_load_n(&calls[LONGEST], __ATOMIC_SEQ_CST);
+    while (asked > longest && !__atomic_compare_exchange_n(&calls[LONGEST], &longest, asked, 0, __ATOMIC_SEQ_CST, __ATOMIC_SEQ_CST))
+        ;
+    return next(file, events, most, millis);
 }
 
 int accept4(int file, struct sockaddr *from, socklen_t *size, int flags)

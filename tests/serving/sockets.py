@@ -39,6 +39,8 @@ CONNECTED = 0.5
 LEAST_AT_ONCE = 5
 """To each of two requests belong a call for the answer and one for what is behind the request, to the one in pieces one for the
 second piece."""
+LONGEST_WAIT = 1000
+"""For how many milliseconds a worker may wait that looks after connections."""
 
 
 def addresses_of(port):
@@ -176,19 +178,22 @@ def options_at(program, port):
 
 
 def calls_at_connections(program):
-    """No call at a connection waits but the first one: not for the rest of a request, nor to send its answer, nor behind that."""
+    """No call at a connection waits but the first one: not for the rest of a request, nor to send its answer, nor behind that. The
+    system is asked to wait for a second at most."""
     shim = built("waiting-calls.so", "tests/waiting-calls.c", "-shared", "-fPIC", "-O1", "-ldl")
     with tempfile.TemporaryDirectory() as folder:
         path = Path(folder, "calls")
-        path.write_bytes(bytes(16))
+        path.write_bytes(bytes(24))
         with Server(program, 2, env={**os.environ, "LD_PRELOAD": str(shim), "CALLS": str(path)}) as server:
             yield from talk_over(server, registered(A))
             wanted = look(A, "removed", 0, None)
             yield from sent(server, [wanted.request[:-1], wanted.request[-1:]], wanted.answer, PAUSE)
             yield from server.end()
-        at_once, waiting = struct.unpack("=2q", path.read_bytes())
+        at_once, waiting, longest = struct.unpack("=3q", path.read_bytes())
         if at_once < LEAST_AT_ONCE or waiting:
             yield f"{at_once} calls that can't wait, and {waiting} that can"
+        if not 0 < longest <= LONGEST_WAIT:
+            yield f"a wait of {longest} ms"
 
 
 def last_line_that_nobody_reads(program):
