@@ -1,7 +1,5 @@
 -- One request for each line.
-use Rattle.std.proofs.Common.{◌≡◌, ◌≢◌, ◌∙◌, ◌↔◌, ℕ, Bool, List, [], ◌∷◌, Some, inl, refl, sym, subst, arith}
-use Rattle.std.specs.Prelude.{IsTrue}
-use Rattle.mds_core.specs.declared.request.Request.{Request}
+use Rattle.std.proofs.Common.{◌≡◌, ◌≢◌, ◌∙◌, ℕ, List, [], ◌∷◌, Some, inl, refl, sym, subst, arith}
 use Rattle.mds_core.specs.declared.request.Request.TheVariants.{Register, Report, Look}
 use Rattle.mds_batch.specs.declared.batch.BatchFault.{BatchFault}
 use Rattle.mds_batch.specs.declared.batch.BatchFault.TheVariants as batch
@@ -17,9 +15,8 @@ use Rattle.mds_batch.specs.Batch.{HasItems, HasFault, IsItemText, HasItemFault}
 use Rattle.mds_batch.proofs.ItemLaws.{one_event_item, one_vehicle_item}
 use Rattle.mds_batch.proofs.BatchLaws.{one_list, batches_have_no_fault}
 use Rattle.mds_core.specs.declared.key.Key.{Key}
-use Rattle.mds_entries.specs.declared.entry.EntryFault.{EntryFault}
-use Rattle.mds_entries.specs.declared.entry.EntryFault.TheVariants.{Memory, BadLine, NoLine}
-use Rattle.mds_entries.specs.Entry.{Tells, IsFaultOfLine, IsFaultOfRequest, line_of, fault_of_text}
+use Rattle.mds_entries.specs.declared.entry.EntryFault.TheVariants.{BadLine}
+use Rattle.mds_entries.specs.Entry.{IsFaultOfLine, fault_of_text}
 use Rattle.mds_entries.specs.Laws.{LinesTellOneRequest}
 
 -- a text is one item of events
@@ -90,26 +87,3 @@ module _ (line : List ℕ) (is : IsItemText IsEventItem line (event.Fault (Missi
   batch_tells_none items has other (Report a) tells = let same : event.Fault (Missing EventId) ≡ event.Event a = one_item line _ _ is tells in cc
   batch_tells_none items has other (Register a) tells = other a (one_list IsVehicleItem one_vehicle_item line items (vehicle.Vehicle a ∷ []) has tells.1)
   batch_tells_none items has other (Look a) tells = tells
-
--- a text that doesn't tell the request it is laid out of
-pub line_fault : (request : Request) (text : List ℕ) (fault : EntryFault) → line_of request ≡ Some text → IsFaultOfLine text fault → IsFaultOfRequest request fault
-line_fault request text Memory is wrong = tt
-line_fault request text NoLine is wrong = absurd wrong
-line_fault request text BadLine is wrong = λ other same tells.
-    let texts : Some other ≡ Some text = sym same ∙ is in
-    let one : other ≡ text = cc in
-    wrong request (subst (λ (line : List ℕ). Tells line request) one tells)
-
--- a line that tells a request tells another one where they are the same
-pub tells_same : (line : List ℕ) (request read : Request) (is : Bool) → Tells line read → (IsTrue is ↔ (request ≡ read)) → IsTrue is ↔ Tells line request
-tells_same line request read is told same = (
-  λ yes. subst (λ (one : Request). Tells line one) (sym (same.0 yes)) told,
-  λ tells. same.1 (lines_tell_one_request line request read tells told),
-)
-
--- a text that doesn't tell the request it is laid out of
-pub other_fault : (request : Request) (text : List ℕ) → line_of request ≡ Some text → (Tells text request → ⊥) → IsFaultOfRequest request BadLine
-other_fault request text is other = λ line same tells.
-    let texts : Some line ≡ Some text = sym same ∙ is in
-    let one : line ≡ text = cc in
-    other (subst (λ (l : List ℕ). Tells l request) one tells)

@@ -1,3 +1,10 @@
 -- Lemmas of this crate.
 pub mod EntryLemmas
-pub mod SameLemmas
+pub mod Printing
+pub mod PlainTexts
+pub mod LineData
+pub mod LineRead
+pub mod LineTold
+pub mod LineLength
+pub mod LineTells
+pub mod PlaceLemmas

@@ -1,4 +1,5 @@
 -- Definitions that the contracts cite.
+pub mod Whole
 pub mod Entry
 pub mod Form
 pub mod Laws

@@ -10,9 +10,9 @@ ghost use Rattle.mds_batch.specs.declared.item.ItemFault.TheVariants.{Missing};
 ghost use Rattle.mds_batch.specs.declared.member.Member.TheVariants.{EventId};
 ghost use Rattle.mds_entries.specs.Entry.{Tells, IsFaultOfLine, IsFaultOfRequest, line_of};
 
+use crate::whole::is_whole;
 use mds_batch::{BatchFault, EventItem, ItemFault, ItemReader, Member, VehicleItem, read_vehicles};
-use mds_core::{Event, Key, Position, Request};
-use mds_table::TypeName;
+use mds_core::{Event, Key, Request};
 use mds_texts::Text;
 use std::alloc::{AllocError, Global};
 
@@ -107,12 +107,12 @@ impl EntryReader {
         Ok(())
     }
 
-    /// The text of the line of a request, which stays until the next one is laid out. It is read back first, so that it tells this
-    /// very request.
+    /// The text of the line of a request, which stays until the next one is laid out.
     ///
     /// # Errors
     ///
-    /// `NoLine` for a look, `BadLine` where the text tells no request or another one, `Memory`.
+    /// `NoLine` for a look, `BadLine` where the text doesn't tell the request: so of an event whose position isn't on the Earth.
+    /// `Memory`.
     pub fn text_of(&mut self, request: &Request) -> Result<&str, EntryFault>
         ensures text { IfOk result (λ text. line_of request.now ≡ Some text.now) }
         ensures tells { IfOk result (λ text. Tells text.now request.now) }
@@ -123,10 +123,8 @@ impl EntryReader {
             Ok(false) => return Err(EntryFault::NoLine),
             Err(_) => return Err(EntryFault::Memory),
         }
-        match tells(self.alloc, &mut self.items, self.text.as_bytes(), request) {
-            Ok(true) => {}
-            Ok(false) => return Err(EntryFault::BadLine),
-            Err(fault) => return Err(fault),
+        if !is_whole(request) {
+            return Err(EntryFault::BadLine);
         }
         Ok(self.text.as_str())
     }
@@ -138,25 +136,6 @@ fn put_report(request: &mut Request, event: &Event)
     match request {
         Request::Report(before) => before.assign_from(event),
         _ => *request = Request::Report(*event),
-    }
-}
-
-/// Nothing of the line is copied.
-fn tells(
-    alloc: Global,
-    items: &mut ItemReader,
-    line: &[u8],
-    request: &Request,
-) -> Result<bool, EntryFault>
-    ensures told { IfOk result (λ told. IsTrue told ↔ Tells line.now request.now) }
-    ensures fault { IfErr result (IsFaultOfLine line.now) }
-{
-    match items.read(line)? {
-        EventItem::Event(event) => Ok(is_report(request, event)),
-        EventItem::Fault(fault) => {
-            let key = read_registration(alloc, line, *fault)?;
-            Ok(is_registration(request, key))
-        }
     }
 }
 
@@ -214,53 +193,4 @@ fn lay_out(text: &mut String, request: &Request) -> Result<bool, AllocError>
         }
         Request::Look(_) => Ok(false),
     }
-}
-
-fn is_report(request: &Request, event: &Event) -> bool
-    ensures { IsTrue result ↔ (request.now ≡ Report event.now) }
-{
-    match request {
-        Request::Report(other) => is_same_event(other, event),
-        Request::Register(_) | Request::Look(_) => false,
-    }
-}
-
-fn is_registration(request: &Request, key: Key) -> bool
-    ensures { IsTrue result ↔ (request.now ≡ Register key) }
-{
-    match request {
-        Request::Register(other) => *other == key,
-        Request::Report(_) | Request::Look(_) => false,
-    }
-}
-
-fn is_same_event(event: &Event, other: &Event) -> bool
-    ensures { IsTrue result ↔ (event.now ≡ other.now) }
-{
-    if event.key() != other.key() {
-        return false;
-    }
-    if event.id() != other.id() {
-        return false;
-    }
-    if event.state() != other.state() {
-        return false;
-    }
-    if !are_same_types(event.types(), other.types()) {
-        return false;
-    }
-    event.time() == other.time() && is_same_place(event.position(), other.position())
-}
-
-#[tactic(auto, using(crate::proofs::SameLemmas::same_types))]
-fn are_same_types(types: &[TypeName], others: &[TypeName]) -> bool
-    ensures { IsTrue result ↔ (types.now ≡ others.now) }
-{
-    types == others
-}
-
-fn is_same_place(place: Option<Position>, other: Option<Position>) -> bool
-    ensures { IsTrue result ↔ (place ≡ other) }
-{
-    place == other
 }
