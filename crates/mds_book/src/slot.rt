@@ -79,8 +79,9 @@ impl<L: ShardLedger, const N: usize> Drop for Slot<L, N> {
 }
 
 impl<L: ShardLedger, const N: usize> Model for Slot<L, N> {
-    ghost use Rattle.std.specs.Prelude.{◌≡◌, length};
+    ghost use Rattle.std.specs.Prelude.{◌≡◌, ◌<◌, ◌^◌, length};
     ghost use Rattle.mds_core.specs.Machine.{Machine};
+    ghost use Rattle.mds_core.specs.Lawful.{IsLawful};
     ghost use Rattle.mds_log.specs.Log.{requests};
     ghost use Rattle.mds_book.specs.Shards.{AreOfShard};
 
@@ -91,7 +92,9 @@ impl<L: ShardLedger, const N: usize> Model for Slot<L, N> {
     ghost invariant = { λ slot. (slot.shard.tables ≡ L.tables)
         × AreOfShard N slot.shard.history
         × (slot.accepted.total ≡ length slot.shard.history)
-        × (requests slot.keeper ≡ slot.shard.history) };
+        × (requests slot.keeper ≡ slot.shard.history)
+        × IsLawful slot.shard.tables slot.shard.history
+        × (length slot.shard.history < 2 ^ 63) };
 }
 
 impl<L: ShardLedger, const N: usize> Slot<L, N> {
@@ -152,8 +155,6 @@ impl<L: ShardLedger, const N: usize> Slot<L, N> {
         ensures lawful { IsLawful self.now.tables self.now.history }
         ensures of_shard { AreOfShard N self.now.history }
     {
-        // This call's contract says that the history is lawful.
-        let _ = self.shard.len();
         &self.shard
     }
 
@@ -180,8 +181,6 @@ impl<L: ShardLedger, const N: usize> Slot<L, N> {
         ensures slot { self.new ≡ self.old }
         ensures begins { IsPrefix front.now whole.now }
     {
-        // This call's contract says that the history is no longer than a list can be.
-        let _ = self.shard.len();
         self.keeper.tell_whole(whole);
         let mut shown = front.again();
         self.keeper.show(&mut shown);
@@ -196,8 +195,6 @@ impl<L: ShardLedger, const N: usize> Slot<L, N> {
         ensures count { part.new.count ≡ part.old.count }
         ensures mark { part.new.mark ≡ part.old.mark }
     {
-        // This call's contract says that the history is no longer than a list can be.
-        let _ = self.shard.len();
         part.sight.look(&mut self.keeper);
     }
 
@@ -213,8 +210,6 @@ impl<L: ShardLedger, const N: usize> Slot<L, N> {
         ensures whole { OnOk result (progress.new.seen ≡ self.old.history) }
         ensures unchanged { OnErr result (progress.new ≡ progress.old) }
     {
-        // This call's contract says that the history is lawful, and no longer than a list can be.
-        let _ = self.shard.len();
         let mut seen = progress.front().again();
         self.keeper.show(&mut seen);
         let from = progress.count();
@@ -242,8 +237,6 @@ impl<L: ShardLedger, const N: usize> Slot<L, N> {
         ensures nears { steps_left result ≤ from }
         ensures capacity { vec_capacity piece.old ≤ vec_capacity piece.new }
     {
-        // This call's contract says that the history is no longer than a list can be.
-        let _ = self.shard.len();
         let mut shown = seen.again();
         self.keeper.show(&mut shown);
         self.shard.walk_back(from, piece)
@@ -254,8 +247,6 @@ impl<L: ShardLedger, const N: usize> Slot<L, N> {
         ensures slot { self.new ≡ self.old }
         ensures begins { IsPrefix progress.now.seen self.old.history }
     {
-        // This call's contract says that the history is no longer than a list can be.
-        let _ = self.shard.len();
         let mut seen = progress.front().again();
         self.keeper.show(&mut seen);
     }
@@ -265,8 +256,6 @@ impl<L: ShardLedger, const N: usize> Slot<L, N> {
         ensures copied { result ≡ true → IsPrefix (requests_of (requests seen.now) key.now)
             (requests_of (copied_requests progress.now) key.now) }
     {
-        // This call's contract says that the history is no longer than a list can be.
-        let _ = self.shard.len();
         let mut shown = seen.again();
         self.keeper.show(&mut shown);
         let end = self.shard.end_of(key);
@@ -306,8 +295,7 @@ impl<L: ShardLedger, const N: usize> Slot<L, N> {
             accepted,
             keeper,
         } = self;
-        // The contracts of these calls say that the history is lawful, and that the part's count is no more than its length.
-        let _ = shard.len();
+        // This call's contract says that the part's count is no more than the history's length.
         part.audit(accepted);
         let Ok(reply) = shard.step(request) else {
             return Err(AllocError);

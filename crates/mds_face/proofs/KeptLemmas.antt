@@ -11,7 +11,7 @@ use Rattle.mds_response.specs.Found.{Finding}
 use Rattle.mds_response.specs.Head.{answer_text}
 use Rattle.mds_response.specs.Answer.{answer_to}
 use Rattle.mds_face.specs.declared.connection.Served.{Served}
-use Rattle.mds_face.specs.declared.kept_desk.KeepFault.{KeepFault}
+use Rattle.mds_book.specs.declared.record_fault.RecordFault.{RecordFault}
 use Rattle.mds_face.specs.declared.kept_desk.KeptFault.{KeptFault}
 use Rattle.mds_face.specs.declared.connection.ServeFault.{ServeFault}
 use Rattle.mds_face.specs.declared.connection.ServeFault.TheVariants.{Read, Write, Memory, TooManyTurns}
@@ -21,7 +21,7 @@ use Rattle.mds_face.proofs.ConnectionLemmas.{stops_unwritten}
 use Rattle.mds_face.specs.Kept.{IsKeptAnswer, IsKeptStop, IsServedKept, Leaves, StopsKept, StopsUnreadKept, StopsWhole}
 
 module _ {S : Type 0} (Calls : S → Request → Option Reply → S → Type 0) (GivesEvents : S → Key → Option (List Reported) → S → Type 0) (GivesRows : S → Tables → Type 0)
-    (IsKept : S → Option Key → Type 0) (KeepsDesk : S → Result (Unit {0}) KeepFault → S → Type 0) where
+    (IsKept : S → Option Key → Type 0) (KeepsDesk : S → Result (Unit {0}) RecordFault → S → Type 0) where
   -- an answer that wasn't written whole, once what it rests on was recorded, stops the connection
   pub stops_unwritten_kept : (what : Asked) (old middle new : S) (found : Finding) (written_old written_new : Option (List ℕ)) (fault : ServeFault)
       → Finds Calls GivesEvents GivesRows old what found middle → IsUnwritten (answer_text (answer_to what found)) written_old written_new fault

@@ -14,8 +14,8 @@ use Rattle.mds_response.specs.Found.{Finding}
 use Rattle.mds_response.specs.Head.{not_kept_text}
 use Rattle.mds_face.specs.declared.connection.Served.{Served}
 use Rattle.mds_face.specs.declared.connection.ServeFault.TheVariants as serve
-use Rattle.mds_face.specs.declared.kept_desk.KeepFault.{KeepFault}
-use Rattle.mds_face.specs.declared.kept_desk.KeepFault.TheVariants as keep
+use Rattle.mds_book.specs.declared.record_fault.RecordFault.{RecordFault}
+use Rattle.mds_book.specs.declared.record_fault.RecordFault.TheVariants as keep
 use Rattle.mds_face.specs.declared.kept_desk.KeptFault.{KeptFault}
 use Rattle.mds_face.specs.declared.kept_desk.KeptFault.TheVariants.{Serve, NotKept, Lost}
 use Rattle.mds_face.specs.Serving.{Finds, IsAnsweredWhole, IsAsked}
@@ -46,7 +46,7 @@ IsNotKeptAnswer old new sent =
     (sent ≤ length not_kept_text) × Appends old new (take sent not_kept_text)
 
 -- what goes out in place of an answer, by why what it rests on isn't recorded
-abbrev pub IsInstead : KeepFault → Option (List ℕ) → Option (List ℕ) → KeptFault → Type 0
+abbrev pub IsInstead : RecordFault → Option (List ℕ) → Option (List ℕ) → KeptFault → Type 0
 IsInstead keep.Memory old new fault =
     (sent : ℕ) × (fault ≡ Serve (serve.Memory sent)) × IsFixedAnswer old new sent
 IsInstead keep.NotKept old new fault =
@@ -58,7 +58,7 @@ IsInstead keep.Lost old new fault = (fault ≡ Lost) × Keeps old new
 module _ {S : Type 0} (Calls : S → Request → Option Reply → S → Type 0)
     (GivesEvents : S → Key → Option (List Reported) → S → Type 0) (GivesRows : S → Tables → Type 0)
     (IsKept : S → Option Key → Type 0)
-    (KeepsDesk : S → Result (Unit {0}) KeepFault → S → Type 0) where
+    (KeepsDesk : S → Result (Unit {0}) RecordFault → S → Type 0) where
   -- what the answer rests on is recorded, if it rests on anything
   abbrev pub Leaves : Asked → S → S → Type 0
   Leaves what middle new =

@@ -11,6 +11,7 @@ use crate::asking::blank_request;
 use crate::connection::{find, out_of_memory, served_of, write_answer};
 use crate::{Desk, ServeFault, Served, read_plan};
 use mds_batch::BatchReader;
+use mds_book::RecordFault;
 use mds_core::{Key, Request};
 use mds_io::{MAX_CALLS, ReadError, write_all_of};
 use mds_request::{Face, Head, Plan};
@@ -18,21 +19,10 @@ use mds_response::{bytes_of, not_kept_bytes};
 use std::alloc::{AllocError, Global};
 use std::io::{Read, Write};
 
-/// Why what answers rest on isn't known to be recorded.
-#[derive(Clone, Copy, Debug, PartialEq, Eq)]
-pub enum KeepFault {
-    /// There was no memory. It isn't, and may be later.
-    Memory,
-    /// It isn't, and may be later.
-    NotKept,
-    /// That is open, and nothing more will be recorded.
-    Lost,
-}
-
 /// A desk that can see to it that what its answers rest on is recorded.
 pub trait KeptDesk: Desk {
     ghost use Rattle.std.specs.Prelude.{OnOk, Option, Result};
-    ghost use Rattle.mds_face.specs.declared.kept_desk.KeepFault.{KeepFault as Fault};
+    ghost use Rattle.mds_book.specs.declared.record_fault.RecordFault.{RecordFault as Fault};
     ghost use Rattle.mds_core.specs.declared.key.Key.{Key as About};
 
     /// In this state all is recorded that answers about this vehicle rest on; with none named, all that any answer
@@ -46,8 +36,8 @@ pub trait KeptDesk: Desk {
     ///
     /// # Errors
     ///
-    /// [`KeepFault`] says when each comes.
-    fn keep(&mut self, about: Option<Key>) -> Result<(), KeepFault>
+    /// [`RecordFault`] says when each comes.
+    fn keep(&mut self, about: Option<Key>) -> Result<(), RecordFault>
         ensures kept { OnOk result (is_kept self.new about) }
         ensures keeps { keeps self.old result self.new };
 }
@@ -187,7 +177,11 @@ fn answer_kept<W: Write, D: KeptDesk>(
 }
 
 /// Where the answer doesn't rest on what was accepted, nothing is kept.
-fn keep_if<D: KeptDesk>(desk: &mut D, of_history: bool, about: Option<Key>) -> Result<(), KeepFault>
+fn keep_if<D: KeptDesk>(
+    desk: &mut D,
+    of_history: bool,
+    about: Option<Key>,
+) -> Result<(), RecordFault>
     ensures kept { OnOk result (of_history ≡ true → D.is_kept desk.new about) }
     ensures keeps { MatchBool of_history (D.keeps desk.old result desk.new) (desk.new ≡ desk.old) }
     ensures none { of_history ≡ false → IsOk result }
@@ -234,12 +228,12 @@ fn write_kept<W: Write, D: KeptDesk>(
     write_answer(writer, bytes, &mut calls)
 }
 
-fn not_kept<W: Write>(writer: &mut W, fault: KeepFault) -> KeptFault
+fn not_kept<W: Write>(writer: &mut W, fault: RecordFault) -> KeptFault
     ensures { IsInstead fault (W.contents writer.old) (W.contents writer.new) result }
 {
     match fault {
-        KeepFault::Memory => KeptFault::Serve(out_of_memory(writer)),
-        KeepFault::NotKept => {
+        RecordFault::Memory => KeptFault::Serve(out_of_memory(writer)),
+        RecordFault::NotKept => {
             let mut calls = MAX_CALLS;
             let sent = match write_all_of(writer, not_kept_bytes(), &mut calls) {
                 Ok(()) => not_kept_bytes().len(),
@@ -247,6 +241,6 @@ fn not_kept<W: Write>(writer: &mut W, fault: KeepFault) -> KeptFault
             };
             KeptFault::NotKept { sent }
         }
-        KeepFault::Lost => KeptFault::Lost,
+        RecordFault::Lost => KeptFault::Lost,
     }
 }

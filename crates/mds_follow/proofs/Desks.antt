@@ -4,8 +4,8 @@ use Rattle.std.proofs.lemmas.List.{length-map}
 use Rattle.mds_core.specs.declared.request.Request.{Request}
 use Rattle.mds_log.specs.Log.{Acceptance, requests}
 use Rattle.mds_log.proofs.Lists.{prefix_trans}
-use Rattle.mds_follow.specs.declared.record.RecordFault.{RecordFault}
-use Rattle.mds_follow.specs.declared.record.RecordFault.TheVariants.{Memory, NotKept, Lost}
+use Rattle.mds_book.specs.declared.record_fault.RecordFault.{RecordFault}
+use Rattle.mds_book.specs.declared.record_fault.RecordFault.TheVariants.{Memory, NotKept, Lost}
 use Rattle.mds_follow.specs.Record.{IsBeforeOrAfter, Passes, HasSame, recorded_at, IsSafe, BeginsAt, IsDesk}
 use Rattle.mds_follow.proofs.Safety.{safe_step, safe_more, recorded_requests}
 

@@ -10,8 +10,8 @@ use Rattle.mds_journal.specs.declared.journal.AppendError.TheVariants.{NotWritte
 use Rattle.mds_journal.specs.declared.journal.AppendError.TheVariants.{Unknown, Lost}
 use Rattle.mds_entries.specs.Entry.{Tells}
 use Rattle.mds_entries.specs.Form.{form_line}
-use Rattle.mds_follow.specs.declared.record.RecordFault.{RecordFault}
-use Rattle.mds_follow.specs.declared.record.RecordFault.TheVariants as record_fault
+use Rattle.mds_book.specs.declared.record_fault.RecordFault.{RecordFault}
+use Rattle.mds_book.specs.declared.record_fault.RecordFault.TheVariants as record_fault
 
 -- what an append that failed says of the requests
 abbrev pub fault_of : AppendError → RecordFault

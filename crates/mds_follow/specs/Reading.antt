@@ -18,8 +18,8 @@ use Rattle.mds_journal.specs.declared.fault.JournalFault.TheVariants.{Refused, D
 use Rattle.mds_entries.specs.Entry.{Tells}
 use Rattle.mds_entries.specs.Form.{form_line}
 use Rattle.mds_follow.specs.Disk.{IsTold}
-use Rattle.mds_follow.specs.declared.record.RecordFault.{RecordFault}
-use Rattle.mds_follow.specs.declared.record.RecordFault.TheVariants as record_kind
+use Rattle.mds_book.specs.declared.record_fault.RecordFault.{RecordFault}
+use Rattle.mds_book.specs.declared.record_fault.RecordFault.TheVariants as record_kind
 use Rattle.mds_follow.specs.declared.start_fault.StartFault.{StartFault}
 use Rattle.mds_follow.specs.declared.start_fault.StartFault.TheVariants.{Memory, Device}
 use Rattle.mds_follow.specs.declared.start_fault.StartFault.TheVariants.{Journal, Shared}

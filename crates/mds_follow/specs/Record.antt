@@ -5,8 +5,8 @@ use mathlib.Core.List.{IsPrefix}
 use Rattle.mds_core.specs.declared.request.Request.{Request}
 use Rattle.mds_log.specs.Log.{Acceptance, requests}
 use Rattle.mds_follow.specs.Parts.{part}
-use Rattle.mds_follow.specs.declared.record.RecordFault.{RecordFault}
-use Rattle.mds_follow.specs.declared.record.RecordFault.TheVariants.{Memory, NotKept, Lost}
+use Rattle.mds_book.specs.declared.record_fault.RecordFault.{RecordFault}
+use Rattle.mds_book.specs.declared.record_fault.RecordFault.TheVariants.{Memory, NotKept, Lost}
 
 -- these requests, with all of a group behind them or with none of it
 abbrev pub IsBeforeOrAfter : List Request → List Request → List Request → Type 0

@@ -5,7 +5,8 @@ ghost use Rattle.mds_core.specs.declared.request.Request.{Request as Requested};
 ghost use Rattle.mds_log.specs.Log.{requests};
 ghost use Rattle.mds_follow.specs.Record.{HasSame, IsBeforeOrAfter, IsDesk, recorded_at};
 
-use crate::{Record, RecordFault, RecordLog};
+use crate::{Record, RecordLog};
+use mds_book::RecordFault;
 use mds_core::Request;
 use mds_log::{Keeper, Tagged};
 

@@ -5,10 +5,11 @@ ghost use Rattle.mds_entries.specs.Entry.{Tells};
 ghost use Rattle.mds_journal.specs.Device.{LeavesOnly};
 ghost use Rattle.mds_journal.specs.Lines.{recovered_texts};
 ghost use Rattle.mds_journal.specs.Journal.{IsSound, MayGoOn};
-ghost use Rattle.mds_follow.specs.Disk.{MayBeBegun, Stands};
+ghost use Rattle.mds_follow.specs.Disk.{MayBeBegun, Stands, fault_of};
 ghost use Rattle.mds_follow.specs.Record.{HasSame};
 
-use crate::{Record, RecordFault};
+use crate::Record;
+use mds_book::RecordFault;
 use mds_core::Request;
 use mds_entries::{EntryFault, EntryReader, form_text};
 use mds_journal::{AppendError, Device, Group, Journal, PushError};
@@ -65,21 +66,17 @@ impl<D: Device> Disk<D> {
                 reader: EntryReader::new(alloc),
                 group,
             }),
-            Err(error) => Err((RecordFault::from(error), journal)),
+            Err(error) => Err((fault_of(error), journal)),
         }
     }
 }
 
-impl From<AppendError> for RecordFault {
-    ghost use Rattle.mds_follow.specs.Disk.{fault_of};
-
-    ghost from_gives = { λ error fault. fault ≡ fault_of error };
-
-    fn from(error: AppendError) -> RecordFault {
-        match error {
-            AppendError::NotWritten(_) | AppendError::Full => RecordFault::NotKept,
-            AppendError::Unknown(_) | AppendError::Lost => RecordFault::Lost,
-        }
+fn fault_of(error: AppendError) -> RecordFault
+    ensures { result ≡ fault_of error }
+{
+    match error {
+        AppendError::NotWritten(_) | AppendError::Full => RecordFault::NotKept,
+        AppendError::Unknown(_) | AppendError::Lost => RecordFault::Lost,
     }
 }
 
@@ -145,7 +142,9 @@ impl<D: Device> Record for Disk<D> {
 
     fn append(&mut self, group: &[Request]) -> Result<(), RecordFault> {
         lay_out(&mut self.reader, &mut self.group, group)?;
-        self.journal.append(&self.group)?;
-        Ok(())
+        match self.journal.append(&self.group) {
+            Ok(()) => Ok(()),
+            Err(error) => Err(fault_of(error)),
+        }
     }
 }

@@ -9,8 +9,8 @@ ghost use Rattle.mds_follow.specs.Restart.{IsRead, IsRefilled};
 ghost use Rattle.mds_follow.specs.Group.{IsGroup};
 
 use crate::desk::Desk;
-use crate::{Receipt, Record, RecordFault, RecordLog};
-use mds_book::{Book, Copies, Progress, Seat, Settled, ShardLedger};
+use crate::{Receipt, Record, RecordLog};
+use mds_book::{Book, Copies, Progress, RecordFault, Seat, Settled, ShardLedger};
 use mds_log::Keeper;
 use std::alloc::{AllocError, Global};
 use std::marker::Model;

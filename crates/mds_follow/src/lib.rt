@@ -28,7 +28,7 @@ pub use disk::Disk;
 pub use follower::Follower;
 pub use reader::RequestReader;
 pub use receipt::Receipt;
-pub use record::{Record, RecordFault, RecordLog};
+pub use record::{Record, RecordLog};
 pub use restart::resume;
 pub use shared::SharedFollower;
 pub use start_fault::StartFault;

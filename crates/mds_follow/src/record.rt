@@ -3,20 +3,10 @@ ghost use Rattle.std.specs.Prelude.{◌≡◌, ◌++◌, ℕ, List, OnOk, IfErr}
 ghost use Rattle.mds_core.specs.declared.request.Request.{Request as Requested};
 ghost use Rattle.mds_follow.specs.Record.{HasSame, IsBeforeOrAfter, Passes};
 
+use mds_book::RecordFault;
 use mds_core::Request;
 use mds_log::{Logged, Tagged};
 use std::marker::Brand;
-
-/// Why requests aren't known to be recorded.
-#[derive(Clone, Copy, Debug, PartialEq, Eq)]
-pub enum RecordFault {
-    /// There was no memory. None is recorded, and the record may go on.
-    Memory,
-    /// A write failed. None is recorded, and the record may go on.
-    NotKept,
-    /// It is open whether they are recorded. Nothing more will be.
-    Lost,
-}
 
 /// A file in which requests are recorded, so that a restart reads them. Its tag is the moment: a number that doesn't fall.
 ///

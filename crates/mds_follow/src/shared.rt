@@ -4,8 +4,8 @@ ghost use mathlib.Core.List.{IsPrefix};
 ghost use Rattle.mds_log.specs.Log.{requests};
 ghost use Rattle.mds_follow.specs.Parts.{Covers, CoversAbout};
 
-use crate::{Follower, Receipt, Record, RecordFault, RecordLog};
-use mds_book::{Book, Seat, ShardLedger};
+use crate::{Follower, Receipt, Record, RecordLog};
+use mds_book::{Book, RecordFault, Seat, ShardLedger};
 use mds_core::Key;
 use std::sync::{Mutex, Wait};
 

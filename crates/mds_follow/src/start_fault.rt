@@ -2,7 +2,7 @@
 ghost use Rattle.std.specs.Prelude.{◌≡◌};
 ghost use Rattle.mds_follow.specs.Reading.{IsNoJournalFault, line_fault};
 
-use crate::RecordFault;
+use mds_book::RecordFault;
 use mds_journal::{DeviceError, JournalFault, OpenError};
 
 /// Why a book isn't open over a journal.

@@ -18,7 +18,7 @@ use Rattle.mds_face.specs.declared.connection.ServeFault.TheVariants.{Read, Writ
 use Rattle.mds_face.specs.Asking.{registration_of, report_in}
 use Rattle.mds_face.specs.Desk.{AreCalls}
 use Rattle.mds_face.specs.Serving.{Finds, FindsNoMemory, StopsAsked, StopsUnread}
-use Rattle.mds_face.specs.declared.kept_desk.KeepFault.{KeepFault}
+use Rattle.mds_book.specs.declared.record_fault.RecordFault.{RecordFault}
 use Rattle.mds_face.specs.declared.kept_desk.KeptFault.{KeptFault}
 use Rattle.mds_face.specs.declared.kept_desk.KeptFault.TheVariants.{Serve, NotKept, Lost}
 use Rattle.mds_face.specs.Kept.{IsKeptStop, IsServedKept, Leaves, StopsKept}
@@ -67,8 +67,8 @@ module _ {S : Type 0} (Calls : S → Request → Option Reply → S → Type 0) 
   stops_unread_grow (TooManyTurns sent) old new written written_new stops = same_grows old new stops.0
 
   -- besides, of a desk that sees to it that what its answers rest on is recorded
-  module _ (IsKept : S → Option Key → Type 0) (KeepsDesk : S → Result (Unit {0}) KeepFault → S → Type 0)
-      (kept : (old new : S) (answer : Result (Unit {0}) KeepFault) → KeepsDesk old answer new → Grows old new) where
+  module _ (IsKept : S → Option Key → Type 0) (KeepsDesk : S → Result (Unit {0}) RecordFault → S → Type 0)
+      (kept : (old new : S) (answer : Result (Unit {0}) RecordFault) → KeepsDesk old answer new → Grows old new) where
     pub leaves_grow : (what : Asked) (old new : S) → Leaves Calls GivesEvents GivesRows IsKept KeepsDesk what old new → Grows old new
     leaves_grow (asked.Fixed fault) old new leaves = same_grows old new leaves
     leaves_grow (asked.Vehicles items) old new leaves = kept old new _ leaves.0

@@ -7,22 +7,12 @@ use Rattle.mds_core.specs.declared.request.Request.{Request}
 use Rattle.mds_log.specs.Log.{Acceptance, requests}
 use Rattle.mds_book.specs.Gathering.{Collected}
 use Rattle.mds_book.specs.Seats.{Seated, new_seat}
-use Rattle.mds_face.specs.declared.kept_desk.KeepFault.{KeepFault}
-use Rattle.mds_face.specs.declared.kept_desk.KeepFault.TheVariants as keep
 use Rattle.mds_follow.specs.Parts.{Covers, part}
 use Rattle.mds_follow.specs.Record.{IsDesk, IsSound}
 use Rattle.mds_follow.specs.Restart.{IsRefilled}
-use Rattle.mds_follow.specs.declared.record.RecordFault.{RecordFault}
-use Rattle.mds_follow.specs.declared.record.RecordFault.TheVariants.{Memory, NotKept, Lost}
 use Rattle.mds_pool.specs.declared.recorded_book.RecordedStop.{RecordedStop}
 use Rattle.mds_pool.specs.declared.recorded_book.RecordedStop.TheVariants.{Serve, Journal}
 use Rattle.mds_pool.specs.Serving.{IsEnded}
-
--- what a fault of a record says of the answers that rest on it
-abbrev pub keep_fault : RecordFault → KeepFault
-keep_fault Memory = keep.Memory
-keep_fault NotKept = keep.NotKept
-keep_fault Lost = keep.Lost
 
 -- the first seat alone has asked what is recorded, and the others were told nothing
 pub record AreResumed (seats : List Seated) (told : List Acceptance) : Type 0 where

@@ -15,11 +15,10 @@ use crate::pool::serve_round;
 use crate::recorder::Journal;
 use crate::serving::{open_book, settle};
 use crate::{Alarm, FinalBook, NewBook, Port, Stop};
-use mds_book::{Book, OpenGate, Seat, Settled, ShardLedger};
+use mds_book::{Book, OpenGate, RecordFault, Seat, Settled, ShardLedger};
 use mds_face::Face;
 use mds_follow::{
-    Disk, Follower, Record, RecordFault, RecordLog, RequestReader, SharedFollower, StartFault,
-    resume,
+    Disk, Follower, Record, RecordLog, RequestReader, SharedFollower, StartFault, resume,
 };
 use mds_journal::Device;
 use mds_log::BlankLog;

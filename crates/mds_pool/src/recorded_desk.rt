@@ -2,9 +2,9 @@
 ghost use Rattle.std.specs.Prelude.{◌≡◌, OnOk};
 
 use crate::Recorder;
-use mds_book::{Book, Seat, ShardLedger};
+use mds_book::{Book, RecordFault, Seat, ShardLedger};
 use mds_core::{Event, EventList, Key, Reply, Request};
-use mds_face::{Desk, KeepFault, KeptDesk, SeatDesk};
+use mds_face::{Desk, KeptDesk, SeatDesk};
 use mds_table::Row;
 use std::alloc::AllocError;
 use std::sync::Wait;
@@ -64,7 +64,7 @@ impl<R: Wait, L: ShardLedger, M: ShardLedger, K: Recorder<L, M>> KeptDesk
 
     ghost keeps = { λ old answer new. new.desk ≡ old.desk };
 
-    fn keep(&mut self, about: Option<Key>) -> Result<(), KeepFault> {
+    fn keep(&mut self, about: Option<Key>) -> Result<(), RecordFault> {
         commit_seat(
             self.recorder,
             self.desk.rt,
@@ -83,7 +83,7 @@ fn commit_seat<R: Wait, L: ShardLedger, M: ShardLedger, K: Recorder<L, M>>(
     seat: &mut Seat<L, M>,
     about: Option<Key>,
     receipt: &mut K::Receipt,
-) -> Result<(), KeepFault>
+) -> Result<(), RecordFault>
     ensures covers { OnOk result (K.covers receipt.new about seat.new) }
     ensures same { seat.new ≡ seat.old }
 {

@@ -1,11 +1,9 @@
 //! What records what a book accepts, before an answer that rests on it goes out.
 ghost use Rattle.std.specs.Prelude.{◌≡◌, OnOk};
-ghost use Rattle.mds_pool.specs.Recording.{keep_fault};
 
-use mds_book::{Book, Seat, ShardLedger};
+use mds_book::{Book, RecordFault, Seat, ShardLedger};
 use mds_core::Key;
-use mds_face::KeepFault;
-use mds_follow::{Receipt, Record, RecordFault, RecordLog, SharedFollower};
+use mds_follow::{Receipt, Record, RecordLog, SharedFollower};
 use std::sync::Wait;
 
 /// What records what a book accepts, for any number of workers at once.
@@ -28,7 +26,7 @@ pub trait Recorder<L: ShardLedger, M: ShardLedger> {
     ///
     /// # Errors
     ///
-    /// [`KeepFault`] says when each comes.
+    /// [`RecordFault`] says when each comes.
     fn commit<R: Wait>(
         &self,
         rt: &R,
@@ -36,7 +34,7 @@ pub trait Recorder<L: ShardLedger, M: ShardLedger> {
         seat: &Seat<L, M>,
         about: Option<Key>,
         receipt: &mut Self::Receipt,
-    ) -> Result<(), KeepFault>
+    ) -> Result<(), RecordFault>
         ensures { OnOk result (covers receipt.new about seat.now) };
 }
 
@@ -60,7 +58,7 @@ impl<L: ShardLedger, M: ShardLedger> Recorder<L, M> for NoRecord {
         _seat: &Seat<L, M>,
         _about: Option<Key>,
         _receipt: &mut (),
-    ) -> Result<(), KeepFault> {
+    ) -> Result<(), RecordFault> {
         Ok(())
     }
 }
@@ -99,25 +97,11 @@ impl<F: Record, L: ShardLedger, M: ShardLedger, J: RecordLog, A: Alarm> Recorder
         seat: &Seat<L, M>,
         about: Option<Key>,
         receipt: &mut Receipt<L, M, J>,
-    ) -> Result<(), KeepFault> {
-        match self.follower.commit(rt, book, seat, about, receipt) {
-            Ok(()) => Ok(()),
-            Err(fault) => {
-                if fault == RecordFault::NotKept {
-                    self.alarm.tell_not_kept();
-                }
-                Err(keep_fault(fault))
-            }
+    ) -> Result<(), RecordFault> {
+        let committed = self.follower.commit(rt, book, seat, about, receipt);
+        if matches!(committed, Err(RecordFault::NotKept)) {
+            self.alarm.tell_not_kept();
         }
-    }
-}
-
-fn keep_fault(fault: RecordFault) -> KeepFault
-    ensures { result ≡ keep_fault fault }
-{
-    match fault {
-        RecordFault::Memory => KeepFault::Memory,
-        RecordFault::NotKept => KeepFault::NotKept,
-        RecordFault::Lost => KeepFault::Lost,
+        committed
     }
 }

@@ -87,8 +87,10 @@ impl Shard {
     pub fn step(&mut self, request: &Request) -> Result<Reply, AllocError>
         ensures step { IfOk result (λ reply. Steps self.old request.now reply self.new) }
         ensures memory { OnErr result (LacksMemory self.old request.now self.new) }
+        ensures lawful { IsLawful self.new.tables self.new.history }
+        ensures small { length self.new.history < 2 ^ 63 }
     {
-        let place = self.history.len();
+        let place = self.len();
         let (at, vehicle) = self.find(request.key());
         // An accepted event's name is looked up only where it is put in, and any other's only here.
         let mut known = Known {
@@ -158,6 +160,8 @@ impl Shard {
         ensures unchanged { OnErr result (self.new ≡ self.old) }
         ensures lacked { OnErr result (is_repeated
             (requests_of self.old.history (key_of request.now)) request.now ≡ false) }
+        ensures lawful { IsLawful self.new.tables self.new.history }
+        ensures small { length self.new.history < 2 ^ 63 }
     {
         let before = last_in(vehicle);
         let standing = standing_after(standing_in(vehicle), request);

@@ -6,11 +6,10 @@ ghost use Rattle.mds_book.specs.Seats.{new_seat};
 ghost use Rattle.mds_follow.specs.Disk.{IsTold};
 ghost use Rattle.mds_follow.specs.Reading.{IsAtFirstRequest};
 
-use mds_book::{Blank, Book, Keep, Seat, ShardLedger, reconcile};
+use mds_book::{Blank, Book, Keep, RecordFault, Seat, ShardLedger, reconcile};
 use mds_core::Request;
 use mds_follow::{
-    Disk, Follower, Receipt, Record, RecordFault, RecordLog, RequestReader, SharedFollower,
-    StartFault, resume,
+    Disk, Follower, Receipt, Record, RecordLog, RequestReader, SharedFollower, StartFault, resume,
 };
 use mds_journal::{Device, JournalFault, Memory};
 use mds_log::BlankLog;

@@ -3,10 +3,11 @@ use super::answers::{BOTH_REGISTER, LOOK_AT_A, fleet_over};
 use super::growths::register;
 use super::peer_of;
 use crate::cases::{Answer, NO_ROUTE, PROFILE, answer_text};
+use mds_book::RecordFault;
 use mds_core::{Event, EventList, Fleet, Key, Reply, Request};
 use mds_face::{
-    Desk, Face, Head, KeepFault, KeptDesk, KeptFault, Room, ServeFault, Served, memory_bytes,
-    not_kept_bytes, serve_kept, serve_whole,
+    Desk, Face, Head, KeptDesk, KeptFault, Room, ServeFault, Served, memory_bytes, not_kept_bytes,
+    serve_kept, serve_whole,
 };
 use mds_request::HeadStatus;
 use mds_table::Row;
@@ -18,7 +19,7 @@ use test_fixtures::{A, ENDS, Lack, pieces_of, rows};
 #[derive(Drop)]
 pub struct Recorded {
     pub fleet: Fleet,
-    pub end: Result<(), KeepFault>,
+    pub end: Result<(), RecordFault>,
 }
 
 impl Desk for Recorded {
@@ -63,7 +64,7 @@ impl KeptDesk for Recorded {
 
     ghost keeps = { λ old answer new. new.fleet ≡ old.fleet };
 
-    fn keep(&mut self, _about: Option<Key>) -> Result<(), KeepFault> {
+    fn keep(&mut self, _about: Option<Key>) -> Result<(), RecordFault> {
         self.end
     }
 }
@@ -72,7 +73,7 @@ impl KeptDesk for Recorded {
 type Said = Result<(u16, usize), KeptFault>;
 
 /// What is asked, whether what answers rest on is recorded, what is said of the connection, and what is written.
-type Case = (&'static str, Result<(), KeepFault>, Said, Written);
+type Case = (&'static str, Result<(), RecordFault>, Said, Written);
 
 /// What is written.
 enum Written {
@@ -99,12 +100,12 @@ const B_ALONE: Answer = ok!(
 
 const CASES: &[Case] = rows! {
     (LOOK_AT_A, Ok(()), Ok((200, 0)), Written::Answer(REGISTERED)),
-    (LOOK_AT_A, Err(KeepFault::NotKept), Err(KeptFault::NotKept { sent: 127 }), Written::NotKept),
-    (LOOK_AT_A, Err(KeepFault::Memory), Err(KeptFault::Serve(ServeFault::Memory { sent: 74 })), Written::Memory),
-    (LOOK_AT_A, Err(KeepFault::Lost), Err(KeptFault::Lost), Written::Nothing),
+    (LOOK_AT_A, Err(RecordFault::NotKept), Err(KeptFault::NotKept { sent: 127 }), Written::NotKept),
+    (LOOK_AT_A, Err(RecordFault::Memory), Err(KeptFault::Serve(ServeFault::Memory { sent: 74 })), Written::Memory),
+    (LOOK_AT_A, Err(RecordFault::Lost), Err(KeptFault::Lost), Written::Nothing),
     (BOTH_REGISTER, Ok(()), Ok((200, 1)), Written::Answer(B_ALONE)),
     // A fault of the request rests on nothing.
-    (NOWHERE, Err(KeepFault::Lost), Ok((404, 0)), Written::Answer(NO_ROUTE)),
+    (NOWHERE, Err(RecordFault::Lost), Ok((404, 0)), Written::Answer(NO_ROUTE)),
 };
 
 /// Serves a request: as one that is all there, if it is to be and its head has no fault, or as one that is read.

@@ -19,6 +19,6 @@ returns-clause-copied g c =
       behind = c.in_ok-extend.ensures;
       is_copied =
           is_copied _ _ c.args.progress.now items _ c.again-seen.result c.self.inside.keeper c.self.inside.shard.history
-          (ap (λ (w : List Acceptance). requests w) c.again-seen.ensures ∙ c.front.ensures) c.show.ensures.begins is.3 from.within (rw (← is.0) c.len.ensures.lawful) is.1 piece
+          (ap (λ (w : List Acceptance). requests w) c.again-seen.ensures ∙ c.front.ensures) c.show.ensures.begins is.3 from.within (rw (← is.0) is.4) is.1 piece
           (c.of.ensures ∙ (λ i. record { seen = seen_is i; count = count_is i }));
     }

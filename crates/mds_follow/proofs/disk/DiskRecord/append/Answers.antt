@@ -1,18 +1,18 @@
 use Rattle.mds_follow.proofs.Disks.{stands_more, was_usable, disk_passes, failed_passes}
 use Rattle.mds_follow.proofs.disk.DiskRecord.append.Goals as goal
 
-pub returns-clause-appended : goal.returns-clause-appended
-returns-clause-appended g c truth told stands =
+pub returns-in-Ok-clause-appended : goal.returns-in-Ok-clause-appended
+returns-in-Ok-clause-appended g c truth told stands =
     stands_more g.D.Device.seen g.D.Device.may_leave _ c.append.new.self.device c.lay_out.new.group told c.args.group.now stands c.in_ok-lay_out.ensures.told
-    (c.in_ok-append.ensures.acknowledged.1 truth)
+    (c.in-Ok.ensures.acknowledged.1 truth)
 
-pub returns-clause-any_moment : goal.returns-clause-any_moment
-returns-clause-any_moment g c truth told stands =
-    let go = was_usable c.args.self.now.journal _ tt c.in_ok-append.ensures.lost.1 in
+pub returns-in-Ok-clause-any_moment : goal.returns-in-Ok-clause-any_moment
+returns-in-Ok-clause-any_moment g c truth told stands =
+    let go = was_usable c.args.self.now.journal _ tt c.in-Ok.ensures.lost.1 in
     disk_passes g.D.Device.seen g.D.Device.may_leave g.D.Device.moment g.D.Device.left_since _ _ c.lay_out.new.group told c.args.group.now go
-    (c.in_ok-append.ensures.any_moment go truth) (stands go) c.in_ok-lay_out.ensures.told
+    (c.in-Ok.ensures.any_moment go truth) (stands go) c.in_ok-lay_out.ensures.told
 
-pub returns-in_err-append-clause-any_moment : goal.returns-in_err-append-clause-any_moment
-returns-in_err-append-clause-any_moment g c truth told stands =
-    failed_passes g.D.Device.seen g.D.Device.may_leave g.D.Device.moment g.D.Device.left_since _ _ c.lay_out.new.group told c.args.group.now _ c.in_err-append.ensures.refused
-    c.in_err-append.ensures.lost.1 (λ go. c.in_err-append.ensures.any_moment go truth) stands c.in_ok-lay_out.ensures.told
+pub returns-in-Err-clause-any_moment : goal.returns-in-Err-clause-any_moment
+returns-in-Err-clause-any_moment g c truth told stands =
+    failed_passes g.D.Device.seen g.D.Device.may_leave g.D.Device.moment g.D.Device.left_since _ _ c.lay_out.new.group told c.args.group.now _ c.in-Err.ensures.refused
+    c.in-Err.ensures.lost.1 (λ go. c.in-Err.ensures.any_moment go truth) stands c.in_ok-lay_out.ensures.told

@@ -3,6 +3,8 @@ use Rattle.std.specs.Prelude.{option_map}
 use Rattle.std.below.core.specs.declared.int.usize.TheConstants.{MAX}
 use Rattle.mds_core.specs.History.{key_of, requests_of, reports}
 use Rattle.mds_core.specs.Known.{is_repeated}
+use Rattle.mds_core.specs.declared.reply.Outcome.TheVariants.{Done}
+use Rattle.mds_core.proofs.Histories.{lawful_next}
 use Rattle.mds_shard.specs.Replay.{PutsVehicle, has_name}
 use Rattle.mds_shard.proofs.Names.{has_name_is, not_true}
 use Rattle.mds_shard.proofs.Replays.{replay_push, standing_kept, few_reports}
@@ -31,3 +33,16 @@ invariant_of-self-2 c =
     let before_is : c.push.new.self.items ≡ before ++ option_map (λ v. v.last) c.args.vehicle ∷ [] =
     c.in_ok-push.ensures.items ∙ ap (λ b. b ++ c.last_in-before.result ∷ []) c.make_room.ensures.before ∙ ap (λ e. before ++ e ∷ []) c.last_in-before.ensures in
     rw (history_is, before_is) pushed
+
+-- a lawful history stays lawful with a request that may be accepted behind it
+pub returns-clause-lawful : goal.returns-clause-lawful
+returns-clause-lawful c =
+    let inside = c.self.inside in
+    let history = inside.history.items in
+    let request = c.args.request.now in
+    let lacked = not_true (has_name inside.names request) (sym c.if-not-branch.false ∙ c.in_ok-keep.ensures.new) in
+    let new : is_repeated (requests_of history (key_of request)) request ≡ false = sym (has_name_is history inside.names request c.self.invariant.held) ∙ lacked in
+    let may = (rw (← c.self.view_is) at c.requires.accepted) new in
+    let history_is : c.extend_from_slice.new.self.items ≡ history ++ request ∷ [] =
+    c.in_ok-extend_from_slice.ensures.items ∙ ap (λ h. h ++ c.from_ref.result.now) c.make_room.ensures.history ∙ ap (λ r. history ++ r) c.from_ref.ensures.value in
+    rw history_is (lawful_next inside.tables history request Done c.self.invariant.lawful may)
