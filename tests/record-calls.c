@@ -8,7 +8,8 @@
    CONTROL: where it is given, a file of numbers of 8 bytes that are heeded while the program runs. ROOM: how many bytes the file
    may have, where it isn't negative. FAILING: the kind of call that fails, from the one of the number FROM on, counted from 1, and
    so MANY of them. A write that fails has put half of its bytes there. PAUSE: how many microseconds a sync waits before it begins.
-   Behind these stand the numbers of writes, cuts and syncs so far, and of syncs of the folder that the file is in. */
+   Behind these stand the numbers of writes, cuts, syncs and reads so far, and of syncs of the folder that the file is in. A read
+   isn't recorded. */
 #define _GNU_SOURCE
 #include <dlfcn.h>
 #include <errno.h>
@@ -24,8 +25,8 @@
 #include <sys/syscall.h>
 #include <unistd.h>
 
-enum { WRITE = 1, CUT, SYNC, ENDED = 10, TAKEN = 20, RECEIVED, SENT };
-enum { ROOM, FAILING, FROM, MANY, PAUSE, COUNTS, FOLDERS = COUNTS + 3, NUMBERS };
+enum { WRITE = 1, CUT, SYNC, READ, ENDED = 10, TAKEN = 20, RECEIVED, SENT };
+enum { ROOM, FAILING, FROM, MANY, PAUSE, COUNTS, FOLDERS = COUNTS + 4, NUMBERS };
 
 static int64_t nowhere[NUMBERS] = { -1 }, *control = nowhere;
 static pthread_mutex_t order = PTHREAD_MUTEX_INITIALIZER;
@@ -115,12 +116,18 @@ static size_t room_for(size_t size, off_t at)
     return at < room ? (size_t)(room - at) : 0;
 }
 
+typedef ssize_t reads(int, void *, size_t, off_t);
 typedef ssize_t writes(int, const void *, size_t, off_t);
 typedef int cuts(int, off_t);
 typedef int syncs(int);
 typedef ssize_t receives(int, void *, size_t, int);
 typedef ssize_t sends(int, const void *, size_t, int);
 typedef int takes(int, struct sockaddr *, socklen_t *, int);
+
+static ssize_t has_read(reads *next, int file, void *bytes, size_t size, off_t at)
+{
+    return is_journal(file) && fails(READ) ? failed(EIO) : next(file, bytes, size, at);
+}
 
 static ssize_t written(writes *next, int file, const void *bytes, size_t size, off_t at)
 {
@@ -174,6 +181,18 @@ static ssize_t received(ssize_t done, int file, const void *bytes, int flags)
     static kind *next; \
     if (!next) \
         next = (kind *)dlsym(RTLD_NEXT, name)
+
+ssize_t pread(int file, void *bytes, size_t size, off_t at)
+{
+    NEXT(reads, "pread");
+    return has_read(next, file, bytes, size, at);
+}
+
+ssize_t pread64(int file, void *bytes, size_t size, off64_t at)
+{
+    NEXT(reads, "pread64");
+    return has_read(next, file, bytes, size, at);
+}
 
 ssize_t pwrite(int file, const void *bytes, size_t size, off_t at)
 {

@@ -13,7 +13,7 @@ from cases.lines import line_files
 from cases.opened import files_opened, pipes_and_devices, table_beside_a_journal
 from cases.pictures import PICTURED
 from cases.replays import replays
-from cases.serve import outputs_of_serve, ports, tables_of_serve, words_of_serve
+from cases.serve import journals_by_name, outputs_of_serve, ports, tables_of_serve, words_of_serve
 from cases.streams import memory, output_that_ends_midway, streams
 from cases.tables import table_files
 from cases.timed import changing_tables, tables_files
@@ -50,6 +50,7 @@ SUBJECTS = [
     streams,
     memory,
     words_of_serve,
+    journals_by_name,
     tables_of_serve,
     ports,
     outputs_of_serve,

@@ -2,9 +2,9 @@
 
 import errno
 import os
-import re
 import resource
 import signal
+import socket
 import subprocess
 import tempfile
 from concurrent.futures import ThreadPoolExecutor
@@ -16,7 +16,7 @@ from cases.debugging import BAD, EVENTS, MAX_SCRIPT, NOBODY, SECOND, START, UNKN
 from cases.helps import ALL
 from cases.inputs import ENOUGH, REPLAYED
 from cases.replays import A, B, P, batch, event, history, identifier, item, replayed, turn
-from cases.serve import NO_CONNECTION, SERVED
+from cases.serve import NO_CONNECTION, SERVED, SERVED_ONE
 from cases.streams import LONG, LONG_FILES
 from cases.tables import MOST_ROWS, ONE_ROW, ONE_ROW_PRINTED, PROFILE, table_file, table_printed
 from cases.tables import bad as bad_row
@@ -77,9 +77,12 @@ READS = [
     # a script ends where reading fails: with `next`, which has as many bytes as came
     (DEBUG, INPUT, (0, STARTED + SECOND, "")),
 ]
+LONG_PATH = "x" * 60000
+"""Past what the system takes for a path. Byte by byte its line takes nearly as many calls as there may be."""
 # The words of commands, and how each of them ends, with the line of its problem.
 PROBLEMS = [
     ("replay missing.json", 3, cannot_read("missing.json")),
+    (["replay", LONG_PATH], 3, cannot_read(LONG_PATH)),
     (f"debug events.json {P} {B}", 1, NOBODY),
     (f"debug events.json {P} x", 2, BAD),
     ("vehicles faulty", 3, not_a_journal("form")),
@@ -128,6 +131,10 @@ SHORT = [
     (DEBUG, INPUT, "quit\nstep\n", (0, STARTED, "")),
     ("vehicles -", INPUT, OPEN_JOURNAL, (0, LISTED, "")),
     ("vehicles short", FILE, OPEN_JOURNAL, (0, LISTED, "")),
+    # within a line
+    ("vehicles -", INPUT, journal(registered(A), end=" {"), (0, LISTED, "")),
+    ("vehicles short", FILE, journal(registered(A), end=" {"), (0, LISTED, "")),
+    ("vehicles -", INPUT, " ", (3, "", not_a_journal("form"))),
     # nothing but an end
     ("replay -", INPUT, "", (3, "", not_a_batch("not_json"))),
     ("replay short", FILE, "", (3, "", not_a_batch("not_json"))),
@@ -158,19 +165,29 @@ def calls_behind(counts):
         yield f"{counts.behind} calls behind one that failed"
 
 
-def interrupted(program, words, on, end, wanted):
-    """What is wrong with a run where calls on a descriptor are interrupted, and one in so many isn't."""
+def interrupted(program, words, on, end, wanted, at=1):
+    """What is wrong with a run where calls on a descriptor are interrupted, from one on, and one in so many isn't."""
     status, out, faults = end
     case = Case(words, status=status, out=out, faults=faults, given="next\n" * MOVED, files=files_of(words))
-    wrong, counts = counted(program, case, on, EVERY)
-    wrong += [f"{counts}, in place of {MOST_CALLS} {name}" for name in wanted if getattr(counts, name) != MOST_CALLS]
-    return [f"{words}, descriptor {on} interrupted: {text}" for text in wrong]
+    wrong, counts = counted(program, case, on, EVERY, at=at)
+    most = at - 1 + MOST_CALLS
+    wrong += [f"{counts}, in place of {most} {name}" for name in wanted if getattr(counts, name) != most]
+    return [f"{words}, descriptor {on} interrupted from call {at} on: {text}" for text in wrong]
+
+
+def later_writes():
+    """Runs whose second page or line isn't taken: that of a debugger's script, and the last line of a server."""
+    with socket.create_server(("127.0.0.1", 0)) as free:
+        port = free.getsockname()[1]
+    yield DEBUG, OUT, (3, STARTED + SECOND[:MOVED], OUTPUT), ["writes"], 2
+    served = f"listening 127.0.0.1:{port}\n" + "accepted 0"[:MOVED]
+    yield f"serve --port {port} --each 0", OUT, (3, served, OUTPUT), ["writes"], 2
 
 
 def interrupted_calls(program):
     """A file, a script, a line and a page of lines are given up after 5000000 calls, those among them that went well: no sooner,
     and no later."""
-    runs = [(*it, ["reads"]) for it in READS] + [(*it, ["writes"]) for it in WRITES]
+    runs = [(*it, ["reads"]) for it in READS] + [(*it, ["writes"]) for it in WRITES] + [*later_writes()]
     with ThreadPoolExecutor(os.cpu_count()) as pool:
         for wrong in pool.map(lambda it: interrupted(program, *it), runs):
             yield from wrong
@@ -462,7 +479,6 @@ def unread_files(program):
 
 WORKERS = (1, 2, 4, 5, 64)
 TWO_TABLES = tables_file((start, [("provider_drop_off", "removed", "available")]) for start in (0, 2000))
-SERVED_ONE = re.compile(r"listening 127\.0\.0\.1:[0-9]+\naccepted 1\n")
 
 
 def replays_by_workers(vehicles):

@@ -143,6 +143,8 @@ MISTAKES = [
     ("replay events.json --workers 65", "invalid value '65' for '--workers <N>'"),
     ("serve --port 65536 --each 1", "invalid value '65536' for '--port <N>'"),
     ("serve --port 0 --each 1000001", "invalid value '1000001' for '--each <N>'"),
+    ("", "'mds_city' requires a subcommand but one was not provided"),
+    ("replay events.json --any=yes", "unexpected value 'yes' for '--any' found"),
 ]
 NO_TEXTS = [
     [b"\xff"],

@@ -1,11 +1,11 @@
 """Files that the program opens: those that are named, each once, and pipes and devices as well."""
 
-from cases.calls import NOTHING, SERVED_ONE, counted
+from cases.calls import NOTHING, counted
 from cases.debugging import EVENTS, SECOND, START
 from cases.helps import ALL
 from cases.inputs import REPLAYED
 from cases.replays import A, P
-from cases.serve import NO_CONNECTION, SERVED
+from cases.serve import NO_CONNECTION, SERVED, SERVED_ONE
 from cases.tables import ONE_ROW, ONE_ROW_PRINTED, PROFILE, table_printed
 from cases.vehicles import journal, listed, not_a_journal, registered
 from harness.case import Case, not_a_batch, not_a_table, told

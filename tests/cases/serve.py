@@ -3,9 +3,10 @@
 import re
 import socket
 
+from cases.replays import A
 from cases.tables import FAULTS, ONE_ROW
 from cases.timed import FAULTS as TIMED_FAULTS
-from cases.vehicles import journal
+from cases.vehicles import journal, registered
 from harness.case import NO_STREAMS, OUTPUT, SOCKET, SOME, Case, cannot_read, not_a_table, told
 
 WRONG = [
@@ -58,6 +59,17 @@ def words_of_serve():
         yield Case(words, status=2, faults=SOME)
     for words in RIGHT:
         yield Case(words, out=SERVED, files={"table.json": ONE_ROW})
+
+
+SERVED_ONE = re.compile(r"listening 127\.0\.0\.1:[0-9]+\naccepted 1\n")
+NAMES = [" journal", "journal ", "\u00a0journal", "straße 7\n.journal", "-"]
+
+
+def journals_by_name():
+    """The journal is the one of this name, letter for letter: spaces round it, other letters than ASCII's, and `-` say nothing else."""
+    for name in NAMES:
+        files = {"journal": "7", name: journal(registered(A))}
+        yield Case([*NO_CONNECTION.split(), "--journal", name], out=SERVED_ONE, files=files)
 
 
 def tables_of_serve():

@@ -16,7 +16,7 @@ from cases.vehicles import journal, registered
 from crashing.clients import unanswered
 from crashing.files import Lines, counted, listed_amiss
 from crashing.paths import FAULTS
-from crashing.recording import CUT, SYNC, WRITE, Recording
+from crashing.recording import CUT, READ, SYNC, WRITE, Recording
 from crashing.reports import NOT_KEPT, device_at, listed, listing, looking, registering, reporting, standing
 from crashing.resting import SLOW, begins_to_write
 from harness.building import BY_BYTES, Counting, Refusal
@@ -50,6 +50,8 @@ HELD_BACK = answer(503, NOT_KEPT)
 NO_MEMORY = "mds_city: out of memory\n"
 STANDARD = 3
 """Open files, of the standard streams."""
+SEVERAL_READS = 3000
+"""Registrations of a file that a start doesn't read at once."""
 FEWEST_GROWTHS = 20
 """Of a start over a journal."""
 
@@ -384,7 +386,8 @@ def start_that_fails(program, content, kind, number):
         path.write_bytes(content)
         with Recording(path, failing=kind, first=number, many=1) as recording:
             found, wanted = outcome_of_start(program, path, accepted, recording.env), (3, "", cannot_read(path))
-        if found is None:
+            has_failed_to_read = kind == READ and recording.number("reads") >= number
+        if found is None and not has_failed_to_read:
             return None
         complaints = [] if found == wanted else [f"it ended with {found}, in place of {wanted}"]
         complaints += kept_amiss(path, told)
@@ -404,11 +407,13 @@ def failing_starts(program, content, kind):
 
 
 def starts_that_fail(program):
-    """Each call of a start that fails, over no file and over one with a torn end."""
+    """Each call of a start that fails, over no file and over one with a torn end; and each read of one that takes several."""
     torn = journal(registered(DEVICE), end='#{"device_id":').encode()
     for content in (b"", torn):
-        for kind in (WRITE, CUT, SYNC):
+        for kind in (WRITE, CUT, SYNC, READ):
             yield from failing_starts(program, content, kind)
+    long = journal(*[registered(device_at(number)) for number in range(SEVERAL_READS)]).encode()
+    yield from failing_starts(program, long, READ)
 
 
 def begun_without(program, path, number):

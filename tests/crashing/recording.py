@@ -8,10 +8,10 @@ from pathlib import Path
 
 from harness.building import built
 
-WRITE, CUT, SYNC, TAKEN, RECEIVED, SENT = 1, 2, 3, 20, 21, 22
+WRITE, CUT, SYNC, READ, TAKEN, RECEIVED, SENT = 1, 2, 3, 4, 20, 21, 22
 ENDED = 10
 """Added to the kind of a call on the file where it is over."""
-NUMBERS = ("room", "failing", "first", "many", "pause", "writes", "cuts", "syncs", "folders")
+NUMBERS = ("room", "failing", "first", "many", "pause", "writes", "cuts", "syncs", "reads", "folders")
 """Those that are heeded while the server runs, and behind them those that it counts."""
 
 Entry = namedtuple("Entry", "kind file at data")
@@ -53,7 +53,7 @@ class Recording:
 
     def fail(self, kind, after=0, many=1):
         """Has calls of a kind fail, behind so many more that don't."""
-        self.set(first=self.number(("writes", "cuts", "syncs")[kind - WRITE]) + after + 1, many=many, failing=kind)
+        self.set(first=self.number(("writes", "cuts", "syncs", "reads")[kind - WRITE]) + after + 1, many=many, failing=kind)
 
     def entries(self):
         """What was recorded so far."""

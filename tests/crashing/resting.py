@@ -200,16 +200,22 @@ def slow_answers(server, recording, one, other):
         yield f"more of them took {ended - begun} s"
 
 
-def looks_while_others_report(program):
-    """A look and a list of a vehicle don't wait for the disk where only others of its half were reported, nor do the table and a
-    fault of a request; a look at the reported one does."""
-    one, other = device_at(0), device_at(2)
+def looks_beside(program, one, other):
+    """What is wrong with answers about these two vehicles over a slow disk."""
     with tempfile.TemporaryDirectory() as folder:
         path = Path(folder, "journal")
         with Recording(path) as recording, Server(program, EACH, WORKERS, journal=path, env=recording.env) as server:
             yield from differing(ask(server.port, registering(one, other)), done(2), "the registrations")
             recording.set(pause=int(SLOW * 1000000))
             yield from slow_answers(server, recording, one, other)
+
+
+def looks_while_others_report(program):
+    """A look and a list of a vehicle don't wait for the disk where only others were reported, of its half or of the other one, nor do
+    the table and a fault of a request; a look at the reported one does."""
+    for pair in ((0, 2), (1, 3), (0, 1), (1, 0)):
+        for wrong in looks_beside(program, *map(device_at, pair)):
+            yield f"vehicles {pair}: {wrong}"
 
 
 def files_of(server):

@@ -38,7 +38,7 @@ class Edit:
     functions: frozenset
     """Each by the path below the crate by which a check tells of it."""
     names: frozenset
-    """The names by which a body may call or read what the edit turns: those of the functions, and of constants."""
+    """The names by which a body may call or read what the edit turns: those of the functions, and of constants. A copy has none."""
     breaks_answer: bool
     """Whether an answer in `proofs/` may tell of it: each function has answers, asks for no tactics of its own, and has no closure,
     whose goals have no answers, and no line `# searched` says that none does. Or it has answers of its own."""

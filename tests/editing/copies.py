@@ -1,7 +1,8 @@
-"""Copies of functions, by which one check tells of several edits of a function: each but the first turns a copy of its own.
+"""Copies of functions, by which one check tells of several edits of a function: each turns a copy of its own.
 
 A copy stands behind its function in the same file, under a name of its own, with the same contract and the same answers. Nothing
-calls it. So a check tells of it what it would tell of the function with the edit.
+calls it. So a check tells of it what it would tell of the function with the edit, and takes the proofs of all that stands from
+those that are kept.
 """
 
 import re
@@ -39,8 +40,10 @@ def copied(edit, texts, number, changes=None):
     """The edit as one of a copy of its function, and the texts by their paths with this copy, or None where none can be made. Other
     changes may be made in the copy, or none."""
     folder, paths = ROOT / "crates" / edit.crate, {it.path for it in edit.changes}
+    if len(edit.functions) != 1 or len(paths) != 1:
+        return None
     function, path = next(iter(edit.functions)), next(iter(paths))
-    if len(edit.functions) > 1 or len(paths) > 1 or (folder / folder_of(function) / "Proof.antt").exists():
+    if (folder / folder_of(function) / "Proof.antt").exists():
         return None
     text = (folder / path).read_text()
     now = texts.get(path) or text
@@ -51,4 +54,4 @@ def copied(edit, texts, number, changes=None):
     name, copy = function.rpartition("::")[2], f"{function}_{number}"
     body = re.sub(rf"\bfn {name}\b", f"fn {name}_{number}", made[path], count=1)
     with_copy = {path: f"{now[: place[1]]}\n{body}{now[place[1] :]}", **proof_of_copy(edit.crate, function, copy)}
-    return replace(edit, functions=frozenset([copy])), texts | with_copy
+    return replace(edit, functions=frozenset([copy]), names=frozenset()), texts | with_copy

@@ -5,6 +5,7 @@ from dataclasses import dataclass, field, replace
 
 from editing.bodies import applied, without_tactics
 from editing.copies import copied
+from editing.libraries import below
 from editing.supposed import NO_ANSWER, STRAY, supposed, without_proof
 from harness.counting import ROOT
 
@@ -25,7 +26,7 @@ class Round:
 
     crate: str
     may_copy: bool = False
-    """Whether an edit may turn a copy of its function, where another one turns the function."""
+    """Whether an edit turns a copy of its function, where one can be made. Then no other proof rests on what is turned."""
     given: list = field(default_factory=list)
     edits: list = field(default_factory=list)
     """Those that were given, each as one of its function or of a copy."""
@@ -38,15 +39,20 @@ class Round:
     def label(self):
         return f"{self.crate}-{len(self.edits)}-{self.edits[0].file.stem}"
 
+    @property
+    def seconds(self):
+        """About how many processor seconds its check takes: it reads what stands below the crate, and searches where no answer tells."""
+        return 10 + 2 * len(below(self.crate)) + sum(4 if it.breaks_answer else 10 for it in self.edits)
+
     def takes(self, edit, folder):
         """Makes the edit too, unless it turns a function that another one turns and no copy of it, or its text isn't there once."""
-        if any(edit.functions & other.functions for other in self.edits):
-            made = self.may_copy and copied(edit, self.texts, len(self.edits))
-        else:
-            texts = applied(self.texts, edit.changes, folder)
-            made = texts and (edit, texts)
+        made = self.may_copy and copied(edit, self.texts, len(self.edits))
         if not made:
-            return False
+            is_turned = any(edit.functions & other.functions for other in self.edits)
+            texts = None if is_turned else applied(self.texts, edit.changes, folder)
+            if not texts:
+                return False
+            made = edit, texts
         made = self.with_standing(edit, *made) if edit.answers else made
         self.given, self.edits, self.texts = [*self.given, edit], [*self.edits, made[0]], made[1]
         return True
@@ -149,14 +155,13 @@ def complaints(edit, said, standing=None):
 
 
 def left_of(it, edits):
-    """Those of a round's edits that weren't refused in it, as they are tried again, in lists of what is made together. Where one turned
-    a copy, or answers alone were looked at, all turn their functions, and all goals are searched. Else they go on without those that
-    were refused, or one by one."""
-    if any(edit.breaks_answer or edit not in it.edits for edit in edits):
-        return [[replace(edit, breaks_answer=False, answers=()) for edit in edits]]
-    if len(edits) < len(it.edits):
-        return [edits] if edits else []
-    return [[edit] for edit in edits] if len(edits) > 1 else []
+    """Rounds of those of a round's edits that weren't refused in it. Where answers alone were looked at, all goals are searched. Where
+    copies were turned, the functions themselves are. Else they go on without those that were refused, or one by one."""
+    if any(edit.breaks_answer for edit in edits):
+        return rounds_of(it.crate, [replace(edit, breaks_answer=False, answers=()) for edit in edits], may_copy=True)
+    if any(edit not in it.edits for edit in edits) or len(edits) < len(it.edits):
+        return rounds_of(it.crate, edits)
+    return [alone for edit in edits for alone in rounds_of(it.crate, [edit])] if len(edits) > 1 else []
 
 
 def said_of(it, turned, bench):
@@ -177,7 +182,7 @@ def said_of(it, turned, bench):
 
 def outcomes(it, bench, told=None):
     """The edits of a round that need no more checks, each with what is wrong with it, by a check of the functions that the round turns,
-    and of those that they call, and lists of the others. Goals that wait for a callee's proof aren't looked at where the callee is
+    and of those that they call, and rounds of the others. Goals that wait for a callee's proof aren't looked at where the callee is
     edited too, so these are tried again. What a check says is kept in a folder `told`, if there is one."""
     said = said_of(it, it.functions(), bench)
     if told:

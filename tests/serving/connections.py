@@ -32,6 +32,8 @@ AT_ONCE = 3
 """Within how many seconds a client is answered behind so many silent ones. Each of them would keep a worker for 0.01 seconds."""
 PAUSE = 0.3
 """For how many seconds a client that read its answer does nothing before each piece that it sends then."""
+LET_GO = 10
+"""How many seconds a server may take, at most, to close the sockets of clients that went."""
 READ_ON = 1.8
 """For how many seconds it is read on at least, in which nothing comes."""
 BODY, CHUNKS, TOO_LONG = b"0" * 1000, b"2\r\n[]\r\n0\r\n\r\n", b"0" * (MAX_BYTES + 1)
@@ -221,13 +223,23 @@ def expecting_interim_answers(program):
         yield from server.end()
 
 
+def let_go(server, before):
+    """What is wrong where a server has more sockets open than before, for longer than it needs."""
+    end = time.monotonic() + LET_GO
+    while (sockets := server.sockets()) > before and time.monotonic() < end:
+        time.sleep(0.1)
+    if sockets > before:
+        yield f"{sockets - before} sockets of clients that went are open"
+
+
 def hanging_up(program):
     """Clients that hang up, with an end and with a reset: in their head, in their body, and before the answer. One worker takes
     them in turn, so that looks behind them show what came of them: nothing of what wasn't sent whole, all of what was sent
-    whole and ended, and either of what was reset."""
+    whole and ended, and either of what was reset. No socket of theirs stays open."""
     devices = [identifier(2, number) for number in range(40)]
     requests = [post("/vehicles", [vehicle(device)]) for device in devices]
     with Server(program, 480) as server:
+        before = server.sockets()
         for request in requests:
             body = request.index(b"\r\n\r\n") + 4
             for part in (0, 10, body, len(request) - 1):
@@ -241,6 +253,7 @@ def hanging_up(program):
         server.count(0, sum(found))
         if not all(found[::2]):
             yield "a registration that was sent whole wasn't taken in"
+        yield from let_go(server, before)
         yield from server.drain()
 
 
