@@ -223,7 +223,7 @@ def expecting_interim_answers(program):
         yield from server.end()
 
 
-def let_go(server, before):
+def left_open(server, before):
     """What is wrong where a server has more sockets open than before, for longer than it needs."""
     end = time.monotonic() + LET_GO
     while (sockets := server.sockets()) > before and time.monotonic() < end:
@@ -253,7 +253,7 @@ def hanging_up(program):
         server.count(0, sum(found))
         if not all(found[::2]):
             yield "a registration that was sent whole wasn't taken in"
-        yield from let_go(server, before)
+        yield from left_open(server, before)
         yield from server.drain()
 
 

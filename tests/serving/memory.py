@@ -130,9 +130,10 @@ def memory_of_waiting(program):
     """As many connections as may wait, each with some bytes of its request, and one more."""
     many_open_files(OPEN_FILES)
     with Server(program, EACH, workers=WORKERS) as server, Looks(server, look(A, "removed", 0, None)) as looks:
+        sockets = server.sockets()
         yield from talk_over(server, registered(A))
         yield from looks.once()
-        before, sockets = server.memory(), server.sockets()
+        before = server.memory()
         with connections(server.port, WAITING, FRONT) as opened:
             taken_in(server, sockets + WAITING)
             beside = server.memory() - before - WAITING * len(FRONT)
@@ -260,8 +261,8 @@ def heads_that_announce_much(program):
     body = padded("[]", MAX_BYTES)
     request = post("/events", body)
     with Server(program, EACH, workers=WORKERS, address_space=LITTLE) as server:
-        yield from talk_over(server, registered(A))
         sockets = server.sockets()
+        yield from talk_over(server, registered(A))
         with connections(server.port, ANNOUNCING, request[: -len(body)]) as opened:
             taken_in(server, sockets + ANNOUNCING)
             yield from talk_over(server, look(A, "removed", 0, None))
