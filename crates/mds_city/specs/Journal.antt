@@ -11,7 +11,6 @@ use Rattle.mds_file.specs.declared.fault.FileFault.{FileFault}
 use Rattle.mds_file.specs.declared.fault.FileFault.TheVariants as file
 use Rattle.mds_follow.specs.declared.start_fault.StartFault.{StartFault}
 use Rattle.mds_follow.specs.declared.start_fault.StartFault.TheVariants as start
-use Rattle.mds_commands.specs.declared.source.Source.{Source}
 use Rattle.mds_commands.specs.declared.problem.Problem.{Problem}
 use Rattle.mds_commands.specs.declared.problem.Problem.TheVariants.{CannotRead, Socket}
 use Rattle.mds_commands.specs.declared.problem.Problem.TheVariants.{Random, Memory}
@@ -26,7 +25,11 @@ use Rattle.mds_city.specs.declared.journal.BookStop.{BookStop}
 use Rattle.mds_city.specs.declared.journal.BookStop.TheVariants.{Start, Listen, Print, Serve}
 use Rattle.mds_city.specs.declared.serve.ListenFault.{ListenFault}
 use Rattle.mds_city.specs.declared.serve.ListenFault.TheVariants as listen
+use Rattle.mds_city.specs.declared.serve.ServeOptions.{ServeOptions}
 use Rattle.mds_commands.specs.Problem.{written_problem}
+use Rattle.mds_city.specs.Host.{ServerHost, TableFile}
+use Rattle.mds_commands.specs.Change.{Change}
+use Rattle.mds_city.specs.Outcome.{Outcome}
 use Rattle.mds_city.specs.Serve.{SaysAccepted, listening_line}
 
 -- the status that the program ends with
@@ -42,9 +45,9 @@ TellsServe old new NotRecorded = AppendsUpTo old new (with_newline (codes "mds_c
 TellsServe old new (Journal problem) = TellsJournal old new problem
 
 -- a problem has this status, and was told
-abbrev pub IsServeTold : ServeProblem → Status → Option (List ℕ) → Option (List ℕ) → Type 0
-IsServeTold problem ended faults faults_new =
-    (ended ≡ serve_status_of problem) × TellsServe faults faults_new problem
+abbrev pub IsServeTold : ServeProblem → Status → Change → Type 0
+IsServeTold problem ended faults =
+    (ended ≡ serve_status_of problem) × TellsServe faults.before faults.after problem
 
 -- the problem is that the file of this path can't be read
 abbrev pub IsUnreadable : List ℕ → ServeProblem → Type 0
@@ -88,17 +91,17 @@ IsStopProblem path (Listen fault) problem = IsListenProblem fault problem
 IsStopProblem path (Print fault) problem = problem ≡ Journal (Other (written_problem fault))
 IsStopProblem path (Serve stop) problem = IsServingProblem stop problem
 
--- of a host: the relation of a path to what comes of opening the journal there, and the host
-module _ {H J : Type 0} (opens_journal : H → List ℕ → Result J FileFault → Type 0) (host : H) where
+-- of a host: the relation of a path to what comes of opening the journal there
+module _ {J : Type 0} (opens_journal : List ℕ → Result J FileFault → Type 0) where
   -- the host opened the journal of this path
   abbrev pub HadJournal : List ℕ → Type 0
-  HadJournal path = (file : J) × opens_journal host path (Ok file)
+  HadJournal path = (file : J) × opens_journal path (Ok file)
 
   -- why the journal of this path isn't open: the host didn't open it, or it did, and it isn't read
   -- from its first request on
   abbrev pub IsJournalStop : List ℕ → ServeProblem → Type 0
   IsJournalStop path problem =
-      ((fault : FileFault) × opens_journal host path (Err fault) × IsFileProblem path fault problem)
+      ((fault : FileFault) × opens_journal path (Err fault) × IsFileProblem path fault problem)
       ⊎ (HadJournal path × ((fault : StartFault) × IsStartProblem path fault problem))
 
 -- so many requests were accepted by a settled book over these tables, whose workers answered so
@@ -108,67 +111,67 @@ HasAccepted tables workers each accepted =
     (ended : AtEnd) × IsEnded tables workers each (Ok ended)
     × (accepted ≡ length ended.all.first + length ended.all.second)
 
--- of the command: the relation of a host and a number asked for to what listens and its port's
--- number, the host, and the number
-module _ {H L : Type 0} (listens : H → ℕ → L → ℕ → Type 0) (host : H) (number : ℕ) where
+-- of the command: the relation of what listens, as was asked, to its port's number
+module _ {L : Type 0} (listens : L → ℕ → Type 0) where
   -- the line went out that says where it listens
-  abbrev pub SaidListening : Option (List ℕ) → Option (List ℕ) → Type 0
-  SaidListening out out_new =
-      (listening : L) × (port : ℕ) × listens host number listening port
-      × Appends out out_new (with_newline (listening_line port))
+  abbrev pub SaidListening : Change → Type 0
+  SaidListening out =
+      (listening : L) × (port : ℕ) × listens listening port
+      × Appends out.before out.after (with_newline (listening_line port))
 
   -- a front of it did
-  abbrev pub SaidFront : Option (List ℕ) → Option (List ℕ) → Type 0
-  SaidFront out out_new =
-      (listening : L) × (port : ℕ) × listens host number listening port
-      × AppendsFront out out_new (with_newline (listening_line port))
+  abbrev pub SaidFront : Change → Type 0
+  SaidFront out =
+      (listening : L) × (port : ℕ) × listens listening port
+      × AppendsFront out.before out.after (with_newline (listening_line port))
 
   -- a book over these tables was served by so many workers, and holds so many requests at the end
-  abbrev pub ServedBook : Tables → ℕ → ℕ → Option (List ℕ) → Option (List ℕ) → ℕ → Type 0
-  ServedBook tables workers each out out_new accepted =
-      SaidListening out out_new × HasAccepted tables workers each accepted
+  abbrev pub ServedBook : Tables → ℕ → ℕ → Change → ℕ → Type 0
+  ServedBook tables workers each out accepted =
+      SaidListening out × HasAccepted tables workers each accepted
 
   -- what went out where no book was served to its end
-  abbrev pub StopsBook : Option (List ℕ) → Option (List ℕ) → BookStop → Type 0
-  StopsBook out out_new (Start fault) = Keeps out out_new
-  StopsBook out out_new (Listen fault) = Keeps out out_new
-  StopsBook out out_new (Print fault) = SaidFront out out_new
-  StopsBook out out_new (Serve stop) = IsUntorn (Serve stop) × SaidListening out out_new
+  abbrev pub StopsBook : Change → BookStop → Type 0
+  StopsBook out (Start fault) = Keeps out.before out.after
+  StopsBook out (Listen fault) = Keeps out.before out.after
+  StopsBook out (Print fault) = SaidFront out
+  StopsBook out (Serve stop) = IsUntorn (Serve stop) × SaidListening out
 
-  -- besides: the relation of a path to what comes of opening the journal there; the known bytes of
-  -- a table file's reader, and the table file if one is given
-  module _ {J T : Type 0} (opens_journal : H → List ℕ → Result J FileFault → Type 0)
-      (table_bytes : T → Option (List ℕ)) (table : Option (Source T)) where
-    -- the tables were had
-    abbrev pub HadTables : Type 0
-    HadTables = (tables : Tables) × HasTablesIn table_bytes table tables
+-- the tables of this table file were had
+abbrev pub HadTables : {T : Type 0} → TableFile T → Type 0
+HadTables table = (tables : Tables) × HasTablesIn table.bytes table.file tables
 
-    -- why nothing was served to its end: a fault of the table file, no random numbers, or then the
-    -- journal, the port or what came of serving; and what went out
-    abbrev pub StopsOver : List ℕ → Option (List ℕ) → Option (List ℕ) → ServeProblem → Type 0
-    StopsOver path out out_new problem =
-        ((told : Problem) × (problem ≡ Journal (Other told))
-        × ExplainsTable table_bytes table told × Keeps out out_new)
-        ⊎ (HadTables × (problem ≡ Journal (Other Random)) × Keeps out out_new)
-        ⊎ (HadTables × IsJournalStop opens_journal host path problem × Keeps out out_new)
-        ⊎ (HadTables × HadJournal opens_journal host path
-        × ((stop : BookStop) × IsStopProblem path stop problem × StopsBook out out_new stop))
+-- of the command: its host, and the table file
+module _ {L J T : Type 0} (host : ServerHost L J) (table : TableFile T) where
+  -- why nothing was served to its end, over the journal of this path and as was asked: a fault of
+  -- the table file, no random numbers, or then the journal, the port or what came of serving; and
+  -- what went out
+  abbrev pub StopsOver : List ℕ → ServeOptions → Change → ServeProblem → Type 0
+  StopsOver path asked out problem =
+      ((told : Problem) × (problem ≡ Journal (Other told))
+      × ExplainsTable table.bytes table.file told × Keeps out.before out.after)
+      ⊎ (HadTables table × (problem ≡ Journal (Other Random)) × Keeps out.before out.after)
+      ⊎ (HadTables table
+      × IsJournalStop host.opens_journal path problem × Keeps out.before out.after)
+      ⊎ (HadTables table × HadJournal host.opens_journal path
+      × ((stop : BookStop)
+      × IsStopProblem path stop problem × StopsBook (host.listens asked.port) out stop))
 
-    -- the journal of this path was opened, and a book over the tables was served to its end, and
-    -- holds so many requests
-    abbrev pub ServedOver : List ℕ → ℕ → ℕ → Option (List ℕ) → Option (List ℕ) → ℕ → Type 0
-    ServedOver path workers each out out_new accepted =
-        (tables : Tables) × HasTablesIn table_bytes table tables
-        × HadJournal opens_journal host path × ServedBook tables workers each out out_new accepted
+  -- the journal of this path was opened, and a book over the tables was served to its end, as was
+  -- asked, and holds so many requests
+  abbrev pub ServedOver : List ℕ → ServeOptions → Change → ℕ → Type 0
+  ServedOver path asked out accepted =
+      (tables : Tables) × HasTablesIn table.bytes table.file tables
+      × HadJournal host.opens_journal path
+      × ServedBook (host.listens asked.port) tables asked.workers asked.each out accepted
 
-    -- what the command came to: it stopped for a problem, which was told, or for want of memory to
-    -- tell it; or it served to the end, and said how many requests the book holds
-    abbrev pub CameToServeOver : List ℕ → ℕ → ℕ → Status → Option (List ℕ)
-        → Option (List ℕ) → Option (List ℕ) → Option (List ℕ) → Type 0
-    CameToServeOver path workers each ended out out_new faults faults_new =
-        ((problem : ServeProblem) × StopsOver path out out_new problem
-        × (IsServeTold problem ended faults faults_new
-        ⊎ IsServeTold (Journal (Other Memory)) ended faults faults_new))
-        ⊎ ((accepted : ℕ) × (out_then : Option (List ℕ))
-        × ServedOver path workers each out out_then accepted
-        × SaysAccepted accepted ended out_then out_new faults faults_new)
+  -- what the command came to: it stopped for a problem, which was told, or for want of memory to
+  -- tell it; or it served to the end, and said how many requests the book holds
+  abbrev pub CameToServeOver : List ℕ → ServeOptions → Outcome → Type 0
+  CameToServeOver path asked outcome =
+      ((problem : ServeProblem) × StopsOver path asked outcome.out problem
+      × (IsServeTold problem outcome.ended outcome.faults
+      ⊎ IsServeTold (Journal (Other Memory)) outcome.ended outcome.faults))
+      ⊎ ((accepted : ℕ) × (out_then : Option (List ℕ))
+      × ServedOver path asked (record outcome.out { after = out_then }) accepted
+      × SaysAccepted accepted (record outcome { out = record outcome.out { before = out_then } }))

@@ -1,4 +1,6 @@
 -- Definitions that the contracts cite.
+pub mod Host
 pub mod Journal
+pub mod Outcome
 pub mod Program
 pub mod Serve

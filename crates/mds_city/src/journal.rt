@@ -6,6 +6,8 @@ ghost use Rattle.mds_file.specs.declared.fault.FileFault.{FileFault as Unopened}
 ghost use Rattle.mds_book.specs.Books.{IsSeatCount};
 ghost use Rattle.mds_follow.specs.Disk.{IsTold};
 ghost use Rattle.mds_follow.specs.Reading.{IsAtFirstRequest};
+ghost use Rattle.mds_commands.specs.Change.{change_of};
+ghost use Rattle.mds_city.specs.Outcome.{outcome_of};
 ghost use Rattle.mds_city.specs.Journal.{CameToServeOver, HadJournal, IsFileProblem, IsJournalStop, IsListenProblem, IsServeTold, IsServingProblem, IsStartProblem, IsStopProblem, IsUntorn};
 ghost use Rattle.mds_city.specs.Journal.{ServedBook, ServedOver, StopsBook, StopsOver};
 
@@ -121,9 +123,12 @@ pub fn serve_over<
     faults: &mut E,
 ) -> Status
     requires { IsSeatCount asked.workers }
-    ensures { CameToServeOver H.listens host.now asked.port H.opens_journal T.remaining table.entry
-        path.now asked.workers asked.each result
-        (W.contents out.old) (W.contents out.new) (E.contents faults.old) (E.contents faults.new) }
+    ensures { CameToServeOver
+        (record { listens = H.listens host.now; opens_journal = H.opens_journal host.now })
+        (record { bytes = T.remaining; file = table.entry }) path.now asked
+        (outcome_of result
+            (change_of (W.contents out.old) (W.contents out.new))
+            (change_of (E.contents faults.old) (E.contents faults.new))) }
 {
     // What listens is kept until it is told how serving ended: answers leave until it is let go.
     let (accepted, _listening) = match serve_to_end(rt, alloc, host, table, path, asked, out) {
@@ -151,11 +156,14 @@ fn serve_to_end<
     out: &mut W,
 ) -> Result<(u128, H::Listening), (ServeProblem<'a>, Option<H::Listening>)>
     requires { IsSeatCount asked.workers }
-    ensures ok { IfOk result (λ served. ServedOver H.listens host.now asked.port H.opens_journal
-        T.remaining table.entry path.now asked.workers asked.each
-        (W.contents out.old) (W.contents out.new) served.0) }
-    ensures err { IfErr result (λ stopped. StopsOver H.listens host.now asked.port H.opens_journal
-        T.remaining table.entry path.now (W.contents out.old) (W.contents out.new) stopped.0) }
+    ensures ok { IfOk result (λ served. ServedOver
+        (record { listens = H.listens host.now; opens_journal = H.opens_journal host.now })
+        (record { bytes = T.remaining; file = table.entry }) path.now asked
+        (change_of (W.contents out.old) (W.contents out.new)) served.0) }
+    ensures err { IfErr result (λ stopped. StopsOver
+        (record { listens = H.listens host.now; opens_journal = H.opens_journal host.now })
+        (record { bytes = T.remaining; file = table.entry }) path.now asked
+        (change_of (W.contents out.old) (W.contents out.new)) stopped.0) }
 {
     let tables = match tables_in(alloc, table) {
         Ok(tables) => tables,
@@ -187,8 +195,8 @@ fn open_reader<'a, H: OpensJournals>(
     ensures ok { IfOk result (λ reader.
         IsAtFirstRequest H.Journal.seen H.Journal.may_leave H.Journal.may_be_used H.Journal.is_true
         reader.opening) }
-    ensures had { IfOk result (λ _. HadJournal H.opens_journal host.now path.now) }
-    ensures err { IfErr result (IsJournalStop H.opens_journal host.now path.now) }
+    ensures had { IfOk result (λ _. HadJournal (H.opens_journal host.now) path.now) }
+    ensures err { IfErr result (IsJournalStop (H.opens_journal host.now) path.now) }
 {
     let file = match host.open_journal(path) {
         Ok(file) => file,
@@ -233,10 +241,11 @@ fn serve_reader<
     requires start { J.start ≡ H.Journal.moment reader.opening.device }
     requires held { (told : List Requested)
         → IsTold (recovered_texts (H.Journal.seen reader.opening.device)) told → J.held told }
-    ensures ok { IfOk result (λ served. ServedBook H.listens host.now asked.port opening.tables
-        opening.seats asked.each (W.contents out.old) (W.contents out.new) served.0) }
-    ensures err { IfErr result (λ stopped. StopsBook H.listens host.now asked.port
-        (W.contents out.old) (W.contents out.new) stopped.0) }
+    ensures ok { IfOk result (λ served. ServedBook (H.listens host.now asked.port)
+        opening.tables opening.seats asked.each
+        (change_of (W.contents out.old) (W.contents out.new)) served.0) }
+    ensures err { IfErr result (λ stopped. StopsBook (H.listens host.now asked.port)
+        (change_of (W.contents out.old) (W.contents out.new)) stopped.0) }
 {
     let book = match RecordedBook::<Disk<H::Journal>, L, M, J>::open(
         rt, alloc, opening, reader, log,
@@ -322,9 +331,9 @@ fn problem_of_serving<'a>(stop: RecordedStop) -> ServeProblem<'a>
 /// told is that. Where the writer fails the status stays.
 fn tell_serve_problem<E: Write>(alloc: Global, faults: &mut E, problem: ServeProblem<'_>) -> Status
     ensures { IsServeTold problem.entry result
-        (E.contents faults.old) (E.contents faults.new)
+        (change_of (E.contents faults.old) (E.contents faults.new))
         ⊎ IsServeTold (ServeProblem.Journal (JournalProblem.Other Problem.Memory)) result
-        (E.contents faults.old) (E.contents faults.new) }
+        (change_of (E.contents faults.old) (E.contents faults.new)) }
 {
     let mut calls = MAX_CALLS;
     match problem {

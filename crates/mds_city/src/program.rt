@@ -3,10 +3,13 @@ ghost use Rattle.std.specs.Prelude.{◌≡◌, ◌≢◌, ◌↔◌, ℕ, List, 
 ghost use Rattle.std.specs.IoError.{error_kind};
 ghost use Rattle.mds_args.specs.Error.{words_kind};
 ghost use Rattle.mds_book.specs.Books.{IsSeatCount};
+ghost use Rattle.mds_commands.specs.Change.{change_of};
 ghost use Rattle.mds_commands.specs.Debug.{Debugs};
+ghost use Rattle.mds_commands.specs.Files.{files_of};
 ghost use Rattle.mds_commands.specs.Problem.{Tells};
 ghost use Rattle.mds_io.specs.Page.{AppendsUpTo, with_newline};
 ghost use Rattle.mds_trace.specs.WithFault.{IsWorkerCount};
+ghost use Rattle.mds_city.specs.Outcome.{outcome_of};
 ghost use Rattle.mds_city.specs.Program.{Carries, CarriesReplay, CarriesServe, CarriesVehicles, Explains, HasWorkers, IsFileNamed, IsFileOf, Runs};
 ghost use Rattle.mds_city.specs.Program.{form_if, opening_if, options_of};
 
@@ -98,9 +101,12 @@ pub fn run<
     W: Write,
     E: Write,
 >(rt: &R, alloc: Global, words: &[S], files: &O, input: I, out: &mut W, faults: &mut E) -> Status
-    ensures { Runs O.opens files.now O.listens O.opens_journal O.File.remaining I.remaining input
-        (map S.text words.now) result
-        (W.contents out.old) (W.contents out.new) (E.contents faults.old) (E.contents faults.new) }
+    ensures { Runs (record { opens = O.opens files.now; bytes = O.File.remaining })
+        (record { listens = O.listens files.now; opens_journal = O.opens_journal files.now })
+        (record { bytes = I.remaining; reader = input }) (map S.text words.now)
+        (outcome_of result
+            (change_of (W.contents out.old) (W.contents out.new))
+            (change_of (E.contents faults.old) (E.contents faults.new))) }
 {
     match parse_words(alloc, words) {
         Ok(command) => carry_out(rt, alloc, files, command, input, out, faults),
@@ -116,8 +122,10 @@ fn explain<W: Write, E: Write>(
     out: &mut W,
     faults: &mut E,
 ) -> Status
-    ensures { Explains (words_kind error.now) result
-        (W.contents out.old) (W.contents out.new) (E.contents faults.old) (E.contents faults.new) }
+    ensures { Explains (words_kind error.now)
+        (outcome_of result
+            (change_of (W.contents out.old) (W.contents out.new))
+            (change_of (E.contents faults.old) (E.contents faults.new))) }
 {
     match error.kind() {
         WordsErrorKind::Help => {
@@ -152,9 +160,12 @@ fn carry_out<
     faults: &mut E,
 ) -> Status
     requires { HasWorkers command }
-    ensures { Carries O.opens files.now O.listens O.opens_journal O.File.remaining I.remaining
-        input command.entry result
-        (W.contents out.old) (W.contents out.new) (E.contents faults.old) (E.contents faults.new) }
+    ensures { Carries (record { opens = O.opens files.now; bytes = O.File.remaining })
+        (record { listens = O.listens files.now; opens_journal = O.opens_journal files.now })
+        (record { bytes = I.remaining; reader = input }) command.entry
+        (outcome_of result
+            (change_of (W.contents out.old) (W.contents out.new))
+            (change_of (E.contents faults.old) (E.contents faults.new))) }
 {
     match command {
         Command::Serve {
@@ -215,10 +226,13 @@ fn serve_named<
     faults: &mut E,
 ) -> Status
     requires { IsSeatCount asked.workers }
-    ensures { CarriesServe O.opens files.now O.listens O.opens_journal O.File.remaining
-        (option_map (λ named. named.now) journal.entry) asked.port table.entry
-        asked.workers asked.each result
-        (W.contents out.old) (W.contents out.new) (E.contents faults.old) (E.contents faults.new) }
+    ensures { CarriesServe
+        (record { listens = O.listens files.now; opens_journal = O.opens_journal files.now })
+        (record { bytes = O.File.remaining; file = table.entry })
+        (option_map (λ named. named.now) journal.entry) asked
+        (outcome_of result
+            (change_of (W.contents out.old) (W.contents out.new))
+            (change_of (E.contents faults.old) (E.contents faults.new))) }
 {
     match journal {
         Some(path) => serve_over(rt, alloc, files, table, path, asked, out, faults),
@@ -240,10 +254,12 @@ fn replay_file<R: Threads + Sync, O: Opens, I: Read + Drop, W: Write, E: Write>(
 ) -> Status
     requires { IsWorkerCount options.workers }
     ensures { (table_file : Option (Source O.File))
-        × IsFileNamed O.opens files.now (option_map (λ named. named.now) table.entry) table_file
-        × CarriesReplay O.opens files.now O.File.remaining I.remaining input options path.now
-        table_file result
-        (W.contents out.old) (W.contents out.new) (E.contents faults.old) (E.contents faults.new) }
+        × IsFileNamed (O.opens files.now) (option_map (λ named. named.now) table.entry) table_file
+        × CarriesReplay (record { opens = O.opens files.now; bytes = O.File.remaining })
+        (record { bytes = I.remaining; reader = input }) options path.now table_file
+        (outcome_of result
+            (change_of (W.contents out.old) (W.contents out.new))
+            (change_of (E.contents faults.old) (E.contents faults.new))) }
 {
     let table = file_if_named(files, table);
     if is_standard_input(path) {
@@ -265,12 +281,13 @@ fn debug_file<O: Opens, I: Read + Drop, W: Write, E: Write>(
     faults: &mut E,
 ) -> Status
     ensures { (table_file : Option (Source O.File))
-        × IsFileNamed O.opens files.now (option_map (λ named. named.now) table.entry) table_file
-        × (events : Source O.File) × IsFileOf O.opens files.now path.now events
+        × IsFileNamed (O.opens files.now) (option_map (λ named. named.now) table.entry) table_file
+        × (events : Source O.File) × IsFileOf (O.opens files.now) path.now events
         × (input_new : Option (List ℕ))
-        × Debugs O.File.remaining table_file O.File.remaining events named.entry result
-        (I.remaining input) input_new
-        (W.contents out.old) (W.contents out.new) (E.contents faults.old) (E.contents faults.new) }
+        × Debugs (files_of O.File.remaining table_file O.File.remaining events) named.entry result
+        (change_of (I.remaining input) input_new)
+        (change_of (W.contents out.old) (W.contents out.new))
+        (change_of (E.contents faults.old) (E.contents faults.new)) }
 {
     let table = file_if_named(files, table);
     let file = file_of(files, path);
@@ -290,10 +307,12 @@ fn list_vehicles<R: RandomSource, O: Opens, I: Read + Drop, W: Write, E: Write>(
     faults: &mut E,
 ) -> Status
     ensures { (table_file : Option (Source O.File))
-        × IsFileNamed O.opens files.now (option_map (λ named. named.now) table.entry) table_file
-        × CarriesVehicles O.opens files.now O.File.remaining I.remaining input path.now table_file
-        result
-        (W.contents out.old) (W.contents out.new) (E.contents faults.old) (E.contents faults.new) }
+        × IsFileNamed (O.opens files.now) (option_map (λ named. named.now) table.entry) table_file
+        × CarriesVehicles (record { opens = O.opens files.now; bytes = O.File.remaining })
+        (record { bytes = I.remaining; reader = input }) path.now table_file
+        (outcome_of result
+            (change_of (W.contents out.old) (W.contents out.new))
+            (change_of (E.contents faults.old) (E.contents faults.new))) }
 {
     let table = file_if_named(files, table);
     if is_standard_input(path) {
@@ -342,13 +361,13 @@ fn source_of<'a, R: Read + Drop>(path: &'a str, reader: R) -> Source<'a, R>
 }
 
 fn file_if_named<'a, O: Opens>(files: &O, path: Option<&'a str>) -> Option<Source<'a, O::File>>
-    ensures { IsFileNamed O.opens files.now (option_map (λ named. named.now) path.entry) result }
+    ensures { IsFileNamed (O.opens files.now) (option_map (λ named. named.now) path.entry) result }
 {
     Some(file_of(files, path?))
 }
 
 fn file_of<'a, O: Opens>(files: &O, path: &'a str) -> Source<'a, O::File>
-    ensures { IsFileOf O.opens files.now path.now result }
+    ensures { IsFileOf (O.opens files.now) path.now result }
 {
     Source {
         path,

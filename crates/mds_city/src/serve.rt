@@ -1,6 +1,8 @@
 //! The command that serves vehicles at a port.
 ghost use Rattle.std.specs.Prelude.{◌≡◌, ℕ, ⊤, IfOk, IfErr};
 ghost use Rattle.mds_book.specs.Books.{IsSeatCount};
+ghost use Rattle.mds_commands.specs.Change.{change_of};
+ghost use Rattle.mds_city.specs.Outcome.{outcome_of};
 ghost use Rattle.mds_city.specs.Serve.{CameToServe, IsSaid, Listened, SaysAccepted, Serves, StopsBefore};
 
 use crate::page::{AcceptedLine, ListeningLine, print_line};
@@ -78,9 +80,11 @@ pub fn serve_at<
     faults: &mut E,
 ) -> Status
     requires { IsSeatCount asked.workers }
-    ensures { CameToServe H.listens host.now asked.port T.remaining table.entry
-        asked.workers asked.each result
-        (W.contents out.old) (W.contents out.new) (E.contents faults.old) (E.contents faults.new) }
+    ensures { CameToServe (H.listens host.now)
+        (record { bytes = T.remaining; file = table.entry }) asked
+        (outcome_of result
+            (change_of (W.contents out.old) (W.contents out.new))
+            (change_of (E.contents faults.old) (E.contents faults.new))) }
 {
     let (tables, hashers, listening) = match begin(rt, alloc, host, table, asked.port, out) {
         Ok(had) => had,
@@ -108,11 +112,12 @@ fn begin<'a, R: RandomSource, H: Listens, T: Read + Drop, W: Write>(
     number: u16,
     out: &mut W,
 ) -> Result<(Tables, [RandomState; 2], H::Listening), Problem<'a>>
-    ensures ok { IfOk result (λ had. Listened H.listens host.now number T.remaining table.entry
-        had.0 had.2 (W.contents out.old) (W.contents out.new)) }
-    ensures err { IfErr result (λ problem.
-        StopsBefore H.listens host.now number T.remaining table.entry problem
-        (W.contents out.old) (W.contents out.new)) }
+    ensures ok { IfOk result (λ had. Listened (H.listens host.now number)
+        (record { bytes = T.remaining; file = table.entry }) had.0 had.2
+        (change_of (W.contents out.old) (W.contents out.new))) }
+    ensures err { IfErr result (λ problem. StopsBefore (H.listens host.now number)
+        (record { bytes = T.remaining; file = table.entry }) problem
+        (change_of (W.contents out.old) (W.contents out.new))) }
 {
     let tables = tables_in(alloc, table)?;
     let (Ok(first), Ok(second)) = (RandomState::new(rt), RandomState::new(rt)) else {
@@ -147,8 +152,10 @@ where
     P::In: Send,
     P::Out: Send,
     requires { IsSeatCount seats }
-    ensures { Serves tables seats each result
-        (W.contents out.old) (W.contents out.new) (E.contents faults.old) (E.contents faults.new) }
+    ensures { Serves tables seats each
+        (outcome_of result
+            (change_of (W.contents out.old) (W.contents out.new))
+            (change_of (E.contents faults.old) (E.contents faults.new))) }
 {
     let opening = NewBook::of(tables, seats, hashers);
     serve_book::<R, P, Brand, Brand, W, E>(rt, alloc, opening, port, each, out, faults)
@@ -184,8 +191,10 @@ where
         × (opening.second.parts ≡ opening.seats) }
     requires tables { (opening.tables ≡ L.tables) × (opening.tables ≡ M.tables) }
     requires seats { IsSeatCount opening.seats }
-    ensures { Serves opening.tables opening.seats each result
-        (W.contents out.old) (W.contents out.new) (E.contents faults.old) (E.contents faults.new) }
+    ensures { Serves opening.tables opening.seats each
+        (outcome_of result
+            (change_of (W.contents out.old) (W.contents out.new))
+            (change_of (E.contents faults.old) (E.contents faults.new))) }
 {
     let ended = serve_and_settle::<R, P, L, M>(rt, alloc, opening, port, each);
     say(alloc, ended, out, faults)
@@ -197,8 +206,10 @@ fn say<L: ShardLedger, M: ShardLedger, W: Write, E: Write>(
     out: &mut W,
     faults: &mut E,
 ) -> Status
-    ensures { IsSaid ended result
-        (W.contents out.old) (W.contents out.new) (E.contents faults.old) (E.contents faults.new) }
+    ensures { IsSaid ended
+        (outcome_of result
+            (change_of (W.contents out.old) (W.contents out.new))
+            (change_of (E.contents faults.old) (E.contents faults.new))) }
 {
     match ended {
         Ok(book) => say_accepted(alloc, book.settled.accepted(), out, faults),
@@ -214,8 +225,10 @@ pub(crate) fn say_accepted<W: Write, E: Write>(
     out: &mut W,
     faults: &mut E,
 ) -> Status
-    ensures { SaysAccepted accepted result
-        (W.contents out.old) (W.contents out.new) (E.contents faults.old) (E.contents faults.new) }
+    ensures { SaysAccepted accepted
+        (outcome_of result
+            (change_of (W.contents out.old) (W.contents out.new))
+            (change_of (E.contents faults.old) (E.contents faults.new))) }
 {
     match print_line(alloc, out, &AcceptedLine { accepted }) {
         Ok(()) => Status::Done,

@@ -18,22 +18,24 @@ use Rattle.mds_trace.specs.declared.report.Opening.TheVariants as opening
 use Rattle.mds_trace.specs.Replay.{IsReport}
 use Rattle.mds_trace.specs.ReplayLaws.{AreOutcomes}
 use Rattle.mds_commands.specs.Source.{HasTablesIn, ExplainsTable, HasItemsIn, ExplainsFile}
+use Rattle.mds_commands.specs.Files.{Files}
+use Rattle.mds_commands.specs.Change.{Change}
 use Rattle.mds_commands.specs.Text.{report_text, table_text}
 
 -- the status of a replay by how many items it refused
 abbrev pub status_on : ℕ → Status
 status_on refused = if refused == 0 then Done else Refused
 
--- of a replay: what is asked for, the known bytes of a table file's reader, the table file if one
--- is given, and the same of the file of events
-module _ {T R : Type 0} (options : ReplayOptions) (table_bytes : T → Option (List ℕ))
-    (table : Option (Source T)) (file_bytes : R → Option (List ℕ)) (file : Source R) where
+-- of a replay: what is asked for, and the files, of which one is of events
+module _ {T R : Type 0} (options : ReplayOptions) (files : Files T R) where
   -- the report of a replay of the file's items over the tables; with registrations before, its
   -- verdicts are the outcomes of the machine's run
   abbrev pub HasReport : Report → Type 0
   HasReport report =
-      (tables : Tables) × (items : List EventItem) × HasTablesIn table_bytes table tables
-      × HasItemsIn options.form file_bytes file items × IsReport options.opening tables items report
+      (tables : Tables) × (items : List EventItem)
+      × HasTablesIn files.table_bytes files.table tables
+      × HasItemsIn options.form files.file_bytes files.file items
+      × IsReport options.opening tables items report
       × (options.opening ≡ opening.Removed → AreOutcomes tables items report.lines.items)
 
   -- the report's text went out; the status tells whether each item was accepted
@@ -45,15 +47,16 @@ module _ {T R : Type 0} (options : ReplayOptions) (table_bytes : T → Option (L
   -- the tables were had, and then the problem is one of the file of events
   abbrev pub ExplainsEvents : Problem → Type 0
   ExplainsEvents problem =
-      (tables : Tables)
-      × HasTablesIn table_bytes table tables × ExplainsFile options.form file_bytes file problem
+      (tables : Tables) × HasTablesIn files.table_bytes files.table tables
+      × ExplainsFile options.form files.file_bytes files.file problem
 
   -- the problem's cause lies in the file that it names, if it names one; the table file is looked
   -- at first
   abbrev pub ExplainsReplay : Problem → Type 0
   ExplainsReplay (CannotRead path) =
-      ExplainsTable table_bytes table (CannotRead path) ⊎ ExplainsEvents (CannotRead path)
-  ExplainsReplay (NotATable fault) = ExplainsTable table_bytes table (NotATable fault)
+      ExplainsTable files.table_bytes files.table (CannotRead path)
+      ⊎ ExplainsEvents (CannotRead path)
+  ExplainsReplay (NotATable fault) = ExplainsTable files.table_bytes files.table (NotATable fault)
   ExplainsReplay (NotABatch fault) = ExplainsEvents (NotABatch fault)
   ExplainsReplay (NotLines fault) = ExplainsEvents (NotLines fault)
   ExplainsReplay Socket = ⊥
@@ -80,18 +83,16 @@ module _ {T R : Type 0} (options : ReplayOptions) (table_bytes : T → Option (L
   WentOut Memory old new = Keeps old new ⊎ PrintsFront old new
 
   -- a problem has this status, is explained, and was told
-  abbrev pub Told : Status → Option (List ℕ) → Option (List ℕ)
-      → Option (List ℕ) → Option (List ℕ) → Type 0
-  Told status old new faults_old faults_new =
+  abbrev pub Told : Status → Change → Change → Type 0
+  Told status out faults =
       (problem : Problem) × (status ≡ status_of problem) × ExplainsReplay problem
-      × WentOut problem old new × Tells faults_old faults_new problem
+      × WentOut problem out.before out.after × Tells faults.before faults.after problem
 
   -- what a replay came to: its report was printed and nothing was told, or a problem was told
-  abbrev pub CameToReplay : Status → Option (List ℕ)
-      → Option (List ℕ) → Option (List ℕ) → Option (List ℕ) → Type 0
-  CameToReplay status old new faults_old faults_new =
-      (Replayed status old new × Keeps faults_old faults_new)
-      ⊎ Told status old new faults_old faults_new
+  abbrev pub CameToReplay : Status → Change → Change → Type 0
+  CameToReplay status out faults =
+      (Replayed status out.before out.after × Keeps faults.before faults.after)
+      ⊎ Told status out faults
 
 -- of a print of tables: the known bytes of its file's reader, and the file if one is given
 module _ {T : Type 0} (table_bytes : T → Option (List ℕ)) (table : Option (Source T)) where
@@ -129,15 +130,13 @@ module _ {T : Type 0} (table_bytes : T → Option (List ℕ)) (table : Option (S
       × HasTablesIn table_bytes table tables × AppendsFront old new (table_text tables))
 
   -- a problem has this status, is explained, and was told
-  abbrev pub TableTold : Status → Option (List ℕ) → Option (List ℕ)
-      → Option (List ℕ) → Option (List ℕ) → Type 0
-  TableTold status old new faults_old faults_new =
+  abbrev pub TableTold : Status → Change → Change → Type 0
+  TableTold status out faults =
       (problem : Problem) × (status ≡ status_of problem) × ExplainsPrint problem
-      × TableWentOut problem old new × Tells faults_old faults_new problem
+      × TableWentOut problem out.before out.after × Tells faults.before faults.after problem
 
   -- what a print of tables came to: they were printed and nothing was told, or a problem was told
-  abbrev pub CameToTable : Status → Option (List ℕ)
-      → Option (List ℕ) → Option (List ℕ) → Option (List ℕ) → Type 0
-  CameToTable status old new faults_old faults_new =
-      ((status ≡ Done) × Tabled old new × Keeps faults_old faults_new)
-      ⊎ TableTold status old new faults_old faults_new
+  abbrev pub CameToTable : Status → Change → Change → Type 0
+  CameToTable status out faults =
+      ((status ≡ Done) × Tabled out.before out.after × Keeps faults.before faults.after)
+      ⊎ TableTold status out faults

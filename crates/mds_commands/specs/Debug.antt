@@ -28,12 +28,13 @@ use Rattle.mds_commands.specs.declared.debug.DebugProblem.TheVariants.{BadIdenti
 use Rattle.mds_commands.specs.declared.debug.DebugProblem.TheVariants.{NotInFile, Other}
 use Rattle.mds_commands.specs.declared.problem.Problem.TheVariants as problem
 use Rattle.mds_commands.specs.declared.source.Form.TheVariants.{Batch}
-use Rattle.mds_commands.specs.declared.source.Source.{Source}
 use Rattle.mds_commands.specs.declared.status.Status.{Status}
 use Rattle.mds_commands.specs.declared.status.Status.TheVariants as status
 use Rattle.mds_commands.specs.Command.{ExplainsReplay, status_on}
 use Rattle.mds_commands.specs.Problem.{Tells, status_of, written_problem}
 use Rattle.mds_commands.specs.Source.{HasTablesIn, HasItemsIn}
+use Rattle.mds_commands.specs.Files.{Files}
+use Rattle.mds_commands.specs.Change.{Change}
 
 -- two words are the identifiers of a vehicle
 abbrev pub IsNamed : Named → Key → Type 0
@@ -109,41 +110,37 @@ FollowsFront write.Memory walk input input_new old new =
     ⊎ WalksFront write.Memory walk input input_new old new
 
 -- the start of a session went out, and then a front of what the script that was read prints
-abbrev pub DebugsPart : PrintError → Walk → CountsLine → Option (List ℕ)
-    → Option (List ℕ) → Option (List ℕ) → Option (List ℕ) → Type 0
-DebugsPart fault walk counts input input_new old new =
+abbrev pub DebugsPart : PrintError → Walk → CountsLine → Change → Change → Type 0
+DebugsPart fault walk counts input out =
     (start : List ℕ) × PrintsStart walk counts start × (middle : Option (List ℕ))
-    × Appends old middle start × FollowsFront fault walk input input_new middle new
+    × Appends out.before middle start
+    × FollowsFront fault walk input.before input.after middle out.after
 
 -- a front of what a session's start and a script print went out, where showing it stopped so; until
 -- the start is out nothing of the script is read
-abbrev pub DebugsFront : PrintError → Walk → CountsLine → Option (List ℕ)
-    → Option (List ℕ) → Option (List ℕ) → Option (List ℕ) → Type 0
-DebugsFront fault walk counts input input_new old new =
-    (Consumes input input_new [] × (start : List ℕ)
-    × PrintsStart walk counts start × AppendsFront old new start)
-    ⊎ DebugsPart fault walk counts input input_new old new
+abbrev pub DebugsFront : PrintError → Walk → CountsLine → Change → Change → Type 0
+DebugsFront fault walk counts input out =
+    (Consumes input.before input.after [] × (start : List ℕ)
+    × PrintsStart walk counts start × AppendsFront out.before out.after start)
+    ⊎ DebugsPart fault walk counts input out
 
 -- the problem is a fault of showing a session, of which a front went out
-abbrev pub StopsShowing : DebugProblem → Walk → CountsLine → Option (List ℕ)
-    → Option (List ℕ) → Option (List ℕ) → Option (List ℕ) → Type 0
-StopsShowing problem walk counts input input_new old new =
+abbrev pub StopsShowing : DebugProblem → Walk → CountsLine → Change → Change → Type 0
+StopsShowing problem walk counts input out =
     (fault : PrintError) × (problem ≡ Other (written_problem fault))
-    × DebugsFront fault walk counts input input_new old new
+    × DebugsFront fault walk counts input out
 
 -- the replay that the debugger makes, by a single worker
 abbrev pub debug_options : ReplayOptions
 debug_options = record { opening = Removed; form = Batch; workers = 1 }
 
--- of the debugger: the known bytes of a table file's reader, the table file if one is given, the
--- same of the file of events, and the words that name a vehicle
-module _ {T R : Type 0} (table_bytes : T → Option (List ℕ)) (table : Option (Source T))
-    (file_bytes : R → Option (List ℕ)) (file : Source R) (named : Named) where
+-- of the debugger: the files, of which one is of events, and the words that name a vehicle
+module _ {T R : Type 0} (files : Files T R) (named : Named) where
   -- the words name this vehicle, and these are the tables and the items of the files
   abbrev pub HasFiles : Key → Tables → List EventItem → Type 0
   HasFiles key tables items =
-      IsNamed named key × HasTablesIn table_bytes table tables
-      × HasItemsIn Batch file_bytes file items
+      IsNamed named key × HasTablesIn files.table_bytes files.table tables
+      × HasItemsIn Batch files.file_bytes files.file items
 
   -- the session on the vehicle that the words name
   abbrev pub HasSession : Walk → CountsLine → Type 0
@@ -159,39 +156,34 @@ module _ {T R : Type 0} (table_bytes : T → Option (List ℕ)) (table : Option 
       (key : Key) × (tables : Tables) × (items : List EventItem)
       × HasFiles key tables items × (told_of key items ≡ 0)
   ExplainsDebug (Other problem) =
-      ((key : Key) × IsNamed named key)
-      × ExplainsReplay debug_options table_bytes table file_bytes file problem
+      ((key : Key) × IsNamed named key) × ExplainsReplay debug_options files problem
 
   -- a front of what the debugger prints went out
-  abbrev pub DebugPrintsFront : PrintError → Option (List ℕ)
-      → Option (List ℕ) → Option (List ℕ) → Option (List ℕ) → Type 0
-  DebugPrintsFront fault input input_new old new =
+  abbrev pub DebugPrintsFront : PrintError → Change → Change → Type 0
+  DebugPrintsFront fault input out =
       (walk : Walk) × (counts : CountsLine)
-      × HasSession walk counts × DebugsFront fault walk counts input input_new old new
+      × HasSession walk counts × DebugsFront fault walk counts input out
 
   -- what went out before a problem: a front where the output failed, and maybe where memory was
   -- wanting; else nothing, and nothing of the script was read
-  abbrev pub DebugWentOut : DebugProblem → Option (List ℕ)
-      → Option (List ℕ) → Option (List ℕ) → Option (List ℕ) → Type 0
-  DebugWentOut (Other problem.Output) input input_new old new =
-      DebugPrintsFront write.Device input input_new old new
-  DebugWentOut (Other problem.Memory) input input_new old new =
-      (Consumes input input_new [] × Keeps old new)
-      ⊎ DebugPrintsFront write.Memory input input_new old new
-  DebugWentOut problem input input_new old new = Consumes input input_new [] × Keeps old new
+  abbrev pub DebugWentOut : DebugProblem → Change → Change → Type 0
+  DebugWentOut (Other problem.Output) input out = DebugPrintsFront write.Device input out
+  DebugWentOut (Other problem.Memory) input out =
+      (Consumes input.before input.after [] × Keeps out.before out.after)
+      ⊎ DebugPrintsFront write.Memory input out
+  DebugWentOut problem input out = Consumes input.before input.after [] × Keeps out.before out.after
 
   -- the session was shown, as the script that was read says, and the status tells whether an event
   -- of the vehicle was refused
-  abbrev pub Shows : Status → Option (List ℕ) → Option (List ℕ)
-      → Option (List ℕ) → Option (List ℕ) → Type 0
-  Shows ended input input_new old new =
+  abbrev pub Shows : Status → Change → Change → Type 0
+  Shows ended input out =
       (walk : Walk) × (counts : CountsLine) × HasSession walk counts
-      × Shown walk counts input input_new old new × (ended ≡ status_on counts.refused)
+      × Shown walk counts input.before input.after out.before out.after
+      × (ended ≡ status_on counts.refused)
 
   -- what the debugger did: it showed a session, or told why it couldn't
-  abbrev pub Debugs : Status → Option (List ℕ) → Option (List ℕ) → Option (List ℕ)
-      → Option (List ℕ) → Option (List ℕ) → Option (List ℕ) → Type 0
-  Debugs ended input input_new old new faults faults_new =
-      (Shows ended input input_new old new × Keeps faults faults_new)
+  abbrev pub Debugs : Status → Change → Change → Change → Type 0
+  Debugs ended input out faults =
+      (Shows ended input out × Keeps faults.before faults.after)
       ⊎ ((problem : DebugProblem) × (ended ≡ debug_status_of problem) × ExplainsDebug problem
-      × DebugWentOut problem input input_new old new × TellsDebug faults faults_new problem)
+      × DebugWentOut problem input out × TellsDebug faults.before faults.after problem)

@@ -3,6 +3,8 @@ pub mod Text
 pub mod Status
 pub mod Problem
 pub mod Source
+pub mod Files
+pub mod Change
 pub mod Command
 pub mod Debug
 pub mod Stream

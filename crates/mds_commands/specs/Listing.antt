@@ -12,6 +12,8 @@ use Rattle.mds_commands.specs.declared.problem.Problem.TheVariants.{CannotRead, 
 use Rattle.mds_commands.specs.declared.problem.Problem.TheVariants.{NotABatch, NotLines, Socket}
 use Rattle.mds_commands.specs.declared.problem.Problem.TheVariants.{Random, Output, Memory}
 use Rattle.mds_commands.specs.Source.{HasTablesIn, ExplainsTable, IsOpen}
+use Rattle.mds_commands.specs.Files.{Files}
+use Rattle.mds_commands.specs.Change.{Change}
 use Rattle.mds_commands.specs.declared.vehicles.problem.JournalProblem.{JournalProblem}
 use Rattle.mds_commands.specs.declared.vehicles.problem.JournalProblem.TheVariants.{NotAJournal, Other}
 use Rattle.mds_commands.specs.declared.vehicles.taking.TakeError.TheVariants.{Fault}
@@ -39,15 +41,13 @@ ExplainsJournal remaining source tables (Other Socket) = ⊥
 ExplainsJournal remaining source tables (Other Random) = ⊥
 ExplainsJournal remaining source tables (Other Output) = ⊥
 
--- of a listing: the known bytes of a table file's reader, the table file if one is given, and the
--- same of the journal
-module _ {T R : Type 0} (table_bytes : T → Option (List ℕ)) (table : Option (Source T))
-    (file_bytes : R → Option (List ℕ)) (file : Source R) where
+-- of a listing: the files, of which one is a journal
+module _ {T R : Type 0} (files : Files T R) where
   -- the lines of the journal tell this history, which is lawful under the tables
   abbrev pub HasHistory : List Request → Type 0
   HasHistory history =
-      (tables : Tables) × HasTablesIn table_bytes table tables
-      × IsTakenIn file_bytes file history × IsLawful tables history
+      (tables : Tables) × HasTablesIn files.table_bytes files.table tables
+      × IsTakenIn files.file_bytes files.file history × IsLawful tables history
 
   -- the listing of the journal's history went out
   abbrev pub Listed : Option (List ℕ) → Option (List ℕ) → Type 0
@@ -62,20 +62,23 @@ module _ {T R : Type 0} (table_bytes : T → Option (List ℕ)) (table : Option 
   -- the tables were had, and then the problem is one of the journal
   abbrev pub ExplainsRequests : JournalProblem → Type 0
   ExplainsRequests problem =
-      (tables : Tables)
-      × HasTablesIn table_bytes table tables × ExplainsJournal file_bytes file tables problem
+      (tables : Tables) × HasTablesIn files.table_bytes files.table tables
+      × ExplainsJournal files.file_bytes files.file tables problem
 
   -- the problem's cause lies in the file that it names, if it names one; the table file is looked
   -- at first
   abbrev pub ExplainsListing : JournalProblem → Type 0
   ExplainsListing (NotAJournal fault) = ExplainsRequests (NotAJournal fault)
   ExplainsListing (Other (CannotRead path)) =
-      ExplainsTable table_bytes table (CannotRead path) ⊎ ExplainsRequests (Other (CannotRead path))
-  ExplainsListing (Other (NotATable fault)) = ExplainsTable table_bytes table (NotATable fault)
+      ExplainsTable files.table_bytes files.table (CannotRead path)
+      ⊎ ExplainsRequests (Other (CannotRead path))
+  ExplainsListing (Other (NotATable fault)) =
+      ExplainsTable files.table_bytes files.table (NotATable fault)
   ExplainsListing (Other (NotABatch fault)) = ⊥
   ExplainsListing (Other (NotLines fault)) = ⊥
   ExplainsListing (Other Socket) = ⊥
-  ExplainsListing (Other Random) = (tables : Tables) × HasTablesIn table_bytes table tables
+  ExplainsListing (Other Random) =
+      (tables : Tables) × HasTablesIn files.table_bytes files.table tables
   ExplainsListing (Other Output) = Unit {0}
   ExplainsListing (Other Memory) = Unit {0}
 
@@ -93,15 +96,14 @@ module _ {T R : Type 0} (table_bytes : T → Option (List ℕ)) (table : Option 
   ListingWentOut (Other Memory) old new = Keeps old new ⊎ ListedFront old new
 
   -- a problem has this status, is explained, and was told
-  abbrev pub ListingTold : Status → Option (List ℕ)
-      → Option (List ℕ) → Option (List ℕ) → Option (List ℕ) → Type 0
-  ListingTold status old new faults_old faults_new =
+  abbrev pub ListingTold : Status → Change → Change → Type 0
+  ListingTold status out faults =
       (problem : JournalProblem) × (status ≡ journal_status_of problem) × ExplainsListing problem
-      × ListingWentOut problem old new × TellsJournal faults_old faults_new problem
+      × ListingWentOut problem out.before out.after
+      × TellsJournal faults.before faults.after problem
 
   -- what a listing came to: it was printed and nothing was told, or a problem was told
-  abbrev pub CameToListing : Status → Option (List ℕ)
-      → Option (List ℕ) → Option (List ℕ) → Option (List ℕ) → Type 0
-  CameToListing status old new faults_old faults_new =
-      ((status ≡ Done) × Listed old new × Keeps faults_old faults_new)
-      ⊎ ListingTold status old new faults_old faults_new
+  abbrev pub CameToListing : Status → Change → Change → Type 0
+  CameToListing status out faults =
+      ((status ≡ Done) × Listed out.before out.after × Keeps faults.before faults.after)
+      ⊎ ListingTold status out faults

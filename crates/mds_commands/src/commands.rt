@@ -7,6 +7,8 @@ ghost use Rattle.mds_trace.specs.ReplayLaws.{AreOutcomes};
 ghost use Rattle.mds_trace.specs.Replay.{IsReport};
 ghost use Rattle.mds_trace.specs.WithFault.{IsWorkerCount};
 ghost use Rattle.mds_commands.specs.Source.{HasItemsIn, ExplainsFile};
+ghost use Rattle.mds_commands.specs.Files.{files_of};
+ghost use Rattle.mds_commands.specs.Change.{change_of};
 ghost use Rattle.mds_commands.specs.Text.{report_text};
 ghost use Rattle.mds_commands.specs.Command.{CameToReplay, CameToTable, HasReport, ExplainsReplay, WentOut, Tabled, ExplainsPrint, TableWentOut, status_on};
 
@@ -50,8 +52,9 @@ pub fn replay_to<P: Threads + Sync, T: Read + Drop, R: Read + Drop, W: Write, E:
     faults: &mut E,
 ) -> Status
     requires { IsWorkerCount options.workers }
-    ensures { CameToReplay options T.remaining table.entry R.remaining file.entry result
-        (W.contents out.old) (W.contents out.new) (E.contents faults.old) (E.contents faults.new) }
+    ensures { CameToReplay options (files_of T.remaining table.entry R.remaining file.entry) result
+        (change_of (W.contents out.old) (W.contents out.new))
+        (change_of (E.contents faults.old) (E.contents faults.new)) }
 {
     match replay_into(rt, alloc, table, file, options, out) {
         Ok(refused) => status_on(refused),
@@ -79,12 +82,12 @@ fn replay_into<'a, P: Threads + Sync, T: Read + Drop, R: Read + Drop, W: Write>(
 ) -> Result<usize, Problem<'a>>
     requires { IsWorkerCount options.workers }
     ensures ok { IfOk result (λ refused. (report : Report)
-        × HasReport options T.remaining table.entry R.remaining file.entry report
+        × HasReport options (files_of T.remaining table.entry R.remaining file.entry) report
         × Appends (W.contents out.old) (W.contents out.new) (report_text options.opening report)
         × (refused ≡ report.refused)) }
-    ensures err { IfErr result (λ problem. ExplainsReplay options T.remaining table.entry
-        R.remaining file.entry problem
-        × WentOut options T.remaining table.entry R.remaining file.entry problem
+    ensures err { IfErr result (λ problem. ExplainsReplay options
+        (files_of T.remaining table.entry R.remaining file.entry) problem
+        × WentOut options (files_of T.remaining table.entry R.remaining file.entry) problem
         (W.contents out.old) (W.contents out.new)) }
 {
     let report = report_on(rt, alloc, table, file, options)?;
@@ -100,9 +103,10 @@ fn report_on<'a, P: Threads + Sync, T: Read + Drop, R: Read + Drop>(
     options: ReplayOptions,
 ) -> Result<Report, Problem<'a>>
     requires { IsWorkerCount options.workers }
-    ensures ok { IfOk result (HasReport options T.remaining table.entry R.remaining file.entry) }
-    ensures err { IfErr result (λ problem. ExplainsReplay options T.remaining table.entry
-        R.remaining file.entry problem
+    ensures ok { IfOk result (HasReport options
+        (files_of T.remaining table.entry R.remaining file.entry)) }
+    ensures err { IfErr result (λ problem. ExplainsReplay options
+        (files_of T.remaining table.entry R.remaining file.entry) problem
         × (problem ≢ Problem.Output)) }
 {
     let tables = tables_in(alloc, table)?;
@@ -174,7 +178,8 @@ pub fn table_to<T: Read + Drop, W: Write, E: Write>(
     faults: &mut E,
 ) -> Status
     ensures { CameToTable T.remaining table.entry result
-        (W.contents out.old) (W.contents out.new) (E.contents faults.old) (E.contents faults.new) }
+        (change_of (W.contents out.old) (W.contents out.new))
+        (change_of (E.contents faults.old) (E.contents faults.new)) }
 {
     match table_into(alloc, table, out) {
         Ok(()) => Status::Done,

@@ -7,6 +7,8 @@ ghost use Rattle.mds_trace.specs.Walk.{Walk};
 ghost use Rattle.mds_trace.specs.declared.line.CountsLine.{CountsLine as Counts};
 ghost use Rattle.mds_trace.specs.Vehicle.{told_of};
 ghost use Rattle.mds_commands.specs.Source.{HasItemsIn, ExplainsFile};
+ghost use Rattle.mds_commands.specs.Files.{files_of};
+ghost use Rattle.mds_commands.specs.Change.{change_of};
 ghost use Rattle.mds_commands.specs.Debug.{Debugs, DebugWentOut, ExplainsDebug, HasSession, IsNamed, IsOpened, IsOther, Shown, StopsShowing, TellsDebug, debug_status_of};
 
 use crate::commands::status_on;
@@ -105,9 +107,10 @@ pub fn debug_to<T: Read + Drop, R: Read + Drop, I: Read, W: Write, E: Write>(
     out: &mut W,
     faults: &mut E,
 ) -> Status
-    ensures { Debugs T.remaining table.entry R.remaining file.entry named.entry result
-        (I.remaining script.old) (I.remaining script.new)
-        (W.contents out.old) (W.contents out.new) (E.contents faults.old) (E.contents faults.new) }
+    ensures { Debugs (files_of T.remaining table.entry R.remaining file.entry) named.entry result
+        (change_of (I.remaining script.old) (I.remaining script.new))
+        (change_of (W.contents out.old) (W.contents out.new))
+        (change_of (E.contents faults.old) (E.contents faults.new)) }
 {
     match debug_into(alloc, table, file, named, script, out) {
         Ok(refused) => status_on(refused),
@@ -147,14 +150,15 @@ fn debug_into<'a, T: Read + Drop, R: Read + Drop, I: Read, W: Write>(
     out: &mut W,
 ) -> Result<usize, DebugProblem<'a>>
     ensures ok { IfOk result (λ refused. (walk : Walk) × (counts : Counts)
-        × HasSession T.remaining table.entry R.remaining file.entry named.entry walk counts
+        × HasSession (files_of T.remaining table.entry R.remaining file.entry)
+        named.entry walk counts
         × Shown walk counts (I.remaining script.old) (I.remaining script.new) (W.contents out.old)
         (W.contents out.new) × (refused ≡ counts.refused)) }
-    ensures err { IfErr result (λ problem. ExplainsDebug T.remaining table.entry R.remaining
-        file.entry named.entry problem
-        × DebugWentOut T.remaining table.entry R.remaining file.entry named.entry problem
-        (I.remaining script.old) (I.remaining script.new)
-        (W.contents out.old) (W.contents out.new)) }
+    ensures err { IfErr result (λ problem. ExplainsDebug
+        (files_of T.remaining table.entry R.remaining file.entry) named.entry problem
+        × DebugWentOut (files_of T.remaining table.entry R.remaining file.entry) named.entry problem
+        (change_of (I.remaining script.old) (I.remaining script.new))
+        (change_of (W.contents out.old) (W.contents out.new))) }
 {
     let opened = session_on(alloc, table, file, named)?;
     let refused = opened.counts.refused;
@@ -168,10 +172,11 @@ fn session_on<'a, T: Read + Drop, R: Read + Drop>(
     file: Source<'a, R>,
     named: Named<'a>,
 ) -> Result<VehicleSession, DebugProblem<'a>>
-    ensures ok { IfOk result (λ opened. HasSession T.remaining table.entry R.remaining file.entry
-        named.entry opened.session opened.counts) }
-    ensures err { IfErr result (λ problem. ExplainsDebug T.remaining table.entry R.remaining
-        file.entry named.entry problem
+    ensures ok { IfOk result (λ opened. HasSession
+        (files_of T.remaining table.entry R.remaining file.entry) named.entry
+        opened.session opened.counts) }
+    ensures err { IfErr result (λ problem. ExplainsDebug
+        (files_of T.remaining table.entry R.remaining file.entry) named.entry problem
         × (problem ≢ DebugProblem.Other Problem.Output)) }
 {
     let Some(key) = named.key() else {
@@ -215,8 +220,8 @@ fn show<'a, I: Read, W: Write>(
     ensures ok { OnOk result (Shown opened.session opened.counts (I.remaining script.old)
         (I.remaining script.new) (W.contents out.old) (W.contents out.new)) }
     ensures err { IfErr result (λ problem. StopsShowing problem opened.session opened.counts
-        (I.remaining script.old) (I.remaining script.new) (W.contents out.old)
-        (W.contents out.new)) }
+        (change_of (I.remaining script.old) (I.remaining script.new))
+        (change_of (W.contents out.old) (W.contents out.new))) }
 {
     let mut session = opened.session;
     print_start(alloc, out, &session, opened.counts)?;

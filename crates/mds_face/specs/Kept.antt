@@ -1,12 +1,8 @@
 -- What one connection does at a desk whose answers go out once what they rest on is recorded.
 use Rattle.std.specs.Prelude.{◌≡◌, ◌⊎◌, ℕ, ◌≤◌, List, length, take, Option, Some}
-use Rattle.std.specs.Prelude.{None, Result, Ok, Err, Bool, true, false, MatchBool}
+use Rattle.std.specs.Prelude.{None, Ok, Err, Bool, true, false, MatchBool}
 use Rattle.std.specs.Io.KnownBytes.{Appends, Keeps}
-use Rattle.mds_table.specs.Tables.{Tables}
 use Rattle.mds_core.specs.declared.key.Key.{Key}
-use Rattle.mds_core.specs.declared.request.Request.{Request}
-use Rattle.mds_core.specs.declared.reply.Reply.{Reply}
-use Rattle.mds_core.specs.Reported.{Reported}
 use Rattle.mds_request.specs.Asked.{Asked}
 use Rattle.mds_request.specs.Asked as asked
 use Rattle.mds_request.specs.Plan.{IsPlan}
@@ -18,6 +14,7 @@ use Rattle.mds_book.specs.declared.record_fault.RecordFault.{RecordFault}
 use Rattle.mds_book.specs.declared.record_fault.RecordFault.TheVariants as keep
 use Rattle.mds_face.specs.declared.kept_desk.KeptFault.{KeptFault}
 use Rattle.mds_face.specs.declared.kept_desk.KeptFault.TheVariants.{Serve, NotKept, Lost}
+use Rattle.mds_face.specs.Exchange.{DeskRules, Exchange, RecordRules}
 use Rattle.mds_face.specs.Serving.{Finds, IsAnsweredWhole, IsAsked}
 use Rattle.mds_face.specs.Serving.{IsFixedAnswer, StopsAsked, StopsUnread}
 
@@ -53,75 +50,64 @@ IsInstead keep.NotKept old new fault =
     (sent : ℕ) × (fault ≡ NotKept sent) × IsNotKeptAnswer old new sent
 IsInstead keep.Lost old new fault = (fault ≡ Lost) × Keeps old new
 
--- of a desk: as in `Serving`, and in which states all that its answers rest on is recorded, those
--- about one vehicle or, with none named, all, and where keeping leads, by what it answers
-module _ {S : Type 0} (Calls : S → Request → Option Reply → S → Type 0)
-    (GivesEvents : S → Key → Option (List Reported) → S → Type 0) (GivesRows : S → Tables → Type 0)
-    (IsKept : S → Option Key → Type 0)
-    (KeepsDesk : S → Result (Unit {0}) RecordFault → S → Type 0) where
+-- of a desk: how it answers, and how it sees to it that what its answers rest on is recorded
+module _ {S : Type 0} (rules : DeskRules S) (recording : RecordRules S) where
   -- what the answer rests on is recorded, if it rests on anything
   abbrev pub Leaves : Asked → S → S → Type 0
   Leaves what middle new =
       MatchBool (is_of_history what)
-      (KeepsDesk middle (Ok tt) new × IsKept new (vehicle_of what)) (new ≡ middle)
+      (recording.keeps middle (Ok tt) new × recording.is_kept new (vehicle_of what))
+      (new ≡ middle)
 
   -- what is asked for was answered whole, once what the answer rests on was recorded
-  pub record IsKeptAnswer (what : Asked) (old new : S) (written_old written_new : Option (List ℕ))
-      (served : Served) : Type 0 where
+  pub record IsKeptAnswer (what : Asked) (exchange : Exchange S) (served : Served) : Type 0 where
     pub middle : S
-    pub answered : IsAnsweredWhole Calls GivesEvents GivesRows
-        what old middle written_old written_new served
-    pub leaves : Leaves what middle new
+    pub answered : IsAnsweredWhole rules what (record exchange { new = middle }) served
+    pub leaves : Leaves what middle exchange.new
 
   -- why it wasn't, and what was done: nothing of the answer goes out before that
-  abbrev pub IsKeptStop : Asked → S → S → Option (List ℕ) → Option (List ℕ) → KeptFault → Type 0
-  IsKeptStop what old new written_old written_new (Serve serve.Read) = ⊥
-  IsKeptStop what old new written_old written_new (Serve (serve.Memory sent)) =
+  abbrev pub IsKeptStop : Asked → Exchange S → KeptFault → Type 0
+  IsKeptStop what exchange (Serve serve.Read) = ⊥
+  IsKeptStop what exchange (Serve (serve.Memory sent)) =
       (middle : S)
-      × StopsAsked Calls GivesEvents GivesRows what old
-      middle written_old written_new (serve.Memory sent)
-      × ((new ≡ middle) ⊎ ((is_of_history what ≡ true) × KeepsDesk middle (Err keep.Memory) new))
-  IsKeptStop what old new written_old written_new (Serve fault) =
-      (middle : S)
-      × StopsAsked Calls GivesEvents GivesRows what old middle written_old written_new fault
-      × Leaves what middle new
-  IsKeptStop what old new written_old written_new (NotKept sent) =
+      × StopsAsked rules what (record exchange { new = middle }) (serve.Memory sent)
+      × ((exchange.new ≡ middle)
+      ⊎ ((is_of_history what ≡ true) × recording.keeps middle (Err keep.Memory) exchange.new))
+  IsKeptStop what exchange (Serve fault) =
+      (middle : S) × StopsAsked rules what (record exchange { new = middle }) fault
+      × Leaves what middle exchange.new
+  IsKeptStop what exchange (NotKept sent) =
       (is_of_history what ≡ true)
-      × ((found : Finding) × (middle : S) × Finds Calls GivesEvents GivesRows old what found middle
-      × KeepsDesk middle (Err keep.NotKept) new)
-      × IsNotKeptAnswer written_old written_new sent
-  IsKeptStop what old new written_old written_new Lost =
+      × ((found : Finding) × (middle : S) × Finds rules exchange.old what found middle
+      × recording.keeps middle (Err keep.NotKept) exchange.new)
+      × IsNotKeptAnswer exchange.written_old exchange.written_new sent
+  IsKeptStop what exchange Lost =
       (is_of_history what ≡ true)
-      × ((found : Finding) × (middle : S) × Finds Calls GivesEvents GivesRows old what found middle
-      × KeepsDesk middle (Err keep.Lost) new)
-      × Keeps written_old written_new
+      × ((found : Finding) × (middle : S) × Finds rules exchange.old what found middle
+      × recording.keeps middle (Err keep.Lost) exchange.new)
+      × Keeps exchange.written_old exchange.written_new
 
   -- the request of a stream was answered whole
-  abbrev pub IsServedKept : Option (List ℕ) → S → S
-      → Option (List ℕ) → Option (List ℕ) → Served → Type 0
-  IsServedKept input old new written_old written_new served =
-      (what : Asked) × IsAsked input what × IsKeptAnswer what old new written_old written_new served
+  abbrev pub IsServedKept : Option (List ℕ) → Exchange S → Served → Type 0
+  IsServedKept input exchange served =
+      (what : Asked) × IsAsked input what × IsKeptAnswer what exchange served
 
   -- the connection stopped before it was known what its stream asks for
-  abbrev pub StopsUnreadKept : S → S → Option (List ℕ) → Option (List ℕ) → KeptFault → Type 0
-  StopsUnreadKept old new written_old written_new (Serve fault) =
-      StopsUnread Calls GivesEvents GivesRows old new written_old written_new fault
-  StopsUnreadKept old new written_old written_new (NotKept sent) = ⊥
-  StopsUnreadKept old new written_old written_new Lost = ⊥
+  abbrev pub StopsUnreadKept : Exchange S → KeptFault → Type 0
+  StopsUnreadKept exchange (Serve fault) = StopsUnread rules exchange fault
+  StopsUnreadKept exchange (NotKept sent) = ⊥
+  StopsUnreadKept exchange Lost = ⊥
 
   -- or later
-  abbrev pub StopsKept : Option (List ℕ) → S → S
-      → Option (List ℕ) → Option (List ℕ) → KeptFault → Type 0
-  StopsKept input old new written_old written_new fault =
-      StopsUnreadKept old new written_old written_new fault
-      ⊎ ((what : Asked)
-      × IsAsked input what × IsKeptStop what old new written_old written_new fault)
+  abbrev pub StopsKept : Option (List ℕ) → Exchange S → KeptFault → Type 0
+  StopsKept input exchange fault =
+      StopsUnreadKept exchange fault
+      ⊎ ((what : Asked) × IsAsked input what × IsKeptStop what exchange fault)
 
   -- a request that is all there wasn't answered whole: there was no memory for its items, or it
   -- stopped later
-  abbrev pub StopsWhole : List ℕ → S → S → Option (List ℕ) → Option (List ℕ) → KeptFault → Type 0
-  StopsWhole request old new written_old written_new fault =
-      ((sent : ℕ) × (fault ≡ Serve (serve.Memory sent))
-      × (new ≡ old) × IsFixedAnswer written_old written_new sent)
-      ⊎ ((what : Asked)
-      × IsPlan request what × IsKeptStop what old new written_old written_new fault)
+  abbrev pub StopsWhole : List ℕ → Exchange S → KeptFault → Type 0
+  StopsWhole request exchange fault =
+      ((sent : ℕ) × (fault ≡ Serve (serve.Memory sent)) × (exchange.new ≡ exchange.old)
+      × IsFixedAnswer exchange.written_old exchange.written_new sent)
+      ⊎ ((what : Asked) × IsPlan request what × IsKeptStop what exchange fault)

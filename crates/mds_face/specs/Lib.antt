@@ -1,5 +1,6 @@
 -- Definitions that the contracts cite.
 pub mod Desk
+pub mod Exchange
 pub mod Seats
 pub mod Asking
 pub mod Faults

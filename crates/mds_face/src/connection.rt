@@ -5,6 +5,7 @@ ghost use Rattle.mds_core.specs.declared.request.Request.TheVariants as Asks;
 ghost use Rattle.mds_request.specs.Asked.{asked_in};
 ghost use Rattle.mds_response.specs.Found.{finding_in, replies_in, accepted_in};
 ghost use Rattle.mds_response.specs.Answer.{answer_to};
+ghost use Rattle.mds_face.specs.Exchange.{exchange_of, rules_of};
 ghost use Rattle.mds_face.specs.Faults.{serve_fault_text};
 ghost use Rattle.mds_face.specs.Reading.{ReadsNoFurther};
 ghost use Rattle.mds_face.specs.Serving.{Finds, FindsNoMemory, IsAnsweredWhole, IsFixedAnswer, IsServed, IsUnwritten, Stops, StopsAsked};
@@ -85,12 +86,12 @@ pub fn serve_one<R: Read, W: Write, D: Desk>(
     writer: &mut W,
     desk: &mut D,
 ) -> Result<Served, ServeFault>
-    ensures served { IfOk result (IsServed D.calls D.gives_events D.gives_rows
-        (R.remaining reader.old) desk.old desk.new
-        (W.contents writer.old) (W.contents writer.new)) }
-    ensures stopped { IfErr result (Stops D.calls D.gives_events D.gives_rows
-        (R.remaining reader.old) desk.old desk.new
-        (W.contents writer.old) (W.contents writer.new)) }
+    ensures served { IfOk result (IsServed (rules_of D.calls D.gives_events D.gives_rows)
+        (R.remaining reader.old)
+        (exchange_of desk.old desk.new (W.contents writer.old) (W.contents writer.new))) }
+    ensures stopped { IfErr result (Stops (rules_of D.calls D.gives_events D.gives_rows)
+        (R.remaining reader.old)
+        (exchange_of desk.old desk.new (W.contents writer.old) (W.contents writer.new))) }
     ensures no_further { ReadsNoFurther (R.remaining reader.old) (R.remaining reader.new) }
 {
     match read_plan(alloc, face, reader) {
@@ -110,10 +111,12 @@ fn answer<W: Write, D: Desk>(
     desk: &mut D,
     plan: Plan,
 ) -> Result<Served, ServeFault>
-    ensures answered { IfOk result (IsAnsweredWhole D.calls D.gives_events D.gives_rows
-        (asked_in plan) desk.old desk.new (W.contents writer.old) (W.contents writer.new)) }
-    ensures stopped { IfErr result (StopsAsked D.calls D.gives_events D.gives_rows
-        (asked_in plan) desk.old desk.new (W.contents writer.old) (W.contents writer.new)) }
+    ensures answered { IfOk result (IsAnsweredWhole (rules_of D.calls D.gives_events D.gives_rows)
+        (asked_in plan)
+        (exchange_of desk.old desk.new (W.contents writer.old) (W.contents writer.new))) }
+    ensures stopped { IfErr result (StopsAsked (rules_of D.calls D.gives_events D.gives_rows)
+        (asked_in plan)
+        (exchange_of desk.old desk.new (W.contents writer.old) (W.contents writer.new))) }
 {
     let Ok(found) = find(alloc, desk, &plan, &mut blank_request()) else {
         return Err(out_of_memory(writer));
@@ -139,9 +142,10 @@ pub(crate) fn find<D: Desk>(
     plan: &Plan,
     request: &mut Request,
 ) -> Result<Found, AllocError>
-    ensures finds { IfOk result (λ found. Finds D.calls D.gives_events D.gives_rows
+    ensures finds { IfOk result (λ found. Finds (rules_of D.calls D.gives_events D.gives_rows)
         desk.old (asked_in plan.now) (finding_in found) desk.new) }
-    ensures memory { OnErr result (FindsNoMemory D.calls D.gives_events D.gives_rows
+    ensures memory { OnErr result (FindsNoMemory
+        (rules_of D.calls D.gives_events D.gives_rows)
         desk.old (asked_in plan.now) desk.new) }
 {
     match plan {

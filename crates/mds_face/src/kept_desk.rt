@@ -3,6 +3,7 @@ ghost use Rattle.std.specs.Prelude.{◌≡◌, true, false, IfOk, IfErr, OnOk, I
 ghost use Rattle.std.specs.Io.KnownBytes.{Appends};
 ghost use Rattle.mds_request.specs.Asked.{asked_in};
 ghost use Rattle.mds_request.specs.HeadStatus.{IsHead};
+ghost use Rattle.mds_face.specs.Exchange.{exchange_of, record_rules_of, rules_of};
 ghost use Rattle.mds_face.specs.Kept.{IsInstead, IsKeptAnswer, IsKeptStop, IsServedKept, StopsKept, StopsWhole, is_of_history, vehicle_of};
 ghost use Rattle.mds_face.specs.Reading.{ReadsNoFurther};
 ghost use Rattle.mds_face.specs.Serving.{IsUnwritten};
@@ -70,12 +71,14 @@ pub fn serve_kept<R: Read, W: Write, D: KeptDesk>(
     writer: &mut W,
     desk: &mut D,
 ) -> Result<Served, KeptFault>
-    ensures served { IfOk result (IsServedKept D.calls D.gives_events D.gives_rows D.is_kept D.keeps
-        (R.remaining reader.old) desk.old desk.new
-        (W.contents writer.old) (W.contents writer.new)) }
-    ensures stopped { IfErr result (StopsKept D.calls D.gives_events D.gives_rows D.is_kept D.keeps
-        (R.remaining reader.old) desk.old desk.new
-        (W.contents writer.old) (W.contents writer.new)) }
+    ensures served { IfOk result (IsServedKept
+        (rules_of D.calls D.gives_events D.gives_rows) (record_rules_of D.is_kept D.keeps)
+        (R.remaining reader.old)
+        (exchange_of desk.old desk.new (W.contents writer.old) (W.contents writer.new))) }
+    ensures stopped { IfErr result (StopsKept
+        (rules_of D.calls D.gives_events D.gives_rows) (record_rules_of D.is_kept D.keeps)
+        (R.remaining reader.old)
+        (exchange_of desk.old desk.new (W.contents writer.old) (W.contents writer.new))) }
     ensures no_further { ReadsNoFurther (R.remaining reader.old) (R.remaining reader.new) }
 {
     match read_plan(alloc, face, reader) {
@@ -129,10 +132,14 @@ pub fn serve_whole<W: Write, D: KeptDesk>(
     desk: &mut D,
 ) -> Result<Served, KeptFault>
     requires { IsHead request.now head.now }
-    ensures served { IfOk result (IsServedKept D.calls D.gives_events D.gives_rows D.is_kept D.keeps
-        (Some request.now) desk.old desk.new (W.contents writer.old) (W.contents writer.new)) }
-    ensures stopped { IfErr result (StopsWhole D.calls D.gives_events D.gives_rows D.is_kept D.keeps
-        request.now desk.old desk.new (W.contents writer.old) (W.contents writer.new)) }
+    ensures served { IfOk result (IsServedKept
+        (rules_of D.calls D.gives_events D.gives_rows) (record_rules_of D.is_kept D.keeps)
+        (Some request.now)
+        (exchange_of desk.old desk.new (W.contents writer.old) (W.contents writer.new))) }
+    ensures stopped { IfErr result (StopsWhole
+        (rules_of D.calls D.gives_events D.gives_rows) (record_rules_of D.is_kept D.keeps)
+        request.now
+        (exchange_of desk.old desk.new (W.contents writer.old) (W.contents writer.new))) }
 {
     match head.plan(alloc, &mut room.reader, request) {
         Ok(plan) => answer_kept(alloc, &mut room.request, writer, desk, plan),
@@ -148,10 +155,14 @@ fn answer_kept<W: Write, D: KeptDesk>(
     desk: &mut D,
     plan: Plan,
 ) -> Result<Served, KeptFault>
-    ensures answered { IfOk result (IsKeptAnswer D.calls D.gives_events D.gives_rows D.is_kept
-        D.keeps (asked_in plan) desk.old desk.new (W.contents writer.old) (W.contents writer.new)) }
-    ensures stopped { IfErr result (IsKeptStop D.calls D.gives_events D.gives_rows D.is_kept D.keeps
-        (asked_in plan) desk.old desk.new (W.contents writer.old) (W.contents writer.new)) }
+    ensures answered { IfOk result (IsKeptAnswer
+        (rules_of D.calls D.gives_events D.gives_rows) (record_rules_of D.is_kept D.keeps)
+        (asked_in plan)
+        (exchange_of desk.old desk.new (W.contents writer.old) (W.contents writer.new))) }
+    ensures stopped { IfErr result (IsKeptStop
+        (rules_of D.calls D.gives_events D.gives_rows) (record_rules_of D.is_kept D.keeps)
+        (asked_in plan)
+        (exchange_of desk.old desk.new (W.contents writer.old) (W.contents writer.new))) }
 {
     let Ok(found) = find(alloc, desk, &plan, request) else {
         return Err(KeptFault::Serve(out_of_memory(writer)));

@@ -1,5 +1,6 @@
 //! A connection, from the port that gave it to its answer, and the count of those that a worker answered.
 ghost use Rattle.std.specs.Prelude.{◌≡◌, ◌↔◌, ◌+◌, ◌<◌, ◌^◌, Err, IfOk, IfErr, IsOkAnd, IsTrue};
+ghost use Rattle.mds_face.specs.Exchange.{exchange_of, record_rules_of, rules_of};
 ghost use Rattle.mds_face.specs.Reading.{ReadsNoFurther};
 ghost use Rattle.mds_face.specs.Kept.{IsServedKept, StopsKept};
 
@@ -49,12 +50,16 @@ impl<P: Port> Connection<P> {
         room: &mut Room,
         desk: &mut D,
     ) -> Answer<P>
-        ensures served { IfOk result.served (IsServedKept D.calls D.gives_events D.gives_rows
-            D.is_kept D.keeps (P.In.remaining self.input) desk.old desk.new
-            (P.Out.contents self.output) (P.Out.contents result.output)) }
-        ensures stopped { IfErr result.served (StopsKept D.calls D.gives_events D.gives_rows
-            D.is_kept D.keeps (P.In.remaining self.input) desk.old desk.new
-            (P.Out.contents self.output) (P.Out.contents result.output)) }
+        ensures served { IfOk result.served (IsServedKept
+            (rules_of D.calls D.gives_events D.gives_rows) (record_rules_of D.is_kept D.keeps)
+            (P.In.remaining self.input)
+            (exchange_of desk.old desk.new
+            (P.Out.contents self.output) (P.Out.contents result.output))) }
+        ensures stopped { IfErr result.served (StopsKept
+            (rules_of D.calls D.gives_events D.gives_rows) (record_rules_of D.is_kept D.keeps)
+            (P.In.remaining self.input)
+            (exchange_of desk.old desk.new
+            (P.Out.contents self.output) (P.Out.contents result.output))) }
         ensures no_further { ReadsNoFurther
             (P.In.remaining self.input) (P.In.remaining result.input) }
     {

@@ -2,6 +2,8 @@
 ghost use Rattle.std.specs.Prelude.{List, IfOk, IfErr, OnOk};
 ghost use Rattle.mds_core.specs.declared.request.Request.{Request};
 ghost use Rattle.mds_commands.specs.Roster.{IsRosterOf};
+ghost use Rattle.mds_commands.specs.Files.{files_of};
+ghost use Rattle.mds_commands.specs.Change.{change_of};
 ghost use Rattle.mds_commands.specs.Listing.{CameToListing, ExplainsJournal, ExplainsListing, IsTakenIn, Listed, ListingWentOut};
 
 use crate::problem::Problem;
@@ -30,8 +32,9 @@ pub fn vehicles_to<P: RandomSource, T: Read + Drop, R: Read + Drop, W: Write, E:
     out: &mut W,
     faults: &mut E,
 ) -> Status
-    ensures { CameToListing T.remaining table.entry R.remaining file.entry result
-        (W.contents out.old) (W.contents out.new) (E.contents faults.old) (E.contents faults.new) }
+    ensures { CameToListing (files_of T.remaining table.entry R.remaining file.entry) result
+        (change_of (W.contents out.old) (W.contents out.new))
+        (change_of (E.contents faults.old) (E.contents faults.new)) }
 {
     match vehicles_into(rt, alloc, table, file, out) {
         Ok(()) => Status::Done,
@@ -46,11 +49,11 @@ fn vehicles_into<'a, P: RandomSource, T: Read + Drop, R: Read + Drop, W: Write>(
     file: Source<'a, R>,
     out: &mut W,
 ) -> Result<(), JournalProblem<'a>>
-    ensures ok { OnOk result (Listed T.remaining table.entry R.remaining file.entry
+    ensures ok { OnOk result (Listed (files_of T.remaining table.entry R.remaining file.entry)
         (W.contents out.old) (W.contents out.new)) }
     ensures err { IfErr result (λ problem.
-        ExplainsListing T.remaining table.entry R.remaining file.entry problem
-        × ListingWentOut T.remaining table.entry R.remaining file.entry problem
+        ExplainsListing (files_of T.remaining table.entry R.remaining file.entry) problem
+        × ListingWentOut (files_of T.remaining table.entry R.remaining file.entry) problem
         (W.contents out.old) (W.contents out.new)) }
 {
     let tables = tables_in(alloc, table)?;

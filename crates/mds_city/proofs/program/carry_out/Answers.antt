@@ -1,48 +1,44 @@
 use Rattle.std.proofs.Common.{rules, subst, sym}
 use Rattle.mds_args.specs.declared.words.Command.{Command}
 use Rattle.mds_commands.specs.declared.commands.ReplayOptions.{ReplayOptions}
+use Rattle.mds_commands.specs.Change.{change_of}
+use Rattle.mds_city.specs.Host.{FileHost, ServerHost, StandardInput}
+use Rattle.mds_city.specs.Outcome.{Outcome, outcome_of}
 use Rattle.mds_city.specs.Program.{Carries, CarriesReplay}
 use Rattle.mds_city.proofs.program.carry_out.Goals as goal
 
 pub returns-in-Replay : goal.returns-in-Replay
 returns-in-Replay g c =
-    let bytes = g.O.File.Read.remaining in
-    let input = g.I.Read.remaining in
-    let out = g.W.Write.contents in
-    let faults = g.E.Write.contents in
+    let files : FileHost _ = record { opens = g.O.Opens.opens c.args.files.now; bytes = g.O.File.Read.remaining } in
+    let host : ServerHost _ _ = record { listens = g.O.Listens.listens c.args.files.now; opens_journal = g.O.OpensJournals.opens_journal c.args.files.now } in
+    let input : StandardInput _ = record { bytes = g.I.Read.remaining; reader = c.args.input } in
+    let outcome : Outcome = outcome_of c.replay_file.result
+      (change_of (g.W.Write.contents c.args.out.now) (g.W.Write.contents c.replay_file.new.out))
+      (change_of (g.E.Write.contents c.args.faults.now) (g.E.Write.contents c.replay_file.new.faults)) in
     let came = c.replay_file.ensures in
-    subst
-    (λ (command : Command). Carries g.O.Opens.opens c.args.files.now g.O.Listens.listens g.O.OpensJournals.opens_journal bytes input c.args.input command c.replay_file.result
-    (out c.args.out.now) (out c.replay_file.new.out) (faults c.args.faults.now) (faults c.replay_file.new.faults))
-    (sym c.in-Replay.is) (
+    subst (λ (command : Command). Carries files host input command outcome) (sym c.in-Replay.is) (
       came.0,
       came.1,
-      subst
-          (λ (options : ReplayOptions). CarriesReplay g.O.Opens.opens c.args.files.now bytes input c.args.input options c.in-Replay.file.now came.0 c.replay_file.result
-          (out c.args.out.now) (out c.replay_file.new.out) (faults c.args.faults.now) (faults c.replay_file.new.faults))
-          c.options_of-options.ensures came.2,
+      subst (λ (options : ReplayOptions). CarriesReplay files input options c.in-Replay.file.now came.0 outcome) c.options_of-options.ensures came.2,
     )
 
 pub returns-in-Debug : goal.returns-in-Debug
 returns-in-Debug g c =
-    let bytes = g.O.File.Read.remaining in
-    let input = g.I.Read.remaining in
-    let out = g.W.Write.contents in
-    let faults = g.E.Write.contents in
-    subst
-    (λ (command : Command). Carries g.O.Opens.opens c.args.files.now g.O.Listens.listens g.O.OpensJournals.opens_journal bytes input c.args.input command c.debug_file.result
-    (out c.args.out.now) (out c.debug_file.new.out) (faults c.args.faults.now) (faults c.debug_file.new.faults))
-    (sym c.in-Debug.is)
-    c.debug_file.ensures
+    let files : FileHost _ = record { opens = g.O.Opens.opens c.args.files.now; bytes = g.O.File.Read.remaining } in
+    let host : ServerHost _ _ = record { listens = g.O.Listens.listens c.args.files.now; opens_journal = g.O.OpensJournals.opens_journal c.args.files.now } in
+    let input : StandardInput _ = record { bytes = g.I.Read.remaining; reader = c.args.input } in
+    let outcome : Outcome = outcome_of c.debug_file.result
+      (change_of (g.W.Write.contents c.args.out.now) (g.W.Write.contents c.debug_file.new.out))
+      (change_of (g.E.Write.contents c.args.faults.now) (g.E.Write.contents c.debug_file.new.faults)) in
+    subst (λ (command : Command). Carries files host input command outcome) (sym c.in-Debug.is) c.debug_file.ensures
 
 pub returns-in-Serve : goal.returns-in-Serve
 returns-in-Serve g c =
-    let bytes = g.O.File.Read.remaining in
-    let input = g.I.Read.remaining in
-    let out = g.W.Write.contents in
-    let faults = g.E.Write.contents in
-    subst
-    (λ (command : Command). Carries g.O.Opens.opens c.args.files.now g.O.Listens.listens g.O.OpensJournals.opens_journal bytes input c.args.input command c.serve_named.result
-    (out c.args.out.now) (out c.serve_named.new.out) (faults c.args.faults.now) (faults c.serve_named.new.faults))
-    (sym c.in-Serve.is)
+    let files : FileHost _ = record { opens = g.O.Opens.opens c.args.files.now; bytes = g.O.File.Read.remaining } in
+    let host : ServerHost _ _ = record { listens = g.O.Listens.listens c.args.files.now; opens_journal = g.O.OpensJournals.opens_journal c.args.files.now } in
+    let input : StandardInput _ = record { bytes = g.I.Read.remaining; reader = c.args.input } in
+    let outcome : Outcome = outcome_of c.serve_named.result
+      (change_of (g.W.Write.contents c.args.out.now) (g.W.Write.contents c.serve_named.new.out))
+      (change_of (g.E.Write.contents c.args.faults.now) (g.E.Write.contents c.serve_named.new.faults)) in
+    subst (λ (command : Command). Carries files host input command outcome) (sym c.in-Serve.is)
     (c.file_if_named-table.result, search rules, c.serve_named.ensures)

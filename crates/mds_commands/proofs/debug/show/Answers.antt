@@ -6,6 +6,7 @@ use Rattle.mds_trace.specs.Input.{max_script}
 use Rattle.mds_trace.specs.Printed.{PrintsFront, PrintsScript}
 use Rattle.mds_trace.specs.Script.{IsScript}
 use Rattle.mds_trace.specs.Walk.{Walk}
+use Rattle.mds_commands.specs.Change.{change_of}
 use Rattle.mds_commands.specs.Debug.{DebugsPart, FollowsFront, WalksFront}
 use Rattle.mds_commands.proofs.ErrorLemmas.{passed_on}
 use Rattle.mds_commands.proofs.debug.show.Goals as goal
@@ -26,7 +27,7 @@ pub returns-in_err-script-clause-err : goal.returns-in_err-script-clause-err
 returns-in_err-script-clause-err g c =
     let started = g.W.Write.contents c.print_start.new.writer in
     let start = c.in_ok-print_start.ensures.ok in
-    let part : DebugsPart write.Memory c.args.opened.session c.args.opened.counts (g.I.Read.remaining c.args.script.now) (g.I.Read.remaining c.read_script.new.reader) (g.W.Write.contents c.args.out.now) started =
+    let part : DebugsPart write.Memory c.args.opened.session c.args.opened.counts (change_of (g.I.Read.remaining c.args.script.now) (g.I.Read.remaining c.read_script.new.reader)) (change_of (g.W.Write.contents c.args.out.now) started) =
     (start.0, start.1, started, start.2, inl (c.in_err-script.ensures.lost, Keeps-refl started)) in
     passed_on _ _ _ c.from_residual-in_err-script.ensures.1 (write.Memory, refl, inr part)
 
@@ -35,7 +36,7 @@ returns-in_err-commands-clause-err g c =
     let started = g.W.Write.contents c.print_start.new.writer in
     let start = c.in_ok-print_start.ensures.ok in
     let short = subst (λ count. count ≤ max_script) (sym (sym (ap length c.deref.ensures.value) ∙ c.deref.ensures.len)) c.in_ok-script.ensures.short in
-    let part : DebugsPart write.Memory c.args.opened.session c.args.opened.counts (g.I.Read.remaining c.args.script.now) (g.I.Read.remaining c.read_script.new.reader) (g.W.Write.contents c.args.out.now) started =
+    let part : DebugsPart write.Memory c.args.opened.session c.args.opened.counts (change_of (g.I.Read.remaining c.args.script.now) (g.I.Read.remaining c.read_script.new.reader)) (change_of (g.W.Write.contents c.args.out.now) started) =
     (start.0, start.1, started, start.2, inl ((c.in_ok-script.script.bytes.items, short, c.in_ok-script.ensures.taken), Keeps-refl started)) in
     passed_on _ _ _ c.from_residual-in_err-commands.ensures.1 (write.Memory, refl, inr part)
 
@@ -51,7 +52,7 @@ returns-in_err-print_walk-clause-err g c =
     let front = subst (λ script. PrintsFront fault c.args.opened.session script (contents c.print_start.new.writer) (contents c.print_walk.new.writer)) c.deref-2.ensures.value c.in_err-print_walk.ensures.err in
     let walks : WalksFront fault c.args.opened.session (remaining c.args.script.now) (remaining c.read_script.new.reader) (contents c.print_start.new.writer) (contents c.print_walk.new.writer) =
     (c.in_ok-script.script.bytes.items, (c.in_ok-script.script.end, (c.in_ok-script.ensures.taken, short, c.in_ok-script.ensures.whole)), commands, script, front) in
-    let part : DebugsPart fault c.args.opened.session c.args.opened.counts (remaining c.args.script.now) (remaining c.read_script.new.reader) (contents c.args.out.now) (contents c.print_walk.new.writer) =
+    let part : DebugsPart fault c.args.opened.session c.args.opened.counts (change_of (remaining c.args.script.now) (remaining c.read_script.new.reader)) (change_of (contents c.args.out.now) (contents c.print_walk.new.writer)) =
     (start.0, start.1, contents c.print_start.new.writer, start.2, behind fault c.args.opened.session (remaining c.args.script.now) (remaining c.read_script.new.reader) _ _ walks) in
     passed_on _ _ _ c.from_residual-in_err-print_walk.ensures.1 (fault, refl, inr part)
 

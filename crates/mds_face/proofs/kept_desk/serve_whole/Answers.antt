@@ -1,14 +1,17 @@
 use Rattle.std.proofs.Common.{Some}
 use Rattle.mds_request.specs.Asked.{asked_in}
+use Rattle.mds_face.specs.Exchange.{exchange_of, record_rules_of, rules_of}
 use Rattle.mds_face.proofs.KeptLemmas.{serves_kept, stops_whole}
 use Rattle.mds_face.proofs.kept_desk.serve_whole.Goals as goal
 
 pub returns-in-Ok-clause-served : goal.returns-in-Ok-clause-served
 returns-in-Ok-clause-served g c =
-    serves_kept g.D.Desk.calls g.D.Desk.gives_events g.D.Desk.gives_rows g.D.KeptDesk.is_kept g.D.KeptDesk.keeps (Some c.args.request.now) (asked_in c.in-Ok.plan) c.args.desk.now
-    c.answer_kept.new.desk (g.W.Write.contents c.args.writer.now) (g.W.Write.contents c.answer_kept.new.writer) c.answer_kept.result c.in-Ok.ensures.plan c.answer_kept.ensures.answered
+    serves_kept (rules_of g.D.Desk.calls g.D.Desk.gives_events g.D.Desk.gives_rows) (record_rules_of g.D.KeptDesk.is_kept g.D.KeptDesk.keeps) (Some c.args.request.now) (asked_in c.in-Ok.plan)
+    (exchange_of c.args.desk.now c.answer_kept.new.desk (g.W.Write.contents c.args.writer.now) (g.W.Write.contents c.answer_kept.new.writer))
+    c.answer_kept.result c.in-Ok.ensures.plan c.answer_kept.ensures.answered
 
 pub returns-in-Ok-clause-stopped : goal.returns-in-Ok-clause-stopped
 returns-in-Ok-clause-stopped g c =
-    stops_whole g.D.Desk.calls g.D.Desk.gives_events g.D.Desk.gives_rows g.D.KeptDesk.is_kept g.D.KeptDesk.keeps c.args.request.now (asked_in c.in-Ok.plan) c.args.desk.now
-    c.answer_kept.new.desk (g.W.Write.contents c.args.writer.now) (g.W.Write.contents c.answer_kept.new.writer) c.answer_kept.result c.in-Ok.ensures.plan c.answer_kept.ensures.stopped
+    stops_whole (rules_of g.D.Desk.calls g.D.Desk.gives_events g.D.Desk.gives_rows) (record_rules_of g.D.KeptDesk.is_kept g.D.KeptDesk.keeps) c.args.request.now (asked_in c.in-Ok.plan)
+    (exchange_of c.args.desk.now c.answer_kept.new.desk (g.W.Write.contents c.args.writer.now) (g.W.Write.contents c.answer_kept.new.writer))
+    c.answer_kept.result c.in-Ok.ensures.plan c.answer_kept.ensures.stopped

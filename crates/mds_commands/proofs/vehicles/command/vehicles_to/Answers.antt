@@ -1,5 +1,5 @@
 use Rattle.std.proofs.Common.{ℕ, List, Option, inl, inr}
-use Rattle.mds_commands.specs.declared.source.Source.{Source}
+use Rattle.mds_commands.specs.Files.{Files, files_of}
 use Rattle.mds_commands.specs.declared.problem.Problem.TheVariants.{CannotRead, NotATable, NotABatch, NotLines, Socket, Random, Output, Memory}
 use Rattle.mds_commands.specs.declared.vehicles.problem.JournalProblem.{JournalProblem}
 use Rattle.mds_commands.specs.declared.vehicles.problem.JournalProblem.TheVariants.{NotAJournal, Other}
@@ -7,18 +7,18 @@ use Rattle.mds_commands.specs.Listing.{ListingWentOut}
 use Rattle.mds_commands.proofs.vehicles.command.vehicles_to.Goals as goal
 
 -- whatever the problem, nothing went out before it, or a front of the listing
-out_before : {T R : Type 0} (table_bytes : T → Option (List ℕ)) (table : Option (Source T)) (file_bytes : R → Option (List ℕ)) (file : Source R)
-    (problem : JournalProblem) (old new : Option (List ℕ)) → ListingWentOut table_bytes table file_bytes file problem old new
-    → ListingWentOut table_bytes table file_bytes file (Other Memory) old new
-out_before table_bytes table file_bytes file (NotAJournal fault) old new out = inl out
-out_before table_bytes table file_bytes file (Other (CannotRead path)) old new out = inl out
-out_before table_bytes table file_bytes file (Other (NotATable fault)) old new out = inl out
-out_before table_bytes table file_bytes file (Other (NotABatch fault)) old new out = absurd out
-out_before table_bytes table file_bytes file (Other (NotLines fault)) old new out = absurd out
-out_before table_bytes table file_bytes file (Other Socket) old new out = absurd out
-out_before table_bytes table file_bytes file (Other Random) old new out = inl out
-out_before table_bytes table file_bytes file (Other Output) old new out = inr out
-out_before table_bytes table file_bytes file (Other Memory) old new out = out
+out_before : {T R : Type 0} (files : Files T R)
+    (problem : JournalProblem) (old new : Option (List ℕ)) → ListingWentOut files problem old new
+    → ListingWentOut files (Other Memory) old new
+out_before files (NotAJournal fault) old new out = inl out
+out_before files (Other (CannotRead path)) old new out = inl out
+out_before files (Other (NotATable fault)) old new out = inl out
+out_before files (Other (NotABatch fault)) old new out = absurd out
+out_before files (Other (NotLines fault)) old new out = absurd out
+out_before files (Other Socket) old new out = absurd out
+out_before files (Other Random) old new out = inl out
+out_before files (Other Output) old new out = inr out
+out_before files (Other Memory) old new out = out
 
 pub returns-in-Err : goal.returns-in-Err
 returns-in-Err g c =
@@ -29,7 +29,7 @@ returns-in-Err g c =
         Other Memory,
         told.0,
         tt,
-        out_before g.T.Read.remaining c.args.table g.R.Read.remaining c.args.file c.in-Err.problem (g.W.Write.contents c.args.out.now) (g.W.Write.contents c.vehicles_into.new.out) failed.1,
+        out_before (files_of g.T.Read.remaining c.args.table g.R.Read.remaining c.args.file) c.in-Err.problem (g.W.Write.contents c.args.out.now) (g.W.Write.contents c.vehicles_into.new.out) failed.1,
         told.1,
       )
     ]

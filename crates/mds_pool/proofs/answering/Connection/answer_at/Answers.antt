@@ -1,3 +1,4 @@
+use Rattle.mds_face.specs.Exchange.{record_rules_of, rules_of}
 use Rattle.mds_face.proofs.KeptLemmas.{stops_whole_kept}
 use Rattle.mds_pool.proofs.Unread.{reads_nothing}
 use Rattle.mds_pool.proofs.answering.Connection.answer_at.Goals as goal
@@ -15,7 +16,7 @@ returns-clause-stopped g c =
     elim c.match-whole_of.branch [
       | in-Some w ↦
           rw (w.served-is, w.desk-is, w.output-is, w.in-Some.ensures.bytes)
-          (stops_whole_kept g.D.Desk.calls g.D.Desk.gives_events g.D.Desk.gives_rows g.D.KeptDesk.is_kept g.D.KeptDesk.keeps _ _ _ _ _
+          (stops_whole_kept (rules_of g.D.Desk.calls g.D.Desk.gives_events g.D.Desk.gives_rows) (record_rules_of g.D.KeptDesk.is_kept g.D.KeptDesk.keeps) _ _
           w.serve_whole-served.result w.serve_whole-served.ensures.stopped)
       | in-None w ↦ rw (w.served-is, w.desk-is, w.output-is) w.serve_kept-served.ensures.stopped
     ]

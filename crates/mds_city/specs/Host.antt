@@ -1,0 +1,32 @@
+-- What the program runs on, and the table file that a command is given.
+use Rattle.std.specs.Prelude.{ℕ, List, Option, Result}
+use Rattle.mds_file.specs.declared.fault.FileFault.{FileFault}
+use Rattle.mds_commands.specs.declared.source.Source.{Source}
+
+-- the table file of a command
+pub record TableFile (T : Type 0) : Type 0 where
+  -- the known bytes of its reader
+  pub bytes : T → Option (List ℕ)
+  -- the file, if one is given
+  pub file : Option (Source T)
+
+-- what a host gives a server
+pub record ServerHost (L J : Type 0) : Type 1 where
+  -- the relation of a number asked for to what listens and its port's number
+  pub listens : ℕ → L → ℕ → Type 0
+  -- the relation of a path to what comes of opening the journal there
+  pub opens_journal : List ℕ → Result J FileFault → Type 0
+
+-- what a host gives that opens files
+pub record FileHost (F : Type 0) : Type 1 where
+  -- the relation of a path to what comes of opening the file there
+  pub opens : List ℕ → Option F → Type 0
+  -- the known bytes of a file's reader
+  pub bytes : F → Option (List ℕ)
+
+-- standard input
+pub record StandardInput (I : Type 0) : Type 0 where
+  -- the known bytes of its reader
+  pub bytes : I → Option (List ℕ)
+  -- its reader
+  pub reader : I
