@@ -36,7 +36,7 @@ PASSED_ON = {
     "mds_pool/pool.rt": {"serve": ["serve_round"], "serve_round": ["(room, back, answered)"]},
     "mds_pool/recorded_book.rt": {"RecordedBook::serve": ["Face::open", "serve_round"]},
     "mds_pool/serving.rt": {"serve_and_settle": ["Face::open", "serve_round"]},
-    "mds_request/face.rt": {"add_route": ["router.insert"]},
+    "mds_http/request/face.rt": {"add_route": ["router.insert"]},
     "mds_shard/shard.rt": {"Shard::accept": ["make_room"]},
     "mds_shard/vehicle.rt": {"keep_name": ["names.insert_full"], "put": ["vehicles.insert"], "keep": ["keep_name"]},
     "mds_socket/socket.rt": {"SocketPort::bind": ["Face::open"]},

@@ -30,7 +30,7 @@ PLANTED = [
         "let (Ok((_, is_new)), 0..=999) = (names.insert_full(name), names.len())",
     ),
     (
-        "mds_response/body.rt",
+        "mds_http/response/body.rt",
         "Some(list) => list_body",
         "Some(list) if list.len() > 65_535 => Err(AllocError), Some(list) => list_body",
     ),

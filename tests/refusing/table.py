@@ -60,8 +60,8 @@ TESTED = {
     ("mds_trace", "test_replays", "a_start_is_printed_after_a_refused_growth"): ["print_start"],
     ("mds_trace", "test_replays", "a_walk_is_printed_after_a_refused_growth"): ["print_walk"],
     ("mds_commands", "test_replays", "tables_are_had_after_a_refused_growth"): ["tables_in"],
-    ("mds_request", "test_faces", "call_succeeds_after_a_refused_growth"): ["Face::open", "plan_of", "HeadStatus::plan"],
-    ("mds_response", "test_faces", "answer_is_whole_after_a_refused_growth"): ["bytes_of"],
+    ("mds_http", "test_faces", "call_succeeds_after_a_refused_growth"): ["Face::open", "plan_of", "HeadStatus::plan"],
+    ("mds_http", "test_faces", "answer_is_whole_after_a_refused_growth"): ["bytes_of"],
     ("mds_face", "test_faces", "calls_stand_after_a_refused_growth"): ["serve_one"],
     ("mds_face", "test_faces", "kept_answers_go_out_after_a_refused_growth"): ["serve_kept", "serve_whole"],
     ("mds_face", "test_faces", "a_batch_is_read_after_a_refused_growth"): ["read_plan"],
@@ -113,7 +113,7 @@ WITHOUT = ["mds_table::Tables::new", "mds_io::flush_page"]
 WITHIN = {
     "mds_core::EventList::reserve": "mds_trace::print_start",
     "mds_face::KeptDesk::keep": "mds_face::serve_kept",
-    "mds_request::Head::plan": "mds_face::serve_whole",
+    "mds_http::Head::plan": "mds_face::serve_whole",
     "mds_follow::Record::append": "mds_follow::SharedFollower::commit",
     "mds_follow::Follower::follow_all": "mds_pool::RecordedBook::serve",
     "mds_pool::Recorder::commit": "mds_pool::RecordedBook::serve",
@@ -290,12 +290,12 @@ QUIET = {
         "tell",
     ],
     ("mds_commands", "test_replays", "bad_words_are_told_with_every_growth_refused"): ["debug_to"],
-    ("mds_request", "test_faces", "looks_are_planned_with_every_growth_refused"): [
+    ("mds_http", "test_faces", "looks_are_planned_with_every_growth_refused"): [
         "Face::head_status",
         "HeadStatus::plan",
         "plan_of",
     ],
-    ("mds_response", "test_faces", "lack_is_answered_with_every_growth_refused"): [
+    ("mds_http", "test_faces", "lack_is_answered_with_every_growth_refused"): [
         "status_of",
         "Found::accepted",
         "memory_bytes",

@@ -1,9 +1,9 @@
 -- How a connection stops.
 use Rattle.std.proofs.Common.{ℕ, List, Option, Result, Ok, Err, IfOk, IfErr, inr}
-use Rattle.mds_request.specs.Asked.{Asked}
-use Rattle.mds_response.specs.Found.{Finding}
-use Rattle.mds_response.specs.Head.{answer_text}
-use Rattle.mds_response.specs.Answer.{answer_to}
+use Rattle.mds_http.specs.Asked.{Asked}
+use Rattle.mds_http.specs.Found.{Finding}
+use Rattle.mds_http.specs.AnswerHead.{answer_text}
+use Rattle.mds_http.specs.Answer.{answer_to}
 use Rattle.mds_face.specs.declared.connection.Served.{Served}
 use Rattle.mds_face.specs.declared.connection.ServeFault.{ServeFault}
 use Rattle.mds_face.specs.declared.connection.ServeFault.TheVariants.{Read, Write, Memory, TooManyTurns}

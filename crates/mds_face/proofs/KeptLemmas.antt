@@ -1,10 +1,10 @@
 -- How a connection ends at a desk whose answers go out once what they rest on is recorded.
 use Rattle.std.proofs.Common.{ℕ, List, Option, Some, Result, Ok, Err, IfOk, IfErr, inl, inr, subst, sym}
-use Rattle.mds_request.specs.Asked.{Asked}
-use Rattle.mds_request.specs.Plan.{IsPlan}
-use Rattle.mds_response.specs.Found.{Finding}
-use Rattle.mds_response.specs.Head.{answer_text}
-use Rattle.mds_response.specs.Answer.{answer_to}
+use Rattle.mds_http.specs.Asked.{Asked}
+use Rattle.mds_http.specs.Plan.{IsPlan}
+use Rattle.mds_http.specs.Found.{Finding}
+use Rattle.mds_http.specs.AnswerHead.{answer_text}
+use Rattle.mds_http.specs.Answer.{answer_to}
 use Rattle.mds_face.specs.declared.connection.Served.{Served}
 use Rattle.mds_face.specs.declared.kept_desk.KeptFault.{KeptFault}
 use Rattle.mds_face.specs.declared.connection.ServeFault.{ServeFault}

@@ -6,7 +6,7 @@ use Rattle.std.proofs.lemmas.List.{map-append}
 use Rattle.std.proofs.lemmas.Option.{slice_get-get_or, slice_get_within, get_or_from_slice_get}
 use Rattle.mds_table.specs.declared.row.Row.{Row}
 use Rattle.mds_table.specs.Tables.{Entry, Tables}
-use Rattle.mds_response.specs.Found.{tables_of}
+use Rattle.mds_http.specs.Found.{tables_of}
 
 one_more : (tables : Tables) (at : ℕ) (table : Entry) → slice_get tables at ≡ Some table → take (at + 1) tables ≡ take at tables ++ table ∷ []
 one_more tables at table is =

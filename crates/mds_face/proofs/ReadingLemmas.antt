@@ -5,13 +5,13 @@ use Rattle.std.specs.Io.KnownBytes.{Consumes, IsAtEnd}
 use Rattle.std.proofs.KnownBytes.{Consumes-nil, Consumes-trans}
 use Rattle.mds_io.specs.Read.{ConsumesUpTo, Gains}
 use Rattle.mds_core.specs.declared.key.Key.{Key}
-use Rattle.mds_request.specs.declared.aim.Aim.{Aim}
-use Rattle.mds_request.specs.declared.head_status.HeadStatus.{HeadStatus}
-use Rattle.mds_request.specs.declared.head_status.HeadStatus.TheVariants.{Partial, Invalid, Rejected, Complete}
-use Rattle.mds_request.specs.Asked.{Asked}
-use Rattle.mds_request.specs.Plan.{IsPlan}
-use Rattle.mds_request.specs.HeadStatus.{IsHeadStatus}
-use Rattle.mds_request.proofs.PlanLaws.{invalid_determines, partial_determines, rejected_determines, complete_determines, statuses_stay}
+use Rattle.mds_http.specs.declared.request.aim.Aim.{Aim}
+use Rattle.mds_http.specs.declared.request.head_status.HeadStatus.{HeadStatus}
+use Rattle.mds_http.specs.declared.request.head_status.HeadStatus.TheVariants.{Partial, Invalid, Rejected, Complete}
+use Rattle.mds_http.specs.Asked.{Asked}
+use Rattle.mds_http.specs.Plan.{IsPlan}
+use Rattle.mds_http.specs.HeadStatus.{IsHeadStatus}
+use Rattle.mds_http.proofs.PlanLaws.{invalid_determines, partial_determines, rejected_determines, complete_determines, statuses_stay}
 use Rattle.mds_face.specs.Reading.{Grows, IsEnough, ReadsNoFurther, missing_bytes}
 
 -- some bytes have the status of the same bytes

@@ -4,9 +4,9 @@ use Rattle.mds_core.specs.declared.request.Request.TheVariants.{Look}
 use Rattle.mds_core.specs.declared.reply.Outcome.{Outcome}
 use Rattle.mds_core.specs.Machine.{events_in, events_if}
 use Rattle.mds_core.proofs.Outcomes.{same_outcome}
-use Rattle.mds_request.specs.Asked as asked
-use Rattle.mds_response.specs.Found as finding
-use Rattle.mds_response.specs.Answer.{answer_to}
+use Rattle.mds_http.specs.Asked as asked
+use Rattle.mds_http.specs.Found as finding
+use Rattle.mds_http.specs.Answer.{answer_to}
 use Rattle.mds_face.specs.Laws.{LooksRestOnTheirVehicle}
 
 -- the outcome of a look is all that its answer shows of the reply

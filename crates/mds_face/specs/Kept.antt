@@ -3,11 +3,11 @@ use Rattle.std.specs.Prelude.{◌≡◌, ◌⊎◌, ℕ, ◌≤◌, List, length
 use Rattle.std.specs.Prelude.{None, Ok, Err, Bool, true, false, MatchBool}
 use Rattle.std.specs.Io.KnownBytes.{Appends, Keeps}
 use Rattle.mds_core.specs.declared.key.Key.{Key}
-use Rattle.mds_request.specs.Asked.{Asked}
-use Rattle.mds_request.specs.Asked as asked
-use Rattle.mds_request.specs.Plan.{IsPlan}
-use Rattle.mds_response.specs.Found.{Finding}
-use Rattle.mds_response.specs.Head.{not_kept_text}
+use Rattle.mds_http.specs.Asked.{Asked}
+use Rattle.mds_http.specs.Asked as asked
+use Rattle.mds_http.specs.Plan.{IsPlan}
+use Rattle.mds_http.specs.Found.{Finding}
+use Rattle.mds_http.specs.AnswerHead.{not_kept_text}
 use Rattle.mds_face.specs.declared.connection.Served.{Served}
 use Rattle.mds_face.specs.declared.connection.ServeFault.TheVariants as serve
 use Rattle.mds_book.specs.declared.record_fault.RecordFault.{RecordFault}

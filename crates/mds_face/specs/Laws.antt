@@ -9,9 +9,9 @@ use Rattle.mds_core.specs.Answer.{Answers}
 use Rattle.mds_core.specs.History.{requests_of}
 use Rattle.mds_core.specs.Machine.{Machine, events_in}
 use Rattle.mds_core.specs.Run.{IsRun}
-use Rattle.mds_request.specs.Asked as asked
-use Rattle.mds_response.specs.Found as finding
-use Rattle.mds_response.specs.Answer.{answer_to}
+use Rattle.mds_http.specs.Asked as asked
+use Rattle.mds_http.specs.Found as finding
+use Rattle.mds_http.specs.Answer.{answer_to}
 use Rattle.mds_face.specs.Desk.{AreCalls, FleetCalls}
 
 -- the calls that a fleet answers are a run from its history: of as many requests, the first ones,

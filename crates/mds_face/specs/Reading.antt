@@ -2,11 +2,11 @@
 use Rattle.std.specs.Prelude.{◌≡◌, ◌⊎◌, ℕ, ◌+◌, ◌-◌, ◌≤◌, List, ◌++◌, length, Option}
 use Rattle.std.specs.Io.KnownBytes.{Consumes, IsAtEnd}
 use Rattle.mds_core.specs.declared.key.Key.{Key}
-use Rattle.mds_request.specs.declared.aim.Aim.{Aim}
-use Rattle.mds_request.specs.declared.head_status.HeadStatus.{HeadStatus}
-use Rattle.mds_request.specs.declared.head_status.HeadStatus.TheVariants.{Complete}
-use Rattle.mds_request.specs.Head.{max_head}
-use Rattle.mds_request.specs.HeadStatus.{DeterminesPlan, IsHeadStatus}
+use Rattle.mds_http.specs.declared.request.aim.Aim.{Aim}
+use Rattle.mds_http.specs.declared.request.head_status.HeadStatus.{HeadStatus}
+use Rattle.mds_http.specs.declared.request.head_status.HeadStatus.TheVariants.{Complete}
+use Rattle.mds_http.specs.Head.{max_head}
+use Rattle.mds_http.specs.HeadStatus.{DeterminesPlan, IsHeadStatus}
 
 -- the bytes held grew by what the reader lost
 abbrev pub Grows : Option (List ℕ) → Option (List ℕ) → List ℕ → List ℕ → Type 0

@@ -3,13 +3,13 @@ use Rattle.std.specs.Prelude.{◌≡◌, ◌⊎◌, ℕ, ◌<◌, ◌≤◌, Lis
 use Rattle.std.specs.List.{filter_map}
 use Rattle.std.specs.Io.KnownBytes.{Appends, Keeps}
 use Rattle.mds_core.specs.declared.request.Request.TheVariants.{Look}
-use Rattle.mds_request.specs.Asked.{Asked}
-use Rattle.mds_request.specs.Asked as asked
-use Rattle.mds_request.specs.Plan.{IsPlan}
-use Rattle.mds_response.specs.Found.{Finding, replies_in, accepted_in}
-use Rattle.mds_response.specs.Found as finding
-use Rattle.mds_response.specs.Head.{answer_text, memory_text}
-use Rattle.mds_response.specs.Answer.{answer_to}
+use Rattle.mds_http.specs.Asked.{Asked}
+use Rattle.mds_http.specs.Asked as asked
+use Rattle.mds_http.specs.Plan.{IsPlan}
+use Rattle.mds_http.specs.Found.{Finding, replies_in, accepted_in}
+use Rattle.mds_http.specs.Found as finding
+use Rattle.mds_http.specs.AnswerHead.{answer_text, memory_text}
+use Rattle.mds_http.specs.Answer.{answer_to}
 use Rattle.mds_face.specs.declared.connection.Served.{Served}
 use Rattle.mds_face.specs.declared.connection.ServeFault.{ServeFault}
 use Rattle.mds_face.specs.declared.connection.ServeFault.TheVariants.{Read, Write, Memory}

@@ -2,9 +2,9 @@
 ghost use Rattle.std.specs.Prelude.{◌≡◌, ◌<◌, ◌≤◌, ℕ, Some, None, IfOk, IfErr, OnOk, OnErr, MatchResult};
 ghost use Rattle.std.specs.Io.KnownBytes.{Appends};
 ghost use Rattle.mds_core.specs.declared.request.Request.TheVariants as Asks;
-ghost use Rattle.mds_request.specs.Asked.{asked_in};
-ghost use Rattle.mds_response.specs.Found.{finding_in, replies_in, accepted_in};
-ghost use Rattle.mds_response.specs.Answer.{answer_to};
+ghost use Rattle.mds_http.specs.Asked.{asked_in};
+ghost use Rattle.mds_http.specs.Found.{finding_in, replies_in, accepted_in};
+ghost use Rattle.mds_http.specs.Answer.{answer_to};
 ghost use Rattle.mds_face.specs.Exchange.{exchange_of, rules_of};
 ghost use Rattle.mds_face.specs.Faults.{serve_fault_text};
 ghost use Rattle.mds_face.specs.Reading.{ReadsNoFurther};
@@ -13,9 +13,8 @@ ghost use Rattle.mds_face.specs.Serving.{Finds, FindsNoMemory, IsAnsweredWhole, 
 use crate::asking::{ask_all, blank_request};
 use crate::{Desk, read_plan};
 use mds_core::{Key, Reply, Request};
+use mds_http::{Face, Found, Plan, bytes_of, memory_bytes, status_of};
 use mds_io::{MAX_CALLS, ReadError, WriteErrorKind, write_all_of};
-use mds_request::{Face, Plan};
-use mds_response::{Found, bytes_of, memory_bytes, status_of};
 use std::alloc::{AllocError, Global};
 use std::error::Error;
 use std::fmt;

@@ -3,7 +3,7 @@ ghost use Rattle.std.specs.Prelude.{◌≡◌, Some, None, IfOk, OnErr, MatchRes
 ghost use Rattle.mds_core.specs.Answer.{IsOutcomeFor};
 ghost use Rattle.mds_core.specs.Machine.{events_in};
 ghost use Rattle.mds_book.specs.Seats.{IsListed};
-ghost use Rattle.mds_response.specs.Found.{tables_of};
+ghost use Rattle.mds_http.specs.Found.{tables_of};
 ghost use Rattle.mds_face.specs.Desk.{FleetCalls};
 ghost use Rattle.mds_face.specs.Seats.{SeatCalls};
 
@@ -22,7 +22,7 @@ pub trait Desk {
     ghost use Rattle.mds_core.specs.declared.reply.Reply.{Reply as Replied};
     ghost use Rattle.mds_core.specs.Reported.{Reported};
     ghost use Rattle.mds_core.specs.Answer.{IsOutcomeFor};
-    ghost use Rattle.mds_response.specs.Found.{tables_of};
+    ghost use Rattle.mds_http.specs.Found.{tables_of};
 
     /// In the first state a request may get this reply, and leave the second state; `None` where there was no memory.
     ghost calls: { Self → Asked → Option Replied → Self → Type 0 };

@@ -1,8 +1,8 @@
 //! Serving one connection at a desk whose answers go out once what they rest on is recorded.
 ghost use Rattle.std.specs.Prelude.{◌≡◌, true, false, IfOk, IfErr, OnOk, IsOk, MatchBool, Some};
 ghost use Rattle.std.specs.Io.KnownBytes.{Appends};
-ghost use Rattle.mds_request.specs.Asked.{asked_in};
-ghost use Rattle.mds_request.specs.HeadStatus.{IsHead};
+ghost use Rattle.mds_http.specs.Asked.{asked_in};
+ghost use Rattle.mds_http.specs.HeadStatus.{IsHead};
 ghost use Rattle.mds_face.specs.Exchange.{exchange_of, record_rules_of, rules_of};
 ghost use Rattle.mds_face.specs.Kept.{IsInstead, IsKeptAnswer, IsKeptStop, IsServedKept, StopsKept, StopsWhole, is_of_history, vehicle_of};
 ghost use Rattle.mds_face.specs.Reading.{ReadsNoFurther};
@@ -14,9 +14,8 @@ use crate::{Desk, ServeFault, Served, read_plan};
 use mds_batch::BatchReader;
 use mds_book::RecordFault;
 use mds_core::{Key, Request};
+use mds_http::{Face, Head, Plan, bytes_of, not_kept_bytes};
 use mds_io::{MAX_CALLS, ReadError, write_all_of};
-use mds_request::{Face, Head, Plan};
-use mds_response::{bytes_of, not_kept_bytes};
 use std::alloc::{AllocError, Global};
 use std::io::{Read, Write};
 

@@ -12,6 +12,7 @@ mod reading;
 pub use connection::{ServeFault, Served, serve_one};
 pub use desk::{Desk, SeatDesk};
 pub use kept_desk::{KeptDesk, KeptFault, Room, serve_kept, serve_whole};
-pub use mds_request::{Face, Head, HttpFault, Plan, plan_of};
-pub use mds_response::{Found, bytes_of, memory_bytes, not_kept_bytes};
+pub use mds_http::{
+    Face, Found, Head, HttpFault, Plan, bytes_of, memory_bytes, not_kept_bytes, plan_of,
+};
 pub use reading::read_plan;

@@ -2,14 +2,14 @@
 ghost use Rattle.std.specs.Prelude.{◌≡◌, ◌<◌, ◌≤◌, [], length, OnOk, OnErr, IfOk, IfSome, IsErrOf};
 ghost use Rattle.std.specs.Io.KnownBytes.{Consumes, IsAtEnd};
 ghost use Rattle.mds_io.specs.Read.{ConsumesUpTo};
-ghost use Rattle.mds_request.specs.Asked.{asked_in};
-ghost use Rattle.mds_request.specs.Head.{max_head};
-ghost use Rattle.mds_request.specs.Plan.{IsPlan};
-ghost use Rattle.mds_request.specs.HeadStatus.{IsInReach, IsHeadStatus};
+ghost use Rattle.mds_http.specs.Asked.{asked_in};
+ghost use Rattle.mds_http.specs.Head.{max_head};
+ghost use Rattle.mds_http.specs.Plan.{IsPlan};
+ghost use Rattle.mds_http.specs.HeadStatus.{IsInReach, IsHeadStatus};
 ghost use Rattle.mds_face.specs.Reading.{Grows, IsEnough, ReadsNoFurther, missing_bytes};
 
+use mds_http::{Face, HeadStatus, MAX_HEAD, Plan};
 use mds_io::{MAX_CALLS, ReadError, read_more, read_up_to};
-use mds_request::{Face, HeadStatus, MAX_HEAD, Plan};
 use std::alloc::{AllocError, Global};
 use std::io::Read;
 

@@ -7,10 +7,10 @@ use Rattle.mds_core.specs.declared.request.Request.{Request}
 use Rattle.mds_core.specs.declared.request.Request.TheVariants.{Look}
 use Rattle.mds_core.specs.declared.reply.Reply.{Reply}
 use Rattle.mds_core.specs.Reported.{Reported}
-use Rattle.mds_request.specs.Asked.{Asked}
-use Rattle.mds_request.specs.Asked as asked
-use Rattle.mds_response.specs.Found.{Finding}
-use Rattle.mds_response.specs.Found as finding
+use Rattle.mds_http.specs.Asked.{Asked}
+use Rattle.mds_http.specs.Asked as asked
+use Rattle.mds_http.specs.Found.{Finding}
+use Rattle.mds_http.specs.Found as finding
 use Rattle.mds_face.specs.declared.connection.Served.{Served}
 use Rattle.mds_face.specs.declared.connection.ServeFault.{ServeFault}
 use Rattle.mds_face.specs.declared.connection.ServeFault.TheVariants.{Read, Write, Memory, TooManyTurns}

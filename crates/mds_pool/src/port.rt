@@ -1,6 +1,6 @@
 //! Where connections come from.
 ghost use Rattle.std.specs.Prelude.{◌≡◌, Some, IfSome};
-ghost use Rattle.mds_request.specs.HeadStatus.{IsHead};
+ghost use Rattle.mds_http.specs.HeadStatus.{IsHead};
 
 use mds_face::Head;
 use std::error::Error;

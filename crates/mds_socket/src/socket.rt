@@ -2,7 +2,7 @@
 use crate::port::WaitingPort;
 use crate::system::{Ready, System};
 use crate::watch::{Socket, Watch};
-use mds_request::Face;
+use mds_http::Face;
 use mds_waiting::Outgoing;
 use std::alloc::Global;
 use std::io::{self, ErrorKind, Read};

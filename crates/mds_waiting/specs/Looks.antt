@@ -1,7 +1,7 @@
 -- What one look at a connection comes to.
 use Rattle.std.specs.Prelude.{◌≡◌, ◌⊎◌, ℕ, List, Option, None}
 use Rattle.std.specs.Io.KnownBytes.{IsAtEnd}
-use Rattle.mds_request.specs.declared.head_status.Head.{Head}
+use Rattle.mds_http.specs.declared.request.head_status.Head.{Head}
 use Rattle.mds_waiting.specs.declared.look.Look.{Look}
 use Rattle.mds_waiting.specs.declared.look.Look.TheVariants.{Done, Waits, Gone}
 use Rattle.mds_waiting.specs.Requests.{IsWhole}

@@ -2,12 +2,12 @@
 use Rattle.std.specs.Prelude.{◌≡◌, ◌≢◌, ℕ, ◌+◌, ◌≤◌, nat_le, List, All, length}
 use Rattle.std.specs.Prelude.{Option, Some, None, IfSome, IsSomeAnd, if◌then◌else◌}
 use Rattle.mds_table.specs.Json.{max_bytes}
-use Rattle.mds_request.specs.Head.{max_head}
-use Rattle.mds_request.specs.HeadStatus.{IsHead, IsHeadStatus}
-use Rattle.mds_request.specs.declared.head_status.Head.{Head}
-use Rattle.mds_request.specs.declared.head_status.HeadStatus.{HeadStatus}
-use Rattle.mds_request.specs.declared.head_status.HeadStatus.TheVariants.{Partial, Invalid}
-use Rattle.mds_request.specs.declared.head_status.HeadStatus.TheVariants.{Rejected, Complete}
+use Rattle.mds_http.specs.Head.{max_head}
+use Rattle.mds_http.specs.HeadStatus.{IsHead, IsHeadStatus}
+use Rattle.mds_http.specs.declared.request.head_status.Head.{Head}
+use Rattle.mds_http.specs.declared.request.head_status.HeadStatus.{HeadStatus}
+use Rattle.mds_http.specs.declared.request.head_status.HeadStatus.TheVariants.{Partial, Invalid}
+use Rattle.mds_http.specs.declared.request.head_status.HeadStatus.TheVariants.{Rejected, Complete}
 
 -- the most bytes of a request: those of the longest head, and of the longest body
 abbrev pub max_request : ℕ

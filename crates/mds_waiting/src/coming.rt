@@ -2,15 +2,15 @@
 ghost use Rattle.std.specs.Prelude.{◌≡◌, ◌≢◌, ◌⊎◌, ◌<◌, ◌≤◌, ◌+◌, ◌++◌, drop, length, max, IfSome, None, Some, false};
 ghost use Rattle.std.specs.Io.KnownBytes.{Keeps};
 ghost use Rattle.mds_waiting.specs.Peers.{Grows};
-ghost use Rattle.mds_request.specs.Head.{max_head};
-ghost use Rattle.mds_request.specs.HeadStatus.{IsInReach};
+ghost use Rattle.mds_http.specs.Head.{max_head};
+ghost use Rattle.mds_http.specs.HeadStatus.{IsInReach};
 ghost use Rattle.mds_waiting.specs.Looks.{IfDone, IsWholeOrEnded};
 ghost use Rattle.mds_waiting.specs.Requests.{BeginsWith, IsWhole, NoLineEnds, head_in, max_request, total_by};
 
 use crate::look::{Look, MAX_CALLS};
 use crate::part::Part;
 use crate::peer::{Came, Peer, receive};
-use mds_request::{Face, Head, HeadStatus, MAX_HEAD};
+use mds_http::{Face, Head, HeadStatus, MAX_HEAD};
 
 /// How many bytes one call takes in where the room for them is as large, and how many are taken in at most of a request whose
 /// head isn't there.

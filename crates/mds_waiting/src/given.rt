@@ -1,9 +1,9 @@
 //! Bytes that came, for a reader.
 ghost use Rattle.std.specs.Prelude.{◌≡◌, ◌↔◌, ◌⊎◌, ◌++◌, [], IsTrue, IfSome, length, min, take, Some, None};
-ghost use Rattle.mds_request.specs.HeadStatus.{IsHead};
+ghost use Rattle.mds_http.specs.HeadStatus.{IsHead};
 ghost use Rattle.mds_waiting.specs.Requests.{BeginsWith, IsRequestAlone};
 
-use mds_request::Head;
+use mds_http::Head;
 use std::io::{self, Read};
 use std::marker::Model;
 

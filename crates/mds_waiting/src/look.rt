@@ -1,5 +1,5 @@
 //! One look at a connection that waits.
-use mds_request::Head;
+use mds_http::Head;
 
 /// How many calls are made at one connection in one look, so that others are looked at too.
 pub(crate) const MAX_CALLS: u32 = 16;

@@ -1,6 +1,6 @@
 //! Connections whose clients are played: requests that come, and answers that leave.
 use LookOutcome::{Done, Gone, Waits};
-use mds_request::Face;
+use mds_http::Face;
 use mds_waiting::{Coming, Given, Leaving, Look, Outgoing, Part, Peer};
 use std::alloc::{AllocError, Global};
 use std::io::{self, ErrorKind, Write};

@@ -1,7 +1,7 @@
 //! A port over a system that is played: who comes to it, what it is told of, and its clock.
 use crate::peers::{Act, LATER, LOST, Played};
+use mds_http::Face;
 use mds_pool::{Ending, Port};
-use mds_request::Face;
 use mds_socket::{Ready, System, WaitingPort};
 use std::alloc::{AllocError, Global};
 use std::io::{self, ErrorKind, Read, Write};

@@ -2,7 +2,7 @@
 use crate::cases::{EMPTY, THREE};
 use mds_batch::{BatchItem, BatchItems, EventItem, EventItems, ItemFault, Member, VehicleItem};
 use mds_core::Request;
-use mds_request::{Face, HttpFault, Plan, plan_of};
+use mds_http::{Face, HttpFault, Plan, plan_of};
 use mds_table::State;
 use std::alloc::{AllocError, Global};
 use test_fixtures::{A, B, DROP_OFF, E1, E2, again, event_of, fence, key};

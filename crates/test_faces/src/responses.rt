@@ -5,8 +5,7 @@ use crate::cases::{
 };
 use mds_batch::{EventItem, EventItems, ItemFault, Member, TakesItems};
 use mds_core::{Event, EventList, Outcome, Position, Refusal, Reply};
-use mds_request::{HttpFault, Plan};
-use mds_response::{Found, bytes_of, memory_bytes, status_of};
+use mds_http::{Found, HttpFault, Plan, bytes_of, memory_bytes, status_of};
 use mds_table::State;
 use std::alloc::{AllocError, Global};
 use test_fixtures::{A, DROP_OFF, E1, E2, Lack, again, event_of, fence, key, rows};

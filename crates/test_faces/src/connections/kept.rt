@@ -9,7 +9,7 @@ use mds_face::{
     Desk, Face, Head, KeptDesk, KeptFault, Room, ServeFault, Served, memory_bytes, not_kept_bytes,
     serve_kept, serve_whole,
 };
-use mds_request::HeadStatus;
+use mds_http::HeadStatus;
 use mds_table::Row;
 use std::alloc::{AllocError, Global};
 use std::io::Write;

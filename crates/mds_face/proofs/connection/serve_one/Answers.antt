@@ -1,4 +1,4 @@
-use Rattle.mds_request.specs.Asked.{asked_in}
+use Rattle.mds_http.specs.Asked.{asked_in}
 use Rattle.mds_face.specs.Exchange.{exchange_of, rules_of}
 use Rattle.mds_face.proofs.ConnectionLemmas.{serves, stops}
 use Rattle.mds_face.proofs.connection.serve_one.Goals as goal

@@ -1,5 +1,5 @@
 use Rattle.std.proofs.Common.{◌≡◌, take}
-use Rattle.mds_response.specs.Found.{tables_of}
+use Rattle.mds_http.specs.Found.{tables_of}
 use Rattle.mds_face.proofs.desk.list_of_tables.Given as goal
 
 -- the tables so far are listed

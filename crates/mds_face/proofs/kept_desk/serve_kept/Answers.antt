@@ -1,4 +1,4 @@
-use Rattle.mds_request.specs.Asked.{asked_in}
+use Rattle.mds_http.specs.Asked.{asked_in}
 use Rattle.mds_face.specs.Exchange.{exchange_of, record_rules_of, rules_of}
 use Rattle.mds_face.proofs.KeptLemmas.{serves_kept, stops_kept}
 use Rattle.mds_face.proofs.kept_desk.serve_kept.Goals as goal

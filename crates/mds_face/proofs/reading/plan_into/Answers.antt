@@ -1,6 +1,6 @@
 use Rattle.std.proofs.Common.{sym, subst}
-use Rattle.mds_request.specs.Asked.{asked_in}
-use Rattle.mds_request.specs.Plan.{IsPlan}
+use Rattle.mds_http.specs.Asked.{asked_in}
+use Rattle.mds_http.specs.Plan.{IsPlan}
 use Rattle.mds_face.proofs.ReadingLemmas.{no_further, plan_of_read, read_on, status_of_same}
 use Rattle.mds_face.proofs.reading.plan_into.Goals as goal
 

@@ -1,0 +1,11 @@
+//! HTTP: what a request asks for, and the bytes of its answer.
+#![tactic(auto)]
+
+pub mod laws;
+mod request;
+mod response;
+
+pub use request::{
+    Aim, Face, Head, HeadStatus, HttpFault, MAX_FIELDS, MAX_HEAD, Method, Plan, plan_of,
+};
+pub use response::{Cause, Failure, Found, bytes_of, memory_bytes, not_kept_bytes, status_of};

@@ -1,4 +1,0 @@
-pub mod FieldLemmas
-pub mod HeadLemmas
-pub mod PlanLaws
-pub mod RouteLemmas

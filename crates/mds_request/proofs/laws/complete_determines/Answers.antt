@@ -1,5 +1,0 @@
-use Rattle.mds_request.proofs.PlanLaws.{complete_determines}
-use Rattle.mds_request.proofs.laws.complete_determines.Goals as goal
-
-pub returns : goal.returns
-returns c = complete_determines

@@ -1,5 +1,0 @@
-use Rattle.mds_request.proofs.PlanLaws.{partial_determines}
-use Rattle.mds_request.proofs.laws.partial_determines.Goals as goal
-
-pub returns : goal.returns
-returns c = partial_determines

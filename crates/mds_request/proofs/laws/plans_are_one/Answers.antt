@@ -1,5 +1,0 @@
-use Rattle.mds_request.proofs.PlanLaws.{plans_are_one}
-use Rattle.mds_request.proofs.laws.plans_are_one.Goals as goal
-
-pub returns : goal.returns
-returns c = plans_are_one

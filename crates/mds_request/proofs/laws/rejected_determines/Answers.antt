@@ -1,5 +1,0 @@
-use Rattle.mds_request.proofs.PlanLaws.{rejected_determines}
-use Rattle.mds_request.proofs.laws.rejected_determines.Goals as goal
-
-pub returns : goal.returns
-returns c = rejected_determines

@@ -1,9 +1,0 @@
--- The methods of routes.
-use Rattle.std.specs.Prelude.{ℕ, List, codes}
-use Rattle.mds_request.specs.declared.method.Method.{Method}
-use Rattle.mds_request.specs.declared.method.Method.TheVariants.{Get, Post}
-
--- the name of a method
-abbrev pub method_name : Method → List ℕ
-method_name Get = codes "GET"
-method_name Post = codes "POST"

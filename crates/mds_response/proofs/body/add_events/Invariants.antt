@@ -1,8 +1,0 @@
-use Rattle.std.proofs.Common.{◌≡◌, ◌++◌, take, string_bytes}
-use Rattle.mds_texts.specs.Json.{with_commas, event_text}
-use Rattle.mds_response.proofs.body.add_events.Given as goal
-
--- the texts of the events so far stand behind what was there
-abbrev pub invariant-loop-at : goal.invariant-loop-at
-invariant-loop-at l =
-    string_bytes l.text ≡ string_bytes l.fn.text ++ with_commas event_text (take l.at l.list.events)

@@ -1,5 +1,0 @@
-use Rattle.mds_response.proofs.VerdictLaws.{counts_add_up}
-use Rattle.mds_response.proofs.laws.counts_add_up.Goals as goal
-
-pub returns : goal.returns
-returns c = counts_add_up

@@ -1,5 +1,0 @@
-use Rattle.mds_response.proofs.VerdictLaws.{memory_names_the_next}
-use Rattle.mds_response.proofs.laws.memory_names_the_next.Goals as goal
-
-pub returns : goal.returns
-returns c = memory_names_the_next

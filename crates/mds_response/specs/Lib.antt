@@ -1,9 +1,0 @@
-pub use Rattle.mds_core.specs.Headline
-pub use Rattle.mds_request.specs.Asked
-pub mod Found
-pub mod Verdicts
-pub mod Json
-pub mod Bodies
-pub mod Head
-pub mod Answer
-pub mod Laws
