@@ -46,6 +46,8 @@ RIGHT = [
 ]
 NO_CONNECTION = "serve --port 0 --each 0"
 SERVED = re.compile(r"listening 127\.0\.0\.1:[1-9][0-9]{0,4}\naccepted 0\n")
+SERVED_ONE = re.compile(r"listening 127\.0\.0\.1:[0-9]+\naccepted 1\n")
+JOURNALS = [" journal", "journal ", "\u00a0journal", "straße 7\n.journal", "-"]
 ROUNDS = 20
 
 
@@ -61,13 +63,9 @@ def words_of_serve():
         yield Case(words, out=SERVED, files={"table.json": ONE_ROW})
 
 
-SERVED_ONE = re.compile(r"listening 127\.0\.0\.1:[0-9]+\naccepted 1\n")
-NAMES = [" journal", "journal ", "\u00a0journal", "straße 7\n.journal", "-"]
-
-
 def journals_by_name():
     """The journal is the one of this name, letter for letter: spaces round it, other letters than ASCII's, and `-` say nothing else."""
-    for name in NAMES:
+    for name in JOURNALS:
         files = {"journal": "7", name: journal(registered(A))}
         yield Case([*NO_CONNECTION.split(), "--journal", name], out=SERVED_ONE, files=files)
 

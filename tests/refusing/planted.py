@@ -41,8 +41,8 @@ PLANTED = [
     ),
     (
         "mds_face/connection.rt",
-        "let Ok(bytes) =",
-        "if is_long(&found) { return Err(out_of_memory(writer)); } let Ok(bytes) =",
+        "let Ok(answer) =",
+        "if is_long(&found) { return Err(out_of_memory(writer)); } let Ok(answer) =",
     ),
     (
         "mds_io/read.rt",

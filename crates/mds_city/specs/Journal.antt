@@ -17,7 +17,8 @@ use Rattle.mds_commands.specs.declared.problem.Problem.TheVariants.{Random, Memo
 use Rattle.mds_commands.specs.declared.status.Status.{Status}
 use Rattle.mds_commands.specs.declared.status.Status.TheVariants as status
 use Rattle.mds_commands.specs.Source.{HasTablesIn, ExplainsTable}
-use Rattle.mds_commands.specs.declared.vehicles.problem.JournalProblem.TheVariants.{NotAJournal, Other}
+use Rattle.mds_commands.specs.declared.vehicles.problem.JournalProblem.TheVariants.{NotAJournal}
+use Rattle.mds_commands.specs.declared.vehicles.problem.JournalProblem.TheVariants.{Other}
 use Rattle.mds_commands.specs.JournalProblem.{TellsJournal, journal_status_of}
 use Rattle.mds_city.specs.declared.journal.ServeProblem.{ServeProblem}
 use Rattle.mds_city.specs.declared.journal.ServeProblem.TheVariants.{InUse, NotRecorded, Journal}

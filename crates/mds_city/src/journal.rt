@@ -127,8 +127,8 @@ pub fn serve_over<
         (record { listens = H.listens host.now; opens_journal = H.opens_journal host.now })
         (record { bytes = T.remaining; file = table.entry }) path.now asked
         (outcome_of result
-            (change_of (W.contents out.old) (W.contents out.new))
-            (change_of (E.contents faults.old) (E.contents faults.new))) }
+        (change_of (W.contents out.old) (W.contents out.new))
+        (change_of (E.contents faults.old) (E.contents faults.new))) }
 {
     // What listens is kept until it is told how serving ended: answers leave until it is let go.
     let (accepted, _listening) = match serve_to_end(rt, alloc, host, table, path, asked, out) {

@@ -105,8 +105,8 @@ pub fn run<
         (record { listens = O.listens files.now; opens_journal = O.opens_journal files.now })
         (record { bytes = I.remaining; reader = input }) (map S.text words.now)
         (outcome_of result
-            (change_of (W.contents out.old) (W.contents out.new))
-            (change_of (E.contents faults.old) (E.contents faults.new))) }
+        (change_of (W.contents out.old) (W.contents out.new))
+        (change_of (E.contents faults.old) (E.contents faults.new))) }
 {
     match parse_words(alloc, words) {
         Ok(command) => carry_out(rt, alloc, files, command, input, out, faults),
@@ -124,8 +124,8 @@ fn explain<W: Write, E: Write>(
 ) -> Status
     ensures { Explains (words_kind error.now)
         (outcome_of result
-            (change_of (W.contents out.old) (W.contents out.new))
-            (change_of (E.contents faults.old) (E.contents faults.new))) }
+        (change_of (W.contents out.old) (W.contents out.new))
+        (change_of (E.contents faults.old) (E.contents faults.new))) }
 {
     match error.kind() {
         WordsErrorKind::Help => {
@@ -164,8 +164,8 @@ fn carry_out<
         (record { listens = O.listens files.now; opens_journal = O.opens_journal files.now })
         (record { bytes = I.remaining; reader = input }) command.entry
         (outcome_of result
-            (change_of (W.contents out.old) (W.contents out.new))
-            (change_of (E.contents faults.old) (E.contents faults.new))) }
+        (change_of (W.contents out.old) (W.contents out.new))
+        (change_of (E.contents faults.old) (E.contents faults.new))) }
 {
     match command {
         Command::Serve {
@@ -231,8 +231,8 @@ fn serve_named<
         (record { bytes = O.File.remaining; file = table.entry })
         (option_map (λ named. named.now) journal.entry) asked
         (outcome_of result
-            (change_of (W.contents out.old) (W.contents out.new))
-            (change_of (E.contents faults.old) (E.contents faults.new))) }
+        (change_of (W.contents out.old) (W.contents out.new))
+        (change_of (E.contents faults.old) (E.contents faults.new))) }
 {
     match journal {
         Some(path) => serve_over(rt, alloc, files, table, path, asked, out, faults),
@@ -258,8 +258,8 @@ fn replay_file<R: Threads + Sync, O: Opens, I: Read + Drop, W: Write, E: Write>(
         × CarriesReplay (record { opens = O.opens files.now; bytes = O.File.remaining })
         (record { bytes = I.remaining; reader = input }) options path.now table_file
         (outcome_of result
-            (change_of (W.contents out.old) (W.contents out.new))
-            (change_of (E.contents faults.old) (E.contents faults.new))) }
+        (change_of (W.contents out.old) (W.contents out.new))
+        (change_of (E.contents faults.old) (E.contents faults.new))) }
 {
     let table = file_if_named(files, table);
     if is_standard_input(path) {
@@ -311,8 +311,8 @@ fn list_vehicles<R: RandomSource, O: Opens, I: Read + Drop, W: Write, E: Write>(
         × CarriesVehicles (record { opens = O.opens files.now; bytes = O.File.remaining })
         (record { bytes = I.remaining; reader = input }) path.now table_file
         (outcome_of result
-            (change_of (W.contents out.old) (W.contents out.new))
-            (change_of (E.contents faults.old) (E.contents faults.new))) }
+        (change_of (W.contents out.old) (W.contents out.new))
+        (change_of (E.contents faults.old) (E.contents faults.new))) }
 {
     let table = file_if_named(files, table);
     if is_standard_input(path) {

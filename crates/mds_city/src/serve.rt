@@ -83,8 +83,8 @@ pub fn serve_at<
     ensures { CameToServe (H.listens host.now)
         (record { bytes = T.remaining; file = table.entry }) asked
         (outcome_of result
-            (change_of (W.contents out.old) (W.contents out.new))
-            (change_of (E.contents faults.old) (E.contents faults.new))) }
+        (change_of (W.contents out.old) (W.contents out.new))
+        (change_of (E.contents faults.old) (E.contents faults.new))) }
 {
     let (tables, hashers, listening) = match begin(rt, alloc, host, table, asked.port, out) {
         Ok(had) => had,
@@ -154,8 +154,8 @@ where
     requires { IsSeatCount seats }
     ensures { Serves tables seats each
         (outcome_of result
-            (change_of (W.contents out.old) (W.contents out.new))
-            (change_of (E.contents faults.old) (E.contents faults.new))) }
+        (change_of (W.contents out.old) (W.contents out.new))
+        (change_of (E.contents faults.old) (E.contents faults.new))) }
 {
     let opening = NewBook::of(tables, seats, hashers);
     serve_book::<R, P, Brand, Brand, W, E>(rt, alloc, opening, port, each, out, faults)
@@ -193,8 +193,8 @@ where
     requires seats { IsSeatCount opening.seats }
     ensures { Serves opening.tables opening.seats each
         (outcome_of result
-            (change_of (W.contents out.old) (W.contents out.new))
-            (change_of (E.contents faults.old) (E.contents faults.new))) }
+        (change_of (W.contents out.old) (W.contents out.new))
+        (change_of (E.contents faults.old) (E.contents faults.new))) }
 {
     let ended = serve_and_settle::<R, P, L, M>(rt, alloc, opening, port, each);
     say(alloc, ended, out, faults)
@@ -208,8 +208,8 @@ fn say<L: ShardLedger, M: ShardLedger, W: Write, E: Write>(
 ) -> Status
     ensures { IsSaid ended
         (outcome_of result
-            (change_of (W.contents out.old) (W.contents out.new))
-            (change_of (E.contents faults.old) (E.contents faults.new))) }
+        (change_of (W.contents out.old) (W.contents out.new))
+        (change_of (E.contents faults.old) (E.contents faults.new))) }
 {
     match ended {
         Ok(book) => say_accepted(alloc, book.settled.accepted(), out, faults),
@@ -227,8 +227,8 @@ pub(crate) fn say_accepted<W: Write, E: Write>(
 ) -> Status
     ensures { SaysAccepted accepted
         (outcome_of result
-            (change_of (W.contents out.old) (W.contents out.new))
-            (change_of (E.contents faults.old) (E.contents faults.new))) }
+        (change_of (W.contents out.old) (W.contents out.new))
+        (change_of (E.contents faults.old) (E.contents faults.new))) }
 {
     match print_line(alloc, out, &AcceptedLine { accepted }) {
         Ok(()) => Status::Done,

@@ -6,7 +6,8 @@ use Rattle.mds_commands.specs.declared.status.Status.{Status}
 use Rattle.mds_commands.specs.declared.status.Status.TheVariants as status
 use Rattle.mds_commands.specs.Problem.{Tells, status_of}
 use Rattle.mds_commands.specs.declared.vehicles.problem.JournalProblem.{JournalProblem}
-use Rattle.mds_commands.specs.declared.vehicles.problem.JournalProblem.TheVariants.{NotAJournal, Other}
+use Rattle.mds_commands.specs.declared.vehicles.problem.JournalProblem.TheVariants.{NotAJournal}
+use Rattle.mds_commands.specs.declared.vehicles.problem.JournalProblem.TheVariants.{Other}
 
 -- the status that the program ends with
 abbrev pub journal_status_of : JournalProblem → Status

@@ -15,7 +15,8 @@ use Rattle.mds_commands.specs.Source.{HasTablesIn, ExplainsTable, IsOpen}
 use Rattle.mds_commands.specs.Files.{Files}
 use Rattle.mds_commands.specs.Change.{Change}
 use Rattle.mds_commands.specs.declared.vehicles.problem.JournalProblem.{JournalProblem}
-use Rattle.mds_commands.specs.declared.vehicles.problem.JournalProblem.TheVariants.{NotAJournal, Other}
+use Rattle.mds_commands.specs.declared.vehicles.problem.JournalProblem.TheVariants.{NotAJournal}
+use Rattle.mds_commands.specs.declared.vehicles.problem.JournalProblem.TheVariants.{Other}
 use Rattle.mds_commands.specs.declared.vehicles.taking.TakeError.TheVariants.{Fault}
 use Rattle.mds_commands.specs.JournalProblem.{TellsJournal, journal_status_of}
 use Rattle.mds_commands.specs.Taking.{IsTaken, IsJournalFault}

@@ -4,7 +4,6 @@ ghost use Rattle.std.specs.Io.KnownBytes.{Appends};
 ghost use Rattle.mds_core.specs.declared.request.Request.TheVariants as Asks;
 ghost use Rattle.mds_http.specs.Asked.{asked_in};
 ghost use Rattle.mds_http.specs.Found.{finding_in, replies_in, accepted_in};
-ghost use Rattle.mds_http.specs.Answer.{answer_to};
 ghost use Rattle.mds_face.specs.Exchange.{exchange_of, rules_of};
 ghost use Rattle.mds_face.specs.Faults.{serve_fault_text};
 ghost use Rattle.mds_face.specs.Reading.{ReadsNoFurther};
@@ -13,7 +12,7 @@ ghost use Rattle.mds_face.specs.Serving.{Finds, FindsNoMemory, IsAnsweredWhole, 
 use crate::asking::{ask_all, blank_request};
 use crate::{Desk, read_plan};
 use mds_core::{Key, Reply, Request};
-use mds_http::{Face, Found, Plan, bytes_of, memory_bytes, status_of};
+use mds_http::{AnswerBytes, Face, Found, Plan, answer_bytes, memory_bytes};
 use mds_io::{MAX_CALLS, ReadError, WriteErrorKind, write_all_of};
 use std::alloc::{AllocError, Global};
 use std::error::Error;
@@ -120,14 +119,14 @@ fn answer<W: Write, D: Desk>(
     let Ok(found) = find(alloc, desk, &plan, &mut blank_request()) else {
         return Err(out_of_memory(writer));
     };
-    let Ok(bytes) = bytes_of(alloc, &plan, &found) else {
+    let Ok(answer) = answer_bytes(alloc, &plan, &found) else {
         return Err(out_of_memory(writer));
     };
-    let served = served_of(&plan, &found);
+    let served = served_of(&answer, &found);
     drop(found);
     drop(plan);
     let mut calls = MAX_CALLS;
-    match write_answer(writer, &bytes, &mut calls) {
+    match write_answer(writer, &answer.bytes, &mut calls) {
         Ok(()) => Ok(served),
         Err(fault) => Err(fault),
     }
@@ -167,12 +166,12 @@ fn look<D: Desk>(desk: &mut D, key: &Key) -> Result<Reply, AllocError>
     desk.call(&Request::Look(*key))
 }
 
-pub(crate) fn served_of(plan: &Plan, found: &Found) -> Served
-    ensures status { result.status ≡ (answer_to (asked_in plan.now) (finding_in found.now)).status }
+pub(crate) fn served_of(answer: &AnswerBytes, found: &Found) -> Served
+    ensures status { result.status ≡ answer.now.status }
     ensures accepted { result.accepted ≡ accepted_in (replies_in (finding_in found.now)) }
 {
     Served {
-        status: status_of(plan, found).as_u16(),
+        status: answer.status.as_u16(),
         accepted: found.accepted(),
     }
 }

@@ -14,7 +14,7 @@ use crate::{Desk, ServeFault, Served, read_plan};
 use mds_batch::BatchReader;
 use mds_book::RecordFault;
 use mds_core::{Key, Request};
-use mds_http::{Face, Head, Plan, bytes_of, not_kept_bytes};
+use mds_http::{Face, Head, Plan, answer_bytes, not_kept_bytes};
 use mds_io::{MAX_CALLS, ReadError, write_all_of};
 use std::alloc::{AllocError, Global};
 use std::io::{Read, Write};
@@ -166,10 +166,10 @@ fn answer_kept<W: Write, D: KeptDesk>(
     let Ok(found) = find(alloc, desk, &plan, request) else {
         return Err(KeptFault::Serve(out_of_memory(writer)));
     };
-    let Ok(bytes) = bytes_of(alloc, &plan, &found) else {
+    let Ok(answer) = answer_bytes(alloc, &plan, &found) else {
         return Err(KeptFault::Serve(out_of_memory(writer)));
     };
-    let served = served_of(&plan, &found);
+    let served = served_of(&answer, &found);
     let of_history = is_of_history(&plan);
     let about = vehicle_of(&plan);
     drop(found);
@@ -180,7 +180,7 @@ fn answer_kept<W: Write, D: KeptDesk>(
         Ok(()) => {}
         Err(fault) => return Err(not_kept(writer, fault)),
     }
-    match write_kept(writer, desk, of_history, about, &bytes) {
+    match write_kept(writer, desk, of_history, about, &answer.bytes) {
         Ok(()) => Ok(served),
         Err(fault) => Err(KeptFault::Serve(fault)),
     }

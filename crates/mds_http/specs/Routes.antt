@@ -11,7 +11,8 @@ use Rattle.matchit.specs.Router.{RouteOf, route_from, nearest}
 use Rattle.matchit.specs.declared.error.InsertError.{InsertError}
 use Rattle.mds_core.specs.declared.key.Key.{Key}
 use Rattle.mds_http.specs.declared.request.aim.Aim.{Aim}
-use Rattle.mds_http.specs.declared.request.aim.Aim.TheVariants.{Vehicles, Events, One, History, Rows}
+use Rattle.mds_http.specs.declared.request.aim.Aim.TheVariants.{Vehicles, Events}
+use Rattle.mds_http.specs.declared.request.aim.Aim.TheVariants.{One, History, Rows}
 
 -- a route: what its requests are about, whatever vehicle they name
 abbrev pub Route : Type 0

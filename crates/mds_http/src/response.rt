@@ -13,7 +13,7 @@ mod head;
 mod json;
 mod status;
 
-pub use answer::bytes_of;
+pub use answer::{AnswerBytes, answer_bytes, bytes_of};
 pub use failure::{Cause, Failure};
 pub use found::Found;
 pub use head::{memory_bytes, not_kept_bytes};

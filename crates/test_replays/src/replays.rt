@@ -1,5 +1,7 @@
 //! The worked cases of replays, and replays as a whole and item by item.
-use crate::told::{End, Expected, FIVE, FIVE_REPORT, NOTHING, Told, is_report, items_of, items_over};
+use crate::told::{
+    End, Expected, FIVE, FIVE_REPORT, NOTHING, Told, is_report, items_of, items_over,
+};
 use mds_batch::{EventItem, ItemFault};
 use mds_core::Refusal;
 use mds_table::State::{Available, Elsewhere, OnTrip, Removed, Reserved};

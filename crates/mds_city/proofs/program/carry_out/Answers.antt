@@ -13,8 +13,8 @@ returns-in-Replay g c =
     let host : ServerHost _ _ = record { listens = g.O.Listens.listens c.args.files.now; opens_journal = g.O.OpensJournals.opens_journal c.args.files.now } in
     let input : StandardInput _ = record { bytes = g.I.Read.remaining; reader = c.args.input } in
     let outcome : Outcome = outcome_of c.replay_file.result
-      (change_of (g.W.Write.contents c.args.out.now) (g.W.Write.contents c.replay_file.new.out))
-      (change_of (g.E.Write.contents c.args.faults.now) (g.E.Write.contents c.replay_file.new.faults)) in
+    (change_of (g.W.Write.contents c.args.out.now) (g.W.Write.contents c.replay_file.new.out))
+    (change_of (g.E.Write.contents c.args.faults.now) (g.E.Write.contents c.replay_file.new.faults)) in
     let came = c.replay_file.ensures in
     subst (λ (command : Command). Carries files host input command outcome) (sym c.in-Replay.is) (
       came.0,
@@ -28,8 +28,8 @@ returns-in-Debug g c =
     let host : ServerHost _ _ = record { listens = g.O.Listens.listens c.args.files.now; opens_journal = g.O.OpensJournals.opens_journal c.args.files.now } in
     let input : StandardInput _ = record { bytes = g.I.Read.remaining; reader = c.args.input } in
     let outcome : Outcome = outcome_of c.debug_file.result
-      (change_of (g.W.Write.contents c.args.out.now) (g.W.Write.contents c.debug_file.new.out))
-      (change_of (g.E.Write.contents c.args.faults.now) (g.E.Write.contents c.debug_file.new.faults)) in
+    (change_of (g.W.Write.contents c.args.out.now) (g.W.Write.contents c.debug_file.new.out))
+    (change_of (g.E.Write.contents c.args.faults.now) (g.E.Write.contents c.debug_file.new.faults)) in
     subst (λ (command : Command). Carries files host input command outcome) (sym c.in-Debug.is) c.debug_file.ensures
 
 pub returns-in-Serve : goal.returns-in-Serve
@@ -38,7 +38,7 @@ returns-in-Serve g c =
     let host : ServerHost _ _ = record { listens = g.O.Listens.listens c.args.files.now; opens_journal = g.O.OpensJournals.opens_journal c.args.files.now } in
     let input : StandardInput _ = record { bytes = g.I.Read.remaining; reader = c.args.input } in
     let outcome : Outcome = outcome_of c.serve_named.result
-      (change_of (g.W.Write.contents c.args.out.now) (g.W.Write.contents c.serve_named.new.out))
-      (change_of (g.E.Write.contents c.args.faults.now) (g.E.Write.contents c.serve_named.new.faults)) in
+    (change_of (g.W.Write.contents c.args.out.now) (g.W.Write.contents c.serve_named.new.out))
+    (change_of (g.E.Write.contents c.args.faults.now) (g.E.Write.contents c.serve_named.new.faults)) in
     subst (λ (command : Command). Carries files host input command outcome) (sym c.in-Serve.is)
     (c.file_if_named-table.result, search rules, c.serve_named.ensures)

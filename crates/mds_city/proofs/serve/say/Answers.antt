@@ -15,6 +15,6 @@ returns-in-Err-Torn g c =
     let faults = g.E.Write.contents in
     let torn : c.args.ended ≡ Err (Torn c.in-Err-Torn.shard c.in-Err-Torn.place) = search rules in
     let outcome : Outcome = outcome_of c.torn_to.result
-      (change_of out out)
-      (change_of (faults c.args.faults.now) (faults c.torn_to.new.faults)) in
+    (change_of out out)
+    (change_of (faults c.args.faults.now) (faults c.torn_to.new.faults)) in
     subst (λ (ended : Result AtEnd Stop). IsSaid ended outcome) (sym torn) (Keeps-refl _, c.torn_to.ensures)
