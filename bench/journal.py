@@ -21,7 +21,7 @@ from serve import BATCHES, EVENTS, VEHICLES, ServeBench
 from serve import batches, ended, event, events_of, files_of, looks, register, vehicle
 from serving.server import Server
 from serving.wire import get, post
-from timing import in_turns, peak_of, timed
+from timing import in_pairs, in_turns, peak_of, timed
 
 FOLDER = ROOT / "bench/out"
 SIDES = ((1, 1), (4, 1), (4, 4), (4, 16))
@@ -29,6 +29,9 @@ SIDES = ((1, 1), (4, 1), (4, 4), (4, 16))
 SYNCS = 400
 FEWEST, MOST = 600, 4000
 """Reports of a run: as many as the disk syncs in a second, within these bounds."""
+PAIRS = 5
+"""For each run, how many pairs there are of runs with looks that nobody writes beside: over a journal and without one a look takes
+the same calls, and runs of it differ by more than what is looked for."""
 LOOKS_BESIDE, REPORTS_BESIDE = 10000, 60000
 """Looks of a run beside reports, and how many reports there are for it, more than are made in that time."""
 RECORDED = 1000000
@@ -153,15 +156,16 @@ class JournalBench:
 
     def looks(self):
         """Prints a table of looks that nobody writes beside, over a journal and without one."""
-        print("\n| what is asked | workers | clients | looks a second | without a journal | ratio | aim |")
+        heads = "looks a second | without a journal | ratio of pairs, its median and quartiles | aim"
+        print(f"\n| what is asked | workers | clients | {heads} |")
         print("|---|---:|---:|---:|---:|---:|---:|")
         for owner, is_aimed, benches in self.sides():
             for workers, clients in SIDES:
                 paths, count = files_of(self.folder, looks, clients)
                 measures = [lambda bench=bench: bench.once(paths, count, 0, workers)[:1] for bench in benches]
-                (rate,), (other,) = in_turns(self.runs, *measures)
+                (rate,), (other,), (low, ratio, high) = in_pairs(self.runs * (PAIRS if is_aimed else 1), *measures)
                 aim = f"{AIMS['looks']:.2f}" if is_aimed else NONE
-                cells = f"{rate:,.0f} | {other:,.0f} | {rate / other:.2f} | {aim}"
+                cells = f"{rate:,.0f} | {other:,.0f} | {ratio:.2f} ({low:.2f} to {high:.2f}) | {aim}"
                 print(f"| looks{owner} | {workers} | {clients} | {cells} |", flush=True)
 
     def looks_beside(self):

@@ -77,3 +77,11 @@ def in_turns(runs, *measures):
     """The medians of what each of these measures answers. They are taken one after the other, so many times."""
     rounds = [[measure() for measure in measures] for _ in range(runs)]
     return [medians(of_measure) for of_measure in zip(*rounds)]
+
+
+def in_pairs(count, one, other):
+    """The medians of what two measures answer, and the quartiles of the ratios of their first values. They are taken in so many pairs,
+    one behind the other, and each pair begins with what the one before it ended with: what slows the machine for a while slows both."""
+    pairs = [(one(), other()) if at % 2 else (other(), one())[::-1] for at in range(count)]
+    ratios = [mine[0] / its[0] for mine, its in pairs]
+    return *map(medians, zip(*pairs)), statistics.quantiles(ratios, n=4) if count > 1 else ratios * 3
