@@ -40,8 +40,8 @@ class Edit:
     names: frozenset
     """The names by which a body may call or read what the edit turns: those of the functions, and of constants. A copy has none."""
     breaks_answer: bool
-    """Whether an answer in `proofs/` may tell of it: each function has answers, asks for no tactics of its own, and has no closure,
-    whose goals have no answers, and no line `# searched` says that none does. Or it has answers of its own."""
+    """Whether an answer in `proofs/` may tell of it: each function has answers, and no closure, whose goals have no answers, and no line
+    `# searched` says that none does. Or it has answers of its own."""
     answers: tuple = ()
     """Those of `answers/`, which stand in place of its function's: each the line of a proof of one goal, as the function stands."""
 
@@ -69,7 +69,7 @@ def named_in(text):
 
 @cache
 def with_answers(crate):
-    """The functions of a crate of which answers may tell: they have some, no closure, and ask for no tactics of their own."""
+    """The functions of a crate of which answers may tell: they have some, and no closure."""
     folder, found = ROOT / "crates" / crate, set()
     for file in folder.glob("src/**/*.rt"):
         text = file.read_text()
@@ -77,7 +77,7 @@ def with_answers(crate):
         for head, end in zip(heads, [*(it.start() for it in heads[1:]), len(text)]):
             function = told_as(crate, file.relative_to(folder), text, head.start())
             has_some = (folder / folder_of(function) / "Answers.antt").exists()
-            if has_some and not CLOSURE.search(text, head.start(), end) and not OWN_TACTICS.search(text[: head.start()]):
+            if has_some and not CLOSURE.search(text, head.start(), end):
                 found.add(function)
     return found
 
@@ -205,9 +205,8 @@ def edit_of(crate, file):
     functions = frozenset(named) or frozenset(functions_of(crate, changes))
     names = [it.rpartition("::")[2] for it in functions]
     names += [word for it in changes if named for word in CONSTANT.findall(it.old)]
-    is_quick = not SEARCHED.search(text) and not any(CLOSURE.search(it.new) for it in changes)
     answers = own_answers(crate).get(file.stem, ())
-    breaks_answer = bool(answers) or is_quick and functions <= with_answers(crate)
+    breaks_answer = bool(answers) or not SEARCHED.search(text) and functions <= with_answers(crate)
     return Edit(crate, file, changes, functions, frozenset(names), breaks_answer, answers)
 
 
@@ -216,6 +215,9 @@ def every_edit(crates=()):
     found = {}
     for folder in sorted(it for it in (ROOT / "crates").iterdir() if not crates or it.name in crates):
         files = [*(folder / "must-fail").glob("*.edit"), *(HERE / folder.name).glob("*.edit")]
+        strays = own_answers(folder.name).keys() - {it.stem for it in files}
+        if strays:
+            raise ValueError(f"{folder.name}: answers of no edit: {', '.join(sorted(strays))}")
         if files:
             found[folder.name] = [edit_of(folder.name, file) for file in sorted(files, key=lambda it: it.stem)]
     return found

@@ -1,9 +1,11 @@
-"""Which crates are proved as they stand, by the sums of texts that `rt` writes beside what it makes, whatever the times of files are."""
+"""Which crates are proved as they stand, by the sums of texts that `rt` writes beside what it makes or keeps beside the kit, whatever
+the times of files are."""
 
 import copy
 import functools
 import importlib.machinery
 import importlib.util
+import json
 import subprocess
 from pathlib import Path
 
@@ -25,8 +27,8 @@ def code_of_rt():
 
 
 def has_stamp(rt, crate):
-    """Whether `rt check`, `rt lib` or `rt run` made what stands in out/, of these texts and of those below. `rt ci` leaves no such
-    sum, and `rt check` leaves one of each library below the crate that it checks."""
+    """Whether `rt check`, `rt lib` or `rt run` made what stands in out/, of these texts and of those below. `rt check` leaves such a sum
+    of each library below the crate that it checks."""
     if not crate.is_program:
         return crate.is_built()
     crate, program = copy.copy(crate), f"{crate.folder}/out/{crate.name}"
@@ -35,13 +37,27 @@ def has_stamp(rt, crate):
     return rt.rtlib.text_of(f"{program}.stamp") == crate.stamp() + rt.rtlib.sum_of(program)
 
 
+def is_kept(rt, kept, crate):
+    """Whether `rt ci` made what stands in out/, of these texts and over what stands in out/ of those below. It leaves no sum there, and
+    keeps what it proved beside the kit, by the sum of all that it read, with sums of the files."""
+    kept.is_built(crate)
+    try:
+        made = json.loads(Path(kept.place(crate, False, kept.key(crate)), "made.json").read_text())["files"]
+    except (OSError, ValueError):
+        return False
+    return all(rt.rtlib.sum_of(f"{crate.folder}/out/{path}") == its for path, its in made)
+
+
 @functools.cache
 def proved():
     """The names of the crates that are proved as they stand, with all below them."""
     rt, found = code_of_rt(), set()
-    for crate in sorted(rt.rtlib.crates_below(str(ROOT)), key=lambda it: len(it.below())):
+    crates = sorted(rt.rtlib.crates_below(str(ROOT)), key=lambda it: len(it.below()))
+    rt.Crate.allowed, rt.rtlib.sum_of = rt.handles_of(str(ROOT)), functools.cache(rt.rtlib.sum_of)
+    kept = rt.Kept(crates)
+    for crate in crates:
         below = {it.name for it in crate.below()}
-        if found.issuperset(below) and has_stamp(rt, crate):
+        if found.issuperset(below) and (is_kept(rt, kept, crate) or has_stamp(rt, crate)):
             found.add(crate.name)
     return found
 
