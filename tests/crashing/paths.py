@@ -30,7 +30,7 @@ DEVICE, OTHER = device_at(1), device_at(2)
 MOST_BEHIND = 16 << 20
 """Bytes behind the lines that count: a group has no more."""
 LARGE = 2 << 30
-MANY = 600
+MANY = 2500
 """Lines of two pieces, the second of which a start reads while it asks the first."""
 REGISTERED = journal(registered(DEVICE))
 DROPPED = event(DEVICE, "0", "provider_drop_off", "available", 1000)
@@ -154,7 +154,7 @@ def one_server_at_a_time(program):
 def files_that_are_none(program):
     """Files with a line that is none of a journal, or that isn't accepted, also by the table alone; of more such lines the first is
     told."""
-    new, many = registered(DEVICE), [registered(device_at(number)) for number in range(MANY)]
+    new, other, many = registered(DEVICE), registered(OTHER), [registered(device_at(number)) for number in range(MANY)]
     for text, fault in (
         ("no journal\n", "form"),
         (f" {new}\n#", "form"),
@@ -171,8 +171,10 @@ def files_that_are_none(program):
         (journal(new, f"[{DROPPED}]"), "bad_line 2"),
         (journal(DROPPED), "refused 1"),
         (journal(new, DROPPED, DROPPED), "refused 3"),
-        (journal(new, DROPPED, registered(OTHER), RESERVED, WAKE), "refused 5"),
+        (journal(new, DROPPED, other, RESERVED, WAKE), "refused 5"),
         (journal(new, new), "refused 2"),
+        (journal(new, other, new, other), "refused 3"),
+        (journal(new, other, other, new), "refused 3"),
         (journal(form=LONG), "too_long 0"),
         (journal(new, LONG, RESERVED), "too_long 2"),
         (journal(DROPPED, LONG), "refused 1"),

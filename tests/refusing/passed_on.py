@@ -4,6 +4,7 @@ A place that makes one want of another, or of the error of a growth, has no line
 
 PASSED_ON = {
     "mds_book/book.rt": {"open_slot": ["Slot::open"]},
+    "mds_book/refilling.rt": {"ask_again": ["ask"], "Book::refill": ["seat.notes.reserve"]},
     "mds_book/slot.rt": {"Slot::step": ["shard.step"]},
     "mds_city/program.rt": {"words_of": ["words.collect"]},
     "mds_commands/print.rt": {"add_table": ["table.rows"]},
@@ -14,7 +15,7 @@ PASSED_ON = {
     "mds_face/kept_desk.rt": {"answer_kept": ["find", "answer_bytes"]},
     "mds_follow/ahead.rt": {"Ahead::read": ["self.next.requests.push"]},
     "mds_follow/follower.rt": {"Follower::pull": ["next_group"]},
-    "mds_follow/restart.rt": {"refill": ["book.call"], "resume": ["(Piece::new(..), Piece::new(..))"]},
+    "mds_follow/restart.rt": {"resume": ["(Piece::new(..), Piece::new(..))"]},
     "mds_io/page.rt": {"add_line": ["writeln!"], "end_page": ["writeln!"]},
     "mds_io/read.rt": {"read_more": ["bytes.extend_from_slice"]},
     "mds_core/event_list.rt": {

@@ -16,7 +16,7 @@ use Rattle.mds_book.proofs.Slots.{requests_after}
 use Rattle.mds_book.proofs.Trues.{requests_prefix, true_call, true_other}
 
 -- what a seat has seen of a shard after its own call there
-seen_after_step : (tables : Tables) (number : ℕ) (old : List Acceptance) (mark : ℕ) (request : Request) (reply : Reply) (new : List Acceptance)
+pub seen_after_step : (tables : Tables) (number : ℕ) (old : List Acceptance) (mark : ℕ) (request : Request) (reply : Reply) (new : List Acceptance)
     → (step : IsStepped tables number old mark request reply new) → requests new ≡ next (requests step.log) request reply.outcome
 seen_after_step tables number old mark request reply new step =
     ap (λ (w : List Acceptance). requests w) step.goes_on ∙ requests_after step.log mark request reply.outcome

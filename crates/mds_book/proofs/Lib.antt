@@ -10,3 +10,4 @@ pub mod Gathers
 pub mod CopiedOf
 pub mod Copying
 pub mod SightLaws
+pub mod Refills

@@ -9,4 +9,5 @@ pub mod Settling
 pub mod Reconciled
 pub mod Sights
 pub mod Retired
+pub mod Refilling
 pub mod Laws

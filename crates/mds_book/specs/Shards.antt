@@ -1,5 +1,5 @@
 -- The shards of a book.
-use Rattle.std.specs.Prelude.{◌≡◌, ℕ, ◌%◌, List, if◌then◌else◌}
+use Rattle.std.specs.Prelude.{◌≡◌, ℕ, ◌%◌, ◌==◌, List, filter, if◌then◌else◌}
 use Rattle.std.specs.List.{All}
 use Rattle.std.specs.Int.{from_be_bytes, w128}
 use Rattle.mds_core.specs.declared.key.Key.{Key}
@@ -15,6 +15,10 @@ shard_of key = from_be_bytes w128 key.device % 2
 -- every request is about a vehicle of the shard of this number
 abbrev pub AreOfShard : ℕ → List Request → Type 0
 AreOfShard number history = All (λ request. shard_of (key_of request) ≡ number) history
+
+-- the requests about vehicles of the shard of this number, in their order
+abbrev pub part : ℕ → List Request → List Request
+part number requests = filter (λ request. shard_of (key_of request) == number) requests
 
 -- what an outcome counts among the accepted ones
 abbrev pub count_of : Outcome → ℕ

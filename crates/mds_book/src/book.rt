@@ -156,7 +156,7 @@ fn places_of<L: ShardLedger, M: ShardLedger>(
 }
 
 /// Only the step is made under the lock.
-fn step_in<R: Wait, L: ShardLedger, const N: usize>(
+pub(crate) fn step_in<R: Wait, L: ShardLedger, const N: usize>(
     rt: &R,
     slot: &Mutex<Slot<L, N>>,
     part: &mut Part<L>,
@@ -177,7 +177,7 @@ fn step_in<R: Wait, L: ShardLedger, const N: usize>(
     slot.lock(rt).step(part, request)
 }
 
-fn make_room(notes: &mut Vec<Note>, may_note: bool) -> Result<(), AllocError>
+pub(crate) fn make_room(notes: &mut Vec<Note>, may_note: bool) -> Result<(), AllocError>
     ensures items { notes.new.items ≡ notes.old.items }
     ensures room { IsOk result → may_note ≡ true → vec_len notes.new < vec_capacity notes.new }
     ensures none { may_note ≡ false → IsOk result }
@@ -188,7 +188,13 @@ fn make_room(notes: &mut Vec<Note>, may_note: bool) -> Result<(), AllocError>
     Ok(())
 }
 
-fn note_call(notes: &mut Vec<Note>, keeps_all: bool, shard: usize, request: &Request, reply: &Reply)
+pub(crate) fn note_call(
+    notes: &mut Vec<Note>,
+    keeps_all: bool,
+    shard: usize,
+    request: &Request,
+    reply: &Reply,
+)
     requires shard { shard ≡ number_of (key_of request.now) }
     requires room { (keeps_all || outcome_is_done reply.now.outcome) ≡ true
         → vec_len notes.old < vec_capacity notes.old }

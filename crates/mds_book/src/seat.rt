@@ -248,7 +248,8 @@ impl<L: ShardLedger, M: ShardLedger> Seat<L, M> {
         }
     }
 
-    /// The notes of the seat's calls, in the order in which it made them.
+    /// The notes of the seat's calls, in the order in which it made them; of a [refill](crate::Book::refill) those of the first shard
+    /// before those of the second.
     pub fn notes(&self) -> &[Note]
         ensures { result.now ≡ self.now.notes }
     {

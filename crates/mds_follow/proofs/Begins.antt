@@ -5,7 +5,8 @@ use Rattle.mds_core.specs.declared.request.Request.{Request}
 use Rattle.mds_log.specs.Log.{Acceptance, requests}
 use Rattle.mds_log.proofs.Lists.{prefix_self}
 use Rattle.mds_book.specs.Copying.{Progressed}
-use Rattle.mds_follow.specs.Parts.{part, Follows}
+use Rattle.mds_book.specs.Shards.{part}
+use Rattle.mds_follow.specs.Parts.{Follows}
 use Rattle.mds_follow.specs.Record.{recorded_at, IsSafe}
 use Rattle.mds_follow.specs.Restart.{IsRead}
 use Rattle.mds_follow.proofs.Safety.{safe_more}

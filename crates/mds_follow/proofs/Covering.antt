@@ -9,7 +9,8 @@ use Rattle.mds_log.specs.Log.{Acceptance, requests}
 use Rattle.mds_log.proofs.Lists.{prefix_trans}
 use Rattle.mds_book.proofs.Trues.{requests_prefix}
 use Rattle.mds_book.specs.Seats.{Seated}
-use Rattle.mds_follow.specs.Parts.{part, Covers}
+use Rattle.mds_book.specs.Shards.{part}
+use Rattle.mds_follow.specs.Parts.{Covers}
 
 -- what is recorded of a shard begins what is where more is recorded
 pub part_begins : (number : ℕ) (told longer : List Request) → IsPrefix told longer → IsPrefix (part number told) (part number longer)

@@ -8,5 +8,4 @@ pub mod Pulls
 pub mod Disks
 pub mod Blanks
 pub mod ReadBack
-pub mod Refills
 pub mod Begins

@@ -5,9 +5,8 @@ use Rattle.mds_core.specs.declared.request.Request.{Request}
 use Rattle.mds_core.specs.History.{requests_of}
 use Rattle.mds_log.specs.Log.{Acceptance, requests}
 use Rattle.mds_log.proofs.Lists.{prefix_trans}
-use Rattle.mds_book.specs.Shards.{shard_of}
+use Rattle.mds_book.specs.Shards.{shard_of, part}
 use Rattle.mds_book.proofs.CopiedOf.{of_vehicle_prefix}
-use Rattle.mds_follow.specs.Parts.{part}
 use Rattle.mds_follow.specs.Lives.{AnswersStandInTheNextLife, LooksStandInTheNextLife, IsNextLife}
 use Rattle.mds_follow.proofs.Covering.{part_begins}
 use Rattle.mds_follow.proofs.Vehicles.{of_part}

@@ -7,10 +7,10 @@ use Rattle.mds_table.specs.Tables.{Tables}
 use Rattle.mds_core.specs.declared.request.Request.{Request}
 use Rattle.mds_core.specs.History.{key_of}
 use Rattle.mds_log.proofs.Lists.{prefix_trans}
-use Rattle.mds_book.specs.Shards.{shard_of, AreOfShard}
+use Rattle.mds_book.specs.Shards.{shard_of, AreOfShard, part}
 use Rattle.mds_book.specs.Copying.{Progressed, copied_requests, IsPiece}
 use Rattle.mds_book.proofs.Copying.{take_longer}
-use Rattle.mds_follow.specs.Parts.{part, Follows}
+use Rattle.mds_follow.specs.Parts.{Follows}
 use Rattle.mds_follow.specs.Group.{IsGroup}
 use Rattle.mds_follow.specs.Record.{IsBeforeOrAfter}
 

@@ -5,7 +5,8 @@ use Rattle.mds_table.specs.Tables.{Tables}
 use Rattle.mds_core.specs.declared.request.Request.{Request}
 use Rattle.mds_log.proofs.Lists.{prefix_trans}
 use Rattle.mds_book.specs.Copying.{Progressed}
-use Rattle.mds_follow.specs.Parts.{part, Follows}
+use Rattle.mds_book.specs.Shards.{part}
+use Rattle.mds_follow.specs.Parts.{Follows}
 use Rattle.mds_follow.specs.Group.{IsGroup}
 use Rattle.mds_follow.specs.Record.{IsBeforeOrAfter}
 use Rattle.mds_follow.proofs.Parts.{follows_first, follows_second, follows_still, recorded_begins, sound_more}

@@ -1,7 +1,7 @@
 -- A journal whose requests are asked again.
-use Rattle.std.proofs.Common.{◌≡◌, ℕ, zero, suc, ◌+◌, ◌<◌, ◌==◌, List, [], ◌∷◌, ◌++◌, ◌-◌, ◌^◌, ◌≤◌, ◌≢◌, Bool, true, false, Result, Ok, Err, IfOk, OnOk, length, take, get_or, refl, sym, ap, ◌∙◌, subst, arith, append_assoc, append-nil, length-append}
+use Rattle.std.proofs.Common.{◌≡◌, inl, inr, ℕ, ◌+◌, ◌<◌, ◌==◌, List, [], ◌∷◌, ◌++◌, ◌-◌, ◌^◌, ◌≤◌, ◌≢◌, Bool, true, false, Result, Ok, Err, IfOk, OnOk, length, refl, sym, ap, ◌∙◌, subst, arith, append_assoc, append-nil, length-append}
 use Rattle.std.proofs.lemmas.Bool.Decides.{nat_tests}
-use Rattle.std.proofs.lemmas.List.{length-map, map-append, take_more}
+use Rattle.std.proofs.lemmas.List.{length-map, map-append}
 use Rattle.std.proofs.lemmas.List.Elements.{filter-append}
 use Rattle.mds_table.specs.Tables.{Tables}
 use Rattle.mds_core.specs.declared.key.Key.{Key}
@@ -16,13 +16,13 @@ use Rattle.mds_journal.specs.Device.{LeavesOnly}
 use Rattle.mds_journal.specs.declared.fault.JournalFault.TheVariants.{Form, BadLine, TooLong, Refused, Damaged}
 use Rattle.mds_entries.specs.Form.{form_line}
 use Rattle.mds_log.specs.Log.{Acceptance, requests}
-use Rattle.mds_book.specs.Shards.{shard_of}
-use Rattle.mds_book.specs.Seats.{Seated, seen_in}
-use Rattle.mds_follow.specs.Parts.{part}
+use Rattle.mds_book.specs.Shards.{shard_of, part}
+use Rattle.mds_book.specs.Seats.{Seated}
 use Rattle.mds_follow.specs.Record.{recorded_at}
 use Rattle.mds_follow.specs.Disk.{IsTold, MayRead}
 use Rattle.mds_follow.specs.Reading.{HasNoMore, IsEndFault, IsEndOf, IsLineFault, IsReadTo, IsStartFault, TellsAll, TellsNext}
-use Rattle.mds_follow.specs.Restart.{HasAll, IsAhead, IsAskFault, IsFilled, IsRead, IsRefilled}
+use Rattle.mds_book.specs.Refilling.{HasAll, IsFilled, IsRefusedAt, IsRefusedIn}
+use Rattle.mds_follow.specs.Restart.{IsAhead, IsAskFault, IsRead, IsRefilled, IsRefused}
 use Rattle.mds_follow.specs.declared.start_fault.StartFault.{StartFault}
 use Rattle.mds_follow.specs.declared.start_fault.StartFault.TheVariants.{Memory, Device, Journal, Shared}
 use Rattle.mds_follow.proofs.Disks.{told_more}
@@ -143,30 +143,6 @@ module _ (moment : ℕ) (old new : List Acceptance) (more : List Request) (is : 
     second = filled.second ∙ (ap (λ w. w ++ part 1 more) refilled.second ∙ (sym (filter-append _ (requests old) more) ∙ ap (λ w. part 1 w) (sym asked_more)));
   }
 
--- the seat has asked one request more behind others
-pub filled_more : (seat mid then : Seated) (told : List Request) (request : Request) → IsFilled seat told mid → IsFilled mid (request ∷ []) then → IsFilled seat (told ++ request ∷ []) then
-filled_more seat mid then told request filled one = record {
-  first = one.first ∙ (ap (λ w. w ++ part 0 (request ∷ [])) filled.first ∙ (append_assoc seat.first_seen (part 0 told) (part 0 (request ∷ [])) ∙ ap (λ w. seat.first_seen ++ w) (sym (filter-append _ told (request ∷ [])))));
-  second = one.second ∙ (ap (λ w. w ++ part 1 (request ∷ [])) filled.second ∙ (append_assoc seat.second_seen (part 1 told) (part 1 (request ∷ [])) ∙ ap (λ w. seat.second_seen ++ w) (sym (filter-append _ told (request ∷ [])))));
-}
-
--- of some requests those before one, and it
-pub filled_next : (seat mid then : Seated) (all : List Request) (index : ℕ) (request : Request) → IsFilled seat (take index all) mid → IsFilled mid (request ∷ []) then
-    → index < length all → request ≡ get_or all index request → IsFilled seat (take (index + 1) all) then
-filled_next seat mid then all index request filled one within same =
-    let Filled : List Request → Type 0 = λ w. IsFilled seat w then in
-    let longer : take index all ++ request ∷ [] ≡ take (index + 1) all = ap (λ r. take index all ++ r ∷ []) same ∙ sym (take_more all index request within) in
-    subst Filled longer (filled_more seat mid then (take index all) request filled one)
-
--- those before one of some requests, and those behind it
-pub split_at : (all : List Request) (index : ℕ) (request : Request) → index < length all → request ≡ get_or all index request
-    → (rest : List Request) × (all ≡ take index all ++ request ∷ rest) × (length (take index all) ≡ index)
-split_at [] index request within same = absurd (omega (arith, within))
-split_at (one ∷ all) zero request within same = (all, ap (λ r. r ∷ all) (sym same), refl)
-split_at (one ∷ all) (suc index) request within same =
-    let later = split_at all index request (omega (arith, within)) same in
-    (later.0, ap (λ w. one ∷ w) later.1, ap suc later.2)
-
 -- the requests of a vehicle are those of its shard's part
 own_part : (number : ℕ) (key : Key) (history : List Request) → shard_of key ≡ number → requests_of (part number history) key ≡ requests_of history key
 own_part number key [] here = refl
@@ -182,34 +158,34 @@ own_part number key (request ∷ rest) here =
           let not : (shard_of (key_of request) == number) ≡ true = grind (arith, nat_tests) in
           absurd (cc (not, other))
 
--- what the seat has seen of a shard is the shard's part
-seen_part : (seat : Seated) (told : List Acceptance) (shard : ℕ) → IsRefilled seat told → shard < 2 → seen_in seat shard ≡ part shard (requests told)
-seen_part seat told zero refilled small = refilled.first
-seen_part seat told (suc zero) refilled small = refilled.second
-seen_part seat told (suc (suc shard)) refilled small = absurd (omega (arith, small))
-
--- there are two shards
-two_shards : (key : Key) → shard_of key < 2
-two_shards key = omega arith
-
--- what isn't accepted behind what the seat has seen isn't behind all that is recorded
-pub refused_behind : (tables : Tables) (seat : Seated) (told : List Acceptance) (request : Request) → IsRefilled seat told
-    → (MayBeDone tables (seen_in seat (shard_of (key_of request))) request → ⊥) → MayBeDone tables (requests told) request → ⊥
-refused_behind tables seat told request refilled refused may =
+-- what may not be done behind what a seat has seen of its shard may not be behind all that is recorded
+refused_in : (tables : Tables) (number : ℕ) (seen : List Request) (recorded before : List Request) (request : Request) → seen ≡ part number recorded
+    → shard_of (key_of request) ≡ number → (MayBeDone tables (seen ++ part number before) request → ⊥) → MayBeDone tables (recorded ++ before) request → ⊥
+refused_in tables number seen recorded before request is here refused may =
     let key = key_of request in
-    let same : requests_of (seen_in seat (shard_of key)) key ≡ requests_of (requests told) key =
-    ap (λ (w : List Request). requests_of w key) (seen_part seat told (shard_of key) refilled (two_shards key)) ∙ own_part (shard_of key) key (requests told) refl in
+    let both : seen ++ part number before ≡ part number (recorded ++ before) = ap (λ (w : List Request). w ++ part number before) is ∙ sym (filter-append _ recorded before) in
+    let same : requests_of (seen ++ part number before) key ≡ requests_of (recorded ++ before) key =
+    ap (λ (w : List Request). requests_of w key) both ∙ own_part number key (recorded ++ before) here in
     let Given : List Request → Type 0 = λ w. Gives tables w request Done in
     refused (subst Given (sym same) may)
 
--- nor is it where the seat had asked those before it of a piece
-pub refused_in : (tables : Tables) (seat then : Seated) (told : List Acceptance) (before : List Request) (request : Request) → IsRefilled seat told → IsFilled seat before then → HasAll then
-    → (MayBeDone tables (seen_in then (shard_of (key_of request))) request → ⊥) → MayBeDone tables (requests told ++ before) request → ⊥
-refused_in tables seat then told before request refilled filled all refused may =
-    let more : List Acceptance = told ++ recorded_at 0 before in
-    let asked : requests more ≡ requests told ++ before = asked_more 0 told more before refl in
-    let May : List Request → Type 0 = λ w. MayBeDone tables w request in
-    refused_behind tables then more request (refilled_more 0 told more before refl seat then refilled filled all) refused (subst May (sym asked) may)
+-- nor may its line
+refused_line : (tables : Tables) (number : ℕ) (seen recorded told : List Request) (first line at : ℕ) → seen ≡ part number recorded → line ≡ first + at
+    → IsRefusedIn tables number seen told at → IsRefused tables recorded first told line
+refused_line tables number seen recorded told first line at is place why = record {
+  before = why.before;
+  request = why.request;
+  rest = why.rest;
+  split = why.split;
+  count = omega (arith, place, why.count);
+  refused = refused_in tables number seen recorded why.before why.request is why.here why.refused;
+}
+
+-- in whichever shard it is
+pub refused_told : (tables : Tables) (seat : Seated) (recorded : List Acceptance) (told : List Request) (first line at : ℕ) → IsRefilled seat recorded → line ≡ first + at
+    → IsRefusedAt tables seat told at → IsRefused tables (requests recorded) first told line
+refused_told tables seat recorded told first line at refilled place (inl why) = refused_line tables 0 seat.first_seen (requests recorded) told first line at refilled.first place why
+refused_told tables seat recorded told first line at refilled place (inr why) = refused_line tables 1 seat.second_seen (requests recorded) told first line at refilled.second place why
 
 -- a fault of a line that comes behind what was read is one of the file
 pub line_start_fault : (tables : Tables) (file bytes : List ℕ) (told : List Request) (number : ℕ) (fault : StartFault) → IsReadTo file told bytes → number ≡ length told + 1

@@ -6,11 +6,11 @@ use Rattle.mds_core.specs.declared.key.Key.{Key}
 use Rattle.mds_core.specs.declared.request.Request.{Request}
 use Rattle.mds_core.specs.History.{key_of, same_key, requests_of}
 use Rattle.mds_core.proofs.Histories.{same_key_is}
-use Rattle.mds_book.specs.Shards.{shard_of}
+use Rattle.mds_book.specs.Shards.{shard_of, part}
 use Rattle.mds_book.specs.Seats.{Seated, seen_in}
 use Rattle.mds_book.specs.Copying.{Progressed, copied_in}
 use Rattle.mds_book.proofs.CopiedOf.{of_vehicle_prefix}
-use Rattle.mds_follow.specs.Parts.{part, Follows, Covers, CoversVehicle, CoversAbout}
+use Rattle.mds_follow.specs.Parts.{Follows, Covers, CoversVehicle, CoversAbout}
 
 -- a request about a vehicle is of the vehicle's shard
 of_its_shard : (request : Request) (key : Key) → same_key (key_of request) key ≡ true → (shard_of (key_of request) == shard_of key) ≡ true

@@ -5,8 +5,7 @@ use Rattle.mds_core.specs.declared.key.Key.{Key}
 use Rattle.mds_core.specs.declared.request.Request.{Request}
 use Rattle.mds_core.specs.History.{requests_of}
 use Rattle.mds_log.specs.Log.{Acceptance, requests}
-use Rattle.mds_book.specs.Shards.{shard_of}
-use Rattle.mds_follow.specs.Parts.{part}
+use Rattle.mds_book.specs.Shards.{shard_of, part}
 use Rattle.mds_follow.specs.Record.{BeginsWith, IsSafe}
 
 -- requests were recorded in one life, this one last, and are safe; what a restart read after a

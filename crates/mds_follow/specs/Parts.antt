@@ -1,16 +1,12 @@
 -- What is recorded of each shard.
-use Rattle.std.specs.Prelude.{◌≡◌, ℕ, ◌==◌, List, filter, Option, Some, None}
+use Rattle.std.specs.Prelude.{◌≡◌, ℕ, List, Option, Some, None}
 use mathlib.Core.List.{IsPrefix}
 use Rattle.mds_core.specs.declared.key.Key.{Key}
 use Rattle.mds_core.specs.declared.request.Request.{Request}
-use Rattle.mds_core.specs.History.{key_of, requests_of}
-use Rattle.mds_book.specs.Shards.{shard_of}
+use Rattle.mds_core.specs.History.{requests_of}
+use Rattle.mds_book.specs.Shards.{shard_of, part}
 use Rattle.mds_book.specs.Seats.{Seated, seen_in}
 use Rattle.mds_book.specs.Copying.{Progressed, copied_requests}
-
--- the requests about vehicles of the shard of this number, in their order
-abbrev pub part : ℕ → List Request → List Request
-part number requests = filter (λ request. shard_of (key_of request) == number) requests
 
 -- what is recorded of the shard of this number is what was copied of its history
 abbrev pub Follows : ℕ → List Request → Progressed → Type 0

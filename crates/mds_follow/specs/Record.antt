@@ -4,7 +4,7 @@ use Rattle.std.specs.Prelude.{List, length, take, map, Some, slice_get}
 use mathlib.Core.List.{IsPrefix}
 use Rattle.mds_core.specs.declared.request.Request.{Request}
 use Rattle.mds_log.specs.Log.{Acceptance, requests}
-use Rattle.mds_follow.specs.Parts.{part}
+use Rattle.mds_book.specs.Shards.{part}
 use Rattle.mds_book.specs.declared.record_fault.RecordFault.{RecordFault}
 use Rattle.mds_book.specs.declared.record_fault.RecordFault.TheVariants.{Memory, NotKept, Lost}
 

@@ -6,18 +6,14 @@ use Rattle.mds_core.specs.Answer.{MayBeDone}
 use Rattle.mds_journal.specs.declared.fault.JournalFault.TheVariants.{Refused}
 use Rattle.mds_log.specs.Log.{Acceptance, requests}
 use Rattle.mds_book.specs.Seats.{Seated}
-use Rattle.mds_follow.specs.Parts.{part}
+use Rattle.mds_book.specs.Refilling.{HasAll}
+use Rattle.mds_book.specs.Shards.{part}
 use Rattle.mds_follow.specs.Record.{recorded_at}
 use Rattle.mds_follow.specs.Reading.{IsEndOf, IsReadTo}
 use Rattle.mds_follow.specs.declared.ahead.Piece.{Piece}
 use Rattle.mds_follow.specs.declared.start_fault.StartFault.{StartFault}
 use Rattle.mds_follow.specs.declared.start_fault.StartFault.TheVariants.{Memory, Device}
 use Rattle.mds_follow.specs.declared.start_fault.StartFault.TheVariants.{Journal, Shared}
-
--- all that the seat has seen of the shards it asked itself
-pub record HasAll (seat : Seated) : Type 0 where
-  pub first : seat.first ≡ length seat.first_seen
-  pub second : seat.second ≡ length seat.second_seen
 
 -- the seat alone has asked a book all that is recorded
 pub record IsRefilled (seat : Seated) (told : List Acceptance) : Type 0 where
@@ -30,12 +26,6 @@ pub record IsRead (left_since : ℕ → List Request → Type 0) (start : ℕ) (
     : Type 0 where
   pub at_start : told ≡ recorded_at start (requests told)
   pub only : (c : List Request) → left_since start c → c ≡ requests told
-
--- the seat has seen these requests, in their order, behind what it had seen of their shards, and
--- nothing else
-pub record IsFilled (old : Seated) (told : List Request) (new : Seated) : Type 0 where
-  pub first : new.first_seen ≡ old.first_seen ++ part 0 told
-  pub second : new.second_seen ≡ old.second_seen ++ part 1 told
 
 -- the request of this line, one of some whose first line has this number, may not be done behind
 -- those before it and what is recorded

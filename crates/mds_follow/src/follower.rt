@@ -3,7 +3,8 @@ ghost use Rattle.std.specs.Prelude.{◌≡◌, ◌<◌, ◌≤◌, ◌^◌, [], 
 ghost use Rattle.std.specs.List.{All};
 ghost use mathlib.Core.List.{IsPrefix};
 ghost use Rattle.mds_log.specs.Log.{requests};
-ghost use Rattle.mds_follow.specs.Parts.{Covers, part};
+ghost use Rattle.mds_book.specs.Shards.{part};
+ghost use Rattle.mds_follow.specs.Parts.{Covers};
 ghost use Rattle.mds_follow.specs.Record.{IsDesk, IsSound};
 ghost use Rattle.mds_follow.specs.Restart.{IsRead, IsRefilled};
 ghost use Rattle.mds_follow.specs.Group.{IsGroup};

@@ -1,10 +1,6 @@
 //! A book that is filled again with what was recorded.
 ghost use Rattle.std.specs.Prelude.{◌≡◌, ◌≢◌, ◌+◌, ◌<◌, ◌≤◌, ◌^◌, ◌∷◌, ◌++◌, [], List, length, true, Ok, Err, OnOk, IfOk, IfErr};
 ghost use Rattle.mds_core.specs.declared.request.Request.{Request as Requested};
-ghost use Rattle.mds_core.specs.Answer.{MayBeDone};
-ghost use Rattle.mds_core.specs.History.{key_of};
-ghost use Rattle.mds_book.specs.Shards.{shard_of};
-ghost use Rattle.mds_book.specs.Seats.{seen_in};
 ghost use Rattle.mds_log.specs.Log.{Acceptance, requests};
 ghost use Rattle.mds_table.specs.Json.{max_bytes};
 ghost use Rattle.mds_journal.specs.Device.{LeavesOnly, Untouched};
@@ -13,73 +9,29 @@ ghost use Rattle.mds_journal.specs.Opening.{IsReading, KeepsLines, limit_of, num
 ghost use Rattle.mds_follow.specs.Disk.{IsTold};
 ghost use Rattle.mds_follow.specs.Record.{recorded_at};
 ghost use Rattle.mds_follow.specs.Reading.{HasNoMore, IsAtFirstRequest, IsEndOf, IsJournalFault, IsStartFault};
-ghost use Rattle.mds_follow.specs.Restart.{HasAll, IsAhead, IsAskFault, IsFilled, IsFirstPiece, IsRefilled};
+ghost use Rattle.mds_book.specs.Refilling.{HasAll, IsFilled};
+ghost use Rattle.mds_follow.specs.Restart.{IsAhead, IsAskFault, IsFirstPiece, IsRefilled};
 
 use crate::ahead::{Ahead, Piece};
 use crate::desk::note;
 use crate::{Disk, Follower, RecordLog, RequestReader, StartFault};
-use mds_book::{Book, Seat, ShardLedger};
-use mds_core::{Outcome, Request};
+use mds_book::{Book, RefillFault, Seat, ShardLedger};
 use mds_journal::{Device, JournalFault};
 use mds_log::{BlankLog, Keeper};
+use std::alloc::Global;
 use std::mem::swap;
 use std::sync::Wait;
 use std::thread::{Threads, join_mut};
 
-/// Why a request that was recorded isn't in the book again.
-#[derive(Clone, Copy, Debug, PartialEq, Eq)]
-pub(crate) enum RefillFault {
-    /// There was no memory for it.
-    Memory,
-    /// The tables of the book don't accept it.
-    Refused,
-    /// Another seat has asked the book meanwhile.
-    Shared,
-}
-
-/// Asks a request that was recorded of a book that nobody else asks. It has to be accepted.
-///
-/// # Errors
-///
-/// `Memory`, where nothing has changed; `Refused` where the tables don't accept it behind those before it; and `Shared` where another
-/// seat has asked the book.
-fn refill<L: ShardLedger, M: ShardLedger, R: Wait>(
-    rt: &R,
-    book: &Book<L, M>,
-    seat: &mut Seat<L, M>,
-    request: &Request,
-) -> Result<(), RefillFault>
-    requires { HasAll seat.old }
-    ensures keep { seat.new.keeps_all ≡ seat.old.keeps_all }
-    ensures all { OnOk result (HasAll seat.new) }
-    ensures memory { result ≡ Err RefillFault.Memory → seat.new ≡ seat.old }
-    ensures filled { OnOk result (IsFilled seat.old (request.now ∷ []) seat.new) }
-    ensures refused { result ≡ Err RefillFault.Refused
-        → MayBeDone book.now.tables (seen_in seat.old (shard_of (key_of request.now))) request.now
-        → ⊥ }
-{
-    let shard = book.shard_of(request.key());
-    let expected = seat.accepted(shard);
-    let Ok(reply) = book.call(rt, seat, request) else {
-        return Err(RefillFault::Memory);
-    };
-    if reply.place as u64 != expected {
-        return Err(RefillFault::Shared);
-    }
-    let Outcome::Done = reply.outcome else {
-        return Err(RefillFault::Refused);
-    };
-    Ok(())
-}
-
-/// Asks the requests of a piece of a book that nobody else asks, one after the other. Each has to be accepted.
+/// Asks the requests of a piece of a book that nobody else asks. Each has to be accepted.
 ///
 /// # Errors
 ///
 /// `Refused`, with the number of its line, where the tables don't accept one behind those before it, `Memory`; and `Shared` where
 /// another seat has asked the book.
-fn ask_piece<L: ShardLedger, M: ShardLedger, R: Wait>(
+fn ask_piece<L: ShardLedger + Send + Sync, M: ShardLedger + Send + Sync, R: Threads + Wait + Sync>(
     rt: &R,
+    alloc: Global,
     book: &Book<L, M>,
     piece: &Piece,
     seat: &mut Seat<L, M>,
@@ -93,23 +45,25 @@ fn ask_piece<L: ShardLedger, M: ShardLedger, R: Wait>(
         → IfErr result (IsAskFault book.now.tables (requests told) piece.now.number
         piece.now.requests.items) }
 {
-    let mut number = piece.number;
-    for request in piece.requests.as_slice() {
-        match refill(rt, book, seat, request) {
-            Ok(()) => {}
-            Err(RefillFault::Memory) => return Err(StartFault::Memory),
-            Err(RefillFault::Refused) => {
-                return Err(StartFault::Journal(JournalFault::Refused(number)));
-            }
-            Err(RefillFault::Shared) => return Err(StartFault::Shared),
-        }
-        number += 1;
-    }
-    Ok(())
+    let Err(stop) = book.refill(rt, alloc, seat, piece.requests.as_slice()) else {
+        return Ok(());
+    };
+    let line = piece.number + stop.at;
+    Err(match stop.fault {
+        RefillFault::Memory => StartFault::Memory,
+        RefillFault::Refused => StartFault::Journal(JournalFault::Refused(line)),
+        RefillFault::Shared => StartFault::Shared,
+    })
 }
 
 /// As [`ask_piece`], while another thread reads the next piece.
-fn ask_and_read<'a, D: Device + Send, L: ShardLedger, M: ShardLedger, R: Threads + Wait>(
+fn ask_and_read<
+    'a,
+    D: Device + Send,
+    L: ShardLedger + Send + Sync,
+    M: ShardLedger + Send + Sync,
+    R: Threads + Wait + Sync,
+>(
     rt: &'a R,
     book: &'a Book<L, M>,
     piece: &'a Piece,
@@ -146,8 +100,19 @@ fn ask_and_read<'a, D: Device + Send, L: ShardLedger, M: ShardLedger, R: Threads
     ensures was_true { D.is_true ahead.new.reader.opening.device
         → D.is_true ahead.old.reader.opening.device }
 {
+    let alloc = ahead.reader.alloc;
     let mut read = || ahead.read();
-    let mut ask = || ask_piece(rt, book, piece, seat);
+    let mut ask = || -> Result<(), StartFault>
+        requires all { HasAll seat.now }
+        requires short { piece.now.number + length piece.now.requests.items ≤ 2 ^ 62 }
+        ensures keep { seat.exit.now.keeps_all ≡ seat.entry.now.keeps_all }
+        ensures all { OnOk result (HasAll seat.exit.now) }
+        ensures filled { OnOk result
+            (IsFilled seat.entry.now piece.entry.now.requests.items seat.exit.now) }
+        ensures fault { (told : List Acceptance) → IsRefilled seat.entry.now told
+            → IfErr result (IsAskFault book.entry.now.tables (requests told)
+            piece.entry.now.number piece.entry.now.requests.items) }
+    { ask_piece(rt, alloc, book, piece, seat) };
     let ((), asked) = join_mut(rt, &mut read, &mut ask);
     asked
 }
@@ -158,7 +123,13 @@ fn ask_and_read<'a, D: Device + Send, L: ShardLedger, M: ShardLedger, R: Threads
 /// # Errors
 ///
 /// As [`ask_piece`].
-fn take_piece<D: Device + Send, L: ShardLedger, M: ShardLedger, J: RecordLog, R: Threads + Wait>(
+fn take_piece<
+    D: Device + Send,
+    L: ShardLedger + Send + Sync,
+    M: ShardLedger + Send + Sync,
+    J: RecordLog,
+    R: Threads + Wait + Sync,
+>(
     rt: &R,
     book: &Book<L, M>,
     seat: &mut Seat<L, M>,
@@ -217,7 +188,13 @@ fn take_piece<D: Device + Send, L: ShardLedger, M: ShardLedger, J: RecordLog, R:
 /// # Errors
 ///
 /// As [`ask_piece`], and then as [`RequestReader::next_request`], where the line behind it gives no request.
-fn take_last<D: Device, L: ShardLedger, M: ShardLedger, J: RecordLog, R: Wait>(
+fn take_last<
+    D: Device,
+    L: ShardLedger + Send + Sync,
+    M: ShardLedger + Send + Sync,
+    J: RecordLog,
+    R: Threads + Wait + Sync,
+>(
     rt: &R,
     book: &Book<L, M>,
     seat: &mut Seat<L, M>,
@@ -244,7 +221,7 @@ fn take_last<D: Device, L: ShardLedger, M: ShardLedger, J: RecordLog, R: Wait>(
     ensures fault { IfErr result (λ fault. D.is_true ahead.now.reader.opening.device
         → IsStartFault book.now.tables (D.seen ahead.now.reader.opening.device) fault) }
 {
-    match ask_piece(rt, book, last, seat) {
+    match ask_piece(rt, ahead.reader.alloc, book, last, seat) {
         Ok(()) => {}
         Err(fault) => return Err(fault),
     }
@@ -261,7 +238,13 @@ fn take_last<D: Device, L: ShardLedger, M: ShardLedger, J: RecordLog, R: Wait>(
 /// # Errors
 ///
 /// As [`take_piece`] and [`take_last`].
-fn read_back<D: Device + Send, L: ShardLedger, M: ShardLedger, J: RecordLog, R: Threads + Wait>(
+fn read_back<
+    D: Device + Send,
+    L: ShardLedger + Send + Sync,
+    M: ShardLedger + Send + Sync,
+    J: RecordLog,
+    R: Threads + Wait + Sync,
+>(
     rt: &R,
     book: &Book<L, M>,
     seat: &mut Seat<L, M>,
@@ -313,7 +296,13 @@ fn read_back<D: Device + Send, L: ShardLedger, M: ShardLedger, J: RecordLog, R: 
 /// the tables don't accept behind those before it, and where more stands behind the lines than a crash leaves: the file is as it
 /// was. `Device` where a call of the device failed, `Memory`; and `Shared` where another seat has asked the book. The device
 /// comes back.
-pub fn resume<D: Device + Send, L: ShardLedger, M: ShardLedger, J: RecordLog, R: Threads + Wait>(
+pub fn resume<
+    D: Device + Send,
+    L: ShardLedger + Send + Sync,
+    M: ShardLedger + Send + Sync,
+    J: RecordLog,
+    R: Threads + Wait + Sync,
+>(
     rt: &R,
     book: &Book<L, M>,
     seat: &mut Seat<L, M>,

@@ -7,7 +7,8 @@ use Rattle.mds_core.specs.declared.request.Request.{Request}
 use Rattle.mds_log.specs.Log.{Acceptance, requests}
 use Rattle.mds_book.specs.Gathering.{Collected}
 use Rattle.mds_book.specs.Seats.{Seated, new_seat}
-use Rattle.mds_follow.specs.Parts.{Covers, part}
+use Rattle.mds_book.specs.Shards.{part}
+use Rattle.mds_follow.specs.Parts.{Covers}
 use Rattle.mds_follow.specs.Record.{IsDesk, IsSound}
 use Rattle.mds_follow.specs.Restart.{IsRefilled}
 use Rattle.mds_pool.specs.declared.recorded_book.RecordedStop.{RecordedStop}

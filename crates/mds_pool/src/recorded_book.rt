@@ -78,18 +78,18 @@ pub enum RecordedStop {
     Journal,
 }
 
-impl<D: Device + Send, L: ShardLedger, M: ShardLedger, J: RecordLog> RecordedBook<
-    Disk<D>,
-    L,
-    M,
-    J,
-> {
+impl<
+    D: Device + Send,
+    L: ShardLedger + Send + Sync,
+    M: ShardLedger + Send + Sync,
+    J: RecordLog,
+> RecordedBook<Disk<D>, L, M, J> {
     /// Opens a book over a journal. Its first seat asks all that the journal tells, and notes it like any other request.
     ///
     /// # Errors
     ///
     /// As [`resume`]; and `Memory` where there is none for the book.
-    pub fn open<R: Threads + Wait>(
+    pub fn open<R: Threads + Wait + Sync>(
         rt: &R,
         alloc: Global,
         opening: NewBook,

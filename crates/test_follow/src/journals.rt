@@ -181,7 +181,13 @@ fn ended_by<D: Device + Drop, L: ShardLedger, M: ShardLedger, J: RecordLog, R: W
 }
 
 /// The same, of a book of two seats that were told nothing: the first asks what the journal tells.
-fn end_at<D: Device + Drop + Send, L: ShardLedger, M: ShardLedger, J: RecordLog, R: Threads + Wait>(
+fn end_at<
+    D: Device + Drop + Send,
+    L: ShardLedger + Send + Sync,
+    M: ShardLedger + Send + Sync,
+    J: RecordLog,
+    R: Threads + Wait + Sync,
+>(
     rt: &R,
     alloc: Global,
     book: Book<L, M>,
@@ -208,7 +214,13 @@ fn end_at<D: Device + Drop + Send, L: ShardLedger, M: ShardLedger, J: RecordLog,
 }
 
 /// The same, of a new book.
-fn end_in<D: Device + Drop + Send, L: ShardLedger, M: ShardLedger, J: RecordLog, R: Threads + Wait>(
+fn end_in<
+    D: Device + Drop + Send,
+    L: ShardLedger + Send + Sync,
+    M: ShardLedger + Send + Sync,
+    J: RecordLog,
+    R: Threads + Wait + Sync,
+>(
     rt: &R,
     alloc: Global,
     tables: Tables,
@@ -239,7 +251,7 @@ fn end_in<D: Device + Drop + Send, L: ShardLedger, M: ShardLedger, J: RecordLog,
 }
 
 /// The bytes of the file in the end, with logs of its own, and why the book wasn't opened, if it wasn't.
-fn ended<R: RandomSource + Threads + Wait>(
+fn ended<R: RandomSource + Threads + Wait + Sync>(
     rt: &R,
     alloc: Global,
     case: &Case,
@@ -263,7 +275,7 @@ fn ended<R: RandomSource + Threads + Wait>(
 }
 
 /// The same, begun again where there was no memory for another call.
-fn ended_again<R: RandomSource + Threads + Wait>(
+fn ended_again<R: RandomSource + Threads + Wait + Sync>(
     rt: &R,
     alloc: Global,
     case: &Case,
@@ -276,7 +288,7 @@ fn ended_again<R: RandomSource + Threads + Wait>(
 }
 
 /// Whether a case comes to its end. Where the book isn't opened the file is as it was. There may be no memory for its text.
-fn comes_to_its_end<R: RandomSource + Threads + Wait>(
+fn comes_to_its_end<R: RandomSource + Threads + Wait + Sync>(
     rt: &R,
     alloc: Global,
     case: &Case,
@@ -289,7 +301,7 @@ fn comes_to_its_end<R: RandomSource + Threads + Wait>(
 }
 
 /// The number of the first case that comes to another end.
-fn first_difference<R: RandomSource + Threads + Wait>(
+fn first_difference<R: RandomSource + Threads + Wait + Sync>(
     rt: &R,
     alloc: Global,
 ) -> Result<Option<usize>, Lack> {

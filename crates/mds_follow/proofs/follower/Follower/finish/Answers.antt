@@ -1,6 +1,6 @@
 use Rattle.mds_log.specs.Log.{requests}
 use Rattle.mds_log.proofs.Lists.{prefix_trans}
-use Rattle.mds_follow.specs.Parts.{part}
+use Rattle.mds_book.specs.Shards.{part}
 use Rattle.mds_follow.proofs.Parts.{recorded_begins}
 use Rattle.mds_follow.proofs.follower.Follower.finish.Goals as goal
 
