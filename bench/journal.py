@@ -29,9 +29,9 @@ SIDES = ((1, 1), (4, 1), (4, 4), (4, 16))
 SYNCS = 400
 FEWEST, MOST = 600, 4000
 """Reports of a run: as many as the disk syncs in a second, within these bounds."""
-PAIRS = 5
-"""For each run, how many pairs there are of runs with looks that nobody writes beside: over a journal and without one a look takes
-the same calls, and runs of it differ by more than what is looked for."""
+RATE_PAIRS, LOOK_PAIRS = 2, 5
+"""For each run, how many pairs there are of runs of two programs, and of runs with looks that nobody writes beside: over a journal
+and without one a look takes the same calls, and runs of it differ by more than what is looked for."""
 LOOKS_BESIDE, REPORTS_BESIDE = 10000, 60000
 """Looks of a run beside reports, and how many reports there are for it, more than are made in that time."""
 RECORDED = 1000000
@@ -81,14 +81,16 @@ def text_of(number):
     return NONE if number is None else f"{number:,.0f}"
 
 
-def ratio_of(number, other):
-    return NONE if None in (number, other) else f"{number / other:.2f}"
+def quartiles_text(ratios):
+    """The median of ratios, and their quartiles, or a dash where there are none."""
+    return "{1:.2f} ({0:.2f} to {2:.2f})".format(*ratios) if ratios else NONE
 
 
-def some_in_turns(runs, measures):
-    """The medians of the first value that each of these measures answers, in turns, and nothing for one that isn't there."""
-    found = iter(in_turns(runs, *[lambda measure=measure: (measure(),) for measure in measures if measure]))
-    return [next(found)[0] if measure else None for measure in measures]
+def in_pairs_of(count, measures):
+    """What `in_pairs` answers of the measures of two programs, or where there is one its medians alone."""
+    if len(measures) == 2:
+        return in_pairs(count, *measures)
+    return *in_turns(count, *measures), None, None
 
 
 def reports_of(count):
@@ -124,29 +126,32 @@ class JournalBench:
             journal = Path(self.folder, f"{number}.journal")
             yield ServeBench(over_journal(program, journal), self.runs, self.folder)
 
-    def rates(self, requests_of, success, workers, clients, redis):
-        """The requests a second of the program and of the plain one, and those of Redis over connections that are new and kept,
-        where it is there."""
+    def rates(self, requests_of, success, workers, clients):
+        """The requests a second of the program and of the plain one, and the quartiles of their ratio, where that one is there."""
         paths, count = files_of(self.folder, requests_of, clients)
-        measures = [lambda bench=bench: bench.once(paths, count, success, workers)[0] for bench in self.benches()]
-        measures += [None] * (2 - len(measures))
-        for kept in (False, True):
-            measures.append(redis and (lambda kept=kept: redis.rate(clients, count, kept)))
-        return some_in_turns(self.runs, measures)
+        measures = [lambda bench=bench: bench.once(paths, count, success, workers)[:1] for bench in self.benches()]
+        own, plain, ratios = in_pairs_of(self.runs * RATE_PAIRS, measures)
+        return own[0], plain and plain[0], ratios, count
+
+    def redis_rates(self, redis, clients, count):
+        """The requests a second of Redis over connections that are new and kept, where it is there."""
+        measures = [lambda kept=kept: (redis.rate(clients, count, kept),) for kept in (False, True)]
+        return [rate for (rate,) in in_turns(self.runs, *measures)] if redis else [None, None]
 
     def beside(self):
         """Prints a table of reports and batches, beside the plain program and Redis."""
         kinds = {"reports": (reports_of(self.reports), 1, True), "batches": (batches, EVENTS, False)}
         print(f"Reports: {self.reports:,} in a run. Batches: {BATCHES} of {EVENTS} events. Of Redis: SETs of {BYTES} bytes.\n")
-        heads = "requests a second | of the plain program | ratio | aim | of Redis, a connection each | connections kept"
+        ratio = "ratio of pairs, its median and quartiles"
+        heads = f"requests a second | of the plain program | {ratio} | aim | of Redis, a connection each | connections kept"
         with tempfile.TemporaryDirectory(dir=self.folder) as folder, redis_in(folder) as redis:
             print(f"| what is asked | workers | clients | {heads} |")
             print("|---|---:|---:|---:|---:|---:|---:|---:|---:|")
             for name, (requests_of, success, is_like_set) in kinds.items():
                 for workers, clients in SIDES:
-                    like = redis if is_like_set else None
-                    own, plain, *others = self.rates(requests_of, success, workers, clients, like)
-                    rates = f"{text_of(own)} | {text_of(plain)} | {ratio_of(own, plain)} | {AIMS[name]:.2f}"
+                    own, plain, ratios, count = self.rates(requests_of, success, workers, clients)
+                    others = self.redis_rates(redis if is_like_set else None, clients, count)
+                    rates = f"{text_of(own)} | {text_of(plain)} | {quartiles_text(ratios)} | {AIMS[name]:.2f}"
                     print(f"| {name} | {workers} | {clients} | {rates} | {' | '.join(map(text_of, others))} |", flush=True)
 
     def sides(self):
@@ -163,9 +168,9 @@ class JournalBench:
             for workers, clients in SIDES:
                 paths, count = files_of(self.folder, looks, clients)
                 measures = [lambda bench=bench: bench.once(paths, count, 0, workers)[:1] for bench in benches]
-                (rate,), (other,), (low, ratio, high) = in_pairs(self.runs * (PAIRS if is_aimed else 1), *measures)
+                (rate,), (other,), ratios = in_pairs(self.runs * (LOOK_PAIRS if is_aimed else 1), *measures)
                 aim = f"{AIMS['looks']:.2f}" if is_aimed else NONE
-                cells = f"{rate:,.0f} | {other:,.0f} | {ratio:.2f} ({low:.2f} to {high:.2f}) | {aim}"
+                cells = f"{rate:,.0f} | {other:,.0f} | {quartiles_text(ratios)} | {aim}"
                 print(f"| looks{owner} | {workers} | {clients} | {cells} |", flush=True)
 
     def looks_beside(self):
@@ -189,15 +194,16 @@ class JournalBench:
         journal = recorded(Path(self.folder, "recorded.journal"))
         size = journal.stat().st_size / 1e6
         print(f"\nA journal of {VEHICLES:,} registrations and {RECORDED:,} events: {size:,.0f} MB.\n")
-        heads = "s | of the plain program | ratio | aim at most | most memory, MB | aim at most | of the plain program"
+        ratio = "ratio of pairs, its median and quartiles"
+        heads = f"s | of the plain program | {ratio} | aim at most | most memory, MB | aim at most | of the plain program"
         print(f"| what is run | {heads} |")
         print("|---|---:|---:|---:|---:|---:|---:|---:|")
         for name, measured, most in (("`serve`, until it listens", started, NONE), ("`vehicles`", listed, AIM_OF_MEMORY)):
             measures = [lambda program=program: measured(program, journal) for program in self.programs]
-            (seconds, memory), *other = in_turns(self.runs, *measures)
-            plain_seconds, plain_memory = other[0] if other else (None, None)
+            (seconds, memory), other, ratios = in_pairs_of(self.runs, measures)
+            plain_seconds, plain_memory = other or (None, None)
             plain = NONE if plain_seconds is None else f"{plain_seconds:.2f}"
-            times = f"{seconds:.2f} | {plain} | {ratio_of(seconds, plain_seconds)} | {AIM_OF_TIME:.2f}"
+            times = f"{seconds:.2f} | {plain} | {quartiles_text(ratios)} | {AIM_OF_TIME:.2f}"
             print(f"| {name} | {times} | {memory:,.0f} | {most} | {text_of(plain_memory)} |", flush=True)
 
 
@@ -251,6 +257,7 @@ def measure_journal(program, peer, runs, where):
     """Prints what a journal costs, with all files below a folder."""
     where = Path(where or FOLDER)
     where.mkdir(parents=True, exist_ok=True)
+    os.sync()  # what other work left to be written isn't written meanwhile
     with tempfile.TemporaryDirectory(dir=where) as folder:
         kind, device = file_system_of(folder)
         syncs = syncs_a_second(folder)
