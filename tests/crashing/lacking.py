@@ -1,4 +1,4 @@
-"""Disks without room, limits of a file's size, calls on the file and ports that fail, and starts without memory."""
+"""Disks without room, limits of a file's size, calls on the file and ports that fail, and starts without memory or threads."""
 
 import contextlib
 import os
@@ -454,6 +454,24 @@ def starts_without_memory(program):
         yield from starts_over_without(program, content)
 
 
+def starts_without_threads(program):
+    """Starts over a journal of several pieces where the system makes no thread, or no more than two: the first one does the work of
+    those that are wanting."""
+    devices = [device_at(number) for number in range(SEVERAL_READS)]
+    for most in (0, 2):
+        with tempfile.TemporaryDirectory() as folder, Counting(threads=most) as counting:
+            path = Path(folder, "journal")
+            path.write_text(journal(*map(registered, devices)))
+            with Server(program, 2, workers=1, journal=path, env=counting.env) as server:
+                for device in (devices[0], devices[-1]):
+                    wanted = answer(200, standing(device, 0))
+                    yield from answered(server, looking(device), wanted, f"by {most} threads more, a look at {device}")
+                server.count(2, SEVERAL_READS)
+                yield from server.end()
+            if counting.counts().threads <= most:
+                yield f"{counting.counts().threads} threads were asked for, and more than {most} were to be"
+
+
 LACKING = [
     room_that_a_call_misses,
     a_full_disk,
@@ -467,4 +485,5 @@ LACKING = [
     a_write_that_fails_once,
     starts_that_fail,
     starts_without_memory,
+    starts_without_threads,
 ]

@@ -115,6 +115,7 @@ WITHIN = {
     "mds_face::KeptDesk::keep": "mds_face::serve_kept",
     "mds_http::Head::plan": "mds_face::serve_whole",
     "mds_http::answer_bytes": "mds_http::bytes_of",
+    "mds_book::Book::refill": "mds_follow::resume",
     "mds_follow::Record::append": "mds_follow::SharedFollower::commit",
     "mds_follow::Follower::follow_all": "mds_pool::RecordedBook::serve",
     "mds_pool::Recorder::commit": "mds_pool::RecordedBook::serve",
