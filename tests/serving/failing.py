@@ -182,8 +182,8 @@ def end_amid_a_request(program, journal):
 
 def most_workers_over_a_journal(program):
     """As many workers as there may be over a journal: each answers, and a journal tells what they accepted. Each but one is a thread
-    of its own. At the start so is who reads the journal ahead; and of either piece, the one before it too, who asks one of the
-    shards, and who makes the memory ready."""
+    of its own. At the start so is who reads the one piece of the journal. For that piece, and for the empty one before it, so is who
+    asks one of the shards, and who makes the memory ready."""
     with tempfile.TemporaryDirectory() as folder, Counting() as counting:
         with Server(program, 1, workers=64, journal=Path(folder, "journal"), env=counting.env) as server:
             yield from talk_over(server, registered(A))
