@@ -1,6 +1,7 @@
 """Each place that makes a want of memory of a call's refusal, by its file and function: the calls, in their order.
 
-A place that makes one want of another, or of the error of a growth, has no line: its own text says so."""
+A place that makes one want of another, or of the error of a growth, has no line: its own text says so. Where numbers come to
+their end, the condition stands in place of a call."""
 
 PASSED_ON = {
     "mds_book/book.rt": {"open_slot": ["Slot::open"]},
@@ -38,6 +39,15 @@ PASSED_ON = {
     "mds_pool/recorded_book.rt": {"RecordedBook::serve": ["Face::open", "serve_round"]},
     "mds_pool/serving.rt": {"serve_and_settle": ["Face::open", "serve_round"]},
     "mds_http/request/face.rt": {"add_route": ["router.insert"]},
+    "mds_known/known_vehicles.rt": {
+        "KnownVehicles::add_event": ["self.names.insert"],
+        "KnownVehicles::put": [
+            "if self.vehicles.len() > MAX_PLACE && !self.vehicles.contains_key(key)",
+            "self.vehicles.insert_full",
+        ],
+    },
+    "mds_past/past.rt": {"Past::reserve": ["if last >= limit || self.names.len() + MAX_EVENT_TYPES > limit"]},
+    "mds_past/pieces.rt": {"Pieces::reserve": ["if self.len == usize::MAX"]},
     "mds_shard/shard.rt": {"Shard::accept": ["make_room"]},
     "mds_shard/vehicle.rt": {"keep_name": ["names.insert_full"], "put": ["vehicles.insert"], "keep": ["keep_name"]},
     "mds_socket/socket.rt": {"SocketPort::bind": ["Face::open"]},

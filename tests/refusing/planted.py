@@ -30,6 +30,16 @@ PLANTED = [
         "let (Ok((_, is_new)), 0..=999) = (names.insert_full(name), names.len())",
     ),
     (
+        "mds_known/known_vehicles.rt",
+        "let Ok(is_new) = self.names.insert(name)",
+        "let (Ok(is_new), 0..=999) = (self.names.insert(name), self.names.len())",
+    ),
+    (
+        "mds_past/past.rt",
+        "if last >= limit ||",
+        "if last >= limit.min(65_536) ||",
+    ),
+    (
         "mds_http/response/body.rt",
         "Some(list) => list_body",
         "Some(list) if list.len() > 65_535 => Err(AllocError), Some(list) => list_body",

@@ -17,6 +17,7 @@ TESTED = {
     ("mds_steps", "test_rules", "least_chain_succeeds_after_a_refused_growth"): ["least_chain"],
     ("mds_core", "test_rules", "fleet_calls_succeed_after_a_refused_growth"): ["Fleet::step", "Fleet::events", "run"],
     ("mds_core", "test_rules", "a_list_of_events_grows_after_a_refused_growth"): ["EventList::with_room", "EventList::push"],
+    ("mds_past", "test_shards", "a_packed_past_takes_events_after_a_refused_growth"): ["Past::reserve"],
     ("mds_shard", "test_shards", "step_succeeds_after_a_refused_growth"): ["Shard::step", "Shard::events"],
     ("mds_commands", "test_replays", "a_roster_takes_after_a_refused_growth"): ["Roster::take"],
     ("mds_book", "test_books", "calls_succeed_after_a_refused_growth"): [
@@ -112,6 +113,11 @@ WITHOUT = ["mds_table::Tables::new", "mds_io::flush_page"]
 
 WITHIN = {
     "mds_core::EventList::reserve": "mds_trace::print_start",
+    "mds_core::EventList::push_ref": "mds_core::EventList::push",
+    "mds_past::Pieces::reserve": "mds_past::Past::reserve",
+    "mds_known::KnownVehicles::reserve_event": "mds_commands::Roster::take",
+    "mds_known::KnownVehicles::add_event": "mds_commands::Roster::take",
+    "mds_known::KnownVehicles::put": "mds_commands::Roster::take",
     "mds_face::KeptDesk::keep": "mds_face::serve_kept",
     "mds_http::Head::plan": "mds_face::serve_whole",
     "mds_http::answer_bytes": "mds_http::bytes_of",

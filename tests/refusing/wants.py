@@ -31,7 +31,9 @@ def made_up_in(file, text):
     for function, it in wants_in(file, text):
         line = text.count("\n", 0, it.place) + 1
         where, calls = f"{file}, line {line}: {function} makes a want of memory", left.get(function, [])
-        if it.bare:
+        if it.bare in calls:
+            calls.remove(it.bare)
+        elif it.bare:
             yield f"{where} at `{it.bare}`, where no growth's refusal is at hand"
         elif it.call in calls:
             calls.remove(it.call)

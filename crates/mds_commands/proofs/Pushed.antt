@@ -5,9 +5,8 @@ use Rattle.std.specs.List.{list_any}
 use Rattle.std.specs.Map.{keys_of, lookup}
 use Rattle.std.proofs.lemmas.List.{append-nil, map-append, length-map}
 use Rattle.std.proofs.lemmas.List.Elements.{filter_map-append}
-use Rattle.indexmap.specs.IndexMap.{get, keys, insert_entry}
+use Rattle.indexmap.specs.IndexMap.{insert_entry}
 use Rattle.indexmap.specs.IndexSet.{insert_all}
-use Rattle.indexmap.proofs.CallerLemmas.{insert_entry-new, keys-insert_entry-present}
 use Rattle.mds_table.specs.Tables.{Tables}
 use Rattle.mds_core.specs.declared.key.Key.{Key}
 use Rattle.mds_core.specs.declared.event_name.EventName.{EventName}
@@ -22,6 +21,8 @@ use Rattle.mds_core.specs.Known.{standing_if}
 use Rattle.mds_core.proofs.Standings.{standing_if-push}
 use Rattle.mds_core.proofs.Outcomes.{outcome_one}
 use Rattle.mds_core.proofs.Histories.{same_key_is, requests_of-push_same, requests_of-push_other, lawful_next}
+use Rattle.mds_known.specs.Kept.{value_of}
+use Rattle.mds_known.proofs.Places.{put_new, keys_known}
 use Rattle.mds_commands.specs.declared.roster.Roster.{Roster}
 use Rattle.mds_commands.specs.Roster.{Standings, registration_of, registered_in, standings_in, name_of, names_in, IsRosterOf, PutsStanding}
 use Rattle.mds_commands.proofs.NameLemmas.{named}
@@ -33,12 +34,12 @@ standing_there (request ∷ rest) some = refl
 
 -- where every vehicle stands, with one more request
 standings_push : (history : List Request) (request : Request) (old new : Standings) (standing : Standing)
-    → ((key : Key) → get same_key old key ≡ standing_if (requests_of history key))
+    → ((key : Key) → value_of old key ≡ standing_if (requests_of history key))
     → standing ≡ standing_of (requests_of history (key_of request) ++ request ∷ [])
     → PutsStanding (key_of request) standing old new
-    → (key : Key) → get same_key new key ≡ standing_if (requests_of (history ++ request ∷ []) key)
+    → (key : Key) → value_of new key ≡ standing_if (requests_of (history ++ request ∷ []) key)
 standings_push history request old new standing each stands puts key = puts.found key ∙ by_key (same_key (key_of request) key) refl where
-  by_key : (b : Bool) → same_key (key_of request) key ≡ b → cond b (Some standing) (get same_key old key) ≡ standing_if (requests_of (history ++ request ∷ []) key)
+  by_key : (b : Bool) → same_key (key_of request) key ≡ b → cond b (Some standing) (value_of old key) ≡ standing_if (requests_of (history ++ request ∷ []) key)
   by_key false other = each key ∙ ap standing_if (sym (requests_of-push_other history request key other))
   by_key true same =
       let own : requests_of history (key_of request) ≡ requests_of history key = ap (requests_of history) (same_key_is (key_of request) key same) in
@@ -47,18 +48,18 @@ standings_push history request old new standing each stands puts key = puts.foun
 
 -- the order of the vehicles, with one more request
 order_push : (tables : Tables) (history : List Request) (request : Request) (old new : Standings) (standing : Standing) → MayBeDone tables history request
-    → ((key : Key) → get same_key old key ≡ standing_if (requests_of history key)) → keys old ≡ registered_in history
-    → PutsStanding (key_of request) standing old new → keys new ≡ registered_in (history ++ request ∷ [])
+    → ((key : Key) → value_of old key ≡ standing_if (requests_of history key)) → keys_of old ≡ registered_in history
+    → PutsStanding (key_of request) standing old new → keys_of new ≡ registered_in (history ++ request ∷ [])
 order_push tables history request old new standing may each order puts =
     ap keys_of puts.entries ∙ by_request request may ∙ sym (filter_map-append registration_of history (request ∷ [])) where
-      by_request : (request : Request) → MayBeDone tables history request → keys_of (insert_entry same_key old.entries (key_of request) standing) ≡ registered_in history ++ registered_in (request ∷ [])
+      by_request : (request : Request) → MayBeDone tables history request → keys_of (insert_entry same_key old (key_of request) standing) ≡ registered_in history ++ registered_in (request ∷ [])
       by_request (Register key) may =
-          let absent : get same_key old key ≡ None = each key ∙ ap standing_if may in
-          ap keys_of (insert_entry-new same_key old key standing absent) ∙ map-append (λ e. e.0) old.entries ((key, standing) ∷ []) ∙ ap (λ all. all ++ key ∷ []) order
+          let absent : value_of old key ≡ None = each key ∙ ap standing_if may in
+          ap keys_of (put_new old key standing absent) ∙ map-append (λ e. e.0) old ((key, standing) ∷ []) ∙ ap (λ all. all ++ key ∷ []) order
       by_request (Report event) may =
-          let there : get same_key old event.key ≡ Some (standing_of (requests_of history event.key)) =
+          let there : value_of old event.key ≡ Some (standing_of (requests_of history event.key)) =
           each event.key ∙ standing_there (requests_of history event.key) may.0.registered in
-          keys-insert_entry-present same_key old event.key standing (rw there refl) ∙ order ∙ sym (append-nil (registered_in history))
+          keys_known old event.key standing (rw there refl) ∙ order ∙ sym (append-nil (registered_in history))
       by_request (Look key) may = absurd may
 
 -- the names of the events, with one more request
@@ -78,20 +79,20 @@ names_push tables history request names may are = by_request request may ∙ ap 
 -- a roster goes on with a request that is accepted
 pub roster_push : (tables : Tables) (history : List Request) (request : Request) (old new : Roster) (standing : Standing) → IsRosterOf tables history old
     → MayBeDone tables history request → standing ≡ standing_of (requests_of history (key_of request) ++ request ∷ [])
-    → PutsStanding (key_of request) standing old.vehicles new.vehicles
-    → new.names.keys ≡ insert_all same_event old.names.keys (names_in (request ∷ []))
+    → PutsStanding (key_of request) standing old.known.entries new.known.entries
+    → new.known.names ≡ insert_all same_event old.known.names (names_in (request ∷ []))
     → new.tables ≡ old.tables → IsRosterOf tables (history ++ request ∷ []) new
 roster_push tables history request old new standing is may stands puts names same = record {
   over = same ∙ is.over;
   lawful = lawful_next tables history request Done is.lawful may;
-  standings = standings_push history request old.vehicles new.vehicles standing is.standings stands puts;
-  order = order_push tables history request old.vehicles new.vehicles standing may is.standings is.order puts;
-  named = names ∙ names_push tables history request old.names.keys may is.named;
+  standings = standings_push history request old.known.entries new.known.entries standing is.standings stands puts;
+  order = order_push tables history request old.known.entries new.known.entries standing may is.standings is.order puts;
+  named = names ∙ names_push tables history request old.known.names may is.named;
 }
 
 -- a roster of which the entries and names are those of another is of the same history
 pub roster_same : (tables : Tables) (history : List Request) (old new : Roster) → IsRosterOf tables history old → new.tables ≡ old.tables
-    → new.vehicles.entries ≡ old.vehicles.entries → new.names.keys ≡ old.names.keys → IsRosterOf tables history new
+    → new.known.entries ≡ old.known.entries → new.known.names ≡ old.known.names → IsRosterOf tables history new
 roster_same tables history old new is same entries names = record {
   over = same ∙ is.over;
   lawful = is.lawful;
@@ -120,7 +121,7 @@ own_few (Report event ∷ rest) key = by_key (same_key event.key key) (own_few r
   by_key false few = omega (arith, few)
 
 -- there are as many names as events
-pub names_count : (tables : Tables) (history : List Request) (roster : Roster) → IsRosterOf tables history roster → length roster.names.keys ≡ length (reports history)
+pub names_count : (tables : Tables) (history : List Request) (roster : Roster) → IsRosterOf tables history roster → length roster.known.names ≡ length (reports history)
 names_count tables history roster is = ap length is.named ∙ length-map (reports history) name_of
 
 -- what stands at a place of a list that was made of another
@@ -136,21 +137,21 @@ stands_so (request ∷ rest) standing is = cc
 
 -- what a roster has at a place
 pub vehicle_at : (tables : Tables) (history : List Request) (roster : Roster) (place : ℕ) (key : Key) (standing : Standing) → IsRosterOf tables history roster
-    → slice_get roster.vehicles.entries place ≡ Some (key, standing) → get same_key roster.vehicles key ≡ Some standing
+    → slice_get roster.known.entries place ≡ Some (key, standing) → value_of roster.known.entries key ≡ Some standing
     → slice_get (standings_in history) place ≡ Some (key, standing)
 vehicle_at tables history roster place key standing is at found =
     let there : slice_get (registered_in history) place ≡ Some key =
-    ap (λ all. slice_get all place) (sym is.order) ∙ slice_get-map (λ e. e.0) roster.vehicles.entries place ∙ ap (option_map (λ e. e.0)) at in
+    ap (λ all. slice_get all place) (sym is.order) ∙ slice_get-map (λ e. e.0) roster.known.entries place ∙ ap (option_map (λ e. e.0)) at in
     let stands = stands_so (requests_of history key) standing (sym (is.standings key) ∙ found) in
     slice_get-map (λ k. (k, standing_of (requests_of history k))) (registered_in history) place
     ∙ ap (option_map (λ k. (k, standing_of (requests_of history k)))) there ∙ ap (λ s. Some (key, s)) stands
 
 -- and where it has nothing
 pub no_vehicle_at : (tables : Tables) (history : List Request) (roster : Roster) (place : ℕ) → IsRosterOf tables history roster
-    → slice_get roster.vehicles.entries place ≡ None → slice_get (standings_in history) place ≡ None
+    → slice_get roster.known.entries place ≡ None → slice_get (standings_in history) place ≡ None
 no_vehicle_at tables history roster place is at =
     let none : slice_get (registered_in history) place ≡ None =
-    ap (λ all. slice_get all place) (sym is.order) ∙ slice_get-map (λ e. e.0) roster.vehicles.entries place ∙ ap (option_map (λ e. e.0)) at in
+    ap (λ all. slice_get all place) (sym is.order) ∙ slice_get-map (λ e. e.0) roster.known.entries place ∙ ap (option_map (λ e. e.0)) at in
     slice_get-map (λ k. (k, standing_of (requests_of history k))) (registered_in history) place
     ∙ ap (option_map (λ k. (k, standing_of (requests_of history k)))) none
 

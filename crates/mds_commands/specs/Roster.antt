@@ -1,8 +1,8 @@
 -- Of which history a roster tells.
-use Rattle.std.specs.Prelude.{◌≡◌, List, [], ◌∷◌, ◌++◌, map, cond, Option, Some, None}
+use Rattle.std.specs.Prelude.{◌≡◌, List, [], ◌∷◌, ◌++◌, map, Option, Some, None}
 use Rattle.std.specs.List.{filter_map}
-use Rattle.std.specs.declared.hash.RandomState.{RandomState}
-use Rattle.indexmap.specs.IndexMap.{IndexMap, get, keys, insert_entry}
+use Rattle.std.specs.Map.{keys_of}
+use Rattle.indexmap.specs.IndexMap.{insert_entry}
 use Rattle.mds_table.specs.Tables.{Tables}
 use Rattle.mds_core.specs.declared.key.Key.{Key}
 use Rattle.mds_core.specs.declared.event_name.EventName.{EventName}
@@ -14,11 +14,12 @@ use Rattle.mds_core.specs.History.{same_key, requests_of, reports, standing_of}
 use Rattle.mds_core.specs.Known.{standing_if}
 use Rattle.mds_core.specs.Lawful.{IsLawful}
 use Rattle.mds_core.specs.Answer.{MayBeDone}
+use Rattle.mds_known.specs.Kept.{value_of, PutsValue}
 use Rattle.mds_commands.specs.declared.roster.Roster.{Roster}
 
 -- where the vehicles stand
 abbrev pub Standings : Type 0
-Standings = IndexMap Key Standing RandomState
+Standings = List (Key × Standing)
 
 -- the vehicle that a request registers, if it registers one
 abbrev pub registration_of : Request → Option Key
@@ -49,9 +50,9 @@ pub record IsRosterOf (tables : Tables) (history : List Request) (roster : Roste
   pub over : roster.tables ≡ tables
   pub lawful : IsLawful tables history
   pub standings : (key : Key)
-      → get same_key roster.vehicles key ≡ standing_if (requests_of history key)
-  pub order : keys roster.vehicles ≡ registered_in history
-  pub named : roster.names.keys ≡ names_in history
+      → value_of roster.known.entries key ≡ standing_if (requests_of history key)
+  pub order : keys_of roster.known.entries ≡ registered_in history
+  pub named : roster.known.names ≡ names_in history
 
 -- whichever history the roster was of, the request is accepted after it, and the roster now is of
 -- both
@@ -75,6 +76,5 @@ LacksRoom request old new =
 
 -- the vehicle stands so now, in its place or behind all others, and every other as before
 pub record PutsStanding (key : Key) (standing : Standing) (old new : Standings) : Type 0 where
-  pub found : (other : Key)
-      → get same_key new other ≡ cond (same_key key other) (Some standing) (get same_key old other)
-  pub entries : new.entries ≡ insert_entry same_key old.entries key standing
+  pub found : PutsValue key standing old new
+  pub entries : new ≡ insert_entry same_key old key standing

@@ -3,16 +3,16 @@
 //! A [`Roster`] accepts what the machine of `mds_core` answers by [`mds_core::Outcome::Done`]. Of what it accepted it keeps
 //! where each vehicle stands and the names of the events; so its memory goes by these, and not by the bytes of a file.
 ghost use Rattle.std.specs.Prelude.{◌≡◌, ◌<◌, ◌^◌, ◌∷◌, [], List, length, slice_get, IfOk, OnOk, OnErr, MatchBool};
-ghost use Rattle.indexmap.specs.IndexMap.{IsUnchanged};
-ghost use Rattle.indexmap.specs.IndexSet.{insert_all, IsUnchanged as HasSame};
+ghost use Rattle.indexmap.specs.IndexSet.{insert_all};
 ghost use Rattle.mds_table.specs.Tables.{Tables as TableList};
 ghost use Rattle.mds_core.specs.declared.request.Request.{Request as Requested};
 ghost use Rattle.mds_core.specs.History.{key_of, same_event, requests_of, reports};
 ghost use Rattle.mds_core.specs.Known.{AreKnown};
+ghost use Rattle.mds_known.specs.Kept.{AreSame};
 ghost use Rattle.mds_commands.specs.Roster.{IsRosterOf, Accepts, Refuses, LacksRoom, PutsStanding, names_in, registered_in, standings_in};
 
-use indexmap::{IndexMap, IndexSet};
-use mds_core::{EventName, Key, Known, Outcome, Request, Standing, decide, standing_after};
+use mds_core::{Key, Known, Outcome, Request, Standing, decide, standing_after};
+use mds_known::KnownVehicles;
 use mds_table::Tables;
 use std::alloc::{AllocError, Global};
 use std::hash::RandomState;
@@ -22,8 +22,7 @@ use std::hash::RandomState;
 #[derive(Debug)]
 pub struct Roster {
     tables: Tables,
-    vehicles: IndexMap<Key, Standing, RandomState>,
-    names: IndexSet<EventName, RandomState>,
+    known: KnownVehicles<Standing, RandomState>,
 }
 
 // By hand: crates above cite it.
@@ -31,8 +30,7 @@ impl Drop for Roster {
     fn drop(self) {
         let Roster {
             tables: _,
-            vehicles: _,
-            names: _,
+            known: _,
         } = self;
     }
 }
@@ -45,8 +43,7 @@ impl Roster {
     {
         Roster {
             tables,
-            vehicles: IndexMap::with_hasher(alloc, hasher),
-            names: IndexSet::with_hasher(alloc, hasher),
+            known: KnownVehicles::with_hasher(alloc, hasher),
         }
     }
 
@@ -60,35 +57,42 @@ impl Roster {
             (Accepts request.now self.old self.new) (Refuses request.now self.old self.new)) }
         ensures memory { OnErr result (LacksRoom request.now self.old self.new) }
     {
-        let known = self.known_of(request);
+        let (place, known) = self.known_of(request);
         match decide(&self.tables, &known, request) {
             Outcome::Done => {
                 // Each accepted event has a name, so no vehicle has more events than there is room for names.
-                let events = self.names.len();
+                let events = self.known.events();
                 prove!(events < usize::MAX);
                 let standing = standing_after(known.standing, request);
-                keep(&mut self.vehicles, &mut self.names, request, standing)?;
+                keep(&mut self.known, place, request, standing)?;
                 Ok(true)
             }
             Outcome::Seen(_) | Outcome::Refused(_) => Ok(false),
         }
     }
 
-    fn known_of(&self, request: &Request) -> Known
+    /// What is known of the request's vehicle, and the vehicle's place, where it can be written without another look-up.
+    fn known_of(&self, request: &Request) -> (Option<usize>, Known)
         ensures { (tables : TableList) (history : List Requested)
             → IsRosterOf tables history self.now
-            → AreKnown (requests_of history (key_of request.now)) request.now result }
+            → AreKnown (requests_of history (key_of request.now)) request.now result.1 }
     {
-        Known {
-            standing: self.vehicles.get(request.key()).copied(),
-            has_event: match request.event() {
-                Some(event) => self.names.contains(&EventName {
-                    key: *request.key(),
-                    id: event.id(),
-                }),
-                None => false,
-            },
-        }
+        let Some((place, standing)) = self.known.find(request.key()) else {
+            let nothing = Known {
+                standing: None,
+                has_event: false,
+            };
+            return (None, nothing);
+        };
+        let has_event = match request.event() {
+            Some(event) => self.known.has_event(place, event.id()),
+            None => false,
+        };
+        let known = Known {
+            standing: Some(*standing),
+            has_event,
+        };
+        (Some(place), known)
     }
 
     /// The vehicle that was registered at this place of all, from 0, and where it stands.
@@ -96,7 +100,7 @@ impl Roster {
         ensures { (tables : TableList) (history : List Requested)
             → IsRosterOf tables history self.now → result ≡ slice_get (standings_in history) place }
     {
-        match self.vehicles.get_index(place) {
+        match self.known.get_index(place) {
             Some((key, standing)) => Some((*key, *standing)),
             None => None,
         }
@@ -108,7 +112,7 @@ impl Roster {
             → IsRosterOf tables history self.now → result ≡ length (registered_in history) }
         ensures small { result < 2 ^ 63 }
     {
-        self.vehicles.len()
+        self.known.len()
     }
 
     /// How many events were accepted.
@@ -117,32 +121,27 @@ impl Roster {
             → IsRosterOf tables history self.now → result ≡ length (reports history) }
         ensures small { result < 2 ^ 63 }
     {
-        self.names.len()
+        self.known.events()
     }
 }
 
 fn keep(
-    vehicles: &mut IndexMap<Key, Standing, RandomState>,
-    names: &mut IndexSet<EventName, RandomState>,
+    known: &mut KnownVehicles<Standing, RandomState>,
+    place: Option<usize>,
     request: &Request,
     standing: Standing,
 ) -> Result<(), AllocError>
     ensures vehicles { OnOk result
-        (PutsStanding (key_of request.now) standing vehicles.old vehicles.new) }
+        (PutsStanding (key_of request.now) standing known.old.entries known.new.entries) }
     ensures names { OnOk result
-        (names.new.keys ≡ insert_all same_event names.old.keys (names_in (request.now ∷ []))) }
-    ensures no_vehicle { OnErr result (IsUnchanged vehicles.old vehicles.new) }
-    ensures no_name { OnErr result (HasSame names.old names.new) }
+        (known.new.names ≡ insert_all same_event known.old.names (names_in (request.now ∷ []))) }
+    ensures unchanged { OnErr result (AreSame known.old known.new) }
 {
     // With room for the name first, nothing is kept of a request for which there is no memory.
-    names.reserve(1)?;
-    vehicles.insert(*request.key(), standing)?;
+    known.reserve_event()?;
+    let place = known.put(place, request.key(), standing)?;
     if let Some(event) = request.event() {
-        let name = EventName {
-            key: *request.key(),
-            id: event.id(),
-        };
-        names.insert(name)?;
+        known.add_event(place, event.id())?;
     }
     Ok(())
 }

@@ -5,7 +5,7 @@ ghost use Rattle.mds_core.specs.Reported.{max_event_types, MayBeReported};
 ghost use Rattle.mds_core.specs.EventFault.{FaultOf, event_fault_text};
 
 use crate::event_types::EventTypes;
-use crate::{Key, Position};
+use crate::{EventRef, Key, Position};
 use mds_table::{MAX_TIME, State, TypeName};
 use std::error::Error;
 use std::fmt;
@@ -164,6 +164,20 @@ impl Event {
         self.time = time;
         self.position = position;
         Ok(())
+    }
+
+    /// The event, by what it has.
+    pub fn by_ref(&self) -> EventRef<'_>
+        ensures { result ≡ self.now }
+    {
+        EventRef::new(
+            &self.key,
+            self.id,
+            self.state,
+            self.types.as_slice(),
+            self.time,
+            self.position,
+        )
     }
 
     /// Becomes the other event, and writes as little as [`Event::assign`].

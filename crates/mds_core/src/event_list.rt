@@ -4,7 +4,7 @@ ghost use Rattle.mds_table.specs.Json.{max_time};
 ghost use Rattle.mds_core.specs.Reported.{max_event_types, MayBeReported};
 ghost use Rattle.mds_core.specs.EventList.{types_kept, event_of};
 
-use crate::{Event, Key, MAX_EVENT_TYPES, Position};
+use crate::{Event, EventRef, Key, MAX_EVENT_TYPES, Position};
 use mds_table::{State, TypeName};
 use std::alloc::{AllocError, Global};
 use std::marker::Model;
@@ -24,7 +24,7 @@ struct KeptEvent {
 }
 
 impl KeptEvent {
-    fn of(event: &Event, first: usize) -> KeptEvent
+    fn of(event: &EventRef<'_>, first: usize) -> KeptEvent
         ensures event { event_of result event.now.types ≡ event.now }
         ensures first { result.first ≡ first }
         ensures count { result.count ≡ length event.now.types }
@@ -158,6 +158,22 @@ impl EventList {
         ensures unchanged { OnErr result (self.new ≡ self.old) }
         ensures full { OnErr result (self.old.room ≡ 0) }
     {
+        self.push_ref(&event.by_ref())
+    }
+
+    /// As [`EventList::push`], of an event that is told by what it has.
+    ///
+    /// # Errors
+    ///
+    /// Those of [`EventList::push`]; the list is as it was then.
+    pub fn push_ref(&mut self, event: &EventRef<'_>) -> Result<(), AllocError>
+        ensures pushed { OnOk result (self.new ≡ record {
+          events = self.old.events ++ event.now ∷ [];
+          room = self.old.room - 1;
+        }) }
+        ensures unchanged { OnErr result (self.new ≡ self.old) }
+        ensures full { OnErr result (self.old.room ≡ 0) }
+    {
         self.kept.reserve(1)?;
         let kept = KeptEvent::of(event, self.names.len());
         self.names.extend_from_slice(event.types())?;
@@ -196,110 +212,15 @@ impl EventList {
         ensures { result ≡ slice_get self.now.events at }
     {
         match self.kept.get(at) {
-            Some(kept) => Some(EventRef {
-                kept,
-                types: kept.types(&self.names),
-            }),
+            Some(kept) => Some(EventRef::new(
+                &kept.key,
+                kept.id,
+                kept.state,
+                kept.types(&self.names),
+                kept.time,
+                kept.position,
+            )),
             None => None,
         }
-    }
-}
-
-/// An event of a list.
-#[derive(Debug, Drop)]
-pub struct EventRef<'a> {
-    kept: &'a KeptEvent,
-    types: &'a [TypeName],
-}
-
-impl<'a> Model for EventRef<'a> {
-    ghost use Rattle.mds_core.specs.Reported.{Reported, MayBeReported};
-    ghost use Rattle.mds_core.specs.EventList.{event_of};
-
-    ghost Value = { Reported };
-
-    ghost view = { λ event. event_of event.kept.now event.types.now };
-
-    ghost invariant = { λ event. MayBeReported event.types.now event.kept.now.time };
-}
-
-impl<'a> EventRef<'a> {
-    /// The vehicle.
-    pub fn key(&self) -> &Key
-        ensures { result.now ≡ self.now.key }
-    {
-        &self.kept.key
-    }
-
-    /// The identifier of the event.
-    pub fn id(&self) -> Uuid
-        ensures { result ≡ self.now.id }
-    {
-        self.kept.id
-    }
-
-    /// The state that the event leads to, as reported.
-    pub fn state(&self) -> State
-        ensures { result ≡ self.now.state }
-    {
-        self.kept.state
-    }
-
-    /// The types of the event, 1 to [`MAX_EVENT_TYPES`], in their order.
-    pub fn types(&self) -> &'a [TypeName]
-        ensures types { result.now ≡ self.now.types }
-        ensures some { 1 ≤ length result.now }
-        ensures few { length result.now ≤ max_event_types }
-    {
-        self.types
-    }
-
-    /// The time of the event, in milliseconds since the Unix epoch, at most [`MAX_TIME`](mds_table::MAX_TIME).
-    pub fn time(&self) -> u64
-        ensures time { result ≡ self.now.time }
-        ensures in_range { result ≤ max_time }
-    {
-        self.kept.time
-    }
-
-    /// Where the vehicle was, if the event says so.
-    pub fn position(&self) -> Option<Position>
-        ensures { result ≡ self.now.position }
-    {
-        self.kept.position
-    }
-
-    /// A copy. It takes no memory.
-    pub fn copy(&self) -> Event
-        ensures { result ≡ self.now }
-    {
-        let KeptEvent {
-            key,
-            id,
-            state,
-            time,
-            position,
-            first: _,
-            count: _,
-        } = *self.kept;
-        Event::new(key, id, state, self.types, time, position).unwrap()
-    }
-
-    /// Puts a copy in the place of another event, and writes as little as [`Event::assign`].
-    pub fn copy_to(&self, event: &mut Event)
-        ensures { event.new ≡ self.now }
-    {
-        let KeptEvent {
-            key,
-            id,
-            state,
-            time,
-            position,
-            first: _,
-            count: _,
-        } = *self.kept;
-        event
-            .assign(key, id, state, self.types, time, position)
-            .unwrap();
     }
 }

@@ -8,3 +8,4 @@ pub mod LineTold
 pub mod LineLength
 pub mod LineTells
 pub mod PlaceLemmas
+pub mod Pieces

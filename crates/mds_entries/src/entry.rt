@@ -10,10 +10,10 @@ ghost use Rattle.mds_batch.specs.declared.item.ItemFault.TheVariants.{Missing};
 ghost use Rattle.mds_batch.specs.declared.member.Member.TheVariants.{EventId};
 ghost use Rattle.mds_entries.specs.Entry.{Tells, IsFaultOfLine, IsFaultOfRequest, line_of};
 
+use crate::laying::{add_event, add_registration};
 use crate::whole::is_whole;
 use mds_batch::{BatchFault, EventItem, ItemFault, ItemReader, Member, VehicleItem, read_vehicles};
 use mds_core::{Event, Key, Request};
-use mds_texts::Text;
 use std::alloc::{AllocError, Global};
 
 /// Why there is no request of a line, or no line of a request.
@@ -182,13 +182,11 @@ fn lay_out(text: &mut String, request: &Request) -> Result<bool, AllocError>
     text.clear();
     match request {
         Request::Register(key) => {
-            let value = Text { value: key };
-            write!(text, "{value}")?;
+            add_registration(text, key)?;
             Ok(true)
         }
         Request::Report(event) => {
-            let value = Text { value: event };
-            write!(text, "{value}")?;
+            add_event(text, event)?;
             Ok(true)
         }
         Request::Look(_) => Ok(false),

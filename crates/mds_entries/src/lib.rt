@@ -8,6 +8,7 @@
 mod entry;
 mod form;
 pub mod laws;
+mod laying;
 mod whole;
 
 pub use entry::{EntryFault, EntryReader};

@@ -1,7 +1,7 @@
 use Rattle.std.proofs.Common.{length, refl, sym, ap, ◌∙◌, arith}
 use Rattle.mds_core.specs.EventList.{event_of}
 use Rattle.mds_core.proofs.ListedEvents.{each_kept, events_pushed}
-use Rattle.mds_core.proofs.event_list.EventList.push.Goals as goal
+use Rattle.mds_core.proofs.event_list.EventList.push_ref.Goals as goal
 
 pub invariant_of-self-2 : goal.invariant_of-self-2
 invariant_of-self-2 c = record {

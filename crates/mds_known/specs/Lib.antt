@@ -1,0 +1,2 @@
+pub use Rattle.mds_core.specs.History
+pub mod Kept
