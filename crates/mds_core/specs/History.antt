@@ -1,5 +1,5 @@
 -- What a history of accepted requests says of one vehicle.
-use Rattle.std.specs.Prelude.{ℕ, List, length, filter, Option}
+use Rattle.std.specs.Prelude.{ℕ, List, [], length, get_or, filter, Option}
 use Rattle.std.specs.Prelude.{Some, None, Bool, false, nat_lt, ◌&&◌}
 use Rattle.std.specs.List.{filter_map, last_or, list_any}
 use Rattle.std.specs.Option.{option_map, option_map_or}
@@ -21,6 +21,14 @@ same_key a b = bytes_eq a.provider b.provider && bytes_eq a.device b.device
 -- the same event: the same identifier, of the same vehicle
 abbrev pub same_event : EventName → EventName → Bool
 same_event a b = same_key a.key b.key && bytes_eq a.id b.id
+
+-- what stands past the last key of a list of keys
+abbrev pub no_key : Key
+no_key = record { provider = []; device = [] }
+
+-- the key at this place
+abbrev pub key_at : List Key → ℕ → Key
+key_at keys place = get_or keys place no_key
 
 -- the vehicle that a request is about
 abbrev pub key_of : Request → Key

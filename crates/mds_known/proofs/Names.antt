@@ -15,10 +15,10 @@ use Rattle.indexmap.specs.IndexMap.{insert_entry}
 use Rattle.indexmap.specs.IndexSet.{insert_key}
 use Rattle.mds_core.specs.declared.key.Key.{Key}
 use Rattle.mds_core.specs.declared.event_name.EventName.{EventName}
-use Rattle.mds_core.specs.History.{same_key, same_event}
+use Rattle.mds_core.specs.History.{same_key, same_event, no_key}
 use Rattle.mds_core.proofs.Histories.{same_key_refl}
 use Rattle.mds_known.specs.declared.own_name.OwnName.{OwnName}
-use Rattle.mds_known.specs.Kept.{no_key, name_at, AreOwn}
+use Rattle.mds_known.specs.Kept.{name_at, AreOwn}
 use Rattle.mds_known.proofs.Places.{same_key_equiv, key_at, keys_put}
 
 -- the same vehicle, by its place, and the same identifier

@@ -13,9 +13,8 @@ use Rattle.indexmap.specs.IndexMap.{insert_entry, set_value_at}
 use Rattle.indexmap.proofs.MapLemmas.{insert_entry-first, insert_entry-absent, absent_from_lookup}
 use Rattle.indexmap.proofs.RemoveLemmas.{own_first}
 use Rattle.mds_core.specs.declared.key.Key.{Key}
-use Rattle.mds_core.specs.History.{same_key}
+use Rattle.mds_core.specs.History.{same_key, no_key}
 use Rattle.mds_core.proofs.Histories.{same_key_is}
-use Rattle.mds_known.specs.Kept.{no_key}
 
 -- to be the same key is an equivalence
 pub same_key_equiv : IsEquivalence same_key

@@ -1,11 +1,11 @@
 -- What is kept of vehicles, and of the names of their events.
-use Rattle.std.specs.Prelude.{◌≡◌, ℕ, ◌<◌, ◌≤◌, ◌^◌, cond, List, length, get_or, slice_get}
+use Rattle.std.specs.Prelude.{◌≡◌, ℕ, ◌<◌, ◌≤◌, ◌^◌, cond, List, length, slice_get}
 use Rattle.std.specs.Prelude.{[], Option, Some}
 use Rattle.std.specs.List.{All, IsDistinct}
 use Rattle.std.specs.Map.{lookup}
 use Rattle.mds_core.specs.declared.key.Key.{Key}
 use Rattle.mds_core.specs.declared.event_name.EventName.{EventName}
-use Rattle.mds_core.specs.History.{same_key}
+use Rattle.mds_core.specs.History.{same_key, key_at}
 use Rattle.mds_known.specs.declared.own_name.OwnName.{OwnName}
 
 -- what is kept of each vehicle, in the order in which the vehicles came; the names of their events,
@@ -36,13 +36,9 @@ pub record AreSame {V : Type 0} (old new : KeptVehicles V) : Type 0 where
   pub entries : new.entries ≡ old.entries
   pub names : new.names ≡ old.names
 
--- a key to fall back on, which no place within has
-abbrev pub no_key : Key
-no_key = record { provider = []; device = [] }
-
 -- the name for which one stands that names the vehicle by its place among these keys
 abbrev pub name_at : List Key → OwnName → EventName
-name_at keys own = record { key = get_or keys own.vehicle no_key; id = own.id }
+name_at keys own = record { key = key_at keys own.vehicle; id = own.id }
 
 -- no vehicle stands at two places, each name is of a vehicle that is there, and each place has a
 -- number of 32 bits

@@ -1,21 +1,14 @@
 -- Packed requests, and the requests that they tell.
-use Rattle.std.specs.Prelude.{ℕ, ◌+◌, ◌<◌, ◌≤◌, List, [], length, take, drop, get_or}
+use Rattle.std.specs.Prelude.{ℕ, ◌+◌, ◌<◌, ◌≤◌, List, length, take, drop}
 use Rattle.mds_table.specs.declared.state.State.{State}
 use Rattle.mds_core.specs.declared.key.Key.{Key}
 use Rattle.mds_core.specs.declared.request.Request.{Request}
 use Rattle.mds_core.specs.declared.request.Request.TheVariants.{Register, Report, Look}
+use Rattle.mds_core.specs.History.{key_at}
 use Rattle.mds_core.specs.Reported.{Reported, MayBeReported}
 use Rattle.mds_past.specs.declared.packed.Kind.{Kind}
 use Rattle.mds_past.specs.declared.packed.Kind.TheVariants as kind
 use Rattle.mds_past.specs.declared.packed.PackedRequest.{PackedRequest}
-
--- what stands past the last key
-abbrev pub no_key : Key
-no_key = record { provider = []; device = [] }
-
--- the key at this place
-abbrev pub key_at : List Key → ℕ → Key
-key_at keys place = get_or keys place no_key
 
 -- its types, among these names
 abbrev pub types_kept : List (List ℕ) → PackedRequest → List (List ℕ)

@@ -9,7 +9,8 @@ use Rattle.mds_core.specs.Reported.{MayBeReported}
 use Rattle.mds_past.specs.declared.packed.Kind.{Kind}
 use Rattle.mds_past.specs.declared.packed.Kind.TheVariants as kind
 use Rattle.mds_past.specs.declared.packed.PackedRequest.{PackedRequest}
-use Rattle.mds_past.specs.Packed.{no_key, key_at, types_kept, told_by, packed_tells}
+use Rattle.mds_core.specs.History.{no_key, key_at}
+use Rattle.mds_past.specs.Packed.{types_kept, told_by, packed_tells}
 use Rattle.mds_past.specs.Packed.{AreTypesKept, MayBeTold, IsPacked}
 
 module _ (keys more_keys : List Key) (names more_names : List (List ℕ)) (packed : PackedRequest)

@@ -1,7 +1,8 @@
 //! Requests, packed.
 ghost use Rattle.std.specs.Prelude.{◌≡◌, ◌+◌, ◌<◌, ◌≤◌, length};
 ghost use Rattle.mds_core.specs.declared.request.Request.TheVariants.{Report};
-ghost use Rattle.mds_past.specs.Packed.{key_at, types_kept, event_told, IsEventKept};
+ghost use Rattle.mds_core.specs.History.{key_at};
+ghost use Rattle.mds_past.specs.Packed.{types_kept, event_told, IsEventKept};
 
 use crate::form::KeptForm;
 use crate::shared::{place_of_key, place_of_types};
