@@ -19,7 +19,9 @@ REPORTS = 20000
 BATCHES, EVENTS = 512, 100
 WORKERS = (1, 4)
 CLIENTS = (1, 16)
-KEPT = 100000
+KEEPERS, KEPT, LOOKED_AT = 10000, 1000000, 20
+"""Vehicles and events of the server whose memory is measured, and at how many sizes it is, one as far from the next."""
+KEPT_AT_ONCE = 1000
 SEATS = 16
 SETTLED = {300000: (2, 9375), 2240000: (14, 10000)}
 """Numbers of accepted requests that are settled, each as turns and the items of each seat in a turn. The second one puts more
@@ -91,10 +93,10 @@ def files_of(folder, requests_of, clients):
     return paths, count
 
 
-def register(server):
-    answered = ask(server.port, post("/vehicles", [vehicle(number) for number in range(VEHICLES)]))
-    server.count(1, success_of(answered))
-    if server.success != VEHICLES:
+def register(server, numbers=range(VEHICLES)):
+    before = server.success
+    answered = server.ask(post("/vehicles", [vehicle(number) for number in numbers]))
+    if server.success - before != len(numbers):
         sys.exit(f"registered {answered[:500]!r}")
 
 
@@ -142,21 +144,29 @@ class ServeBench:
                     cells = " | ".join(f"{number:,.0f}" for number in (*times, aim, own))
                     print(f"| {name} | {workers} | {clients} | {cells} |", flush=True)
 
-    def keep(self):
-        """Prints what many accepted events take, and how long the server settles behind the last answer."""
-        requests = KEPT // EVENTS
-        with Server(self.program, requests + 1) as server:
-            register(server)
-            before = server.memory()
-            events = events_of(0, 1, KEPT)
-            for at in range(0, KEPT, EVENTS):
-                server.ask(post("/events", events[at : at + EVENTS]))
+    def keep(self, kept=KEPT):
+        """Prints what a registration and an accepted event take, at most at each of some sizes, and how long the server settles
+        behind the last answer."""
+        step = kept // LOOKED_AT
+        with Server(self.program, (kept + KEEPERS) // KEPT_AT_ONCE + 3) as server:
+            # the room for a batch is had once, and isn't what is kept of it
+            server.ask(post("/vehicles", [{"device_id": identifier(1, at)} for at in range(KEPT_AT_ONCE)]))
+            server.ask(post("/events", [event(KEEPERS, at) for at in range(KEPT_AT_ONCE)]))
+            empty = server.memory()
+            for at in range(0, KEEPERS, KEPT_AT_ONCE):
+                register(server, range(at, at + KEPT_AT_ONCE))
+            before, most = server.memory(), 0
+            for at in range(0, kept, KEPT_AT_ONCE):
+                events = [event(number % KEEPERS, number // KEEPERS) for number in range(at, at + KEPT_AT_ONCE)]
+                server.ask(post("/events", events))
+                if (at + KEPT_AT_ONCE) % step == 0:
+                    most = max(most, (server.memory() - before) / (at + KEPT_AT_ONCE))
             after, start = server.memory(), time.monotonic()
             ended(server)
             seconds = time.monotonic() - start
-        grown = (after - before) / 2**20
-        print(f"\n{KEPT:,} accepted events: {grown:.1f} MiB more, {grown * 2**20 / KEPT:,.0f} bytes each.")
-        print(f"Settling {KEPT + VEHICLES:,} accepted requests, and ending: {seconds:.3f} s.")
+        print(f"\n{KEEPERS:,} registrations: {(before - empty) / KEEPERS:,.0f} bytes each.")
+        print(f"{kept:,} accepted events: {(after - before) / kept:,.1f} bytes each, and {most:,.1f} at most on the way.")
+        print(f"The server then held {after / 1e6:,.0f} MB. Settling, and ending: {seconds:.3f} s.", flush=True)
 
     def settle(self):
         """Prints how long the server settles what many seats accepted. It ends the benchmark where that takes too long."""

@@ -82,7 +82,7 @@ class Server:
         try:
             connection.request(method, target, body=body, headers=self.headers)
             answer = connection.getresponse()
-            return answer.status, value_of(answer.read())
+            return answer.status, value_of(answer.read(), f"{method} {target} at {self.url}")
         except (OSError, http.client.HTTPException, ValueError) as fault:
             raise Fault(BAD_SERVER, f"{method} {target} at {self.url}: {fault or type(fault).__name__}") from None
         finally:
@@ -124,10 +124,19 @@ def context_of(ca):
         raise Fault(BAD_FILE, f"{ca}: {fault.strerror or fault}") from None
 
 
-def value_of(body):
+def parsed(text, status, where):
+    """The value of a text of JSON, as Python's reader takes it. One that nests too deep for that ends the program, with this
+    status and where the text is from."""
+    try:
+        return json.loads(text)
+    except RecursionError:
+        raise Fault(status, f"{where}: JSON that nests too deep") from None
+
+
+def value_of(body, where):
     """The value in a body; one that isn't JSON, as a proxy may send, is its own text."""
     try:
-        return json.loads(body)
+        return parsed(body, BAD_SERVER, where)
     except ValueError:
         return body.decode(errors="replace")
 
@@ -177,7 +186,7 @@ def values_in(path, file):
     """The object in each whole line of a file. It ends before a line that is cut short."""
     while (line := line_of(path, file)).endswith("\n"):
         try:
-            value = json.loads(line)
+            value = parsed(line, BAD_FILE, path)
         except ValueError:
             value = None
         if not isinstance(value, dict):
@@ -215,7 +224,7 @@ def keys_in(path):
 
 def keys_of_registrations(path, text):
     try:
-        value = json.loads(text)
+        value = parsed(text, BAD_FILE, path)
     except ValueError as fault:
         raise Fault(BAD_FILE, f"{path}: not JSON: {fault}") from None
     for at, item in enumerate(value if isinstance(value, list) else [value]):

@@ -6,7 +6,7 @@ from cases.commands import commands, examples, orders, paths, spaced_paths, wron
 from cases.debugging import faults, holds_little, long_sessions, reads_its_script_before_it_prints
 from cases.debugging import reads_no_script_before_its_start, scripts, starts_before_its_script
 from cases.depot import depots
-from cases.helps import help_asked_for
+from cases.helps import help_asked_for, version_asked_for
 from cases.inputs import input_that_stays_open, input_that_tells_enough
 from cases.largest import largest
 from cases.lines import line_files
@@ -25,6 +25,7 @@ SUBJECTS = [
     examples,
     commands,
     help_asked_for,
+    version_asked_for,
     wrong_words,
     paths,
     spaced_paths,

@@ -1,6 +1,9 @@
-"""What help says, whole: the texts of the commands and of their words, in the layout of `clap`."""
+"""What help says, whole: the texts of the commands and of their words, in the layout of `clap`; and the version."""
+
+import re
 
 from harness.case import NO_STREAMS, OUTPUT, Case, told
+from harness.counting import ROOT
 
 ALL = """Keeps the states of shared vehicles
 
@@ -15,15 +18,17 @@ Commands:
   help      Print this message or the help of the given subcommand(s)
 
 Options:
-  -h, --help  Print help
+  -h, --help     Print help
+  -V, --version  Print version
 """
 SERVE = """Serves vehicles over HTTP at 127.0.0.1
 
-Usage: mds_city serve [OPTIONS] --port <N> --each <N>
+Usage: mds_city serve [OPTIONS] --port <N>
 
 Options:
       --port <N>        The port's number; 0 is a free one
       --each <N>        How many connections each worker answers
+      --until-stopped   Goes on until the process is stopped, in place of --each
       --workers <N>     How many workers there are [default: 4]
       --table <FILE>    A table of transitions, or several with times; without it the profile's
       --journal <FILE>  A journal of what is accepted; without it that ends with the process
@@ -96,6 +101,13 @@ def help_asked_for():
     yield Case("replay events.json --help", out=REPLAY)
     yield Case("serve --port 0 --each 0 --help", out=SERVE)
     for stdout in NO_STREAMS:
-        for words in ("--help", "help serve", "debug -h"):
+        for words in ("--help", "help serve", "debug -h", "--version"):
             yield told(words, OUTPUT, stdout=stdout)
             yield told(words, "", stdout=stdout, stderr="/dev/full")
+
+
+def version_asked_for():
+    """The version, which is the newest that CHANGELOG.md tells of."""
+    newest = re.search(r"^## (\S+)", (ROOT / "CHANGELOG.md").read_text(), re.M).group(1)
+    for words in ("--version", "-V", "--version serve"):
+        yield Case(words, out=f"mds_city {newest}\n")

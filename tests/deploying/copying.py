@@ -3,7 +3,9 @@
 import importlib.machinery
 import importlib.util
 import json
+import os
 import socket
+import stat
 import subprocess
 import sys
 import tempfile
@@ -23,11 +25,34 @@ VEHICLES, EVENTS = 100, 120
 """Together their events take more than one batch, by their number."""
 EACH = 100000
 UNKNOWN = vehicle(PROVIDERS[0], 999)
+DEEP = "[" * 200000 + "]" * 200000
+"""JSON that nests deeper than Python reads it."""
+CALLS = """
+import os, runpy, sys
+
+def telling(name, call):
+    def told(given, *more):
+        paths = [os.readlink(f"/proc/self/fd/{it}") if isinstance(it, int) else it for it in (given, *more)]
+        print(name, *map(os.path.basename, paths))
+        return call(given, *more)
+    return told
+
+os.fsync, os.replace = telling("sync", os.fsync), telling("put", os.replace)
+sys.argv = sys.argv[1:]
+sys.path.insert(0, os.path.dirname(sys.argv[0]))
+runpy.run_path(sys.argv[0], run_name="__main__")
+"""
+"""Runs a program of Python, and prints the names of what it has synced and put in place."""
+
+
+def tool(name, *words):
+    """The words by which a program of deploy/ is run."""
+    return [ROOT / "deploy" / name, *map(str, words)]
 
 
 def run(name, *words, given=""):
     """The status of a run of a program of deploy/, and what it printed on standard error."""
-    words = [ROOT / "deploy" / name, *map(str, words)]
+    words = tool(name, *words)
     ran = subprocess.run(words, input=given, capture_output=True, text=True, timeout=SECONDS)
     return ran.returncode, ran.stderr + ran.stdout
 
@@ -68,6 +93,10 @@ class Files:
         if text is not None:
             path.write_bytes(text if isinstance(text, bytes) else text.encode())
         return path
+
+    def parts(self):
+        """What runs of backup have written beside their files."""
+        return sorted(Path(self.folder.name).glob("*.part"))
 
 
 def a_hundred_vehicles(program):
@@ -208,7 +237,7 @@ def server_that_ends(program):
     with Files(vehicles) as files, Server(program, 6) as server:
         fill(server, vehicles)
         yield from ended(run("backup", url(server), files.path("file"), files.registrations), 4, url(server))
-        if files.path("file").exists() or files.path("file.part").exists():
+        if files.path("file").exists() or files.parts():
             yield "a part of a file was left"
 
 
@@ -229,6 +258,8 @@ def changed_files(whole):
     yield lines[1], "not a file of vehicles"
     yield lines[0] + b"\xff\n", "UTF-8"
     yield lines[0] + b"{\n", "not a file of vehicles"
+    yield DEEP.encode() + b"\n", "nests too deep"
+    yield lines[0] + DEEP.encode() + b"\n", "nests too deep"
     yield b"".join([*lines[:2], *lines[3:]]), "doesn't count"
     yield whole + lines[1], "doesn't count"
     yield b"".join([lines[0], b'{"events":[]}\n', *lines[1:]]), "line 2 isn't a vehicle"
@@ -291,35 +322,157 @@ def words(program):
         yield from ended(run("restore", where, "a"), 2, where)
 
 
-def answered_once(listener, sent, *words):
-    """How a program of deploy/ ends whose first request is answered by these bytes."""
-    words = [ROOT / "deploy" / words[0], *words[1:]]
-    child = subprocess.Popen(words, stdout=subprocess.PIPE, stderr=subprocess.STDOUT, text=True)
-    connection, _ = listener.accept()
-    with connection:
-        connection.settimeout(SECONDS)
-        connection.recv(1 << 16)
-        connection.sendall(sent)
-        connection.shutdown(socket.SHUT_WR)
-        while connection.recv(1 << 16):
+def answer(text, status="200 OK"):
+    """An answer with this body."""
+    return f"HTTP/1.1 {status}\r\nContent-Length: {len(text)}\r\n\r\n{text}".encode()
+
+
+class Asking:
+    """A run whose first request has come to a listener, and isn't answered yet."""
+
+    def __init__(self, listener, words, umask):
+        self.child = subprocess.Popen(words, stdout=subprocess.PIPE, stderr=subprocess.STDOUT, text=True, umask=umask)
+        self.connection, _ = listener.accept()
+        self.connection.settimeout(SECONDS)
+        self.connection.recv(1 << 16)
+
+    def answered(self, sent):
+        """How it ends where these bytes are the answer."""
+        self.connection.sendall(sent)
+        self.connection.shutdown(socket.SHUT_WR)
+        while self.connection.recv(1 << 16):
             pass
-    out, _ = child.communicate(timeout=SECONDS)
-    return child.returncode, out
+        return self.ended()
+
+    def ended(self):
+        out, _ = self.child.communicate(timeout=SECONDS)
+        self.connection.close()
+        return self.child.returncode, out
+
+
+class Elsewhere:
+    """Something that isn't the server, and gets one request of each run of a program of deploy/."""
+
+    def __enter__(self):
+        self.listener = socket.create_server(("127.0.0.1", 0))
+        self.listener.settimeout(SECONDS)
+        self.url = f"http://127.0.0.1:{self.listener.getsockname()[1]}"
+        return self
+
+    def __exit__(self, *_):
+        self.listener.close()
+
+    def backup(self, files, path, umask=-1):
+        """A run of backup that writes the vehicle of these files to a path."""
+        return Asking(self.listener, tool("backup", self.url, path, files.registrations), umask)
+
+    def restore(self, path):
+        return Asking(self.listener, tool("restore", self.url, path), -1)
+
+    def backup_that_tells(self, files, path):
+        """A run of backup that prints its calls."""
+        words = [sys.executable, "-c", CALLS, *tool("backup", self.url, path, files.registrations)]
+        return Asking(self.listener, words, -1)
 
 
 def not_this_server(program):
     """Something else answers: with a page, with other JSON, or with nothing."""
-    page, other = (b"HTTP/1.1 200 OK\r\nContent-Length: %d\r\n\r\n%s" % (len(text), text) for text in (b"<html>", b"{}"))
+    page, other = answer("<html>"), answer("{}")
     vehicles = list(fleet(1, 1))
-    with Files(vehicles) as files, socket.create_server(("127.0.0.1", 0)) as listener, Server(program, EACH) as server:
-        listener.settimeout(SECONDS)
+    with Files(vehicles) as files, Elsewhere() as elsewhere, Server(program, EACH) as server:
         fill(server, vehicles)
-        whole, where = files.path("whole"), f"http://127.0.0.1:{listener.getsockname()[1]}"
+        whole, path = files.path("whole"), files.path("file")
         yield from ended(run("backup", url(server), whole, files.registrations), 0)
         for sent in (page, other, b""):
-            read = answered_once(listener, sent, "backup", where, files.path("file"), files.registrations)
-            yield from ended(read, 4, where)
-        yield from ended(answered_once(listener, other, "restore", where, whole), 4, where)
+            yield from ended(elsewhere.backup(files, path).answered(sent), 4, elsewhere.url)
+        yield from ended(elsewhere.restore(whole).answered(other), 4, elsewhere.url)
+
+
+def deep_answers(program):
+    """An answer that nests too deep is a fault of who gives it, whatever its status is."""
+    with Files(list(fleet(1, 0))) as files, Elsewhere() as elsewhere:
+        whole, path = files.path("whole"), files.path("file")
+        yield from ended(elsewhere.backup(files, whole).answered(answer('{"events":[]}')), 0)
+        for sent in (answer(DEEP), answer(f'{{"events":{DEEP}}}'), answer(DEEP, "404 Not Found")):
+            yield from ended(elsewhere.backup(files, path).answered(sent), 4, elsewhere.url, "nests too deep")
+        yield from ended(elsewhere.restore(whole).answered(answer(DEEP)), 4, elsewhere.url, "nests too deep")
+        if path.exists():
+            yield "a file was written"
+
+
+def deep_files(program):
+    """A file that nests too deep is at fault itself: one of registrations, and one of vehicles."""
+    with Files() as files:
+        nowhere, path = "http://127.0.0.1:1", files.path("file")
+        for text in (DEEP, f'{{"provider_id":{DEEP}}}'):
+            devices = files.path("devices", text)
+            yield from ended(run("backup", nowhere, path, devices), 3, str(devices), "nests too deep")
+        head = compact(module("vehicles.py").HEAD)
+        for text in (f"{DEEP}\n", f'{head}\n{{"events":{DEEP}}}\n'):
+            vehicles = files.path("vehicles", text)
+            yield from ended(run("restore", nowhere, vehicles), 3, str(vehicles), "nests too deep")
+
+
+def for_its_owner_alone(program):
+    """Nobody else can read the file, nor its part from the start on, whatever the umask is and whatever was there."""
+    with Files(list(fleet(1, 0))) as files, Elsewhere() as elsewhere:
+        for umask in (0, 0o022, 0o777):
+            path = files.path(f"file-{umask:o}", "what was there")
+            path.chmod(0o644)
+            asking = elsewhere.backup(files, path, umask)
+            modes = [stat.S_IMODE(part.stat().st_mode) for part in files.parts()]
+            yield from ended(asking.answered(answer('{"events":[]}')), 0)
+            modes.append(stat.S_IMODE(path.stat().st_mode))
+            if modes != [0o600, 0o600]:
+                yield f"umask {umask:o}: the part and the file have the modes {[f'{mode:o}' for mode in modes]}"
+
+
+def runs_at_once(program):
+    """One run within another, into the same file: each puts its own there. Parts that others left stay as they are."""
+    with Files(list(fleet(1, 0))) as files, Elsewhere() as elsewhere:
+        path = files.path("file")
+        left = [files.path(name, "another's") for name in ("file.4rtz_0ab.part", "file.part")]
+        outer = elsewhere.backup(files, path)
+        inner = elsewhere.backup(files, path)
+        if len(files.parts()) != len(left) + 2:
+            yield f"the parts of two runs: {files.parts()}"
+        for asking, events in ((inner, "[1]"), (outer, "[2,3]")):
+            yield from ended(asking.answered(answer(f'{{"events":{events}}}')), 0)
+            found = path.read_text().splitlines() if path.exists() else []
+            if len(found) != 3 or f'"events":{events}' not in found[1]:
+                yield f"the file of the run with {events}: {found}"
+        if files.parts() != left or any(part.read_text() != "another's" for part in left):
+            yield f"left behind: {files.parts()}"
+
+
+def runs_that_fail(program):
+    """A run that fails, or is ended on the way, leaves the file that was there, and no part."""
+    with Files(list(fleet(1, 0))) as files, Elsewhere() as elsewhere:
+        path, folder = files.path("file", "what was there"), files.path("folder")
+        folder.mkdir()
+        for sent in (answer('{"events":7}'), answer(DEEP), answer("", "503 Service Unavailable"), b""):
+            yield from ended(elsewhere.backup(files, path).answered(sent), 4, elsewhere.url)
+        asking = elsewhere.backup(files, path)
+        asking.child.terminate()
+        yield from ended(asking.ended(), 143)
+        yield from ended(elsewhere.backup(files, folder).answered(answer('{"events":[]}')), 3, "Is a directory")
+        missing = files.path("nothing") / "file"
+        yield from ended(run("backup", elsewhere.url, missing, files.registrations), 3, str(missing), "No such file")
+        if files.parts() or path.read_text() != "what was there":
+            yield f"left behind: {files.parts()}, and {path.read_text()!r}"
+
+
+def synced_in_order(program):
+    """What a run has written is synced, then put in place, and then the folder is synced."""
+    with Files(list(fleet(1, 0))) as files, Elsewhere() as elsewhere:
+        path = files.path("file")
+        asking = elsewhere.backup_that_tells(files, path)
+        part = files.parts()[0].name
+        status, out = asking.answered(answer('{"events":[]}'))
+        found = [line for line in out.splitlines() if line.startswith(("sync ", "put "))]
+        wanted = [f"sync {part}", f"put {part} file", f"sync {path.parent.name}"]
+        if (status, found) != (0, wanted):
+            yield f"status {status}, {found}, in place of {wanted}: {out!r}"
 
 
 COPYING = [
@@ -335,4 +488,10 @@ COPYING = [
     another_history,
     words,
     not_this_server,
+    deep_answers,
+    deep_files,
+    for_its_owner_alone,
+    runs_at_once,
+    runs_that_fail,
+    synced_in_order,
 ]

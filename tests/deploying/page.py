@@ -4,9 +4,10 @@ import base64
 import hashlib
 import json
 import re
+from datetime import datetime, timezone
 
 from cases.replays import identifier
-from cases.tables import PROFILE, PROFILE_ROWS
+from cases.tables import PROFILE, PROFILE_ROWS, STATES
 from deploying.passing import NOBODY, path_of, sent
 from deploying.proxies import CITY, PROVIDERS, TOKENS
 from deploying.vehicles import event, short_events, vehicle
@@ -26,13 +27,36 @@ EVENTS, AT_ONCE = 250, 200
 HOSTILE = "<img src=x onerror=\"document.title='marked'\"><script>document.title='marked'</script>"
 UNWANTED = re.compile(r"innerHTML|outerHTML|insertAdjacent|document\.write|\beval\(|src=|<link|@import|Storage|cookie")
 """What reads text as markup, loads another file, or keeps something."""
-FOCUSED = ["token", "provider", "device", "vehicle-form", "time", "table-form", "route", "body", "batch-form"]
+FOCUSED = ["token", "in-milliseconds", "provider", "device", "vehicle-form", "time", "table-form", "route", "body", "batch-form"]
 """Where the focus goes, in this order: fields by their own names, the buttons of forms by those of the forms."""
+MATRIX = "Types of events that lead from the state in the row to the state in the column"
+NO_TIME = "The time has to be a date in UTC from 1970 on, such as 2026-03-01 12:30, or a number of milliseconds."
+NO_TIMES = ["1970-01-01 00:60", "1970-01-01 24:00", "1970-02-30", "1970-13-01", "1969-12-31 23:59", "-1", "1e3", "12:30", "soon"]
+NO_TIMES += ["1970-1-1", "1970-01-01 1:00", "1970-01-01 00:00:02.0000", "1970-01-01T00:00:02+01:00", "+001970-01-01"]
+TIMES = [
+    ("0", 0),
+    ("2499", 0),
+    (" 2500 ", 1),
+    ("1970-01-01", 0),
+    ("1970-01-01 00:00", 0),
+    ("1970-01-01 00:00:02", 0),
+    ("1970-01-01 00:00:02.49", 0),
+    ("1970-01-01 00:00:02.499", 0),
+    ("1970-01-01 00:00:02.5", 1),
+    ("1970-01-01 00:00:03", 1),
+    ("1970-01-01T00:00:03Z", 1),
+    ("1970-01-01 00:00:03 UTC", 1),
+    ("1970-01-01 00:01", 1),
+    ("2026-03-01 12:30", 1),
+    ("2024-02-29", 1),
+    ("", 1),
+]
+"""Texts of a time, and which of the tables is in force then."""
 TABLES = {
     "tables": [
         {"from_time": 0, "rows": [{"from": "removed", "to": "available", "type": "wake"}]},
         {
-            "from_time": 2000,
+            "from_time": 2500,
             "rows": [
                 {"from": "available", "to": "in_depot", "type": "store"},
                 {"from": "available", "to": "in_depot", "type": "tidy"},
@@ -133,8 +157,23 @@ def faults_of(page):
             yield f"the browser says {entry}"
 
 
+def date_of(event):
+    """When an event was, as a date in UTC to the second."""
+    return datetime.fromtimestamp(event["timestamp"] // 1000, timezone.utc).strftime("%Y-%m-%d %H:%M:%S")
+
+
+def position_of(event):
+    where = event["location_e7"]
+    return f"{where['lat'] / 1e7:.7f}, {where['lng'] / 1e7:.7f}" if where else "none"
+
+
+def row_of(number, event, time):
+    types = ", ".join(event["event_types"])
+    return [str(number), time, types, event["vehicle_state"], position_of(event), event["event_id"]]
+
+
 def a_vehicle(city):
-    """A vehicle's state, and its events on the time line and as rows: the last ones, then all."""
+    """A vehicle's state, and its events on the time line and as rows, the newest first: the last ones, then all."""
     page, events = city.page(), list(short_events(LOOKED_AT, EVENTS))
     there_is(city, LOOKED_AT, events)
     fill_in(page, token=TOKENS[1], provider=f" {PROVIDERS[0]} ", device=LOOKED_AT["device_id"])
@@ -143,19 +182,48 @@ def a_vehicle(city):
     yield from unlike("the status", submit(page, "vehicle"), told)
     standing = dict(rows_of(page, "standing"))
     yield from unlike("the state", standing["State held"], last["vehicle_state"])
-    told = f"{last['timestamp']} (1970-01-01T00:00:01.{last['timestamp'] % 1000}Z)"
-    yield from unlike("the last time", standing["Time of the last"], told)
+    yield from unlike("the last time", standing["Time of the last"], f"{date_of(last)} UTC ({last['timestamp']} ms)")
     where = next(one["location_e7"] for one in reversed(events) if one["location_e7"])
     found = [float(number) for number in re.findall(r"-?[0-9.e-]+(?= (?:north|east))", standing["Position"])]
     yield from unlike("the position", [round(number * 1e7) for number in found], [where["lat"], where["lng"]])
     for first in (EVENTS - AT_ONCE, 0):
-        wanted = [[str(at), ", ".join(one["event_types"]), one["vehicle_state"]] for at, one in enumerate(events)][first:]
-        yield from unlike("the rows", [[row[0], *row[2:]] for row in rows_of(page, "events")], wanted)
+        wanted = [row_of(number, one, date_of(one)) for number, one in enumerate(events)][first:]
+        yield from unlike("the rows", rows_of(page, "events"), wanted[::-1])
         yield from unlike("points", count_of(page, "#line svg circle"), EVENTS - first)
         yield from unlike("lanes", count_of(page, "#line svg .lane"), len({one["vehicle_state"] for one in events}))
         page.run("document.getElementById('earlier').click()")
     yield from unlike("earlier ones", page.run("document.getElementById('earlier').hidden"), True)
     yield from faults_of(page)
+
+
+def abroad(page):
+    """The page, as one sees it far from where it is the time that UTC tells."""
+    page.ask("Emulation.setTimezoneOverride", timezoneId="Asia/Tokyo")
+    return page
+
+
+def times_of_a_vehicle(city):
+    """Times are dates in UTC, or milliseconds where these are asked for, in the rows and on the time line."""
+    page, events = abroad(city.page()), list(short_events(LOOKED_AT, EVENTS))
+    there_is(city, LOOKED_AT, events)
+    fill_in(page, token=TOKENS[1], provider=PROVIDERS[0], device=LOOKED_AT["device_id"])
+    submit(page, "vehicle")
+    milliseconds = lambda event: str(event["timestamp"])
+    told = [f"{date_of(one)} UTC ({milliseconds(one)} ms)" for one in events[-1 : -1 - AT_ONCE : -1]]
+    titles = "[...document.querySelectorAll('#events td:nth-child(2)')].map((it) => it.title)"
+    yield from unlike("under the pointer", page.run(titles), told)
+    ends = events[-AT_ONCE], events[-1]
+    for shown in (date_of, milliseconds, date_of):
+        times = [row[1] for row in rows_of(page, "events")]
+        yield from unlike("times", times, [shown(one) for one in events[-1 : -1 - AT_ONCE : -1]])
+        yield from unlike("the time line", page.run(ENDS), [shown(one) for one in ends])
+        page.run("document.getElementById('in-milliseconds').click()")
+    yield from faults_of(page)
+
+
+ENDS = """[...document.querySelectorAll('#line tspan')].filter((it) => getComputedStyle(it).display !== 'none')
+    .map((it) => it.textContent)"""
+"""The times on the time line that can be seen."""
 
 
 def a_vehicle_without_events(city):
@@ -200,8 +268,7 @@ def tokens_on_the_page(city):
 
 
 def the_table(city):
-    """The table as rows and as a picture: a box for each state, an arrow for each pair. The state of the vehicle is marked, and
-    told in the title, until a look fails."""
+    """The table as a matrix and as rows. The state of the vehicle is marked, and told in the caption, until a look fails."""
     page = city.page()
     there_is(city, TRIED)
     fill_in(page, token=TOKENS[1], provider=PROVIDERS[0], device=TRIED["device_id"])
@@ -210,44 +277,46 @@ def the_table(city):
     told = f"One table, in force at all times; rows: {PROFILE_ROWS}, types: {len(types)}, states: {len(states)}."
     yield from unlike("the status", submit(page, "table"), told)
     yield from unlike("rows", rows_of(page, "rows"), [[row["type"], row["from"], row["to"]] for row in rows])
-    yield from pictured(page, rows)
-    told = page.run(TITLE)
-    yield from marked(page, [], told)
-    submit(page, "vehicle")
-    yield from marked(page, ["removed"], f"{told}; the vehicle holds the state removed")
-    submit(page, "table")
-    yield from marked(page, ["removed"], f"{told}; the vehicle holds the state removed")
+    yield from matrix_of(page, rows, [state for state in STATES if state in states])
+    yield from marked(page, [], MATRIX)
+    held = ["removed"], f"{MATRIX}; the vehicle holds the state removed"
+    for part in ("vehicle", "table"):
+        submit(page, part)
+        yield from marked(page, *held)
     for device in (UNKNOWN["device_id"], ".."):
         fill_in(page, device=device)
         submit(page, "vehicle")
-        yield from marked(page, [], told)
+        yield from marked(page, [], MATRIX)
         fill_in(page, device=TRIED["device_id"])
         submit(page, "vehicle")
-        yield from marked(page, ["removed"], f"{told}; the vehicle holds the state removed")
+        yield from marked(page, *held)
     yield from faults_of(page)
 
 
-TITLE = "document.querySelector('#picture svg > title').textContent"
-
-
 def marked(page, states, told):
-    """What is wrong with the marks of the picture, and with its title."""
-    found = page.run("[...document.querySelectorAll('#picture .held')].map((it) => it.textContent)")
+    """What is wrong with the marks of the matrix, and with its caption."""
+    found = page.run("[...document.querySelectorAll('#matrix .held')].map((it) => it.cells[0].textContent)")
     yield from unlike("marks", found, states)
-    yield from unlike("the title", page.run(TITLE), told)
+    yield from unlike("the caption", page.run("document.getElementById('matrix-caption').textContent"), told)
 
 
-def pictured(page, rows):
-    """What is wrong with the picture of rows."""
-    titles = page.run("[...document.querySelectorAll('#picture .arrow title')].map((it) => it.textContent)")
-    pairs = {}
+def matrix_of(page, rows, states):
+    """What is wrong with the matrix of rows, with a row and a column for each of these states."""
+    wanted = [["", *states], *([start, *([] for _ in states)] for start in states)]
     for row in rows:
-        pairs.setdefault((row["from"], row["to"]), []).append(row["type"])
-    wanted = [f"{start} to {end}: {', '.join(types)}" for (start, end), types in pairs.items()]
-    yield from unlike("arrows", sorted(titles), sorted(wanted))
-    states = {state for row in rows for state in (row["from"], row["to"])}
-    boxes = page.run("[...document.querySelectorAll('#picture [data-state]')].map((it) => it.textContent)")
-    yield from unlike("boxes", sorted(boxes), sorted(states))
+        wanted[1 + states.index(row["from"])][1 + states.index(row["to"])].append(row["type"])
+    heads = page.run("[...document.querySelectorAll('#matrix-heads th')].map((it) => it.textContent)")
+    found = page.run(f"[...document.getElementById('matrix').rows].map({CELLS})")
+    yield from unlike("the matrix", [["", *heads], *found], wanted)
+    yield from unlike("covered names", page.run(COVERED), [])
+
+
+CELLS = """(row) => [row.cells[0].textContent, ...[...row.cells].slice(1)
+    .map((cell) => [...cell.children].map((it) => it.textContent))]"""
+"""The state of a row of the matrix, and the types in each of its cells."""
+COVERED = """[...document.querySelectorAll('#matrix th, #matrix td, #matrix-heads th')]
+    .filter((it) => it.scrollWidth > it.clientWidth + 1).map((it) => it.textContent)"""
+"""The cells that are too narrow for what stands in them."""
 
 
 def answering(page, status, value):
@@ -263,21 +332,25 @@ def answering_text(page, status, text):
 
 def tables_that_change(city):
     """Of several tables the one that is in force at the time given, and with a state that no program here knows yet."""
-    page = city.page()
+    page = abroad(city.page())
     answering(page, 200, TABLES)
-    first, second = (table["rows"] for table in TABLES["tables"])
-    for time, rows, told in (
-        ("0", first, "Table 1 of 2, in force from 0 (1970-01-01T00:00:00.000Z) until before 2000 "),
-        ("1999", first, "Table 1 of 2, "),
-        ("2000", second, "Table 2 of 2, in force from 2000 (1970-01-01T00:00:02.000Z) on; rows: 3, types: 3, states: 2."),
-        ("", second, "Table 2 of 2, "),
-    ):
+    tables = [table["rows"] for table in TABLES["tables"]]
+    all_states = ["removed", "available"], ["available", "in_depot"]
+    all_told = (
+        "Table 1 of 2, in force from 1970-01-01 00:00:00 UTC (0 ms) until before 1970-01-01 00:00:02 UTC (2500 ms); rows: 1,",
+        "Table 2 of 2, in force from 1970-01-01 00:00:02 UTC (2500 ms) on; rows: 3, types: 3, states: 2.",
+    )
+    for time, at in TIMES:
         fill_in(page, time=time)
         found = submit(page, "table")
-        if not found.startswith(told):
-            yield f"at {time}: {found}, in place of {told}"
-        yield from unlike("rows", rows_of(page, "rows"), [[row["type"], row["from"], row["to"]] for row in rows])
-        yield from pictured(page, rows)
+        if not found.startswith(all_told[at]):
+            yield f"at {time}: {found}, in place of {all_told[at]}"
+        yield from unlike("rows", rows_of(page, "rows"), [[row["type"], row["from"], row["to"]] for row in tables[at]])
+        yield from matrix_of(page, tables[at], all_states[at])
+    for time in NO_TIMES:
+        fill_in(page, time=time)
+        yield from unlike(f"at {time}", submit(page, "table"), NO_TIME)
+        yield from unlike("rows", rows_of(page, "rows"), None)
     yield from faults_of(page)
 
 
@@ -301,7 +374,7 @@ def a_batch(city):
     ]
     fill_in(page, body=json.dumps(items, indent=1))
     yield from unlike("the status", submit(page, "batch"), "Items: 6, accepted: 1, refused: 5.")
-    answers = ["accepted", "repeated", "late: last 1002", "no_chain: at 0, held available"]
+    answers = ["accepted", "repeated", "late: last 1970-01-01 00:00:01 UTC (1002 ms)", "no_chain: at 0, held available"]
     answers += ["bad_param: param timestamp", "unregistered"]
     found = rows_of(page, "items")
     yield from unlike("items", [json.loads(row[1]) for row in found], items)
@@ -350,12 +423,12 @@ def hostile_texts(city):
     answering(page, 200, {"rows": [{"from": HOSTILE, "to": HOSTILE, "type": HOSTILE}]})
     submit(page, "table")
     yield from unlike("rows", rows_of(page, "rows"), [[HOSTILE] * 3])
-    yield from unlike("boxes", page.run("document.querySelector('[data-state]').textContent"), HOSTILE)
-    one = {"event_types": [HOSTILE], "timestamp": 1, "vehicle_state": HOSTILE}
+    yield from matrix_of(page, [{"from": HOSTILE, "to": HOSTILE, "type": HOSTILE}], [HOSTILE])
+    one = {"event_id": HOSTILE, "event_types": [HOSTILE], "location_e7": None, "timestamp": 10**16, "vehicle_state": HOSTILE}
     answering(page, 200, {"vehicle_state": HOSTILE, "events": [one], "last": 1, "location_e7": None})
     if HOSTILE not in submit(page, "vehicle") or HOSTILE not in dict(rows_of(page, "standing"))["State held"]:
         yield "the state isn't told as it is"
-    yield from unlike("the row", rows_of(page, "events")[0][2:], [HOSTILE, HOSTILE])
+    yield from unlike("the row", rows_of(page, "events")[0], row_of(0, one, str(10**16)))
     answering(page, 500, {"error": HOSTILE})
     if not submit(page, "table").startswith(f"Status 500, {HOSTILE}: "):
         yield "an error isn't told as it is"
@@ -392,7 +465,7 @@ def heard(nodes):
     for node in nodes:
         if not node["ignored"]:
             named.setdefault(node["role"]["value"], []).append(node.get("name", {}).get("value", ""))
-    wanted = {"textbox": 5, "combobox": 1, "button": 4, "link": 4, "image": 2, "table": 7, "heading": 5, "region": 7}
+    wanted = {"textbox": 5, "checkbox": 1, "combobox": 1, "button": 4, "link": 4, "image": 1, "table": 8, "heading": 5, "region": 8}
     for role, least in wanted.items():
         names = named.get(role, named.get("img", []) if role == "image" else [])
         if len(names) < least or not all(name.strip() for name in names) or len(set(names)) != len(names):
@@ -418,6 +491,7 @@ TEXTS = [one_file, meanings]
 SCREENS = [
     the_page_itself,
     a_vehicle,
+    times_of_a_vehicle,
     a_vehicle_without_events,
     tokens_on_the_page,
     the_table,

@@ -54,10 +54,10 @@ def words_of():
 def words_of_the_unit(program):
     """The words that the unit runs with the environment file are words of the program, and the file sets each name."""
     names, words = variables(), words_of()
-    wanted = ["serve", "--port", names["PORT"], "--each", names["EACH"], "--workers", names["WORKERS"]]
+    wanted = ["serve", "--port", names["PORT"], "--until-stopped", "--workers", names["WORKERS"]]
     if words[:-1] != [*wanted, "--journal"]:
         yield f"{words}, in place of {wanted}, and a journal"
-    with Server(program, int(names["EACH"]), int(names["WORKERS"])):
+    with Server(program, None, int(names["WORKERS"])):
         pass
     queue = re.search(rf"127\.0\.0\.1:{names['PORT']} maxconn ([0-9]+)", (ROOT / "deploy/haproxy.cfg").read_text())
     if not queue or queue.group(1) != names["WORKERS"]:

@@ -20,7 +20,7 @@ LINK = re.compile(r"\]\(([^):\s]+)\)")
 HEADING = re.compile(r"^#+ (.*)$", re.M)
 FILE = re.compile(r"(?:bench|crates|deploy|docs|examples|tests|tools)/[\w./*-]+")
 LISTED = re.compile(r"^`(\w+)::laws`:\n\n((?:- .*\n(?:  .*\n)*)+)", re.M)
-LAW = re.compile(r"`([a-z]+(?:_[a-z]+)+)`")
+LAW = re.compile(r"`([a-z]+(?:_[a-z0-9]+)+)`")
 MOST_LINES = {"README.md": 180}
 """How long a document may be."""
 OF_THE_KIT = {"std"}

@@ -5,9 +5,9 @@ from refusing.wants import made_up_in, source_of
 
 PLANTED = [
     (
-        "mds_book/book.rt",
+        "mds_book/notes.rt",
         "notes.reserve(1)?;",
-        "notes.reserve(1)?; if notes.len() > 131_072 { return Err(AllocError); }",
+        "notes.reserve(1)?; if notes.as_slice().len() > 131_072 { return Err(AllocError); }",
     ),
     (
         "mds_book/book.rt",
@@ -26,8 +26,8 @@ PLANTED = [
     ),
     (
         "mds_shard/vehicle.rt",
-        "let Ok((_, is_new)) = names.insert_full(name)",
-        "let (Ok((_, is_new)), 0..=999) = (names.insert_full(name), names.len())",
+        "let is_new = known.add_event(place, event.id())?;",
+        "if known.events() > 999 { return Err(AllocError); } let is_new = known.add_event(place, event.id())?;",
     ),
     (
         "mds_known/known_vehicles.rt",

@@ -51,7 +51,7 @@ TESTED = {
     ("mds_batch", "test_batches", "events_are_handed_on_after_a_refused_growth"): ["each_event"],
     ("mds_batch", "test_batches", "an_item_is_taken_after_a_refused_growth"): ["TakesItems::take"],
     ("mds_batch", "test_batches", "an_item_is_read_after_a_refused_growth"): ["read_item", "ItemReader::read"],
-    ("mds_batch", "test_batches", "a_stream_is_read_after_a_refused_growth"): ["LineReader::feed", "LineReader::finish"],
+    ("mds_lines", "test_batches", "a_stream_is_read_after_a_refused_growth"): ["LineReader::feed", "LineReader::finish"],
     ("mds_trace", "test_replays", "replay_succeeds_after_a_refused_growth"): ["replay"],
     ("mds_trace", "test_replays", "replay_with_succeeds_after_a_refused_growth"): ["replay_with"],
     ("mds_trace", "test_replays", "items_are_taken_after_a_refused_growth"): ["Replayer::take", "Replayer::finish"],
@@ -115,6 +115,8 @@ WITHIN = {
     "mds_core::EventList::reserve": "mds_trace::print_start",
     "mds_core::EventList::push_ref": "mds_core::EventList::push",
     "mds_past::Pieces::reserve": "mds_past::Past::reserve",
+    "mds_shard::TakesEvents::with_room": "mds_shard::Shard::events",
+    "mds_trace::replay_items_with": "mds_trace::replay_with",
     "mds_known::KnownVehicles::reserve_event": "mds_commands::Roster::take",
     "mds_known::KnownVehicles::add_event": "mds_commands::Roster::take",
     "mds_known::KnownVehicles::put": "mds_commands::Roster::take",
@@ -126,7 +128,7 @@ WITHIN = {
     "mds_follow::Follower::follow_all": "mds_pool::RecordedBook::serve",
     "mds_pool::Recorder::commit": "mds_pool::RecordedBook::serve",
 }
-"""Calls that another call makes, whose test refuses their growths with its own."""
+"""Calls that another call makes, or all of whose work it has done as they do, and whose test refuses their growths with its own."""
 
 QUIET = {
     ("mds_table", "test_rules", "tables_are_told_of_with_every_growth_refused"): [
@@ -231,7 +233,7 @@ QUIET = {
         "Roster::events",
     ],
     ("mds_settle", "test_shards", "lawful_cases_with_every_growth_refused"): ["judge", "judge_lawful", "NoteList::notes"],
-    ("mds_gate", "test_shards", "the_open_gate_is_passed_with_every_growth_refused"): ["Gate::enter", "Gate::leave"],
+    ("mds_io", "test_shards", "the_open_gate_is_passed_with_every_growth_refused"): ["Gate::enter", "Gate::leave"],
     ("mds_book", "test_books", "books_are_told_of_with_every_growth_refused"): [
         "Book::call",
         "Book::shard_of",
@@ -268,7 +270,7 @@ QUIET = {
         "each_event",
         "read_item",
     ],
-    ("mds_batch", "test_batches", "a_stream_begins_with_every_growth_refused"): [
+    ("mds_lines", "test_batches", "a_stream_begins_with_every_growth_refused"): [
         "LineReader::open",
         "LineReader::feed",
         "LineReader::finish",

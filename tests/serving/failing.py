@@ -182,15 +182,14 @@ def end_amid_a_request(program, journal):
 
 def most_workers_over_a_journal(program):
     """As many workers as there may be over a journal: each answers, and a journal tells what they accepted. Each but one is a thread
-    of its own. At the start so is who reads the one piece of the journal. For that piece, and for the empty one before it, so is who
-    asks one of the shards, and who makes the memory ready."""
+    of its own. At the start so is who reads the one piece of the journal. It is empty, so nobody is needed to ask the shards."""
     with tempfile.TemporaryDirectory() as folder, Counting() as counting:
         with Server(program, 1, workers=64, journal=Path(folder, "journal"), env=counting.env) as server:
             yield from talk_over(server, registered(A))
             yield from talk_over(server, look(A, "removed", 0, None))
             yield from server.end()
-        if counting.counts().threads != 63 + 1 + 2 * 2:
-            yield f"{counting.counts().threads} threads were asked for, in place of {63 + 1 + 2 * 2}"
+        if counting.counts().threads != 63 + 1:
+            yield f"{counting.counts().threads} threads were asked for, in place of {63 + 1}"
 
 
 def threads_that_are_wanting(program):

@@ -36,15 +36,16 @@ class NotListening(Unwell):
 
 
 class Server:
-    """A server on a port that was free, with so many connections for each of so many workers. As a context it is taken down
-    where it hasn't ended. Given a port, it listens there. Given a number of open files, or of kilobytes of address space, it can
+    """A server on a port that was free, with so many connections for each of so many workers, or without an end where none are
+    named. As a context it is taken down where it hasn't ended. Given a port, it listens there. Given a number of open files, or of kilobytes of address space, it can
     have no more of them. Given the path of a journal, it serves over that."""
 
     def __init__(
         self, program, each, workers=1, table=None, env=None, open_files=None, address_space=None, port=0, journal=None
     ):
         self.folder = tempfile.TemporaryDirectory()
-        words = [program, "serve", "--port", str(port), "--each", str(each), "--workers", str(workers)]
+        life = ["--until-stopped"] if each is None else ["--each", str(each)]
+        words = [program, "serve", "--port", str(port), *life, "--workers", str(workers)]
         for letter, most in (("n", open_files), ("v", address_space)):
             if most is not None:
                 words = ["sh", "-c", f'ulimit -{letter} {most} && exec "$0" "$@"', *words]
@@ -63,7 +64,7 @@ class Server:
             stderr=self.faults,
             env=env,
         )
-        self.left = each * workers
+        self.left = (each or 0) * workers
         """How many connections it still takes."""
         self.success = 0
         """How many items its answers said to be accepted."""

@@ -1,5 +1,5 @@
 -- How many workers the words ask for.
-use Rattle.std.proofs.Common.{◌≡◌, ℕ, ◌≤◌, List, Option, Some, None, subst, sym}
+use Rattle.std.proofs.Common.{ℕ, ◌≤◌, List, Option, Some, None, subst, sym}
 use Rattle.clap.specs.Words.{Row, Text, subcommand_of}
 use Rattle.mds_args.specs.declared.words.Command.{Command}
 use Rattle.mds_args.specs.declared.words.Command.TheVariants.{Serve, Replay, Debug, Table, Vehicles}

@@ -1,6 +1,6 @@
 -- Lemmas on what the words ask for.
-use Rattle.std.proofs.Common.{◌≡◌, ℕ, List, [], false, inl, inr, sym, ap, ap₂, subst, ◌∙◌, Bor}
-use Rattle.std.specs.Prelude.{IfErr, Option, Result, Ok, Err, true, option_map}
+use Rattle.std.proofs.Common.{◌≡◌, ℕ, List, [], false, inl, inr, sym, ap, ap₂, subst, ◌∙◌, Bor, codes}
+use Rattle.std.specs.Prelude.{IfErr, Option, Some, None, Result, Ok, Err, true, option_map}
 use Rattle.clap.specs.Words.{AddsArg, AddsSubcommand, App, Row, Rule, Text, app_of, fault_of, first_of, first_value, kind_of, rows_of, rule_of, subcommand_of}
 use Rattle.clap.specs.Words.{with_rule, with_subcommand}
 use Rattle.clap.specs.declared.builder.command.Command.{Command}
@@ -12,7 +12,7 @@ use Rattle.clap.specs.declared.parser.matches.Found.{Found}
 use Rattle.clap.proofs.SimpleLemmas.{is_false}
 use Rattle.clap.proofs.WalkLemmas.{both, first_value-rows}
 use Rattle.mds_args.specs.Error.{IsCause, SaysMissing}
-use Rattle.mds_args.specs.Words.{AsksNothing, IsTold, program_app}
+use Rattle.mds_args.specs.Words.{AsksNothing, GoesOn, IsTold, LacksEach, program_app}
 
 -- the text that was read of an argument is the first of its values
 pub text_of_rows : (found : Found) (id : Text) (read : Option (Bor (List ℕ)))
@@ -52,3 +52,8 @@ pub is_memory : {T : Type 0} (A : Type 0) (result : Result T Error) (found : Opt
 is_memory A (Ok command) found says = tt
 is_memory A (Err error) found (inl memory) = λ _ _. memory
 is_memory A (Err error) found (inr (none, missing)) = λ _ asked. absurd (asked none)
+
+-- by both options it isn't told how many connections each worker answers
+pub both_told : (values : List Row) (text : Text) → GoesOn values → first_of (codes "each") values ≡ Some text → LacksEach values
+both_told values text goes_on given (Some each) is = is.1 goes_on
+both_told values text goes_on given None is = let none = is.0 in cc

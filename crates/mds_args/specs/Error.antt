@@ -1,5 +1,5 @@
 -- Why words give no command.
-use Rattle.std.specs.Prelude.{◌≡◌, ◌⊎◌, List, [], Option}
+use Rattle.std.specs.Prelude.{◌≡◌, ◌⊎◌, List, [], Option, Some, None}
 use Rattle.clap.specs.Words.{HasKind, Row, Text, fault_of, kind_of, subcommand_of}
 use Rattle.clap.specs.declared.error.Error.{Error}
 use Rattle.clap.specs.declared.error.kind.ErrorKind.{ErrorKind}
@@ -21,11 +21,16 @@ kind_in other = Mistake
 abbrev pub words_kind : WordsError → WordsErrorKind
 words_kind error = kind_in (kind_of error.cause)
 
+-- the kind of an error that tells what words lack: a command's name, or an argument of a command
+abbrev pub missing_kind : Option (Text × List Row) → ErrorKind
+missing_kind None = kind.MissingSubcommand
+missing_kind (Some found) = kind.MissingRequiredArgument
+
 -- the error says that these are a command's name and values of no command; or memory was refused
 abbrev pub SaysMissing : Option (Text × List Row) → Error → Type 0
 SaysMissing found error =
     (kind_of error ≡ kind.OutOfMemory)
-    ⊎ (AsksNothing found × (kind_of error ≡ kind.MissingSubcommand))
+    ⊎ (AsksNothing found × (kind_of error ≡ missing_kind found))
 
 -- why these words give no command: `clap` finds such a fault in them, or finds none and they ask
 -- for none, which the error says; or memory was refused
@@ -33,7 +38,7 @@ abbrev pub IsCause : List Text → Error → Type 0
 IsCause words error =
     HasKind (fault_of program_app words) error
     ⊎ ((fault_of program_app words ≡ []) × AsksNothing (subcommand_of program_app words)
-    × (kind_of error ≡ kind.MissingSubcommand))
+    × (kind_of error ≡ missing_kind (subcommand_of program_app words)))
 
 -- the error of words has such a cause
 abbrev pub HasCause : List Text → WordsError → Type 0

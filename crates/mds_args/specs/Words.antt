@@ -57,11 +57,15 @@ abbrev pub workers_rule : Text → Rule
 workers_rule number =
     record (number_rule (codes "workers") 1 max_workers) { defaults = number ∷ [] }
 
--- the command `serve`, with its numbers and the options
+-- the option `--each`
+abbrev pub each_rule : Rule
+each_rule = number_rule (codes "each") 0 max_each
+
+-- the command `serve`, with its numbers, the flag and the options
 abbrev pub serve_app : App
 serve_app =
-    with_rule (with_rule (with_rule (with_rule (with_rule (new_app (codes "serve"))
-    (needed_number_rule (codes "port") max_port)) (needed_number_rule (codes "each") max_each))
+    with_rule (with_rule (with_rule (with_rule (with_rule (with_rule (new_app (codes "serve"))
+    (needed_number_rule (codes "port") max_port)) each_rule) (flag_rule (codes "until-stopped")))
     (workers_rule (codes "4"))) table_rule) journal_rule
 
 -- the command `replay`, with its file, the table's option, the flags and the number of workers
@@ -86,11 +90,14 @@ abbrev pub vehicles_app : App
 vehicles_app =
     with_rule (with_rule (new_app (codes "vehicles")) (word_rule (codes "FILE"))) table_rule
 
--- the program with no command yet, which must be given one
+-- the program with no command yet, which must be given one, and with its version
 abbrev pub bare_app : App
 bare_app =
-    record
-    { top = record (new_app (codes "mds_city")).top { subcommand_required = true }; subs = [] }
+    record {
+      top = record (new_app (codes "mds_city")).top
+          { subcommand_required = true; has_version = true };
+      subs = [];
+    }
 
 -- the program with its commands
 abbrev pub program_app : App
@@ -120,12 +127,27 @@ IsNumber least most (Some text) number =
 abbrev pub HasNoNumber : ℕ → ℕ → Option Text → Type 0
 HasNoNumber least most value = (number : ℕ) → IsNumber least most value number → ⊥
 
--- the port's number, the connections of each worker or the number of workers is missing or out of
--- its range
+-- the flag `--until-stopped` is set
+abbrev pub GoesOn : List Row → Type 0
+GoesOn values = first_of (codes "until-stopped") values ≡ Some (codes "true")
+
+-- so many connections each worker answers: as many as `--each` says and the flag isn't set, or the
+-- flag is and `--each` isn't given
+abbrev pub IsEach : List Row → Option ℕ → Type 0
+IsEach values (Some each) =
+    IsNumber 0 max_each (first_of (codes "each") values) each × (GoesOn values → ⊥)
+IsEach values None = (first_of (codes "each") values ≡ None) × GoesOn values
+
+-- neither is so
+abbrev pub LacksEach : List Row → Type 0
+LacksEach values = (each : Option ℕ) → IsEach values each → ⊥
+
+-- the port's number or the number of workers is missing or out of its range, or how many
+-- connections each worker answers isn't told
 abbrev pub LacksNumber : List Row → Type 0
 LacksNumber values =
     HasNoNumber 0 max_port (first_of (codes "port") values)
-    ⊎ HasNoNumber 0 max_each (first_of (codes "each") values)
+    ⊎ LacksEach values
     ⊎ HasNoNumber 1 max_workers (first_of (codes "workers") values)
 
 -- the file is missing, or the number of workers is missing or out of its range
@@ -139,7 +161,7 @@ LacksFileOrWorkers values =
 abbrev pub HasValues : List Row → Command → Type 0
 HasValues values (Serve port each workers table journal) =
     IsNumber 0 max_port (first_of (codes "port") values) port
-    × IsNumber 0 max_each (first_of (codes "each") values) each
+    × IsEach values each
     × IsNumber 1 max_workers (first_of (codes "workers") values) workers
     × (first_of (codes "table") values ≡ option_map (λ path. path.now) table)
     × (first_of (codes "journal") values ≡ option_map (λ path. path.now) journal)

@@ -4,14 +4,15 @@ ghost use Rattle.std.specs.Prelude.{codes, map, IsTrue, IfOk, IfErr, MatchOption
 ghost use Rattle.clap.specs.Words.{App, app_of, fault_of, first_of, found_of, kind_of, new_app, new_rule, rows_of};
 ghost use Rattle.clap.specs.Words.{rule_of, subcommand_of, subcommand_rows_of, takes, with_rule};
 ghost use Rattle.clap.specs.Words.{with_subcommand};
-ghost use Rattle.mds_args.specs.Error.{HasCause, IsCause, SaysMissing, words_kind};
+ghost use Rattle.mds_args.specs.Error.{HasCause, IsCause, SaysMissing, missing_kind, words_kind};
 ghost use Rattle.mds_args.specs.Words.{Asks, AsksNothing, IsAskedBy, AreTaken};
-ghost use Rattle.mds_args.specs.Words.{HasNoNumber, HasValues, IsNumber, IsTold};
-ghost use Rattle.mds_args.specs.Words.{LacksFileOrWorkers, LacksNumber, LacksOneOf};
-ghost use Rattle.mds_args.specs.Words.{name_of, debug_app, flag_rule, long_rule, max_each, max_port, max_workers};
+ghost use Rattle.mds_args.specs.Words.{HasNoNumber, HasValues, IsEach, IsNumber, IsTold};
+ghost use Rattle.mds_args.specs.Words.{LacksEach, LacksFileOrWorkers, LacksNumber, LacksOneOf};
+ghost use Rattle.mds_args.specs.Words.{name_of, debug_app, each_rule, flag_rule, long_rule, max_each, max_port, max_workers};
 ghost use Rattle.mds_args.specs.Words.{needed_number_rule, number_rule, option_rule, program_app, replay_app};
 ghost use Rattle.mds_args.specs.Words.{journal_rule, serve_app, table_app, table_rule, vehicles_app, word_rule, workers_rule};
 
+use crate::VERSION;
 use crate::error::{WordsError, WordsErrorKind};
 use clap::builder::ValueParser;
 use clap::error::ErrorKind;
@@ -26,8 +27,8 @@ pub enum Command<'a> {
     Serve {
         /// The number of the port, or 0 for a free one.
         port: u16,
-        /// How many connections each worker answers.
-        each: usize,
+        /// How many connections each worker answers, or `None` where it goes on until the process is stopped.
+        each: Option<usize>,
         /// How many workers there are, 1 to 64.
         workers: usize,
         /// As for `Replay`.
@@ -79,7 +80,7 @@ pub enum Command<'a> {
 ///
 /// # Errors
 ///
-/// `Help` where the words ask for help, `Mistake` where they don't parse or ask for no command,
+/// `Help` where the words ask for help or for the version, `Mistake` where they don't parse or ask for no command,
 /// `Memory` where there is no memory to read them. `Display` gives the text for the user.
 pub fn parse_words<'a, S: AsStr>(alloc: Global, words: &'a [S]) -> Result<Command<'a>, WordsError>
     ensures ok { IfOk result (IsAskedBy (map S.text words.entry.now)) }
@@ -136,7 +137,20 @@ fn command_or_error<'a>(
 {
     match command_of(matches) {
         Some(command) => Ok(command),
-        None => Err(form.error(ErrorKind::MissingSubcommand, "a command is needed")?),
+        None => Err(missing(form, matches)?),
+    }
+}
+
+/// What is missing where the words ask for no command: one of two options of a command that they name, or its name.
+fn missing<'a>(form: &mut clap::Command<'a>, matches: &ArgMatches<'a>) -> Result<Error, AllocError>
+    ensures { IfOk result (λ error. kind_of error ≡ missing_kind (subcommand_rows_of matches.now)) }
+{
+    match matches.subcommand() {
+        Some(_) => form.error(
+            ErrorKind::MissingRequiredArgument,
+            "one of --each <N> and --until-stopped is needed, and not both",
+        ),
+        None => form.error(ErrorKind::MissingSubcommand, "a command is needed"),
     }
 }
 
@@ -173,8 +187,7 @@ fn command_named<'a>(name: &str, values: &ArgMatches<'a>) -> Option<Command<'a>>
 /// The greatest number of a port: TCP writes it in 16 bits.
 const MAX_PORT: u64 = 65_535;
 
-/// The most connections that each worker may be asked to answer: a server has to end, since it settles
-/// at its end.
+/// The most connections that each worker may be asked to answer, where it is asked for a number.
 const MAX_EACH: u64 = 1_000_000;
 
 /// The most workers. Each of a server takes a seat of the book, which has at most `mds_book::MAX_SEATS` of them, and a
@@ -187,15 +200,29 @@ fn serve_of<'a>(values: &ArgMatches<'a>) -> Option<Command<'a>>
         × HasValues (rows_of (found_of values.now)) command) }
 {
     let port = number_of(values, "port", 0, MAX_PORT)?;
-    let each = number_of(values, "each", 0, MAX_EACH)?;
+    let each = each_of(values)?;
     let workers = workers_of(values)?;
     Some(Command::Serve {
         port: port as u16,
-        each: each as usize,
+        each,
         workers,
         table: values.get_str("table"),
         journal: values.get_str("journal"),
     })
+}
+
+/// How many connections each worker answers, where that is told by one of the two options.
+fn each_of(values: &ArgMatches<'_>) -> Option<Option<usize>>
+    ensures { MatchOption result (LacksEach (rows_of (found_of values.now)))
+        (IsEach (rows_of (found_of values.now))) }
+{
+    if !is_set(values, "until-stopped") {
+        return Some(Some(number_of(values, "each", 0, MAX_EACH)? as usize));
+    }
+    match values.get_str("each") {
+        Some(_) => None,
+        None => Some(None),
+    }
 }
 
 fn workers_of(values: &ArgMatches<'_>) -> Option<usize>
@@ -305,6 +332,7 @@ fn program_form<'a>(alloc: Global) -> Form<'a>
 {
     let form = clap::Command::new(alloc, "mds_city")
         .about("Keeps the states of shared vehicles")
+        .version(VERSION)
         .subcommand_required(true);
     let with_serve = with_command(Ok(form), serve_form(alloc));
     let with_replay = with_command(with_serve, replay_form(alloc));
@@ -344,14 +372,14 @@ fn serve_form<'a>(alloc: Global) -> Form<'a>
         MAX_PORT,
         "The port's number; 0 is a free one",
     );
-    let with_each = with_number(
+    let with_each = with_each(alloc, with_port);
+    let with_until_stopped = with_flag(
         alloc,
-        with_port,
-        "each",
-        MAX_EACH,
-        "How many connections each worker answers",
+        with_each,
+        "until-stopped",
+        "Goes on until the process is stopped, in place of --each",
     );
-    let with_tables = with_table(alloc, with_workers(alloc, with_each, "4"));
+    let with_tables = with_table(alloc, with_workers(alloc, with_until_stopped, "4"));
     with_journal(alloc, with_tables)
 }
 
@@ -451,6 +479,13 @@ fn with_number<'a>(
         form,
         number_option(alloc, name, 0, most, help).required(true),
     )
+}
+
+fn with_each<'a>(alloc: Global, form: Form<'a>) -> Form<'a>
+    ensures { (app : App) → IsTold app form.entry → IsTold (with_rule app each_rule) result }
+{
+    let help = "How many connections each worker answers";
+    with_arg(form, number_option(alloc, "each", 0, MAX_EACH, help))
 }
 
 fn with_workers<'a>(alloc: Global, form: Form<'a>, default: &'a str) -> Form<'a>

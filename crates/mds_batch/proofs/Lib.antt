@@ -9,9 +9,3 @@ pub mod PutLemmas
 pub mod ItemLaws
 pub mod BatchLaws
 pub mod KeptLemmas
--- Of lines.
-pub mod ErrorLemmas
-pub mod LineLemmas
-pub mod FeedLemmas
-pub mod FeedSearch
-pub mod LineLaws

@@ -12,9 +12,4 @@ pub mod Told
 pub mod Kept
 pub mod Listed
 pub mod Laws
--- Of lines.
-pub mod Stream
-pub mod LineReading
-pub mod Fed
-pub mod LineFault
-pub mod LineLaws
+pub mod Texts

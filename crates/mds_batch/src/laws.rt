@@ -1,7 +1,6 @@
-//! What holds of the definitions alone: of items, of batches and of lines, whoever reads them. Each law is a function that does
-//! nothing; its contract is the law.
+//! What holds of the definitions alone: of items and of batches, whoever reads them. Each law is a function that does nothing; its
+//! contract is the law.
 ghost use Rattle.mds_batch.specs.Laws.{FaultsNameTheFirst, FaultyMembersAreTold, VehiclesGoByMembers, EventsGoByMembers, BatchesHaveOneListOfVehicles, BatchesHaveOneListOfEvents, BatchesHaveNoFault, BatchesHaveOneFault};
-ghost use Rattle.mds_batch.specs.LineLaws.{StreamsHaveOneListOfItems, StreamsWithItemsHaveNoFault, StreamsHaveOneFault};
 
 /// A fault that names a member names the first of those asked for that is absent or bad.
 pub fn faults_name_the_first()
@@ -47,19 +46,4 @@ pub fn batches_have_no_fault()
 #[tactic(auto, using(crate::proofs::BatchLaws::batches_have_one_fault))]
 pub fn batches_have_one_fault()
     ensures { BatchesHaveOneFault }
-{}
-
-/// The lines of a stream have one list of items.
-pub fn streams_have_one_list_of_items()
-    ensures { StreamsHaveOneListOfItems }
-{}
-
-/// A stream whose lines have items has no fault, want of memory aside.
-pub fn streams_with_items_have_no_fault()
-    ensures { StreamsWithItemsHaveNoFault }
-{}
-
-/// A stream has one first fault, want of memory aside.
-pub fn streams_have_one_fault()
-    ensures { StreamsHaveOneFault }
 {}

@@ -4,20 +4,24 @@ use Rattle.std.specs.List.{All}
 use mathlib.Core.List.{IsPrefix}
 use Rattle.mds_core.specs.declared.request.Request.{Request}
 use Rattle.mds_table.specs.Tables.{Tables}
+use Rattle.mds_settle.specs.declared.note.Note.{Note}
 use Rattle.mds_log.specs.Log.{Acceptance, requests}
 use Rattle.mds_log.specs.Marks.{Has, HasNot}
 use Rattle.mds_book.specs.Seats.{Seated, accepted_in, seen_in}
-use Rattle.mds_book.specs.Sights.{AreTrue}
+use Rattle.mds_book.specs.Sights.{AreTrue, Sighted}
+use Rattle.mds_book.specs.Notes.{seen_by, told}
 use Rattle.mds_book.specs.Retired.{IsRetired, AreRetired}
 use Rattle.mds_settle.specs.Settled.{IsSettled}
 use Rattle.mds_book.proofs.Trues.{true_longer, requests_prefix, requests_length}
 use Rattle.mds_book.proofs.Retired.{retired_none, retired_more, settled}
 
 -- its mark is handed back, and its notes, true to what it saw of the log, are true to all of it
-pub retired_seat : (tables : Tables) (shard : ℕ) (log front : List Acceptance) (marks left : List ℕ) (mark count : ℕ) (seat : Seated) → HasNot marks mark → Has left mark
-    → IsPrefix marks left → IsPrefix front log → AreTrue tables shard front mark seat.notes count → accepted_in seat shard ≡ count → seen_in seat shard ≡ requests front
-    → IsRetired tables shard log marks seat left
-retired_seat tables shard log front marks left mark count seat fresh here begins seen are counted saw =
+pub retired_seat : (tables : Tables) (shard : ℕ) (log front : List Acceptance) (marks left : List ℕ) (mark count : ℕ) (seat : Seated) (notes : List Note) → HasNot marks mark
+    → Has left mark → IsPrefix marks left → IsPrefix front log → AreTrue tables shard front mark notes count → accepted_in seat shard ≡ count
+    → seen_in seat shard ≡ requests front → seat.notes ≡ notes → IsRetired tables shard log marks seat left
+retired_seat tables shard log front marks left mark count seat notes fresh here begins seen known counted saw told =
+    let Told : List Note → Type 0 = λ w. AreTrue tables shard front mark w count in
+    let are : AreTrue tables shard front mark seat.notes count = subst Told (sym told) known in
     let TrueOf : ℕ → Type 0 = λ n. AreTrue tables shard log mark seat.notes n in
     let BeginsLog : List Request → Type 0 = λ w. IsPrefix w (requests log) in
     record {
@@ -72,3 +76,8 @@ one_moved moved rest all new left one head put same taken before =
 -- all are moved where none is left
 pub all_moved : {X : Type 0} (moved rest all : List X) → rest ≡ [] → moved ++ rest ≡ all → moved ≡ all
 all_moved moved rest all none before = sym (append-nil moved) ∙ (ap (λ w. moved ++ w) (sym none) ∙ before)
+
+-- what is told beside the same sights is the same
+pub told_both : {N : Type 0} (number : N → ℕ) (tells : N → List Request → Note) (kept : List N) (one same other again : Sighted) → one ≡ same → other ≡ again
+    → told number tells (seen_by (requests one.seen) (requests other.seen)) kept ≡ told number tells (seen_by (requests same.seen) (requests again.seen)) kept
+told_both number tells kept one same other again is is_too = λ i. told number tells (seen_by (requests (is i).seen) (requests (is_too i).seen)) kept

@@ -1,5 +1,6 @@
 -- How a copy of a history goes on.
-use Rattle.std.proofs.Common.{◌≡◌, ℕ, zero, suc, ◌+◌, ◌≤◌, ◌⊎◌, inl, inr, List, [], ◌∷◌, ◌++◌, length, take, drop, take-add, refl, ap, sym, ◌∙◌, subst, arith}
+use Rattle.std.proofs.Common.{◌≡◌, ℕ, zero, suc, ◌+◌, ◌≤◌, ◌⊎◌, inl, inr, List, [], ◌∷◌, ◌++◌, length, take, drop, take-add, length-drop, refl, ap, sym, ◌∙◌, subst, arith}
+use Rattle.std.proofs.lemmas.List.{length-take-le}
 use mathlib.Core.List.{IsPrefix}
 use Rattle.mds_table.specs.Tables.{Tables}
 use Rattle.mds_core.specs.declared.request.Request.{Request}
@@ -7,7 +8,7 @@ use Rattle.mds_core.specs.Lawful.{IsLawful}
 use Rattle.mds_log.specs.Log.{Acceptance, requests}
 use Rattle.mds_log.proofs.Lists.{prefix_self, prefix_whole}
 use Rattle.mds_book.specs.Shards.{AreOfShard}
-use Rattle.mds_book.specs.Copying.{Progressed, IsPiece, IsCopied}
+use Rattle.mds_book.specs.Copying.{Progressed, IsPiece, IsCopied, max_piece}
 use Rattle.mds_book.proofs.Trues.{requests_prefix, requests_length}
 
 -- so many of the first are as before where the list is longer
@@ -19,6 +20,19 @@ take_longer (suc n) (x ∷ xs) (y ∷ ys) begins within =
     let rest = take_longer n xs ys (begins.0, cc (begins.1)) (omega arith) in
     let heads : y ≡ x = cc (begins.1) in
     cc (heads, rest)
+
+-- so many from a place on are a piece
+pub piece_of : (from size : ℕ) (history : List Request) → from + size ≤ length history → size ≤ max_piece → (size ≡ 0 → from ≡ length history)
+    → IsPiece from history (take size (drop from history)) × (length (take size (drop from history)) ≡ size)
+piece_of from size history within short none =
+    let many : length (take size (drop from history)) ≡ size = length-take-le size (drop from history) (omega (arith, within, length-drop from history)) in (
+      record {
+        here = ap (λ n. take n (drop from history)) (sym many);
+        short = omega (arith, short, many);
+        none = λ empty. none (sym many ∙ ap length empty);
+      },
+      many,
+    )
 
 -- a piece that follows what was copied
 pub copied_more : (seen longer piece : List Request) (from count : ℕ) → IsPrefix seen longer → from ≤ length seen → IsPiece from longer piece → count ≡ from + length piece

@@ -3,6 +3,7 @@ pub mod Apart
 pub mod Trues
 pub mod Once
 pub mod Retired
+pub mod NotesTold
 pub mod Called
 pub mod Listed
 pub mod Accounts

@@ -68,10 +68,18 @@ listed_second tables same old new log longer key found is here looked saw sees_n
       second_turns = turn i;
     })
 
--- notes stay true where the seat has seen more, and keeps its mark and its count
-pub true_seen : (tables : Tables) (number : ℕ) (log longer : List Acceptance) (mark same : ℕ) (notes : List Note) (count counted : ℕ)
-    → AreTrue tables number log mark notes count → IsPrefix log longer → same ≡ mark → counted ≡ count → AreTrue tables number longer same notes counted
-true_seen tables number log longer mark same notes count counted are begins marked is =
+-- notes that are told the same stay true
+pub true_same : (tables : Tables) (number : ℕ) (log : List Acceptance) (mark : ℕ) (notes more : List Note) (count : ℕ)
+    → AreTrue tables number log mark notes count → more ≡ notes → AreTrue tables number log mark more count
+true_same tables number log mark notes more count are told =
+    let Told : List Note → Type 0 = λ w. AreTrue tables number log mark w count in
+    subst Told (sym told) are
+
+-- and where the seat has seen more, and keeps its mark and its count
+pub true_seen : (tables : Tables) (number : ℕ) (log longer : List Acceptance) (mark same : ℕ) (notes more : List Note) (count counted : ℕ)
+    → AreTrue tables number log mark notes count → IsPrefix log longer → same ≡ mark → counted ≡ count → more ≡ notes → AreTrue tables number longer same more counted
+true_seen tables number log longer mark same notes more count counted are begins marked is told =
+    let still : AreTrue tables number longer mark notes count = true_longer tables number log longer mark notes count begins are in
     let Marked : ℕ → Type 0 = λ m. AreTrue tables number longer m notes count in
     let Counted : ℕ → Type 0 = λ n. AreTrue tables number longer same notes n in
-    subst Counted (sym is) (subst Marked (sym marked) (true_longer tables number log longer mark notes count begins are))
+    true_same tables number longer same notes more counted (subst Counted (sym is) (subst Marked (sym marked) still)) told

@@ -1,6 +1,8 @@
 pub use Rattle.mds_core.specs.Machine
 pub mod Shards
 pub mod Seats
+pub mod Notes
+pub mod NotePlaces
 pub mod Books
 pub mod Copying
 pub mod Listing

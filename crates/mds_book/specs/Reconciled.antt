@@ -10,8 +10,8 @@ use Rattle.mds_book.specs.Settling.{AreBeginnings, IsSettledBook}
 -- settled, where all seats of the book are handed in, and what each saw of a shard is a beginning
 -- of what the shard holds; the book and the seats back, where the seats aren't all. That notes
 -- don't fit never comes
-abbrev pub IsReconciled : {X Y : Type 0} → Opened
-    → List Seated → Result Collected (SettleFault X Y) → Type 0
+abbrev pub IsReconciled : {X Y V W P Q : Type 0} → Opened
+    → List Seated → Result Collected (SettleFault X Y V W P Q) → Type 0
 IsReconciled book seats (Ok all) =
     (length seats ≡ book.seats) × IsGathered book seats all × IsSettledBook all × AreBeginnings all
 IsReconciled book seats (Err (Missing left handed)) =

@@ -1,5 +1,6 @@
 -- A book that is filled again with requests that were accepted before.
 use Rattle.std.specs.Prelude.{◌≡◌, ◌⊎◌, ◌≤◌, ◌++◌, ◌∷◌, [], ℕ, List, All, length, Result, OnOk, IfErr}
+use mathlib.Core.List.{IsPrefix}
 use Rattle.mds_table.specs.Tables.{Tables}
 use Rattle.mds_core.specs.declared.request.Request.{Request}
 use Rattle.mds_core.specs.History.{key_of}
@@ -11,6 +12,7 @@ use Rattle.mds_book.specs.declared.refilling.RefillFault.TheVariants.{Refused}
 use Rattle.mds_book.specs.Shards.{shard_of, part}
 use Rattle.mds_book.specs.Seats.{Seated}
 use Rattle.mds_book.specs.Sights.{AreTrue}
+use Rattle.mds_book.specs.Notes.{AreWithin, told}
 
 -- all that the seat has seen of the shards it asked itself
 pub record HasAll (seat : Seated) : Type 0 where
@@ -45,6 +47,17 @@ IsRefusedAt tables seat requests at =
 abbrev pub AreNotesOf : ℕ → List Note → Type 0
 AreNotesOf number notes = All (λ note. note.shard ≡ number) notes
 
+-- what kept notes of one shard tell, beside what was seen of its log
+abbrev pub told_of : {N : Type 0} → (N → ℕ) → (N → List Request → Note) → List Acceptance → List N
+    → List Note
+told_of number tells log kept = told number tells (λ _. requests log) kept
+
+-- kept notes are of the shard of this number, and what was seen of its log is enough to tell them
+pub record AreKeptOf {N : Type 0} (number : N → ℕ) (is_within : N → List Request → Type 0)
+    (shard : ℕ) (log : List Acceptance) (kept : List N) : Type 0 where
+  pub of_shard : All (λ note. number note ≡ shard) kept
+  pub within : AreWithin number is_within (λ _. requests log) kept
+
 -- whatever was noted before: with `ones` behind it the notes were true to what was seen of a shard,
 -- and with `more` they are true to what is seen now
 abbrev pub StayTrue : Tables → ℕ → ℕ → List Acceptance → ℕ → List Note → List Acceptance → ℕ
@@ -58,6 +71,7 @@ StayTrue tables number mark old count ones new grown more =
 pub record IsAsked (tables : Tables) (number mark : ℕ) (old : List Acceptance) (count : ℕ)
     (told : List Request) (new : List Acceptance) (grown : ℕ) (notes : List Note)
     (asked : Result (Unit {0}) RefillStop) : Type 0 where
+  pub begins : IsPrefix old new
   pub stay : StayTrue tables number mark old count [] new grown notes
   pub of_shard : AreNotesOf number notes
   pub few : length notes ≤ length (part number told)

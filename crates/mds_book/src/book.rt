@@ -1,5 +1,5 @@
 //! The shards under their locks, and the calls that take them.
-ghost use Rattle.std.specs.Prelude.{◌≡◌, ◌↔◌, ◌<◌, ◌≤◌, ◌+◌, ◌++◌, ◌||◌, true, false, Err, Some, replicate, vec_len, vec_capacity, IsOk, IfOk, OnOk, OnErr, option_map};
+ghost use Rattle.std.specs.Prelude.{◌≡◌, ◌↔◌, ◌<◌, ◌≤◌, ◌+◌, ◌++◌, ◌^◌, true, false, Err, Some, replicate, vec_len, vec_capacity, IsOk, IfOk, OnOk, OnErr, option_map};
 ghost use Rattle.std.specs.Fn.{FnOnceReturnsAt};
 ghost use mathlib.Core.List.{IsPrefix};
 ghost use Rattle.mds_core.specs.History.{key_of, requests_of};
@@ -15,15 +15,14 @@ ghost use Rattle.mds_log.specs.Log.{requests};
 
 use crate::gathered::Account;
 use crate::listing::{events_in, list_in};
-use crate::pieces::TakesPieces;
+use crate::notes::{make_room, note_call};
 use crate::seat::Parts;
 use crate::settling::{Closing, count_all, retire_all};
 use crate::slot::shard_of;
 use crate::{Blank, Copies, Gathered, Keep, Part, Progress, Seat, ShardLedger, Slot};
-use mds_core::{Event, EventList, Key, Outcome, Reply, Request};
+use mds_core::{Event, EventList, Key, Reply, Request};
 use mds_log::{Front, Marks};
-use mds_settle::Note;
-use mds_shard::Shard;
+use mds_shard::{Shard, TakesEvents};
 use mds_table::Tables;
 use std::alloc::{AllocError, Global};
 use std::error::Error;
@@ -107,6 +106,7 @@ fn seats_of<L: ShardLedger, M: ShardLedger>(
 ) -> Result<Vec<Seat<L, M>>, AllocError>
     requires first { first.old.share.parts ≡ count }
     requires second { second.old.share.parts ≡ count }
+    requires keep { keeps_all keep ≡ true → L.Note.notes_all ≡ true }
     ensures { IfOk result (λ seats. seats.items ≡ replicate count (new_seat (keeps_all keep))) }
 {
     let mut seats = Vec::with_capacity(alloc, count)?;
@@ -145,6 +145,7 @@ fn places_of<L: ShardLedger, M: ShardLedger>(
 ) -> Result<(Vec<Seat<L, M>>, Vec<Account<L, M>>), AllocError>
     requires first { first.old.share.parts ≡ count }
     requires second { second.old.share.parts ≡ count }
+    requires keep { keeps_all keep ≡ true → L.Note.notes_all ≡ true }
     ensures seats { IfOk result (λ places.
         places.0.items ≡ replicate count (new_seat (keeps_all keep))) }
     ensures empty { IfOk result (λ places. vec_len places.1 ≡ 0) }
@@ -169,45 +170,13 @@ pub(crate) fn step_in<R: Wait, L: ShardLedger, const N: usize>(
     ensures count { IfOk result (λ reply.
         part.new.count ≡ part.old.count + count_of reply.outcome) }
     ensures place { IfOk result (λ reply. part.old.count ≤ reply.place) }
+    ensures room { IfOk result (λ reply. reply.place < 2 ^ 63) }
     ensures mark { part.new.mark ≡ part.old.mark }
     ensures count_unchanged { OnErr result (part.new.count ≡ part.old.count) }
     ensures sight_unchanged { OnErr result (part.new.sight ≡ part.old.sight) }
     ensures look { is_look request.now ≡ true → IsOk result }
 {
     slot.lock(rt).step(part, request)
-}
-
-pub(crate) fn make_room(notes: &mut Vec<Note>, may_note: bool) -> Result<(), AllocError>
-    ensures items { notes.new.items ≡ notes.old.items }
-    ensures room { IsOk result → may_note ≡ true → vec_len notes.new < vec_capacity notes.new }
-    ensures none { may_note ≡ false → IsOk result }
-{
-    if may_note {
-        notes.reserve(1)?;
-    }
-    Ok(())
-}
-
-pub(crate) fn note_call(
-    notes: &mut Vec<Note>,
-    keeps_all: bool,
-    shard: usize,
-    request: &Request,
-    reply: &Reply,
-)
-    requires shard { shard ≡ number_of (key_of request.now) }
-    requires room { (keeps_all || outcome_is_done reply.now.outcome) ≡ true
-        → vec_len notes.old < vec_capacity notes.old }
-    ensures { notes.new.items ≡ notes.old.items ++ notes_of_call keeps_all request.now reply.now }
-{
-    if !keeps_all && !is_done(reply) {
-        return;
-    }
-    notes.push_reserved(Note {
-        shard,
-        request: *request,
-        reply: *reply,
-    });
 }
 
 fn copy_in<R: Wait, L: ShardLedger, const N: usize>(
@@ -236,7 +205,7 @@ fn has_copied_in<R: Wait, L: ShardLedger, const N: usize>(
     slot.lock(rt).has_copied(seen, progress, key)
 }
 
-fn with_slot<R: Wait, L: ShardLedger, const N: usize, X, F: FnOnce(&Shard) -> X>(
+fn with_slot<R: Wait, L: ShardLedger<Form = Request>, const N: usize, X, F: FnOnce(&Shard) -> X>(
     rt: &R,
     slot: &Mutex<Slot<L, N>>,
     f: F,
@@ -249,7 +218,8 @@ fn with_slot<R: Wait, L: ShardLedger, const N: usize, X, F: FnOnce(&Shard) -> X>
 
 impl<L: ShardLedger, M: ShardLedger> Book<L, M> {
     /// A book over the tables with nothing accepted, and its seats, 1 to [`MAX_SEATS`], which were told nothing. What each
-    /// shard is opened from is handed in blank, with a part for each seat. Each shard hashes by the hasher in its place.
+    /// shard is opened from is handed in blank, with a part for each seat. Each shard hashes by the hasher in its place. Where the
+    /// seats keep their notes in a form that tells accepted calls alone, they can keep no others.
     ///
     /// # Errors
     ///
@@ -271,6 +241,7 @@ impl<L: ShardLedger, M: ShardLedger> Book<L, M> {
         requires first_log { (first.log ≡ L.log) × (first.marks ≡ L.marks) }
         requires second_log { (second.log ≡ M.log) × (second.marks ≡ M.marks) }
         requires tables { (tables ≡ L.tables) × (tables ≡ M.tables) }
+        requires keep { keeps_all keep ≡ true → L.Note.notes_all ≡ true }
         ensures book { IfOk result (λ opened.
             opened.0 ≡ record { tables = tables; seats = seats }) }
         ensures seats { IfOk result (λ opened.
@@ -302,6 +273,7 @@ impl<L: ShardLedger, M: ShardLedger> Book<L, M> {
         requires second_log { (second.log ≡ M.log) × (second.marks ≡ M.marks) }
         requires tables { (tables ≡ L.tables) × (tables ≡ M.tables) }
         requires some { 0 < seats }
+        requires keep { keeps_all keep ≡ true → L.Note.notes_all ≡ true }
         ensures book { IfOk result (λ opened.
             opened.0 ≡ record { tables = tables; seats = seats }) }
         ensures seats { IfOk result (λ opened.
@@ -336,6 +308,7 @@ impl<L: ShardLedger, M: ShardLedger> Book<L, M> {
         requires second { (others.share.parts ≡ seats) × (M.parts ≡ seats) }
         requires tables { (tables ≡ L.tables) × (tables ≡ M.tables) }
         requires some { 0 < seats }
+        requires keep { keeps_all keep ≡ true → L.Note.notes_all ≡ true }
         ensures book { IfOk result (λ opened.
             opened.0 ≡ record { tables = tables; seats = seats }) }
         ensures seats { IfOk result (λ opened.
@@ -515,7 +488,7 @@ impl<L: ShardLedger, M: ShardLedger> Book<L, M> {
         self.list_for(rt, alloc, seat, key)
     }
 
-    fn list_for<R: Wait, E: TakesPieces>(
+    fn list_for<R: Wait, E: TakesEvents>(
         &self,
         rt: &R,
         alloc: Global,
@@ -533,7 +506,7 @@ impl<L: ShardLedger, M: ShardLedger> Book<L, M> {
         }
     }
 
-    fn list_first<R: Wait, E: TakesPieces>(
+    fn list_first<R: Wait, E: TakesEvents>(
         &self,
         rt: &R,
         alloc: Global,
@@ -545,11 +518,13 @@ impl<L: ShardLedger, M: ShardLedger> Book<L, M> {
             (option_map E.events found) seat.new) }
         ensures unchanged { OnErr result (seat.new ≡ seat.old) }
     {
+        // This call's contract says that they tell the same where the seat has seen more.
+        seat.notes.tell();
         let found = list_in(rt, alloc, &self.first, &mut seat.first, key)?;
         Ok(found)
     }
 
-    fn list_second<R: Wait, E: TakesPieces>(
+    fn list_second<R: Wait, E: TakesEvents>(
         &self,
         rt: &R,
         alloc: Global,
@@ -561,6 +536,8 @@ impl<L: ShardLedger, M: ShardLedger> Book<L, M> {
             (option_map E.events found) seat.new) }
         ensures unchanged { OnErr result (seat.new ≡ seat.old) }
     {
+        // This call's contract says that they tell the same where the seat has seen more.
+        seat.notes.tell();
         let found = list_in(rt, alloc, &self.second, &mut seat.second, key)?;
         Ok(found)
     }
@@ -613,10 +590,36 @@ impl<L: ShardLedger, M: ShardLedger> Book<L, M> {
             (requests_of (copied_in first.now second.now (number_of key.now)) key.now) }
     {
         if shard_of(key) == 0 {
-            has_copied_in(rt, &self.first, seat.first.sight.front(), first, key)
+            self.has_copied_first(rt, seat, key, first)
         } else {
-            has_copied_in(rt, &self.second, seat.second.sight.front(), second, key)
+            self.has_copied_second(rt, seat, key, second)
         }
+    }
+
+    fn has_copied_first<R: Wait>(
+        &self,
+        rt: &R,
+        seat: &Seat<L, M>,
+        key: &Key,
+        first: &Progress<L>,
+    ) -> bool
+        ensures { result ≡ true → IsPrefix (requests_of seat.now.first_seen key.now)
+            (requests_of (copied_requests first.now) key.now) }
+    {
+        has_copied_in(rt, &self.first, seat.first.sight.front(), first, key)
+    }
+
+    fn has_copied_second<R: Wait>(
+        &self,
+        rt: &R,
+        seat: &Seat<L, M>,
+        key: &Key,
+        second: &Progress<M>,
+    ) -> bool
+        ensures { result ≡ true → IsPrefix (requests_of seat.now.second_seen key.now)
+            (requests_of (copied_requests second.now) key.now) }
+    {
+        has_copied_in(rt, &self.second, seat.second.sight.front(), second, key)
     }
 
     /// Opens the locks of a book all of whose seats are handed in, and takes the seats back.
@@ -648,7 +651,9 @@ impl<L: ShardLedger, M: ShardLedger> Book<L, M> {
         gathered.tell();
         gathered
     }
+}
 
+impl<L: ShardLedger<Form = Request>, M: ShardLedger<Form = Request>> Book<L, M> {
     /// What a function answers on the shard of this number, while it is locked. It waits for the shard's lock; a call on
     /// the same shard from within the function may wait for ever.
     pub fn with_shard<R: Wait, X, F: FnOnce(&Shard) -> X>(&self, rt: &R, shard: usize, f: F) -> X
@@ -662,10 +667,4 @@ impl<L: ShardLedger, M: ShardLedger> Book<L, M> {
             with_slot(rt, &self.second, f)
         }
     }
-}
-
-fn is_done(reply: &Reply) -> bool
-    ensures { result ≡ outcome_is_done reply.now.outcome }
-{
-    matches!(reply.outcome, Outcome::Done)
 }

@@ -1,7 +1,9 @@
 //! Requests that were copied, in room that is used again.
-ghost use Rattle.std.specs.Prelude.{◌≡◌, ◌<◌, ◌++◌, ◌∷◌, [], vec_len, OnOk, OnErr};
+ghost use Rattle.std.specs.Prelude.{◌≡◌, ◌<◌, ◌≤◌, ◌+◌, ◌++◌, ◌∷◌, ◌^◌, [], Some, length, slice_get, take, drop, OnOk, OnErr};
+ghost use Rattle.mds_core.specs.declared.request.Request.{Request as Requested};
 
 use mds_core::Request;
+use mds_past::{KeptForm, Past};
 use std::alloc::{AllocError, Global};
 use std::marker::Model;
 
@@ -51,40 +53,36 @@ impl Copies {
         self.count = 0;
     }
 
-    fn push(&mut self, request: &Request) -> Result<(), AllocError>
-        ensures pushed { OnOk result (self.new ≡ self.old ++ request.now ∷ []) }
+    /// Copies the request at this place of a past.
+    fn push<K: KeptForm>(&mut self, past: &Past<K>, at: usize) -> Result<(), AllocError>
+        requires { at < length past.now.requests }
+        ensures pushed { OnOk result ((request : Requested)
+            × (slice_get past.now.requests at ≡ Some request)
+            × (self.new ≡ self.old ++ request ∷ [])) }
         ensures unchanged { OnErr result (self.new ≡ self.old) }
     {
         if self.count == self.room.len() {
-            self.room.push(*request)?;
-        } else {
-            assign(&mut self.room[self.count], request);
+            self.room.push(Request::Look(*past.key(at)))?;
         }
+        past.copy_to(at, &mut self.room[self.count]);
         self.count += 1;
         Ok(())
     }
 
-    /// Where there is no memory, some of them may have been added.
-    pub(crate) fn extend(&mut self, requests: &[Request]) -> Result<(), AllocError>
-        ensures { OnOk result (self.new ≡ self.old ++ requests.now) }
+    /// Copies so many requests of a past, from this place on. Where there is no memory, some of them may have been added.
+    pub(crate) fn take<K: KeptForm>(
+        &mut self,
+        past: &Past<K>,
+        from: usize,
+        size: usize,
+    ) -> Result<(), AllocError>
+        requires within { from + size ≤ length past.now.requests }
+        requires small { from + size < 2 ^ 64 }
+        ensures { OnOk result (self.new ≡ self.old ++ take size (drop from past.now.requests)) }
     {
-        for request in requests {
-            self.push(request)?;
+        for done in 0..size {
+            self.push(past, from + done)?;
         }
         Ok(())
-    }
-}
-
-/// Of an event only what it has of its own is copied.
-fn assign(request: &mut Request, other: &Request)
-    ensures { request.new ≡ other.now }
-{
-    let Request::Report(event) = other else {
-        *request = *other;
-        return;
-    };
-    match request {
-        Request::Report(before) => before.assign_from(event),
-        _ => *request = Request::Report(*event),
     }
 }

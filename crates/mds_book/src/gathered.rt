@@ -5,6 +5,7 @@ ghost use Rattle.mds_book.specs.Gathering.{IsWhole, history_of, notes_of};
 ghost use Rattle.mds_book.specs.Settling.{AreBeginnings, IsSettledBook};
 ghost use mathlib.Core.List.{IsPrefix};
 
+use crate::notes::Notes;
 use crate::{Progress, ShardLedger, Sight, Slot};
 use mds_core::Request;
 use mds_settle::Note;
@@ -16,7 +17,7 @@ use std::marker::Model;
 pub(crate) struct Account<L: ShardLedger, M: ShardLedger> {
     pub(crate) first: u64,
     pub(crate) second: u64,
-    pub(crate) notes: Vec<Note>,
+    pub(crate) notes: Notes<L::Note>,
     pub(crate) keeps_all: bool,
     pub(crate) first_sight: Sight<L>,
     pub(crate) second_sight: Sight<M>,
@@ -25,19 +26,30 @@ pub(crate) struct Account<L: ShardLedger, M: ShardLedger> {
 impl<L: ShardLedger, M: ShardLedger> Model for Account<L, M> {
     ghost use Rattle.mds_log.specs.Log.{requests};
     ghost use Rattle.mds_book.specs.Seats.{Seated};
+    ghost use Rattle.mds_book.specs.Notes.{seen_by, told};
 
     ghost Value = { Seated };
 
     ghost view = { λ account. record {
       first = account.first;
       second = account.second;
-      notes = account.notes.items;
+      notes = told L.Note.number L.Note.tells
+          (seen_by (requests account.first_sight.seen) (requests account.second_sight.seen))
+          account.notes.list;
       keeps_all = account.keeps_all;
       first_seen = requests account.first_sight.seen;
       second_seen = requests account.second_sight.seen;
       first_turns = account.first_sight.turns;
       second_turns = account.second_sight.turns;
     } };
+}
+
+impl<L: ShardLedger<Note = Note>, M: ShardLedger> Account<L, M> {
+    fn notes(&self) -> &[Note]
+        ensures { result.now ≡ self.now.notes }
+    {
+        self.notes.as_slice()
+    }
 }
 
 /// The histories of both shards, and the notes of all seats, with nothing judged. What the seats counted is what the
@@ -106,27 +118,6 @@ impl<L: ShardLedger, M: ShardLedger> Model for Settled<L, M> {
 }
 
 impl<L: ShardLedger, M: ShardLedger> Gathered<L, M> {
-    /// What the shard of this number accepted, in its order, or `None` for a shard that isn't there.
-    pub fn history(&self, shard: usize) -> Option<&[Request]>
-        ensures { option_copied result ≡ history_of self.now shard }
-    {
-        match shard {
-            0 => Some(self.first.shard().history()),
-            1 => Some(self.second.shard().history()),
-            _ => None,
-        }
-    }
-
-    /// The notes of the seat that was handed in at this place, in their order, or `None` where there was no such seat.
-    pub fn notes(&self, seat: usize) -> Option<&[Note]>
-        ensures { option_copied result ≡ notes_of self.now seat }
-    {
-        match self.seats.get(seat) {
-            Some(account) => Some(account.notes.as_slice()),
-            None => None,
-        }
-    }
-
     /// The tables of the book.
     pub fn tables(&self) -> &Tables
         ensures { result.now ≡ self.now.tables }
@@ -151,20 +142,6 @@ impl<L: ShardLedger, M: ShardLedger> Settled<L, M> {
         ensures { result ≡ gathered }
     {
         Settled { gathered }
-    }
-
-    /// What the shard of this number accepted, in its order, or `None` for a shard that isn't there.
-    pub fn history(&self, shard: usize) -> Option<&[Request]>
-        ensures { option_copied result ≡ history_of self.now shard }
-    {
-        self.gathered.history(shard)
-    }
-
-    /// The notes of the seat that was handed in at this place, in their order, or `None` where there was no such seat.
-    pub fn notes(&self, seat: usize) -> Option<&[Note]>
-        ensures { option_copied result ≡ notes_of self.now seat }
-    {
-        self.gathered.notes(seat)
     }
 
     /// The tables of the book.
@@ -193,5 +170,48 @@ impl<L: ShardLedger, M: ShardLedger> Settled<L, M> {
     {
         self.gathered.tell();
         self.gathered.first.shard().len() as u128 + self.gathered.second.shard().len() as u128
+    }
+}
+
+impl<L: ShardLedger<Note = Note>, M: ShardLedger> Gathered<L, M> {
+    /// The notes of the seat that was handed in at this place, in their order, or `None` where there was no such seat.
+    pub fn notes(&self, seat: usize) -> Option<&[Note]>
+        ensures { option_copied result ≡ notes_of self.now seat }
+    {
+        match self.seats.get(seat) {
+            Some(account) => Some(account.notes()),
+            None => None,
+        }
+    }
+}
+
+impl<L: ShardLedger<Note = Note>, M: ShardLedger> Settled<L, M> {
+    /// The notes of the seat that was handed in at this place, in their order, or `None` where there was no such seat.
+    pub fn notes(&self, seat: usize) -> Option<&[Note]>
+        ensures { option_copied result ≡ notes_of self.now seat }
+    {
+        self.gathered.notes(seat)
+    }
+}
+
+impl<L: ShardLedger<Form = Request>, M: ShardLedger<Form = Request>> Gathered<L, M> {
+    /// What the shard of this number accepted, in its order, or `None` for a shard that isn't there.
+    pub fn history(&self, shard: usize) -> Option<&[Request]>
+        ensures { option_copied result ≡ history_of self.now shard }
+    {
+        match shard {
+            0 => Some(self.first.shard().history()),
+            1 => Some(self.second.shard().history()),
+            _ => None,
+        }
+    }
+}
+
+impl<L: ShardLedger<Form = Request>, M: ShardLedger<Form = Request>> Settled<L, M> {
+    /// What the shard of this number accepted, in its order, or `None` for a shard that isn't there.
+    pub fn history(&self, shard: usize) -> Option<&[Request]>
+        ensures { option_copied result ≡ history_of self.now shard }
+    {
+        self.gathered.history(shard)
     }
 }

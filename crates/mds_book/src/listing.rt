@@ -1,11 +1,10 @@
 //! A list of a vehicle's events. It is copied in pieces, between which the shard's lock is free: a long one keeps no other caller
 //! waiting. A history only grows, so what is copied later is what was there when the list began.
-ghost use Rattle.std.specs.Prelude.{◌≡◌, ◌≤◌, ◌++◌, List, None, Some, IfOk, IfNone, IfSome, OnErr, option_map, vec_capacity};
+ghost use Rattle.std.specs.Prelude.{◌≡◌, ◌≤◌, ◌+◌, None, Some, length, IfOk, IfNone, IfSome, OnErr, option_map};
 ghost use mathlib.Core.List.{IsPrefix};
 ghost use Rattle.mds_core.specs.declared.key.Key.{Key as Told};
 ghost use Rattle.mds_core.specs.Lawful.{IsLawful};
 ghost use Rattle.mds_core.specs.Machine.{events_in as events_told};
-ghost use Rattle.mds_core.specs.Reported.{Reported};
 ghost use Rattle.mds_log.specs.Log.{requests};
 ghost use Rattle.mds_shard.specs.Walk.{IsWalkOf, steps_left};
 ghost use Rattle.mds_book.specs.Shards.{shard_of as number_of, AreOfShard};
@@ -13,11 +12,11 @@ ghost use Rattle.mds_book.specs.Sights.{IsSeenWhole, next_turn};
 ghost use Rattle.mds_book.specs.Books.{GivesEvents};
 ghost use Rattle.mds_book.specs.Listing.{IsBegun};
 
-use crate::pieces::TakesPieces;
 use crate::{Part, ShardLedger, Slot};
-use mds_core::{Event, Key};
+use mds_core::Key;
 use mds_log::Front;
-use mds_shard::{MAX_STEPS, Shard};
+use mds_past::KeptForm;
+use mds_shard::{MAX_STEPS, Shard, TakesEvents};
 use std::alloc::{AllocError, Global};
 use std::sync::{Mutex, Wait};
 
@@ -26,15 +25,13 @@ use std::sync::{Mutex, Wait};
 struct Listing<E> {
     /// The place of the vehicle's last request.
     last: usize,
-    /// Room for all its events.
+    /// Room for all its events, and for a piece more.
     events: E,
-    /// Room for a piece of them.
-    piece: Vec<Event>,
 }
 
-fn begin<E: TakesPieces>(
+fn begin<K: KeptForm, E: TakesEvents>(
     alloc: Global,
-    shard: &Shard,
+    shard: &Shard<K>,
     key: &Key,
 ) -> Result<Option<Listing<E>>, AllocError>
     ensures some { IfOk result
@@ -45,16 +42,17 @@ fn begin<E: TakesPieces>(
     let Some(start) = shard.walk_start(key) else {
         return Ok(None);
     };
-    let events = E::with_room(alloc, start.events)?;
-    let piece = Vec::with_capacity(alloc, MAX_STEPS)?;
+    let Some(room) = start.events.checked_add(MAX_STEPS) else {
+        return Err(AllocError);
+    };
+    let events = E::with_room(alloc, room)?;
     Ok(Some(Listing {
         last: start.last,
         events,
-        piece,
     }))
 }
 
-fn begin_seen<R: Wait, L: ShardLedger, E: TakesPieces, const N: usize>(
+fn begin_seen<R: Wait, L: ShardLedger, E: TakesEvents, const N: usize>(
     rt: &R,
     alloc: Global,
     slot: &Mutex<Slot<L, N>>,
@@ -81,7 +79,7 @@ fn begin_seen<R: Wait, L: ShardLedger, E: TakesPieces, const N: usize>(
 }
 
 /// For no seat: it shows a front of its own what the shard has accepted.
-fn begin_unseated<R: Wait, L: ShardLedger, E: TakesPieces, const N: usize>(
+fn begin_unseated<R: Wait, L: ShardLedger, E: TakesEvents, const N: usize>(
     rt: &R,
     alloc: Global,
     slot: &Mutex<Slot<L, N>>,
@@ -100,27 +98,26 @@ fn begin_unseated<R: Wait, L: ShardLedger, E: TakesPieces, const N: usize>(
 }
 
 /// Copies the next piece of a list, from this place on, and answers the place where the list goes on, if it does.
-fn copy_piece<R: Wait, L: ShardLedger, const N: usize>(
+fn copy_piece<R: Wait, L: ShardLedger, E: TakesEvents, const N: usize>(
     rt: &R,
     slot: &Mutex<Slot<L, N>>,
     seen: &Front<L>,
     from: usize,
-    piece: &mut Vec<Event>,
+    events: &mut E,
 ) -> Option<usize>
-    requires from { (key : Told) × (found : List Reported)
-        × IsWalkOf (requests seen.now) key (Some from) found }
-    requires room { MAX_STEPS ≤ vec_capacity piece.old }
-    ensures walk { (key : Told) (found : List Reported)
-        → IsWalkOf (requests seen.now) key (Some from) found
-        → IsWalkOf (requests seen.now) key result (found ++ piece.new.items) }
+    requires from { (key : Told)
+        × IsWalkOf (requests seen.now) key (Some from) (E.events events.old) }
+    requires room { MAX_STEPS ≤ E.room events.old }
+    ensures walk { (key : Told) → IsWalkOf (requests seen.now) key (Some from) (E.events events.old)
+        → IsWalkOf (requests seen.now) key result (E.events events.new) }
     ensures nears { steps_left result ≤ from }
-    ensures capacity { vec_capacity piece.old ≤ vec_capacity piece.new }
+    ensures room { E.room events.old + length (E.events events.old)
+        ≤ E.room events.new + length (E.events events.new) }
 {
-    piece.clear();
-    slot.lock(rt).walk_back(seen, from, piece)
+    slot.lock(rt).walk_back(seen, from, events)
 }
 
-fn finish<R: Wait, L: ShardLedger, E: TakesPieces, const N: usize>(
+fn finish<R: Wait, L: ShardLedger, E: TakesEvents, const N: usize>(
     rt: &R,
     slot: &Mutex<Slot<L, N>>,
     seen: &Front<L>,
@@ -130,21 +127,16 @@ fn finish<R: Wait, L: ShardLedger, E: TakesPieces, const N: usize>(
     ensures { (key : Told) → IsBegun E.events E.room (requests seen.now) key listing
         → Some (E.events result) ≡ events_told (requests seen.now) key }
 {
-    let Listing {
-        last,
-        mut events,
-        mut piece,
-    } = listing;
+    let Listing { last, mut events } = listing;
     let mut at = Some(last);
     while let Some(place) = at {
-        at = copy_piece(rt, slot, seen, place, &mut piece);
-        events.add(&piece);
+        at = copy_piece(rt, slot, seen, place, &mut events);
     }
     events.turn_round();
     events
 }
 
-pub(crate) fn events_in<R: Wait, L: ShardLedger, E: TakesPieces, const N: usize>(
+pub(crate) fn events_in<R: Wait, L: ShardLedger, E: TakesEvents, const N: usize>(
     rt: &R,
     alloc: Global,
     slot: &Mutex<Slot<L, N>>,
@@ -161,7 +153,7 @@ pub(crate) fn events_in<R: Wait, L: ShardLedger, E: TakesPieces, const N: usize>
     }
 }
 
-pub(crate) fn list_in<R: Wait, L: ShardLedger, E: TakesPieces, const N: usize>(
+pub(crate) fn list_in<R: Wait, L: ShardLedger, E: TakesEvents, const N: usize>(
     rt: &R,
     alloc: Global,
     slot: &Mutex<Slot<L, N>>,

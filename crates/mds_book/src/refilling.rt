@@ -1,32 +1,33 @@
 //! A book that is filled again with requests that were accepted before.
-ghost use Rattle.std.specs.Prelude.{◌≡◌, ◌⊎◌, ◌≤◌, ◌+◌, ◌++◌, ◌∷◌, [], length, vec_len, vec_capacity, Err, IfOk, IfErr, OnOk};
+ghost use Rattle.std.specs.Prelude.{◌≡◌, ◌⊎◌, ◌<◌, ◌≤◌, ◌+◌, ◌++◌, ◌∷◌, [], length, Err, IfOk, IfErr, OnOk};
+ghost use mathlib.Core.List.{IsPrefix};
 ghost use Rattle.mds_core.specs.History.{key_of};
 ghost use Rattle.mds_log.specs.Log.{requests as requests_in};
 ghost use Rattle.mds_book.specs.Shards.{shard_of as number_of, count_of, part as part_of};
 ghost use Rattle.mds_book.specs.Sights.{IsStepped};
-ghost use Rattle.mds_book.specs.Refilling.{AreNotesOf, HasAll, IsAsked, IsFilled, IsRefusedAt, IsRefusedIn, StayTrue};
+ghost use Rattle.mds_book.specs.Refilling.{AreKeptOf, HasAll, IsAsked, IsFilled, IsRefusedAt, IsRefusedIn, StayTrue, told_of};
 
-use crate::book::{make_room, note_call, step_in};
+use crate::book::step_in;
+use crate::notes::{Notes, make_room, note_call};
 use crate::slot::shard_of;
-use crate::{Book, Part, Seat, ShardLedger, Slot};
+use crate::{Book, NoteForm, Part, Seat, ShardLedger, SharedLedger, Slot};
 use mds_core::{Outcome, Reply, Request};
-use mds_settle::Note;
 use std::alloc::{AllocError, Global};
 use std::sync::{Mutex, Wait};
 use std::thread::{Threads, join_mut};
 
-/// Why a request that was accepted before isn't in a book again.
+/// Why a request that was accepted before isn't known to be in a book again.
 #[derive(Clone, Copy, Debug, PartialEq, Eq)]
 pub enum RefillFault {
     /// There was no memory for it.
     Memory,
     /// The tables of the book don't accept it.
     Refused,
-    /// Another seat has asked the book meanwhile.
+    /// Another seat has asked the book meanwhile. The request may just have been accepted.
     Shared,
 }
 
-/// Which of some requests isn't in a book again, and why.
+/// Which of some requests isn't known to be in a book again, and why.
 #[derive(Clone, Copy, Debug, PartialEq, Eq)]
 pub struct RefillStop {
     /// How many of them stand before it.
@@ -37,27 +38,32 @@ pub struct RefillStop {
 
 /// What came of asking a shard.
 #[derive(Drop)]
-struct ShardNotes {
+struct ShardNotes<F: NoteForm> {
     /// The notes of what was accepted, in its order.
-    notes: Vec<Note>,
+    notes: Notes<F>,
     /// Whether that is all.
     asked: Result<(), RefillStop>,
 }
 
 /// Asks one request, and notes it where it is accepted. Where there is no memory for it, nothing has changed.
-fn ask<R: Wait, L: ShardLedger, const N: usize>(
+fn ask<R: Wait, L: ShardLedger, F: NoteForm, const N: usize>(
     rt: &R,
     slot: &Mutex<Slot<L, N>>,
     part: &mut Part<L>,
-    notes: &mut Vec<Note>,
+    notes: &mut Notes<F>,
     request: &Request,
 ) -> Result<Reply, AllocError>
-    requires { number_of (key_of request.now) ≡ N }
+    requires number { number_of (key_of request.now) ≡ N }
+    requires shard { N < 2 }
+    requires kept { AreKeptOf F.number F.is_within N part.old.sight.seen notes.old.list }
     ensures mark { part.new.mark ≡ part.old.mark }
+    ensures begins { IsPrefix part.old.sight.seen part.new.sight.seen }
+    ensures kept { AreKeptOf F.number F.is_within N part.new.sight.seen notes.new.list }
     ensures stay { StayTrue L.tables N part.old.mark part.old.sight.seen part.old.count
-        notes.old.items part.new.sight.seen part.new.count notes.new.items }
-    ensures of_shard { AreNotesOf N notes.old.items → AreNotesOf N notes.new.items }
-    ensures few { length notes.new.items ≤ length notes.old.items + 1 }
+        (told_of F.number F.tells part.old.sight.seen notes.old.list)
+        part.new.sight.seen part.new.count
+        (told_of F.number F.tells part.new.sight.seen notes.new.list) }
+    ensures few { length notes.new.list ≤ length notes.old.list + 1 }
     ensures stepped { IfOk result (λ reply. IsStepped L.tables N part.old.sight.seen part.old.mark
         request.now reply part.new.sight.seen) }
     ensures count { IfOk result (λ reply.
@@ -70,20 +76,25 @@ fn ask<R: Wait, L: ShardLedger, const N: usize>(
 }
 
 /// Asks one request of a shard that nobody else asks, if it is of the shard. It has to be accepted.
-fn ask_again<R: Wait, L: ShardLedger, const N: usize>(
+fn ask_again<R: Wait, L: ShardLedger, F: NoteForm, const N: usize>(
     rt: &R,
     slot: &Mutex<Slot<L, N>>,
     part: &mut Part<L>,
-    notes: &mut Vec<Note>,
+    notes: &mut Notes<F>,
     request: &Request,
 ) -> Result<(), RefillFault>
     requires all { part.old.count ≡ length part.old.sight.seen }
+    requires shard { N < 2 }
+    requires kept { AreKeptOf F.number F.is_within N part.old.sight.seen notes.old.list }
     ensures mark { part.new.mark ≡ part.old.mark }
+    ensures begins { IsPrefix part.old.sight.seen part.new.sight.seen }
+    ensures kept { AreKeptOf F.number F.is_within N part.new.sight.seen notes.new.list }
     ensures stay { StayTrue L.tables N part.old.mark part.old.sight.seen part.old.count
-        notes.old.items part.new.sight.seen part.new.count notes.new.items }
-    ensures of_shard { AreNotesOf N notes.old.items → AreNotesOf N notes.new.items }
-    ensures few { length notes.new.items
-        ≤ length notes.old.items + length (part_of N (request.now ∷ [])) }
+        (told_of F.number F.tells part.old.sight.seen notes.old.list)
+        part.new.sight.seen part.new.count
+        (told_of F.number F.tells part.new.sight.seen notes.new.list) }
+    ensures few { length notes.new.list
+        ≤ length notes.old.list + length (part_of N (request.now ∷ [])) }
     ensures all { OnOk result (part.new.count ≡ length part.new.sight.seen) }
     ensures seen { OnOk result (requests_in part.new.sight.seen
         ≡ requests_in part.old.sight.seen ++ part_of N (request.now ∷ [])) }
@@ -107,19 +118,22 @@ fn ask_again<R: Wait, L: ShardLedger, const N: usize>(
 }
 
 /// Asks those of the requests that are of the shard, up to the first that isn't accepted.
-fn ask_shard<R: Wait, L: ShardLedger, const N: usize>(
+fn ask_shard<R: Wait, L: ShardLedger, F: NoteForm, const N: usize>(
     rt: &R,
     alloc: Global,
     slot: &Mutex<Slot<L, N>>,
     part: &mut Part<L>,
     requests: &[Request],
-) -> ShardNotes
+) -> ShardNotes<F>
     requires all { part.old.count ≡ length part.old.sight.seen }
+    requires shard { N < 2 }
     ensures mark { part.new.mark ≡ part.old.mark }
+    ensures kept { AreKeptOf F.number F.is_within N part.new.sight.seen result.notes.list }
     ensures asked { IsAsked L.tables N part.old.mark part.old.sight.seen part.old.count
-        requests.now part.new.sight.seen part.new.count result.notes.items result.asked }
+        requests.now part.new.sight.seen part.new.count
+        (told_of F.number F.tells part.new.sight.seen result.notes.list) result.asked }
 {
-    let mut notes = Vec::new(alloc);
+    let mut notes = Notes::new(alloc);
     let mut at = 0;
     for request in requests {
         match ask_again(rt, slot, part, &mut notes, request) {
@@ -137,62 +151,6 @@ fn ask_shard<R: Wait, L: ShardLedger, const N: usize>(
     }
 }
 
-/// Writes once to the room for as many notes, so that the system maps that memory: it costs as much as all else of a request.
-/// Where there is no room, nothing is written.
-fn prefault(notes: &mut Vec<Note>, requests: &[Request])
-    ensures items { notes.new.items ≡ notes.old.items }
-    ensures capacity { vec_capacity notes.old ≤ vec_capacity notes.new }
-{
-    let Some(request) = requests.first() else {
-        return;
-    };
-    let filler = Note {
-        shard: 0,
-        request: *request,
-        reply: Reply {
-            place: 0,
-            outcome: Outcome::Done,
-        },
-    };
-    let len = notes.len();
-    let _ = notes.resize(len.saturating_add(requests.len()), filler);
-    notes.truncate(len);
-}
-
-/// As [`ask_shard`] of the second one, while another thread makes the memory ready for the notes of all requests.
-fn ask_and_prefault<R: Threads + Wait, M: ShardLedger>(
-    rt: &R,
-    alloc: Global,
-    slot: &Mutex<Slot<M, 1>>,
-    part: &mut Part<M>,
-    notes: &mut Vec<Note>,
-    requests: &[Request],
-) -> ShardNotes
-    requires { part.old.count ≡ length part.old.sight.seen }
-    ensures items { notes.new.items ≡ notes.old.items }
-    ensures capacity { vec_capacity notes.old ≤ vec_capacity notes.new }
-    ensures mark { part.new.mark ≡ part.old.mark }
-    ensures asked { IsAsked M.tables 1 part.old.mark part.old.sight.seen part.old.count
-        requests.now part.new.sight.seen part.new.count result.notes.items result.asked }
-{
-    let mut ready = || prefault(notes, requests);
-    let mut ask = || ask_shard(rt, alloc, slot, part, requests);
-    let ((), asked) = join_mut(rt, &mut ready, &mut ask);
-    asked
-}
-
-/// Puts notes behind others, for which there is room.
-fn add(notes: &mut Vec<Note>, more: &[Note])
-    requires { vec_len notes.old + length more.now ≤ vec_capacity notes.old }
-    ensures items { notes.new.items ≡ notes.old.items ++ more.now }
-    ensures len { vec_len notes.new ≡ vec_len notes.old + length more.now }
-    ensures capacity { vec_capacity notes.old ≤ vec_capacity notes.new }
-{
-    let Ok(()) = notes.extend_from_slice(more) else {
-        unreachable!();
-    };
-}
-
 /// The stop that comes first, if any.
 fn first_stop(one: Result<(), RefillStop>, other: Result<(), RefillStop>) -> Result<(), RefillStop>
     ensures ok { OnOk result ((one ≡ result) × (other ≡ result)) }
@@ -205,16 +163,17 @@ fn first_stop(one: Result<(), RefillStop>, other: Result<(), RefillStop>) -> Res
     }
 }
 
-impl<L: ShardLedger + Send + Sync, M: ShardLedger + Send + Sync> Book<L, M> {
-    /// Asks requests of the book that it accepted before, those of either shard by a thread, in their order. Each has to be
+impl<L: SharedLedger, M: SharedLedger> Book<L, M> {
+    /// Asks requests of the book that were accepted before, those of either shard by a thread, in their order. Each has to be
     /// accepted, and nobody else may have asked the book. The seat notes what was accepted: what is of the first shard before
-    /// what is of the second.
+    /// what is of the second. Where there are no requests, it answers at once, without threads.
     ///
     /// # Errors
     ///
     /// Of the first request at which a thread stops: `Memory` where there is none for it, `Refused` where the tables don't accept
-    /// it behind those before it, `Shared` where another seat has asked its shard. What the threads had asked till then is
-    /// accepted.
+    /// it behind those before it, `Shared` where another seat has asked its shard. `Memory` comes of the first of all, too, where
+    /// there is none for the notes; then nothing was asked. What the threads had asked till they stopped is accepted: the other
+    /// one goes on to its own stop, so requests behind the one that is told may be accepted as well.
     pub fn refill<R: Threads + Wait + Sync>(
         &self,
         rt: &R,
@@ -230,50 +189,56 @@ impl<L: ShardLedger + Send + Sync, M: ShardLedger + Send + Sync> Book<L, M> {
             → IsRefusedAt self.now.tables seat.old requests.now stop.at) }
         ensures within { IfErr result (λ stop. stop.at ≤ length requests.now) }
     {
+        if requests.is_empty() {
+            return Ok(());
+        }
+        // This call's contract says that they tell the same where the seat has seen more.
+        seat.notes.tell();
         let Ok(()) = seat.notes.reserve(requests.len()) else {
             return Err(RefillStop {
                 at: 0,
                 fault: RefillFault::Memory,
             });
         };
-        let (ones, others) = self.ask_both(
-            rt,
-            alloc,
-            &mut seat.first,
-            &mut seat.second,
-            &mut seat.notes,
-            requests,
-        );
-        add(&mut seat.notes, ones.notes.as_slice());
-        add(&mut seat.notes, others.notes.as_slice());
+        let (ones, others) = self.ask_both(rt, alloc, &mut seat.first, &mut seat.second, requests);
+        seat.notes.add(&ones.notes);
+        seat.notes.add(&others.notes);
         first_stop(ones.asked, others.asked)
     }
 
-    /// Asks both shards, either by a thread, while a third one makes the memory ready for the notes.
+    /// Asks both shards, either by a thread.
     fn ask_both<R: Threads + Wait + Sync>(
         &self,
         rt: &R,
         alloc: Global,
         first: &mut Part<L>,
         second: &mut Part<M>,
-        notes: &mut Vec<Note>,
         requests: &[Request],
-    ) -> (ShardNotes, ShardNotes)
+    ) -> (ShardNotes<L::SharedNote>, ShardNotes<L::SharedNote>)
         requires first { first.old.count ≡ length first.old.sight.seen }
         requires second { second.old.count ≡ length second.old.sight.seen }
         ensures tables { (self.now.tables ≡ L.tables) × (self.now.tables ≡ M.tables) }
-        ensures items { notes.new.items ≡ notes.old.items }
-        ensures capacity { vec_capacity notes.old ≤ vec_capacity notes.new }
         ensures first_mark { first.new.mark ≡ first.old.mark }
         ensures second_mark { second.new.mark ≡ second.old.mark }
+        ensures first_kept { AreKeptOf L.SharedNote.number L.SharedNote.is_within 0 first.new.sight.seen
+            result.0.notes.list }
+        ensures second_kept { AreKeptOf L.SharedNote.number L.SharedNote.is_within 1 second.new.sight.seen
+            result.1.notes.list }
         ensures first { IsAsked L.tables 0 first.old.mark first.old.sight.seen first.old.count
-            requests.now first.new.sight.seen first.new.count result.0.notes.items result.0.asked }
+            requests.now first.new.sight.seen first.new.count
+            (told_of L.SharedNote.number L.SharedNote.tells first.new.sight.seen result.0.notes.list)
+            result.0.asked }
         ensures second { IsAsked M.tables 1 second.old.mark second.old.sight.seen
             second.old.count requests.now second.new.sight.seen second.new.count
-            result.1.notes.items result.1.asked }
+            (told_of L.SharedNote.number L.SharedNote.tells second.new.sight.seen result.1.notes.list)
+            result.1.asked }
     {
-        let mut ask_first = || ask_shard(rt, alloc, &self.first, first, requests);
-        let mut ask_second = || ask_and_prefault(rt, alloc, &self.second, second, notes, requests);
+        let mut ask_first = || -> ShardNotes<L::SharedNote>
+            requires { first.now.count ≡ length first.now.sight.seen }
+        { ask_shard::<R, L, L::SharedNote, 0>(rt, alloc, &self.first, first, requests) };
+        let mut ask_second = || -> ShardNotes<L::SharedNote>
+            requires { second.now.count ≡ length second.now.sight.seen }
+        { ask_shard::<R, M, L::SharedNote, 1>(rt, alloc, &self.second, second, requests) };
         join_mut(rt, &mut ask_first, &mut ask_second)
     }
 }

@@ -9,6 +9,7 @@ ghost use Rattle.mds_book.specs.Copying.{copied_requests};
 ghost use Rattle.mds_book.specs.Retired.{IsRetired};
 
 use crate::gathered::Account;
+use crate::notes::Notes;
 use crate::settling::Closing;
 use crate::{Progress, ShardLedger, Sight};
 use mds_core::{Outcome, Request};
@@ -54,7 +55,7 @@ pub(crate) struct Parts<L: ShardLedger> {
 pub struct Seat<L: ShardLedger, M: ShardLedger> {
     pub(crate) first: Part<L>,
     pub(crate) second: Part<M>,
-    pub(crate) notes: Vec<Note>,
+    pub(crate) notes: Notes<L::Note>,
     pub(crate) keeps_all: bool,
 }
 
@@ -73,14 +74,18 @@ impl<L: ShardLedger, M: ShardLedger> Drop for Seat<L, M> {
 impl<L: ShardLedger, M: ShardLedger> Model for Seat<L, M> {
     ghost use Rattle.mds_log.specs.Log.{requests};
     ghost use Rattle.mds_book.specs.Seats.{Seated};
+    ghost use Rattle.std.specs.Prelude.{◌≡◌, true};
     ghost use Rattle.mds_book.specs.Sights.{AreTrue};
+    ghost use Rattle.mds_book.specs.Notes.{AreKept, seen_by, told};
 
     ghost Value = { Seated };
 
     ghost view = { λ seat. record {
       first = seat.first.count;
       second = seat.second.count;
-      notes = seat.notes.items;
+      notes = told L.Note.number L.Note.tells
+          (seen_by (requests seat.first.sight.seen) (requests seat.second.sight.seen))
+          seat.notes.list;
       keeps_all = seat.keeps_all;
       first_seen = requests seat.first.sight.seen;
       second_seen = requests seat.second.sight.seen;
@@ -89,9 +94,17 @@ impl<L: ShardLedger, M: ShardLedger> Model for Seat<L, M> {
     } };
 
     ghost invariant = { λ seat.
-        AreTrue L.tables 0 seat.first.sight.seen seat.first.mark seat.notes.items seat.first.count
-        × AreTrue M.tables 1 seat.second.sight.seen
-        seat.second.mark seat.notes.items seat.second.count };
+        AreTrue L.tables 0 seat.first.sight.seen seat.first.mark
+        (told L.Note.number L.Note.tells
+        (seen_by (requests seat.first.sight.seen) (requests seat.second.sight.seen))
+        seat.notes.list) seat.first.count
+        × AreTrue M.tables 1 seat.second.sight.seen seat.second.mark
+        (told L.Note.number L.Note.tells
+        (seen_by (requests seat.first.sight.seen) (requests seat.second.sight.seen))
+        seat.notes.list) seat.second.count
+        × AreKept L.Note.number L.Note.is_within L.Note.notes_all
+        (seen_by (requests seat.first.sight.seen) (requests seat.second.sight.seen))
+        seat.notes.list seat.keeps_all };
 }
 
 impl<L: ShardLedger> Parts<L> {
@@ -164,6 +177,7 @@ impl<L: ShardLedger, M: ShardLedger> Seat<L, M> {
     ) -> Seat<L, M>
         requires first { 1 ≤ first.old.share.parts }
         requires second { 1 ≤ second.old.share.parts }
+        requires keep { keeps_all keep ≡ true → L.Note.notes_all ≡ true }
         ensures seat { result ≡ new_seat (keeps_all keep) }
         ensures first { first.new.share.parts + 1 ≡ first.old.share.parts }
         ensures second { second.new.share.parts + 1 ≡ second.old.share.parts }
@@ -171,7 +185,7 @@ impl<L: ShardLedger, M: ShardLedger> Seat<L, M> {
         Seat {
             first: first.cut(),
             second: second.cut(),
-            notes: Vec::new(alloc),
+            notes: Notes::new(alloc),
             keeps_all: keep == Keep::All,
         }
     }
@@ -194,13 +208,7 @@ impl<L: ShardLedger, M: ShardLedger> Seat<L, M> {
         ensures second { result.1
             ≡ record { seen = self.now.second_seen; count = length self.now.second_seen } }
     {
-        let first = self.first.sight.front().again();
-        let second = self.second.sight.front().again();
-        let (first_count, second_count) = (first.len() as usize, second.len() as usize);
-        (
-            Progress::of(first, first_count),
-            Progress::of(second, second_count),
-        )
+        (self.first.sight.progress(), self.second.sight.progress())
     }
 
     /// Whether all that the seat has seen of both shards was copied.
@@ -247,7 +255,9 @@ impl<L: ShardLedger, M: ShardLedger> Seat<L, M> {
             second_sight,
         }
     }
+}
 
+impl<L: ShardLedger<Note = Note>, M: ShardLedger> Seat<L, M> {
     /// The notes of the seat's calls, in the order in which it made them; of a [refill](crate::Book::refill) those of the first shard
     /// before those of the second.
     pub fn notes(&self) -> &[Note]
@@ -257,10 +267,10 @@ impl<L: ShardLedger, M: ShardLedger> Seat<L, M> {
     }
 }
 
-impl<L: ShardLedger, M: ShardLedger> NoteList for Seat<L, M> {
+impl<L: ShardLedger<Note = Note>, M: ShardLedger> NoteList for Seat<L, M> {
     ghost seen = { λ seat. seat.notes };
 
     fn notes(&self) -> &[Note] {
-        self.notes()
+        self.notes.as_slice()
     }
 }

@@ -1,9 +1,10 @@
 //! What a seat saw of a shard's log.
 ghost use Rattle.std.specs.Prelude.{◌≡◌, ◌⊎◌, ◌<◌, ◌++◌, ◌∷◌, ◌^◌, [], length};
 ghost use mathlib.Core.List.{IsPrefix};
+ghost use Rattle.mds_log.specs.Log.{requests};
 ghost use Rattle.mds_book.specs.Sights.{next_turn};
 
-use crate::ShardLedger;
+use crate::{Progress, ShardLedger};
 use mds_core::Request;
 use mds_log::{Front, Keeper, Mark};
 use std::marker::Model;
@@ -59,6 +60,18 @@ impl<L: ShardLedger> Sight<L> {
         ensures { IsPrefix self.now.seen other.now.seen ⊎ IsPrefix other.now.seen self.now.seen }
     {
         self.front.tell_order(&other.front);
+    }
+
+    /// All that was seen, as if it were copied.
+    pub(crate) fn progress(&self) -> Progress<L>
+        ensures { result ≡ record {
+          seen = requests self.now.seen;
+          count = length (requests self.now.seen);
+        } }
+    {
+        let front = self.front.again();
+        let count = front.len() as usize;
+        Progress::of(front, count)
     }
 
     pub(crate) fn front(&self) -> &Front<L>

@@ -1,9 +1,7 @@
 //! What stands behind a lock: a shard, the ledger that counts what it accepted, and the keeper of its log.
-ghost use Rattle.std.specs.Prelude.{◌≡◌, [], List, Some, length, true, ◌<◌, ◌≤◌, ◌+◌, ◌++◌, ◌^◌, IfOk, IfSome, OnOk, OnErr};
-ghost use Rattle.std.specs.Prelude.{vec_len, vec_capacity};
+ghost use Rattle.std.specs.Prelude.{◌≡◌, [], Some, length, true, ◌<◌, ◌≤◌, ◌+◌, ◌^◌, IfOk, IfSome, OnOk, OnErr};
 ghost use Rattle.mds_core.specs.declared.key.Key.{Key as Told};
 ghost use Rattle.mds_core.specs.History.{key_of, requests_of};
-ghost use Rattle.mds_core.specs.Reported.{Reported};
 ghost use Rattle.mds_core.specs.Machine.{Steps, LacksMemory};
 ghost use Rattle.mds_core.specs.Lawful.{IsLawful};
 ghost use mathlib.Core.List.{IsPrefix};
@@ -11,34 +9,18 @@ ghost use Rattle.mds_log.specs.Log.{requests};
 ghost use Rattle.mds_shard.specs.Walk.{IsWalkOf, steps_left};
 ghost use Rattle.mds_book.specs.Shards.{shard_of as number_of, AreOfShard, count_of};
 ghost use Rattle.mds_book.specs.Sights.{IsShown, next_turn};
-ghost use Rattle.mds_book.specs.Copying.{AddsPiece, IsPiece, copied_requests};
+ghost use Rattle.mds_book.specs.Copying.{AddsPiece, copied_requests, max_piece};
 
 use crate::seat::Parts;
-use crate::{Blank, Copies, Part, Progress};
-use mds_core::{Event, Key, Reply, Request};
-use mds_log::{Front, Keeper, Logged, Marked};
-use mds_shard::{MAX_STEPS, Shard};
+use crate::{Blank, Copies, Part, Progress, ShardLedger};
+use mds_core::{Key, Reply, Request};
+use mds_log::{Front, Keeper};
+use mds_shard::{MAX_STEPS, Shard, TakesEvents};
 use mds_table::Tables;
 use std::alloc::{AllocError, Global};
 use std::hash::RandomState;
-use std::marker::{Brand, Model};
-use std::sync::ledger::{Book, Ledger, Share};
-
-/// A ledger that counts what a shard accepted, cut into a part for each seat of the book, with the names of the shard's log and of
-/// the seats' marks in it.
-pub trait ShardLedger: Ledger + Logged + Marked {
-    ghost use Rattle.std.specs.Prelude.{List};
-    ghost use Rattle.mds_table.specs.Tables.{Tables};
-
-    /// The tables of the book.
-    ghost tables: { Tables };
-}
-
-impl ShardLedger for Brand {
-    ghost use Rattle.std.specs.Prelude.{[]};
-
-    ghost tables = { [] };
-}
+use std::marker::Model;
+use std::sync::ledger::{Book, Share};
 
 pub(crate) fn shard_of(key: &Key) -> usize
     ensures number { result ≡ number_of key.now }
@@ -50,19 +32,20 @@ pub(crate) fn shard_of(key: &Key) -> usize
 /// The most requests that are copied while a shard's lock is held once.
 const MAX_PIECE: usize = 256;
 
-fn next_piece(history: &[Request], from: usize) -> &[Request]
-    requires { from ≤ length history.now }
-    ensures { IsPiece from history.now result.now }
+/// How many requests are copied of as many, from this place on.
+fn piece_size(len: usize, from: usize) -> usize
+    requires { from ≤ len }
+    ensures within { from + result ≤ len }
+    ensures short { result ≤ max_piece }
+    ensures none { result ≡ 0 → from ≡ len }
 {
-    let rest = &history[from..];
-    let size = rest.len().min(MAX_PIECE);
-    &rest[..size]
+    (len - from).min(MAX_PIECE)
 }
 
 /// What stands behind a lock of a book: the shard of number `N`, whose vehicles all have this number, the ledger that
 /// has counted each request that it accepted, and the keeper of the log that has them all.
 pub struct Slot<L: ShardLedger, const N: usize> {
-    shard: Shard,
+    shard: Shard<L::Form>,
     accepted: Book<L>,
     keeper: Keeper<L>,
 }
@@ -149,7 +132,7 @@ impl<L: ShardLedger, const N: usize> Slot<L, N> {
     }
 
     /// The shard.
-    pub fn shard(&self) -> &Shard
+    pub fn shard(&self) -> &Shard<L::Form>
         ensures shard { result.now ≡ self.now }
         ensures tables { self.now.tables ≡ L.tables }
         ensures lawful { IsLawful self.now.tables self.now.history }
@@ -213,33 +196,32 @@ impl<L: ShardLedger, const N: usize> Slot<L, N> {
         let mut seen = progress.front().again();
         self.keeper.show(&mut seen);
         let from = progress.count();
-        let piece = next_piece(self.shard.history(), from);
-        copies.extend(piece)?;
-        *progress = Progress::of(seen, from + piece.len());
+        let size = piece_size(self.shard.len(), from);
+        copies.take(self.shard.past(), from, size)?;
+        *progress = Progress::of(seen, from + size);
         Ok(())
     }
 
     /// As [`Shard::walk_back`], of a list that began when the front had seen all of the log.
-    pub(crate) fn walk_back(
+    pub(crate) fn walk_back<E: TakesEvents>(
         &mut self,
         seen: &Front<L>,
         from: usize,
-        piece: &mut Vec<Event>,
+        events: &mut E,
     ) -> Option<usize>
-        requires from { (key : Told) × (found : List Reported)
-            × IsWalkOf (requests seen.now) key (Some from) found }
-        requires empty { vec_len piece.old ≡ 0 }
-        requires room { MAX_STEPS ≤ vec_capacity piece.old }
+        requires from { (key : Told)
+            × IsWalkOf (requests seen.now) key (Some from) (E.events events.old) }
+        requires room { MAX_STEPS ≤ E.room events.old }
         ensures slot { self.new ≡ self.old }
-        ensures walk { (key : Told) (found : List Reported)
-            → IsWalkOf (requests seen.now) key (Some from) found
-            → IsWalkOf (requests seen.now) key result (found ++ piece.new.items) }
+        ensures walk { (key : Told) → IsWalkOf (requests seen.now) key (Some from) (E.events events.old)
+            → IsWalkOf (requests seen.now) key result (E.events events.new) }
         ensures nears { steps_left result ≤ from }
-        ensures capacity { vec_capacity piece.old ≤ vec_capacity piece.new }
+        ensures room { E.room events.old + length (E.events events.old)
+            ≤ E.room events.new + length (E.events events.new) }
     {
         let mut shown = seen.again();
         self.keeper.show(&mut shown);
-        self.shard.walk_back(from, piece)
+        self.shard.walk_back(from, events)
     }
 
     /// For its contract alone: it changes nothing.
@@ -285,7 +267,7 @@ impl<L: ShardLedger, const N: usize> Slot<L, N> {
         ensures turn { IfOk result (λ reply.
             part.new.sight.turns ≡ next_turn part.old.sight.turns) }
         ensures mark { part.new.mark ≡ part.old.mark }
-        ensures room { IfOk result (λ reply. reply.place + 1 < 2 ^ 64) }
+        ensures room { IfOk result (λ reply. reply.place < 2 ^ 63) }
         ensures memory { OnErr result (LacksMemory self.old request.now self.new) }
         ensures count_unchanged { OnErr result (part.new.count ≡ part.old.count) }
         ensures sight_unchanged { OnErr result (part.new.sight ≡ part.old.sight) }

@@ -68,17 +68,11 @@ IsStartProblem path start.Device problem = IsUnreadable path problem
 IsStartProblem path (start.Journal fault) problem = problem ≡ Journal (NotAJournal fault)
 IsStartProblem path start.Shared problem = IsUnreadable path problem
 
--- the problem by which serving stopped: that notes don't fit never comes
+-- the problem by which serving stopped
 abbrev pub IsServingProblem : RecordedStop → ServeProblem → Type 0
 IsServingProblem recorded.Journal problem = problem ≡ NotRecorded
 IsServingProblem (recorded.Serve stop.Memory) problem = problem ≡ Journal (Other Memory)
 IsServingProblem (recorded.Serve stop.Accept) problem = problem ≡ Journal (Other Socket)
-IsServingProblem (recorded.Serve (stop.Torn shard place)) problem = ⊥
-
--- serving doesn't stop by notes that don't fit
-abbrev pub IsUntorn : BookStop → Type 0
-IsUntorn (Serve (recorded.Serve (stop.Torn shard place))) = ⊥
-IsUntorn stop = Unit {0}
 
 -- the problem that nothing listens at a port
 abbrev pub IsListenProblem : ListenFault → ServeProblem → Type 0
@@ -136,7 +130,7 @@ module _ {L : Type 0} (listens : L → ℕ → Type 0) where
   StopsBook out (Start fault) = Keeps out.before out.after
   StopsBook out (Listen fault) = Keeps out.before out.after
   StopsBook out (Print fault) = SaidFront out
-  StopsBook out (Serve stop) = IsUntorn (Serve stop) × SaidListening out
+  StopsBook out (Serve stop) = SaidListening out
 
 -- the tables of this table file were had
 abbrev pub HadTables : {T : Type 0} → TableFile T → Type 0

@@ -1,5 +1,5 @@
 -- What the program does with the words of its command line.
-use Rattle.std.specs.Prelude.{◌≡◌, ◌≢◌, ◌⊎◌, ℕ, ◌<◌, ◌≤◌, List, Option, Some}
+use Rattle.std.specs.Prelude.{◌≡◌, ◌≢◌, ◌⊎◌, ℕ, ◌<◌, ◌≤◌, ◌^◌, ◌-◌, List, Option, Some}
 use Rattle.std.specs.Prelude.{None, Bool, true, false, codes, option_map}
 use Rattle.std.specs.Io.KnownBytes.{Keeps}
 use Rattle.mds_trace.specs.declared.report.Opening.{Opening}
@@ -67,6 +67,12 @@ abbrev pub form_if : Bool → Form
 form_if true = Lines
 form_if false = Batch
 
+-- how many connections each worker answers: as many as can be counted where it goes on until the
+-- process is stopped
+abbrev pub connections_each : Option ℕ → ℕ
+connections_each (Some each) = each
+connections_each None = 2 ^ 64 - 1
+
 -- what these flags and so many workers ask of a replay
 abbrev pub options_of : Bool → Bool → ℕ → ReplayOptions
 options_of any lines workers =
@@ -125,7 +131,7 @@ module _ {F L J I : Type 0} (files : FileHost F) (host : ServerHost L J)
       × IsFileNamed files.opens (option_map (λ named. named.now) path) table
       × CarriesServe host (record { bytes = files.bytes; file = table })
       (option_map (λ named. named.now) journal)
-      (record { port = port; workers = workers; each = each }) outcome
+      (record { port = port; workers = workers; each = connections_each each }) outcome
   Carries (Table path) outcome =
       (table : Option (Source F))
       × IsFileNamed files.opens (option_map (λ named. named.now) path) table

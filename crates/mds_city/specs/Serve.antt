@@ -14,7 +14,6 @@ use Rattle.mds_commands.specs.declared.problem.Problem.TheVariants.{Random, Outp
 use Rattle.mds_commands.specs.declared.status.Status.{Status}
 use Rattle.mds_commands.specs.declared.status.Status.TheVariants as status
 use Rattle.mds_commands.specs.Problem.{status_of, Tells}
-use Rattle.mds_commands.specs.Torn.{TellsTorn}
 use Rattle.mds_commands.specs.Source.{HasTablesIn, ExplainsTable}
 use Rattle.mds_city.specs.declared.serve.ServeOptions.{ServeOptions}
 use Rattle.mds_city.specs.Host.{TableFile}
@@ -54,9 +53,6 @@ IsSaid (Err stop.Memory) outcome =
 IsSaid (Err stop.Accept) outcome =
     Keeps outcome.out.before outcome.out.after
     × (IsTold Socket outcome.ended outcome.faults ⊎ IsTold Memory outcome.ended outcome.faults)
-IsSaid (Err (stop.Torn shard place)) outcome =
-    Keeps outcome.out.before outcome.out.after
-    × TellsTorn shard place outcome.ended outcome.faults.before outcome.faults.after
 
 -- serving with these tables, and so many workers that were to answer so many connections each,
 -- ended in some way, and that was said

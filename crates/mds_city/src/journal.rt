@@ -8,12 +8,12 @@ ghost use Rattle.mds_follow.specs.Disk.{IsTold};
 ghost use Rattle.mds_follow.specs.Reading.{IsAtFirstRequest};
 ghost use Rattle.mds_commands.specs.Change.{change_of};
 ghost use Rattle.mds_city.specs.Outcome.{outcome_of};
-ghost use Rattle.mds_city.specs.Journal.{CameToServeOver, HadJournal, IsFileProblem, IsJournalStop, IsListenProblem, IsServeTold, IsServingProblem, IsStartProblem, IsStopProblem, IsUntorn};
+ghost use Rattle.mds_city.specs.Journal.{CameToServeOver, HadJournal, IsFileProblem, IsJournalStop, IsListenProblem, IsServeTold, IsServingProblem, IsStartProblem, IsStopProblem};
 ghost use Rattle.mds_city.specs.Journal.{ServedBook, ServedOver, StopsBook, StopsOver};
 
 use crate::page::{ListeningLine, print_line};
 use crate::serve::{ListenFault, Listens, ServeOptions, say_accepted};
-use mds_book::ShardLedger;
+use mds_book::{NamedLedger, Packed};
 use mds_commands::{JournalProblem, Problem, Source, Status, tables_in, tell_journal_problem};
 use mds_file::FileFault;
 use mds_follow::{Disk, RecordLog, RequestReader, StartFault};
@@ -208,13 +208,13 @@ fn open_reader<'a, H: OpensJournals>(
     }
 }
 
-/// Opens a book over the journal, prints where it listens, and serves: how many requests the book holds at the end, or why it
+/// Opens a book over the journal, which keeps what it has packed, prints where it listens, and serves: how many requests the book holds at the end, or why it
 /// wasn't served to that; and what listened, if a connection could come of it.
 fn serve_reader<
     R: Threads + Wait + Sync,
     H: Listens + OpensJournals + Sync,
-    L: ShardLedger + Send + Sync,
-    M: ShardLedger + Send + Sync,
+    L: NamedLedger + Send + Sync,
+    M: NamedLedger + Send + Sync,
     J: RecordLog + Send + Sync,
     W: Write,
 >(
@@ -247,7 +247,7 @@ fn serve_reader<
     ensures err { IfErr result (λ stopped. StopsBook (H.listens host.now asked.port)
         (change_of (W.contents out.old) (W.contents out.new)) stopped.0) }
 {
-    let book = match RecordedBook::<Disk<H::Journal>, L, M, J>::open(
+    let book = match RecordedBook::<Disk<H::Journal>, Packed<L>, Packed<M>, J>::open(
         rt, alloc, opening, reader, log,
     ) {
         Ok(book) => book,
@@ -292,7 +292,6 @@ fn problem_of_start<'a>(path: &'a str, fault: StartFault) -> ServeProblem<'a>
 }
 
 fn problem_of_stop<'a>(path: &'a str, stop: BookStop) -> ServeProblem<'a>
-    requires { IsUntorn stop }
     ensures { IsStopProblem path.now stop result }
 {
     match stop {
@@ -313,7 +312,6 @@ fn problem_of_listening<'a>(fault: ListenFault) -> ServeProblem<'a>
 }
 
 fn problem_of_serving<'a>(stop: RecordedStop) -> ServeProblem<'a>
-    requires { IsUntorn (BookStop.Serve stop) }
     ensures { IsServingProblem stop result }
 {
     let stop = match stop {
@@ -323,7 +321,6 @@ fn problem_of_serving<'a>(stop: RecordedStop) -> ServeProblem<'a>
     match stop {
         Stop::Memory => ServeProblem::from(Problem::Memory),
         Stop::Accept => ServeProblem::from(Problem::Socket),
-        Stop::Torn { .. } => unreachable!(),
     }
 }
 

@@ -11,7 +11,7 @@ ghost use Rattle.mds_io.specs.Page.{AppendsUpTo, with_newline};
 ghost use Rattle.mds_trace.specs.WithFault.{IsWorkerCount};
 ghost use Rattle.mds_city.specs.Outcome.{outcome_of};
 ghost use Rattle.mds_city.specs.Program.{Carries, CarriesReplay, CarriesServe, CarriesVehicles, Explains, HasWorkers, IsFileNamed, IsFileOf, Runs};
-ghost use Rattle.mds_city.specs.Program.{form_if, opening_if, options_of};
+ghost use Rattle.mds_city.specs.Program.{connections_each, form_if, opening_if, options_of};
 
 use crate::journal::{OpensJournals, serve_over};
 use crate::serve::{Listens, ServeOptions, serve_at};
@@ -179,7 +179,7 @@ fn carry_out<
             let asked = ServeOptions {
                 port,
                 workers,
-                each,
+                each: connections_each(each),
             };
             serve_named(rt, alloc, files, table, journal, asked, out, faults)
         }
@@ -336,6 +336,16 @@ fn opening_if(any: bool) -> Opening
     ensures { result ≡ opening_if any }
 {
     if any { Opening::Any } else { Opening::Removed }
+}
+
+/// Where a worker goes on until the process is stopped, that is as many connections as can be counted: more than ever come.
+fn connections_each(each: Option<usize>) -> usize
+    ensures { result ≡ connections_each each }
+{
+    match each {
+        Some(each) => each,
+        None => usize::MAX,
+    }
 }
 
 fn form_if(lines: bool) -> Form

@@ -6,8 +6,8 @@ ghost use Rattle.mds_city.specs.Outcome.{outcome_of};
 ghost use Rattle.mds_city.specs.Serve.{CameToServe, IsSaid, Listened, SaysAccepted, Serves, StopsBefore};
 
 use crate::page::{AcceptedLine, ListeningLine, print_line};
-use mds_book::ShardLedger;
-use mds_commands::{Problem, Source, Status, tables_in, tell, torn_to};
+use mds_book::{NamedLedger, Packed, ShardLedger};
+use mds_commands::{Problem, Source, Status, tables_in, tell};
 use mds_pool::{FinalBook, NewBook, Port, Stop, serve_and_settle};
 use mds_table::Tables;
 use std::alloc::Global;
@@ -135,8 +135,7 @@ fn begin<'a, R: RandomSource, H: Listens, T: Read + Drop, W: Write>(
 /// Serves connections of a port over these tables, with a new book of so many seats, 1 to [`mds_book::MAX_SEATS`], each of
 /// which answers so many of them; the book's shards hash by these hashers. At the end it settles the book, and prints how
 /// many requests were accepted. It answers the status that the program ends with: `Done`; `Fault` where no further connection
-/// could be taken, or an output failed; `NoMemory` for want of memory; `Torn` never comes. What isn't `Done` is told to `faults`
-/// in one line.
+/// could be taken, or an output failed; `NoMemory` for want of memory. What isn't `Done` is told to `faults` in one line.
 pub fn serve_on<R: Threads + Wait + Sync, P: Port + Sync, W: Write, E: Write>(
     rt: &R,
     alloc: Global,
@@ -161,14 +160,14 @@ where
     serve_book::<R, P, Brand, Brand, W, E>(rt, alloc, opening, port, each, out, faults)
 }
 
-/// As [`serve_on`], with the ledgers of the book. The clause says that the number is that of some settled book: the book
+/// As [`serve_on`], with the ledgers of the book, which keeps what it has packed. The clause says that the number is that of some settled book: the book
 /// that was served lives only here, and no caller sees it. That it is this one is what the contracts of
 /// [`serve_and_settle`] and [`say`] say one after the other, and what the clients of `tests/clients` try.
 fn serve_book<
     R: Threads + Wait + Sync,
     P: Port + Sync,
-    L: ShardLedger + Send + Sync,
-    M: ShardLedger + Send + Sync,
+    L: NamedLedger + Send + Sync,
+    M: NamedLedger + Send + Sync,
     W: Write,
     E: Write,
 >(
@@ -196,7 +195,7 @@ where
         (change_of (W.contents out.old) (W.contents out.new))
         (change_of (E.contents faults.old) (E.contents faults.new))) }
 {
-    let ended = serve_and_settle::<R, P, L, M>(rt, alloc, opening, port, each);
+    let ended = serve_and_settle::<R, P, Packed<L>, Packed<M>>(rt, alloc, opening, port, each);
     say(alloc, ended, out, faults)
 }
 
@@ -215,7 +214,6 @@ fn say<L: ShardLedger, M: ShardLedger, W: Write, E: Write>(
         Ok(book) => say_accepted(alloc, book.settled.accepted(), out, faults),
         Err(Stop::Memory) => tell(alloc, faults, Problem::Memory),
         Err(Stop::Accept) => tell(alloc, faults, Problem::Socket),
-        Err(Stop::Torn { shard, place }) => torn_to(faults, shard, place),
     }
 }
 

@@ -2,10 +2,10 @@
 use Rattle.std.proofs.Common.{◌≡◌, ℕ, ◌+◌, ◌-◌, ◌<◌, ◌≤◌, List, [], ◌++◌, length, Option, Some, None, Result, Ok, Err, OnOk, IfErr, refl, sym, ap, subst, ◌∙◌, arith, append-nil, length-append}
 use Rattle.std.specs.Io.KnownBytes.{Consumes, IsAtEnd}
 use Rattle.std.proofs.KnownBytes.{Consumes-trans}
-use Rattle.mds_batch.specs.declared.line_fault.LineFault.{LineFault}
-use Rattle.mds_batch.specs.Fed.{Fed}
-use Rattle.mds_batch.specs.Stream.{HasLineFault, IsFaultyWith}
-use Rattle.mds_batch.proofs.FeedLemmas.{faulty_now, faulty_with_more}
+use Rattle.mds_lines.specs.declared.line_fault.LineFault.{LineFault}
+use Rattle.mds_lines.specs.Fed.{Fed}
+use Rattle.mds_lines.specs.Stream.{HasLineFault, IsFaultyWith}
+use Rattle.mds_lines.proofs.FeedLemmas.{faulty_now, faulty_with_more}
 use Rattle.mds_table.specs.Tables.{Tables}
 use Rattle.mds_trace.specs.declared.report.Opening.{Opening}
 use Rattle.mds_trace.specs.declared.report.Report.{Report}

@@ -7,9 +7,9 @@ use Rattle.mds_table.specs.declared.tables_fault.TablesFault.TheVariants as tabl
 use Rattle.mds_batch.specs.Batch as batch
 use Rattle.mds_batch.specs.declared.batch.BatchFault.{BatchFault}
 use Rattle.mds_batch.specs.declared.batch.BatchFault.TheVariants as batch_fault
-use Rattle.mds_batch.specs.LineFault as lines
-use Rattle.mds_batch.specs.declared.line_fault.LineFault.{LineFault}
-use Rattle.mds_batch.specs.declared.line_fault.LineFault.TheVariants as line_fault
+use Rattle.mds_lines.specs.LineFault as lines
+use Rattle.mds_lines.specs.declared.line_fault.LineFault.{LineFault}
+use Rattle.mds_lines.specs.declared.line_fault.LineFault.TheVariants as line_fault
 use Rattle.mds_io.specs.declared.page.PrintError.{PrintError}
 use Rattle.mds_io.specs.declared.page.PrintError.TheVariants as write
 use Rattle.mds_commands.specs.declared.problem.Telling.{Telling}

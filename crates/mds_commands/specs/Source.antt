@@ -11,9 +11,9 @@ use Rattle.mds_batch.specs.declared.batch.BatchFault.TheVariants as batch
 use Rattle.mds_batch.specs.declared.item.EventItem.{EventItem}
 use Rattle.mds_batch.specs.Items.{IsEventItem}
 use Rattle.mds_batch.specs.Batch.{HasItems, HasFault as HasBatchFault}
-use Rattle.mds_batch.specs.declared.line_fault.LineFault.{LineFault}
-use Rattle.mds_batch.specs.declared.line_fault.LineFault.TheVariants as line
-use Rattle.mds_batch.specs.Stream.{HasLineItems, HasLineFault}
+use Rattle.mds_lines.specs.declared.line_fault.LineFault.{LineFault}
+use Rattle.mds_lines.specs.declared.line_fault.LineFault.TheVariants as line
+use Rattle.mds_lines.specs.Stream.{HasLineItems, HasLineFault}
 use Rattle.mds_commands.specs.declared.source.Form.{Form}
 use Rattle.mds_commands.specs.declared.source.Form.TheVariants.{Batch, Lines}
 use Rattle.mds_commands.specs.declared.source.Source.{Source}

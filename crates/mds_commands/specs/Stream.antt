@@ -1,9 +1,9 @@
 -- Files whose lines are replayed as they are read.
 use Rattle.std.specs.Prelude.{◌≡◌, ℕ, List, Option, Some, None}
 use Rattle.mds_table.specs.Tables.{Tables}
-use Rattle.mds_batch.specs.declared.line_fault.LineFault.{LineFault}
-use Rattle.mds_batch.specs.Fed.{Fed}
-use Rattle.mds_batch.specs.Stream.{IsFaultyWith}
+use Rattle.mds_lines.specs.declared.line_fault.LineFault.{LineFault}
+use Rattle.mds_lines.specs.Fed.{Fed}
+use Rattle.mds_lines.specs.Stream.{IsFaultyWith}
 use Rattle.mds_trace.specs.declared.report.Opening.{Opening}
 use Rattle.mds_trace.specs.declared.report.Report.{Report}
 use Rattle.mds_trace.specs.LineReport.{IsLineReport}

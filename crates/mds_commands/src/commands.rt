@@ -17,10 +17,10 @@ use crate::problem::{Problem, tell};
 use crate::source::{Form, Source, each_item_in, items_in, tables_in};
 use crate::status::Status;
 use crate::stream::report_of_lines;
-use mds_batch::EventItem;
-use mds_gate::OpenGate;
+use mds_batch::EventItems;
+use mds_io::OpenGate;
 use mds_table::Tables;
-use mds_trace::{Opening, Replayer, Report, WithFault, replay_with};
+use mds_trace::{Opening, Replayer, Report, WithFault, replay_items_with};
 use std::alloc::Global;
 use std::io::{Read, Write};
 use std::thread::Threads;
@@ -143,7 +143,7 @@ fn report_of_items<'a, P: Threads + Sync>(
     rt: &P,
     alloc: Global,
     tables: Tables,
-    items: &[EventItem],
+    items: &EventItems,
     options: ReplayOptions,
 ) -> Result<Report, Problem<'a>>
     requires { IsWorkerCount options.workers }
@@ -153,7 +153,7 @@ fn report_of_items<'a, P: Threads + Sync>(
     ensures err { IfErr result (λ problem. problem ≡ Problem.Memory) }
 {
     let opening = options.opening;
-    match replay_with(
+    match replay_items_with(
         rt,
         alloc,
         &tables,

@@ -8,7 +8,7 @@ ghost use Rattle.mds_io.specs.Read.{ConsumesUpTo, HasFront, LosesAt};
 ghost use Rattle.mds_commands.specs.Source.{HasBytes, IsReadProblem, IsTableProblem, HasTablesOf, HasTablesIn, ExplainsTableFile, ExplainsTable, IsBatchProblem, HasItemsIn, ExplainsFile, max_read};
 
 use crate::problem::{Problem, read_problem};
-use mds_batch::{EventItem, TakesItems, each_event};
+use mds_batch::{EventItem, EventItems, TakesItems, each_event};
 use mds_io::{MAX_CALLS, ReadError, read_front};
 use mds_table::{MAX_BYTES, Table, Tables};
 use std::alloc::Global;
@@ -110,15 +110,15 @@ fn tables_of_bytes<'a>(alloc: Global, bytes: &[u8]) -> Result<Tables, Problem<'a
     Ok(Tables::from_json(alloc, bytes)?)
 }
 
-/// The items of a batch in a file.
+/// The items of a batch in a file, close together.
 pub fn items_in<'a, R: Read + Drop>(
     alloc: Global,
     source: Source<'a, R>,
-) -> Result<Vec<EventItem>, Problem<'a>>
-    ensures ok { IfOk result (λ items. HasItemsIn Form.Batch R.remaining source.entry items.items) }
+) -> Result<EventItems, Problem<'a>>
+    ensures ok { IfOk result (HasItemsIn Form.Batch R.remaining source.entry) }
     ensures err { IfErr result (ExplainsFile Form.Batch R.remaining source.entry) }
 {
-    let mut items = Vec::new(alloc);
+    let mut items = EventItems::new(alloc);
     each_item_in(alloc, source, &mut items)?;
     Ok(items)
 }

@@ -12,7 +12,7 @@ use Rattle.mds_table.specs.TypeName.{IsTypeName}
 use Rattle.mds_core.specs.declared.key.Key.{Key}
 use Rattle.mds_core.specs.declared.position.Position.{Position}
 use Rattle.mds_core.specs.Reported.{Reported}
-use Rattle.mds_texts.specs.Json.{◌+++◌, with_commas, quoted_text, position_text, registration_text, event_text}
+use Rattle.mds_batch.specs.Texts.{◌+++◌, with_commas, quoted_text, position_text, registration_text, event_text}
 use Rattle.mds_entries.proofs.PlainTexts.{plain_uuid, plain_name, plain_state}
 
 -- the text of an identifier

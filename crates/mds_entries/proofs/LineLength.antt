@@ -16,7 +16,7 @@ use Rattle.mds_core.specs.declared.key.Key.{Key}
 use Rattle.mds_core.specs.declared.position.Position.{Position}
 use Rattle.mds_core.specs.Position.{max_latitude, max_longitude}
 use Rattle.mds_core.specs.Reported.{Reported}
-use Rattle.mds_texts.specs.Json.{with_commas, quoted_text, position_text, registration_text, event_text}
+use Rattle.mds_batch.specs.Texts.{with_commas, quoted_text, position_text, registration_text, event_text}
 use Rattle.mds_entries.specs.Whole.{IsWholeEvent, IsPlace}
 
 length-uuid : (bytes : List ℕ) → length (hyphenated_text lower bytes) ≡ 36

@@ -6,7 +6,7 @@ use Rattle.mds_core.specs.declared.key.Key.{Key}
 use Rattle.mds_core.specs.declared.request.Request.{Request}
 use Rattle.mds_core.specs.declared.request.Request.TheVariants.{Register, Report, Look}
 use Rattle.mds_core.specs.Reported.{Reported}
-use Rattle.mds_texts.specs.Json.{registration_text, event_text}
+use Rattle.mds_batch.specs.Texts.{registration_text, event_text}
 use Rattle.mds_batch.specs.declared.item.VehicleItem.TheVariants as vehicle
 use Rattle.mds_batch.specs.Items.{IsVehicleItem, IsEventItem}
 use Rattle.mds_batch.specs.Batch.{AreItemsOf}

@@ -1,11 +1,11 @@
 //! The text of a request, laid out piece by piece.
 //!
-//! `mds_texts` writes the same text through a formatter. A journal's lines are laid out under a lock, so here their pieces are
+//! `mds_batch` writes the same text through a formatter. A journal's lines are laid out under a lock, so here their pieces are
 //! pushed as strings, with no formatter in between.
 ghost use Rattle.std.specs.Prelude.{◌≡◌, ◌++◌, codes, decimal, string_bytes, OnOk};
 ghost use Rattle.std.specs.Fmt.{signed_decimal};
 ghost use Rattle.uuid.specs.Text.{hyphenated_text, lower};
-ghost use Rattle.mds_texts.specs.Json.{with_commas, quoted_text, position_text, registration_text, event_text};
+ghost use Rattle.mds_batch.specs.Texts.{with_commas, quoted_text, position_text, registration_text, event_text};
 
 use itoa::Buffer;
 use mds_core::{Event, Key, Position};

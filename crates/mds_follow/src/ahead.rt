@@ -12,9 +12,9 @@ use mds_journal::Device;
 use mds_log::Tagged;
 use std::alloc::{AllocError, Global};
 
-/// How many requests are read at a time: enough that threads for each piece cost little, and few enough that they stay in the
-/// cache until they are asked.
-const PIECE: usize = 2048;
+/// How many requests are read at a time: enough that threads for each piece cost little, and so few that two pieces of them take
+/// no more memory than what a running server has for its requests.
+const PIECE: usize = 512;
 
 /// Requests that were read one after the other.
 #[derive(Drop)]

@@ -15,7 +15,7 @@ ghost use Rattle.mds_follow.specs.Restart.{IsAhead, IsAskFault, IsFirstPiece, Is
 use crate::ahead::{Ahead, Piece};
 use crate::desk::note;
 use crate::{Disk, Follower, RecordLog, RequestReader, StartFault};
-use mds_book::{Book, RefillFault, Seat, ShardLedger};
+use mds_book::{Book, RefillFault, Seat, SharedLedger};
 use mds_journal::{Device, JournalFault};
 use mds_log::{BlankLog, Keeper};
 use std::alloc::Global;
@@ -29,7 +29,7 @@ use std::thread::{Threads, join_mut};
 ///
 /// `Refused`, with the number of its line, where the tables don't accept one behind those before it, `Memory`; and `Shared` where
 /// another seat has asked the book.
-fn ask_piece<L: ShardLedger + Send + Sync, M: ShardLedger + Send + Sync, R: Threads + Wait + Sync>(
+fn ask_piece<L: SharedLedger, M: SharedLedger, R: Threads + Wait + Sync>(
     rt: &R,
     alloc: Global,
     book: &Book<L, M>,
@@ -57,13 +57,7 @@ fn ask_piece<L: ShardLedger + Send + Sync, M: ShardLedger + Send + Sync, R: Thre
 }
 
 /// As [`ask_piece`], while another thread reads the next piece.
-fn ask_and_read<
-    'a,
-    D: Device + Send,
-    L: ShardLedger + Send + Sync,
-    M: ShardLedger + Send + Sync,
-    R: Threads + Wait + Sync,
->(
+fn ask_and_read<'a, D: Device + Send, L: SharedLedger, M: SharedLedger, R: Threads + Wait + Sync>(
     rt: &'a R,
     book: &'a Book<L, M>,
     piece: &'a Piece,
@@ -125,8 +119,8 @@ fn ask_and_read<
 /// As [`ask_piece`].
 fn take_piece<
     D: Device + Send,
-    L: ShardLedger + Send + Sync,
-    M: ShardLedger + Send + Sync,
+    L: SharedLedger,
+    M: SharedLedger,
     J: RecordLog,
     R: Threads + Wait + Sync,
 >(
@@ -188,13 +182,7 @@ fn take_piece<
 /// # Errors
 ///
 /// As [`ask_piece`], and then as [`RequestReader::next_request`], where the line behind it gives no request.
-fn take_last<
-    D: Device,
-    L: ShardLedger + Send + Sync,
-    M: ShardLedger + Send + Sync,
-    J: RecordLog,
-    R: Threads + Wait + Sync,
->(
+fn take_last<D: Device, L: SharedLedger, M: SharedLedger, J: RecordLog, R: Threads + Wait + Sync>(
     rt: &R,
     book: &Book<L, M>,
     seat: &mut Seat<L, M>,
@@ -240,8 +228,8 @@ fn take_last<
 /// As [`take_piece`] and [`take_last`].
 fn read_back<
     D: Device + Send,
-    L: ShardLedger + Send + Sync,
-    M: ShardLedger + Send + Sync,
+    L: SharedLedger,
+    M: SharedLedger,
     J: RecordLog,
     R: Threads + Wait + Sync,
 >(
@@ -298,8 +286,8 @@ fn read_back<
 /// comes back.
 pub fn resume<
     D: Device + Send,
-    L: ShardLedger + Send + Sync,
-    M: ShardLedger + Send + Sync,
+    L: SharedLedger,
+    M: SharedLedger,
     J: RecordLog,
     R: Threads + Wait + Sync,
 >(

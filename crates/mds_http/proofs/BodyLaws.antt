@@ -2,7 +2,7 @@
 use Rattle.std.proofs.Common.{◌≡◌, ◌≢◌, ℕ, List, [], ◌∷◌, ◌++◌, Vec, map, length, codes, refl, ap}
 use Rattle.std.proofs.lemmas.List.Folds.{flat_map-map}
 use Rattle.mds_table.specs.declared.row.Row.{Row}
-use Rattle.mds_texts.specs.Json.{◌+++◌, with_commas, table_text}
+use Rattle.mds_batch.specs.Texts.{◌+++◌, with_commas, table_text}
 use Rattle.mds_http.specs.Found.{tables_of}
 use Rattle.mds_http.specs.Bodies.{tables_body}
 

@@ -4,7 +4,7 @@ use Rattle.std.specs.List.{flat_map}
 use Rattle.std.proofs.lemmas.Grind.{flat_map-append}
 use Rattle.std.proofs.lemmas.List.{append-nil, append_assoc, take_more, length-take-le}
 use Rattle.std.proofs.lemmas.Option.{slice_get_within, get_or_from_slice_get}
-use Rattle.mds_texts.specs.Json.{with_commas}
+use Rattle.mds_batch.specs.Texts.{with_commas}
 
 module _ {A : Type 0} (text : A → List ℕ) where
   commas_pushed : (items : List A) (item : A) → 1 ≤ length items → with_commas text (items ++ item ∷ []) ≡ with_commas text items ++ (codes "," ++ text item)

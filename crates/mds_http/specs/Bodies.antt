@@ -3,7 +3,7 @@ use Rattle.std.specs.Prelude.{ℕ, List, [], ◌∷◌, codes, decimal}
 use Rattle.mds_table.specs.Tables.{Tables, rows_of}
 use Rattle.mds_core.specs.Reported.{Reported}
 use Rattle.mds_http.specs.declared.response.failure.Failure.{Failure}
-use Rattle.mds_texts.specs.Json.{◌+++◌, with_commas, event_text, row_text, table_text}
+use Rattle.mds_batch.specs.Texts.{◌+++◌, with_commas, event_text, row_text, table_text}
 use Rattle.mds_http.specs.Json.{failure_text}
 
 -- the body of a fault of this word

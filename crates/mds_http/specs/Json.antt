@@ -11,7 +11,7 @@ use Rattle.mds_core.specs.Refusal.{refusal_word}
 use Rattle.mds_batch.specs.declared.item.ItemFault.TheVariants.{NotObject, Missing, Bad}
 use Rattle.mds_batch.specs.Items.{item_fault_word}
 use Rattle.mds_batch.specs.Member.{member_name}
-use Rattle.mds_texts.specs.Json.{◌+++◌, position_text}
+use Rattle.mds_batch.specs.Texts.{◌+++◌, position_text}
 use Rattle.mds_http.specs.declared.response.failure.Cause.{Cause}
 use Rattle.mds_http.specs.declared.response.failure.Cause.TheVariants.{Fault, Refused}
 use Rattle.mds_http.specs.declared.response.failure.Failure.{Failure}

@@ -55,6 +55,6 @@ left tables count seats all are gathered = record {
 
 -- serving ended so, where the workers answered so many connections each, and the book of their seats was settled
 pub ended : (tables : Tables) (count each : ℕ) (seats : List Seated) (all : Collected) (answered : List ℕ) → AreWorkers count seats
-    → IsSettledEnd (record { tables = tables; seats = count }) seats (Ok all) → answered ≡ replicate count each
+    → IsSettledEnd (record { tables = tables; seats = count }) seats all → answered ≡ replicate count each
     → IsEnded tables count each (Ok (record { all = all; answered = answered }))
 ended tables count each seats all answered are settled whole = (left tables count seats all are settled.0, settled.1, settled.2, whole)

@@ -7,14 +7,11 @@ use Rattle.mds_book.specs.Seats.{Seated}
 use Rattle.mds_book.specs.Gathering.{Collected, IsGathered, IsWhole}
 use Rattle.mds_book.specs.Settling.{AreBeginnings, IsSettledBook}
 use Rattle.mds_pool.specs.declared.serving.Stop.{Stop}
-use Rattle.mds_pool.specs.declared.serving.Stop.TheVariants.{Torn}
 
 -- what settling a book all of whose seats are handed in came to: the settled book, in which what
 -- each seat saw of a shard is a beginning of the shard's history
-abbrev pub IsSettledEnd : Opened → List Seated → Result Collected Stop → Type 0
-IsSettledEnd book seats (Ok all) = IsGathered book seats all × IsSettledBook all × AreBeginnings all
--- all of the seats are handed in, their notes fit, and settling takes no memory and no connection
-IsSettledEnd book seats (Err stop) = ⊥
+abbrev pub IsSettledEnd : Opened → List Seated → Collected → Type 0
+IsSettledEnd book seats all = IsGathered book seats all × IsSettledBook all × AreBeginnings all
 
 -- the seats are so many, and note the calls that were accepted
 abbrev pub AreWorkers : ℕ → List Seated → Type 0
@@ -33,12 +30,11 @@ pub record AtEnd : Type 0 where
 
 -- what serving with these tables, and so many workers that were to answer so many connections each,
 -- came to: they answered them, and the book is settled, in which what each seat saw of a shard is a
--- beginning of the shard's history; or it stopped before. That notes don't fit never comes
+-- beginning of the shard's history; or it stopped before
 abbrev pub IsEnded : Tables → ℕ → ℕ → Result AtEnd Stop → Type 0
 IsEnded tables workers each (Ok ended) =
     IsLeft tables workers ended.all
     × IsSettledBook ended.all
     × AreBeginnings ended.all
     × (ended.answered ≡ replicate workers each)
-IsEnded tables workers each (Err (Torn shard place)) = ⊥
 IsEnded tables workers each (Err stop) = Unit {0}

@@ -9,7 +9,7 @@ use crate::answering::{Answer, Connection};
 use crate::recorded_desk::RecordedDesk;
 use crate::worker::{Round, Shift, ShiftFault, Worker, workers_at};
 use crate::{AnswerCount, NoRecord, Port, Recorder};
-use mds_book::{Book, Gate, Seat, ShardLedger};
+use mds_book::{Book, Gate, Seat, ShardLedger, SharedLedger};
 use mds_face::{Face, Room, SeatDesk};
 use std::alloc::Global;
 use std::fmt;
@@ -57,8 +57,8 @@ pub struct PoolFault<L: ShardLedger, M: ShardLedger> {
 pub fn serve<
     R: Threads + Wait + Sync,
     P: Port + Sync,
-    L: ShardLedger + Send + Sync,
-    M: ShardLedger + Send + Sync,
+    L: SharedLedger,
+    M: SharedLedger,
     G: Gate + Sync,
 >(
     rt: &R,
@@ -109,8 +109,8 @@ where
 pub(crate) fn serve_round<
     R: Threads + Wait + Sync,
     P: Port + Sync,
-    L: ShardLedger + Send + Sync,
-    M: ShardLedger + Send + Sync,
+    L: SharedLedger,
+    M: SharedLedger,
     G: Gate + Sync,
     K: Recorder<L, M> + Sync,
 >(
@@ -144,29 +144,114 @@ where
     let crew = Crew {
         rt,
         alloc,
-        face,
         port,
-        book,
         gate,
         recorder,
     };
-    let workers = crew.work_through(workers_at(seats, room), each);
+    let workers = work_through(rt, &crew, face, book, workers_at(seats, room), each);
     Ok(Round::of(workers, back, answered))
 }
 
-/// What the workers of a port share.
+/// What the workers of a port share, beside the face and the book.
 #[derive(Drop)]
-struct Crew<'a, R: Wait, P: Port, L: ShardLedger, M: ShardLedger, G: Gate, K: Recorder<L, M>> {
+struct Crew<'a, R: Wait, P: Port, G: Gate, K> {
     rt: &'a R,
     alloc: Global,
-    face: &'a Face,
+    port: &'a P,
+    gate: &'a G,
+    recorder: &'a K,
+}
+
+/// What is done for each worker, by a face and at a book. Worker and book are types of their own here, so that of what threads
+/// share each is looked at by itself.
+trait Works<X, B> {
+    ghost use Rattle.std.specs.Prelude.{ℕ};
+
+    /// What a worker comes to that was to answer so many connections.
+    ghost worked: { ℕ → X → X → Type 0 };
+
+    /// One worker's work: it takes so many connections and answers them for its seat. Where it can take no further one it ends,
+    /// and where it stays open what is recorded, it ends and stops the port.
+    fn work(&self, face: &Face, book: &B, worker: &mut X, number: usize, each: usize)
+        ensures { worked each worker.old worker.new };
+}
+
+impl<R: Wait, P: Port, L: ShardLedger, M: ShardLedger, G: Gate, K: Recorder<L, M>> Works<
+    Worker<L, M>,
+    Book<L, M>,
+> for Crew<'_, R, P, G, K> {
+    ghost use Rattle.mds_pool.specs.Workers.{HasWorked};
+
+    ghost worked = { HasWorked };
+
+    fn work(
+        &self,
+        face: &Face,
+        book: &Book<L, M>,
+        worker: &mut Worker<L, M>,
+        number: usize,
+        each: usize,
+    ) {
+        let station = Station {
+            rt: self.rt,
+            alloc: self.alloc,
+            port: self.port,
+            book,
+            gate: self.gate,
+            recorder: self.recorder,
+        };
+        worker.shift = station.work(face, &mut worker.seat, number, each);
+    }
+}
+
+fn work_through<R: Threads + Wait + Sync, X: Send, B: Sync, W: Works<X, B> + Sync>(
+    rt: &R,
+    crew: &W,
+    face: &Face,
+    book: &B,
+    mut workers: Vec<X>,
+    each: usize,
+) -> Vec<X>
+    requires { 0 < vec_len workers }
+    ensures items { AllZip (W.worked each) workers.items result.items }
+    ensures len { vec_len result ≡ vec_len workers }
+{
+    work_all(rt, crew, face, book, workers.as_mut_slice(), each);
+    workers
+}
+
+fn work_all<R: Threads + Wait + Sync, X: Send, B: Sync, W: Works<X, B> + Sync>(
+    rt: &R,
+    crew: &W,
+    face: &Face,
+    book: &B,
+    workers: &mut [X],
+    each: usize,
+)
+    requires { 0 < length workers.old }
+    ensures { AllZip (W.worked each) workers.old workers.new }
+{
+    let count = workers.len();
+    let job = |number: usize, worker: &mut X|
+        ensures { W.worked each worker.old worker.new }
+    {
+        crew.work(face, book, worker, number, each);
+    };
+    thread::for_each_mut(rt, workers, count, &job);
+}
+
+/// What one worker works with.
+#[derive(Drop)]
+struct Station<'a, R: Wait, P: Port, L: ShardLedger, M: ShardLedger, G: Gate, K: Recorder<L, M>> {
+    rt: &'a R,
+    alloc: Global,
     port: &'a P,
     book: &'a Book<L, M>,
     gate: &'a G,
     recorder: &'a K,
 }
 
-impl<R: Wait, P: Port, L: ShardLedger, M: ShardLedger, G: Gate, K: Recorder<L, M>> Crew<
+impl<R: Wait, P: Port, L: ShardLedger, M: ShardLedger, G: Gate, K: Recorder<L, M>> Station<
     '_,
     R,
     P,
@@ -175,52 +260,9 @@ impl<R: Wait, P: Port, L: ShardLedger, M: ShardLedger, G: Gate, K: Recorder<L, M
     G,
     K,
 > {
-    fn work_through(&self, mut workers: Vec<Worker<L, M>>, each: usize) -> Vec<Worker<L, M>>
-    where
-        R: Threads + Sync,
-        P: Sync,
-        P::In: Send,
-        P::Out: Send,
-        L: Send + Sync,
-        M: Send + Sync,
-        G: Sync,
-        K: Sync,
-        K::Receipt: Send,
-        requires { 0 < vec_len workers }
-        ensures items { AllZip (HasWorked each) workers.items result.items }
-        ensures len { vec_len result ≡ vec_len workers }
-    {
-        self.work_all(workers.as_mut_slice(), each);
-        workers
-    }
-
-    fn work_all(&self, workers: &mut [Worker<L, M>], each: usize)
-    where
-        R: Threads + Sync,
-        P: Sync,
-        P::In: Send,
-        P::Out: Send,
-        L: Send + Sync,
-        M: Send + Sync,
-        G: Sync,
-        K: Sync,
-        K::Receipt: Send,
-        requires { 0 < length workers.old }
-        ensures { AllZip (HasWorked each) workers.old workers.new }
-    {
-        let count = workers.len();
-        let job = |number: usize, worker: &mut Worker<L, M>|
-            ensures { HasWorked each worker.old worker.new }
-        {
-            worker.shift = self.work(&mut worker.seat, number, each);
-        };
-        thread::for_each_mut(self.rt, workers, count, &job);
-    }
-
-    /// One worker's work: it takes so many connections and answers them for its seat. Where it can take no further one it ends,
-    /// and where it stays open what is recorded, it ends and stops the port.
+    /// As [`Works::work`].
     #[tactic(auto, using(crate::proofs::SeatGrowth::seat_growth))]
-    fn work(&self, seat: &mut Seat<L, M>, number: usize, each: usize) -> Shift
+    fn work(&self, face: &Face, seat: &mut Seat<L, M>, number: usize, each: usize) -> Shift
         ensures grown { HasGrown seat.old seat.new }
         ensures each { result.fault ≡ None → result.answered ≡ each }
     {
@@ -235,7 +277,7 @@ impl<R: Wait, P: Port, L: ShardLedger, M: ShardLedger, G: Gate, K: Recorder<L, M
                 };
             };
             self.gate.enter(number, nth);
-            let answer = self.answer(seat, &mut receipt, &mut room, connection);
+            let answer = self.answer(face, seat, &mut receipt, &mut room, connection);
             let is_lost = answer.is_lost();
             answered.add(self.port, answer);
             self.gate.leave(number, nth);
@@ -255,6 +297,7 @@ impl<R: Wait, P: Port, L: ShardLedger, M: ShardLedger, G: Gate, K: Recorder<L, M
 
     fn answer(
         &self,
+        face: &Face,
         seat: &mut Seat<L, M>,
         receipt: &mut K::Receipt,
         room: &mut Room,
@@ -272,9 +315,7 @@ impl<R: Wait, P: Port, L: ShardLedger, M: ShardLedger, G: Gate, K: Recorder<L, M
             recorder: self.recorder,
             receipt,
         };
-        let answer = answer_at_seat(
-            self.alloc, self.face, self.port, connection, room, &mut desk,
-        );
+        let answer = answer_at_seat(self.alloc, face, self.port, connection, room, &mut desk);
         let RecordedDesk {
             desk: SeatDesk {
                 alloc: _,

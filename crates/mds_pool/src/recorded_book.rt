@@ -15,7 +15,7 @@ use crate::pool::serve_round;
 use crate::recorder::Journal;
 use crate::serving::{open_book, settle};
 use crate::{Alarm, FinalBook, NewBook, Port, Stop};
-use mds_book::{Book, OpenGate, RecordFault, Seat, Settled, ShardLedger};
+use mds_book::{Book, OpenGate, RecordFault, Seat, Settled, ShardLedger, SharedLedger};
 use mds_face::Face;
 use mds_follow::{
     Disk, Follower, Record, RecordLog, RequestReader, SharedFollower, StartFault, resume,
@@ -78,12 +78,12 @@ pub enum RecordedStop {
     Journal,
 }
 
-impl<
-    D: Device + Send,
-    L: ShardLedger + Send + Sync,
-    M: ShardLedger + Send + Sync,
-    J: RecordLog,
-> RecordedBook<Disk<D>, L, M, J> {
+impl<D: Device + Send, L: SharedLedger, M: SharedLedger, J: RecordLog> RecordedBook<
+    Disk<D>,
+    L,
+    M,
+    J,
+> {
     /// Opens a book over a journal. Its first seat asks all that the journal tells, and notes it like any other request.
     ///
     /// # Errors
@@ -137,7 +137,7 @@ impl<
     }
 }
 
-impl<F: Record + Drop, L: ShardLedger, M: ShardLedger, J: RecordLog> RecordedBook<F, L, M, J> {
+impl<F: Record + Drop, L: SharedLedger, M: SharedLedger, J: RecordLog> RecordedBook<F, L, M, J> {
     /// Serves a port over the book, by as many workers as the book has seats. Each worker answers `each` connections, and notes
     /// the calls that were accepted. No answer goes out before all is recorded that it rests on; where a write fails in place of
     /// it, the alarm is told. At the end all is recorded that was accepted, and the book is settled and handed out.
@@ -157,8 +157,6 @@ impl<F: Record + Drop, L: ShardLedger, M: ShardLedger, J: RecordLog> RecordedBoo
         P::In: Send,
         P::Out: Send,
         F: Send,
-        L: Send + Sync,
-        M: Send + Sync,
         J: Send + Sync,
         ensures ended { IfOk result (λ end. IsEnded self.tables self.seats each (Ok end.book)) }
         ensures stopped { IfErr result (IsRecordedStop self.tables self.seats each) }
@@ -215,7 +213,7 @@ fn settle_recorded<F: Record + Drop, L: ShardLedger, M: ShardLedger, J: RecordLo
     mut follower: Follower<F, L, M, J>,
 ) -> Result<(Settled<L, M>, F), RecordedStop>
     requires { vec_len seats ≡ book.seats }
-    ensures settled { IfOk result (λ end. IsSettledEnd book seats.items (Ok end.0)) }
+    ensures settled { IfOk result (λ end. IsSettledEnd book seats.items end.0) }
     ensures recorded { IfOk result (λ end. IsRecordOf F.is_sound F.is_true F.may_go_on F.stands
         F.tag F.left_since J.start J.held end.1 end.0) }
     ensures stopped { (tables : Timed) (workers each : ℕ)
@@ -226,11 +224,7 @@ fn settle_recorded<F: Record + Drop, L: ShardLedger, M: ShardLedger, J: RecordLo
         Err(RecordFault::Memory) => return Err(RecordedStop::Serve(Stop::Memory)),
         Err(RecordFault::NotKept | RecordFault::Lost) => return Err(RecordedStop::Journal),
     }
-    match settle(book, seats) {
-        Ok(mut settled) => {
-            let file = follower.finish(&mut settled);
-            Ok((settled, file))
-        }
-        Err(stop) => Err(RecordedStop::Serve(stop)),
-    }
+    let mut settled = settle(book, seats);
+    let file = follower.finish(&mut settled);
+    Ok((settled, file))
 }

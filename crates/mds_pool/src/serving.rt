@@ -7,7 +7,8 @@ ghost use Rattle.mds_pool.specs.Serving.{IsEnded, IsSettledEnd};
 use crate::pool::serve_round;
 use crate::{AnswerCount, NoRecord, Port};
 use mds_book::{
-    Blank, Book, Keep, OpenFault, OpenGate, Seat, SettleFault, Settled, ShardLedger, reconcile,
+    Blank, Book, Keep, OpenFault, OpenGate, Seat, SettleFault, Settled, ShardLedger, SharedLedger,
+    reconcile,
 };
 use mds_face::Face;
 use mds_table::Tables;
@@ -26,13 +27,6 @@ pub enum Stop {
     /// A worker could take no further connection, and answered fewer than it was to. The others went on to their ends. Nothing
     /// was settled.
     Accept,
-    /// The notes don't fit the history of a shard. It never comes.
-    Torn {
-        /// The number of the least such shard.
-        shard: usize,
-        /// The least place of its history at which they don't fit.
-        place: usize,
-    },
 }
 
 /// What a book is opened with.
@@ -133,12 +127,13 @@ pub(crate) fn open_book<L: ShardLedger, M: ShardLedger>(
 /// # Errors
 ///
 /// [`Stop`] says when each comes. The requests that were answered until then were answered as ever.
-pub fn serve_and_settle<
-    R: Threads + Wait + Sync,
-    P: Port + Sync,
-    L: ShardLedger + Send + Sync,
-    M: ShardLedger + Send + Sync,
->(rt: &R, alloc: Global, opening: NewBook, port: &P, each: usize) -> Result<FinalBook<L, M>, Stop>
+pub fn serve_and_settle<R: Threads + Wait + Sync, P: Port + Sync, L: SharedLedger, M: SharedLedger>(
+    rt: &R,
+    alloc: Global,
+    opening: NewBook,
+    port: &P,
+    each: usize,
+) -> Result<FinalBook<L, M>, Stop>
 where
     P::In: Send,
     P::Out: Send,
@@ -165,33 +160,25 @@ where
             if round.failed {
                 return Err(Stop::Accept);
             }
-            match settle(book, round.seats) {
-                Ok(settled) => Ok(FinalBook {
-                    settled,
-                    answered: round.answered,
-                }),
-                Err(stop) => Err(stop),
-            }
+            Ok(FinalBook {
+                settled: settle(book, round.seats),
+                answered: round.answered,
+            })
         }
         Err(_) => Err(Stop::Memory),
     }
 }
 
 /// Settles a book all of whose seats are handed in.
-///
-/// # Errors
-///
-/// None comes: the notes fit the histories.
 pub(crate) fn settle<L: ShardLedger, M: ShardLedger>(
     book: Book<L, M>,
     seats: Vec<Seat<L, M>>,
-) -> Result<Settled<L, M>, Stop>
+) -> Settled<L, M>
     requires { vec_len seats ≡ book.seats }
     ensures { IsSettledEnd book seats.items result }
 {
     match reconcile(book, seats) {
-        Ok(settled) => Ok(settled),
-        Err(SettleFault::Torn { shard, place, .. }) => Err(Stop::Torn { shard, place }),
-        Err(SettleFault::Missing { .. }) => unreachable!(),
+        Ok(settled) => settled,
+        Err(SettleFault::Missing { .. } | SettleFault::Torn { .. }) => unreachable!(),
     }
 }

@@ -1,8 +1,6 @@
 -- How what is kept beside a history goes on with one more request.
 use Rattle.std.proofs.Common.{◌≡◌, ◌⊎◌, inl, inr, ℕ, ◌<◌, ◌≤◌, ◌+◌, suc, zero, ◌||◌, ◌&&◌, cond, take, List, [], ◌∷◌, ◌++◌, length, Option, Some, None, Bool, true, false, refl, sym, ◌∙◌, ap, subst, arith, length-append}
 use Rattle.std.specs.Prelude.{slice_get, option_map}
-use Rattle.indexmap.specs.IndexMap.{get}
-use Rattle.indexmap.specs.IndexSet.{contains}
 use Rattle.std.specs.List.{list_any}
 use Rattle.std.specs.Str.{bytes_eq}
 use Rattle.std.proofs.lemmas.List.{take-append-le, take_all}
@@ -21,8 +19,9 @@ use Rattle.mds_core.specs.Answer.{MayBeDone}
 use Rattle.mds_core.specs.Known.{standing_if}
 use Rattle.mds_core.proofs.Standings.{standing_if-push, own_few}
 use Rattle.mds_core.proofs.Histories.{same_key_is, requests_of-push_same, requests_of-push_other, lawful_next}
+use Rattle.mds_known.specs.Kept.{PutsValue, value_of}
 use Rattle.mds_shard.specs.declared.vehicle.Vehicle.{Vehicle}
-use Rattle.mds_shard.specs.Replay.{Vehicles, Names, IsLastPlace, IsLastPlaceIf, IsVehicle, AreBefore, PutsVehicle, AddsName, IsReplay}
+use Rattle.mds_shard.specs.Replay.{Vehicles, IsLastPlace, IsLastPlaceIf, IsVehicle, AreBefore, AddsName, IsReplay}
 
 -- an element of a list stays where more comes behind it
 pub slice_get-append : {X : Type 0} (xs ys : List X) (i : ℕ) → i < length xs → slice_get (xs ++ ys) i ≡ slice_get xs i
@@ -101,10 +100,10 @@ before_push history before request earlier are is = record {
 
 -- what is kept of every vehicle, with one more request
 vehicles_push : (history : List Request) (request : Request) (old new : Vehicles) (standing : Standing)
-    → ((key : Key) → IsVehicle history key (get same_key old key))
+    → ((key : Key) → IsVehicle history key (value_of old key))
     → standing ≡ standing_of (requests_of history (key_of request) ++ request ∷ [])
-    → PutsVehicle (key_of request) (record { standing = standing; last = length history }) old new
-    → (key : Key) → IsVehicle (history ++ request ∷ []) key (get same_key new key)
+    → PutsValue (key_of request) (record { standing = standing; last = length history }) old new
+    → (key : Key) → IsVehicle (history ++ request ∷ []) key (value_of new key)
 vehicles_push history request old new standing each stands puts key = rw (puts key) (by_key (same_key (key_of request) key) refl) where
   stays : (kept : Option Vehicle) → same_key (key_of request) key ≡ false → IsVehicle history key kept → IsVehicle (history ++ request ∷ []) key kept
   stays None other is = requests_of-push_other history request key other ∙ is
@@ -112,16 +111,16 @@ vehicles_push history request old new standing each stands puts key = rw (puts k
       (is.0 ∙ ap standing_of (sym (requests_of-push_other history request key other)), last_place_stays history request key vehicle.last other is.1)
 
   by_key : (b : Bool) → same_key (key_of request) key ≡ b
-      → IsVehicle (history ++ request ∷ []) key (cond b (Some (record { standing = standing; last = length history })) (get same_key old key))
-  by_key false other = stays (get same_key old key) other (each key)
+      → IsVehicle (history ++ request ∷ []) key (cond b (Some (record { standing = standing; last = length history })) (value_of old key))
+  by_key false other = stays (value_of old key) other (each key)
   by_key true same =
       let own_key : requests_of history (key_of request) ≡ requests_of history key = ap (requests_of history) (same_key_is (key_of request) key same) in
       (stands ∙ ap (λ l. standing_of (l ++ request ∷ [])) own_key ∙ ap standing_of (sym (requests_of-push_same history request key same)), last_place_push history request key same)
 
 -- the names, with one more request
-names_push : (history : List Request) (request : Request) (old new : Names)
-    → ((name : EventName) → contains same_event old name ≡ has_event (requests_of history name.key) name.id) → AddsName request old new
-    → (name : EventName) → contains same_event new name ≡ has_event (requests_of (history ++ request ∷ []) name.key) name.id
+names_push : (history : List Request) (request : Request) (old new : List EventName)
+    → ((name : EventName) → list_any (same_event name) old ≡ has_event (requests_of history name.key) name.id) → AddsName request old new
+    → (name : EventName) → list_any (same_event name) new ≡ has_event (requests_of (history ++ request ∷ []) name.key) name.id
 names_push history request old new each adds name = adds name ∙ ap (λ b. b || (same_key (key_of request) name.key && has_event (request ∷ []) name.id)) (each name) ∙ by_key (same_key (key_of request) name.key) refl where
   has_event-append : (first second : List Request) → has_event (first ++ second) name.id ≡ (has_event first name.id || has_event second name.id)
   has_event-append first second =
@@ -138,10 +137,10 @@ names_push history request old new each adds name = adds name ∙ ap (λ b. b ||
       sym (has_event-append (requests_of history name.key) (request ∷ [])) ∙ ap (λ l. has_event l name.id) (sym (requests_of-push_same history request name.key same))
 
 -- what is kept beside a history goes on with a request that is accepted
-pub replay_push : (tables : Tables) (history : List Request) (before : List (Option ℕ)) (old new : Vehicles) (names new_names : Names)
+pub replay_push : (tables : Tables) (history : List Request) (before : List (Option ℕ)) (old new : Vehicles) (names new_names : List EventName)
     (request : Request) (kept : Option Vehicle) (standing : Standing) → IsReplay tables history before old names → MayBeDone tables history request
     → IsVehicle history (key_of request) kept → standing ≡ standing_of (requests_of history (key_of request) ++ request ∷ [])
-    → PutsVehicle (key_of request) (record { standing = standing; last = length history }) old new → AddsName request names new_names
+    → PutsValue (key_of request) (record { standing = standing; last = length history }) old new → AddsName request names new_names
     → IsReplay tables (history ++ request ∷ []) (before ++ option_map (λ vehicle. vehicle.last) kept ∷ []) new new_names
 replay_push tables history before old new names new_names request kept standing is may vehicle stands puts adds = record {
   lawful = lawful_next tables history request Done is.lawful may;

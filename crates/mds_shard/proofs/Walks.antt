@@ -1,6 +1,6 @@
 -- The walk from a vehicle's last place back to its first.
 use Rattle.std.proofs.Common.{◌≡◌, ℕ, zero, suc, ◌<◌, ◌≤◌, take, List, [], ◌∷◌, ◌++◌, length, Option, Some, None, refl, sym, ◌∙◌, ap, subst, arith}
-use Rattle.std.specs.Prelude.{slice_get, reverse}
+use Rattle.std.specs.Prelude.{slice_get, reverse, option_map}
 use Rattle.std.specs.List.{cons_option}
 use Rattle.std.specs.Option.{option_to_list}
 use Rattle.std.proofs.Common.{append_assoc, length-append}
@@ -30,6 +30,11 @@ take-take_less [] (suc m) zero less = refl
 take-take_less [] (suc m) (suc n) less = refl
 take-take_less (x ∷ xs) (suc m) zero less = absurd (omega arith)
 take-take_less (x ∷ xs) (suc m) (suc n) less = ap (λ ys. x ∷ ys) (take-take_less xs m n (omega arith))
+
+-- what is told of the event at a place is told of the request that stands there
+pub told_at : (at : Option Request) (event : Option Reported) → option_map report_of at ≡ Some event → (request : Request) × (at ≡ Some request) × (report_of request ≡ event)
+told_at None event is = absurd cc
+told_at (Some request) event is = (request, refl, cc)
 
 -- the vehicle's request before lies before
 steps_before : (history : List Request) (key : Key) (earlier : Option ℕ) → IsLastPlaceIf history key earlier → steps_left earlier ≤ length history

@@ -1,9 +1,7 @@
 -- What a shard keeps beside its history.
-use Rattle.std.specs.Prelude.{◌≡◌, ℕ, ◌≤◌, ◌++◌, ◌∷◌, ◌||◌, ◌&&◌, cond, Bool, false, List, []}
+use Rattle.std.specs.Prelude.{◌≡◌, ℕ, ◌≤◌, ◌++◌, ◌∷◌, ◌||◌, ◌&&◌, Bool, false, List, []}
 use Rattle.std.specs.Prelude.{length, take, drop, Option, Some, None, slice_get}
-use Rattle.std.specs.declared.hash.RandomState.{RandomState}
-use Rattle.indexmap.specs.IndexMap.{IndexMap, get}
-use Rattle.indexmap.specs.IndexSet.{IndexSet, contains}
+use Rattle.std.specs.List.{list_any}
 use Rattle.mds_table.specs.Tables.{Tables}
 use Rattle.mds_core.specs.declared.key.Key.{Key}
 use Rattle.mds_core.specs.declared.event_name.EventName.{EventName}
@@ -12,14 +10,12 @@ use Rattle.mds_core.specs.declared.request.Request.TheVariants.{Register, Report
 use Rattle.mds_core.specs.History.{key_of, same_key, same_event}
 use Rattle.mds_core.specs.History.{requests_of, has_event, standing_of}
 use Rattle.mds_core.specs.Lawful.{IsLawful}
+use Rattle.mds_known.specs.Kept.{value_of}
 use Rattle.mds_shard.specs.declared.vehicle.Vehicle.{Vehicle}
 
--- what is kept of the vehicles, and the names of their events
+-- what is kept of the vehicles
 abbrev pub Vehicles : Type 0
-Vehicles = IndexMap Key Vehicle RandomState
-
-abbrev pub Names : Type 0
-Names = IndexSet EventName RandomState
+Vehicles = List (Key × Vehicle)
 
 -- at this place of the history stands the last request about the vehicle
 pub record IsLastPlace (history : List Request) (key : Key) (place : ℕ) : Type 0 where
@@ -53,32 +49,26 @@ pub record AreBefore (history : List Request) (before : List (Option ℕ)) : Typ
       → slice_get history place ≡ Some request → slice_get before place ≡ Some earlier
       → IsLastPlaceIf (take place history) (key_of request) earlier
 
--- the vehicle is kept as this one, and every other as before
-abbrev pub PutsVehicle : Key → Vehicle → Vehicles → Vehicles → Type 0
-PutsVehicle key vehicle old new =
-    (other : Key)
-    → get same_key new other ≡ cond (same_key key other) (Some vehicle) (get same_key old other)
-
 -- the name of the event that a request reports is there
-abbrev pub has_name : Names → Request → Bool
+abbrev pub has_name : List EventName → Request → Bool
 has_name names (Register key) = false
 has_name names (Report event) =
-    contains same_event names (record { key = event.key; id = event.id })
+    list_any (same_event (record { key = event.key; id = event.id })) names
 has_name names (Look key) = false
 
 -- the name of the event that a request reports is kept beside those that were
-abbrev pub AddsName : Request → Names → Names → Type 0
+abbrev pub AddsName : Request → List EventName → List EventName → Type 0
 AddsName request old new =
     (name : EventName)
-    → contains same_event new name
-    ≡ (contains same_event old name
+    → list_any (same_event name) new
+    ≡ (list_any (same_event name) old
     || (same_key (key_of request) name.key && has_event (request ∷ []) name.id))
 
 -- the history is lawful, and what is kept beside it is what it says of each vehicle
 pub record IsReplay (tables : Tables) (history : List Request) (before : List (Option ℕ))
-    (vehicles : Vehicles) (names : Names) : Type 0 where
+    (vehicles : Vehicles) (names : List EventName) : Type 0 where
   pub lawful : IsLawful tables history
   pub places : AreBefore history before
-  pub standings : (key : Key) → IsVehicle history key (get same_key vehicles key)
+  pub standings : (key : Key) → IsVehicle history key (value_of vehicles key)
   pub held : (name : EventName)
-      → contains same_event names name ≡ has_event (requests_of history name.key) name.id
+      → list_any (same_event name) names ≡ has_event (requests_of history name.key) name.id

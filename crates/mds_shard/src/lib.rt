@@ -6,8 +6,11 @@
 #![tactic(auto)]
 
 mod shard;
+mod takes;
 mod vehicle;
 mod walk;
 
+pub use mds_past::{KeptForm, PackedRequest, Past};
 pub use shard::Shard;
+pub use takes::TakesEvents;
 pub use walk::{MAX_STEPS, WalkStart};

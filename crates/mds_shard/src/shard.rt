@@ -1,5 +1,5 @@
 //! A shard: the machine with its vehicles looked up in maps.
-ghost use Rattle.std.specs.Prelude.{◌≡◌, ◌<◌, ◌≤◌, ◌^◌, [], ◌∷◌, ◌++◌, List, None, Some, length, vec_len, vec_capacity, not, false, if◌then◌else◌, IfOk, IfNone, IfSome, OnOk, OnErr, option_map};
+ghost use Rattle.std.specs.Prelude.{◌≡◌, ◌<◌, ◌≤◌, ◌+◌, ◌^◌, [], ◌∷◌, ◌++◌, List, None, Some, length, not, false, if◌then◌else◌, IfOk, IfNone, IfSome, OnOk, OnErr, option_map};
 ghost use Rattle.mds_core.specs.History.{requests_of, key_of};
 ghost use Rattle.mds_core.specs.Answer.{MayBeDone};
 ghost use Rattle.mds_core.specs.Machine.{Steps, LacksMemory, standing_in as where_it_stands, events_in};
@@ -7,74 +7,65 @@ ghost use Rattle.mds_core.specs.Lawful.{IsLawful};
 ghost use Rattle.mds_core.specs.Known.{is_repeated};
 ghost use Rattle.mds_core.specs.declared.key.Key.{Key as Told};
 ghost use Rattle.mds_core.specs.declared.request.Request.{Request as Requested};
-ghost use Rattle.mds_core.specs.Reported.{Reported};
 ghost use mathlib.Core.List.{IsPrefix};
 ghost use Rattle.mds_shard.specs.Replay.{IsEndOf, IsVehicle};
 ghost use Rattle.mds_shard.specs.Walk.{IsStart, IsWalkOf, steps_left};
 
-use crate::vehicle::{Vehicle, events_to, keep, last_in, make_room, standing_in};
+use crate::TakesEvents;
+use crate::vehicle::{Vehicle, Vehicles, events_to, keep, last_in, place_of, standing_in};
 use crate::walk::{MAX_STEPS, WalkStart, walk_back};
-use indexmap::{IndexMap, IndexSet};
-use mds_core::{
-    Event, EventName, Key, Known, Outcome, Reply, Request, Standing, decide, standing_after,
-};
+use mds_core::{Event, Key, Known, Outcome, Reply, Request, Standing, decide, standing_after};
+use mds_known::KnownVehicles;
+use mds_past::{KeptForm, Past};
 use mds_table::Tables;
 use std::alloc::{AllocError, Global};
 use std::hash::RandomState;
 use std::marker::Model;
-use std::slice::from_ref;
 
 /// The machine of one shard, over the tables that decide. Beside its history it keeps where each vehicle stands, the names of
 /// the events that were accepted, and for each entry of the history the place of the vehicle's entry before it; so no call
-/// looks through the history.
+/// looks through the history. The history is kept as `K` keeps requests.
 ///
 /// Every shard is such that its history could have been accepted, and what it keeps beside it is what the history says.
-#[derive(Debug)]
-pub struct Shard {
+pub struct Shard<K: KeptForm = Request> {
     tables: Tables,
-    history: Vec<Request>,
-    before: Vec<Option<usize>>,
-    vehicles: IndexMap<Key, Vehicle, RandomState>,
-    names: IndexSet<EventName, RandomState>,
+    past: Past<K>,
+    known: Vehicles,
 }
 
 // By hand: crates above cite it.
-impl Drop for Shard {
+impl<K: KeptForm> Drop for Shard<K> {
     fn drop(self) {
         let Shard {
             tables: _,
-            history: _,
-            before: _,
-            vehicles: _,
-            names: _,
+            past: _,
+            known: _,
         } = self;
     }
 }
 
-impl Model for Shard {
+impl<K: KeptForm> Model for Shard<K> {
     ghost use Rattle.mds_core.specs.Machine.{Machine};
     ghost use Rattle.mds_shard.specs.Replay.{IsReplay};
 
     ghost Value = { Machine };
 
-    ghost view = { λ shard. record { tables = shard.tables; history = shard.history.items } };
+    ghost view = { λ shard. record { tables = shard.tables; history = shard.past.requests } };
 
-    ghost invariant = { λ shard. IsReplay shard.tables shard.history.items
-        shard.before.items shard.vehicles shard.names };
+    ghost invariant = { λ shard. IsReplay shard.tables shard.past.requests shard.past.before
+        shard.known.entries shard.known.names };
 }
 
-impl Shard {
+impl<K: KeptForm> Shard<K> {
     /// A shard over the tables, with nothing accepted yet. It takes no memory. Its look-ups hash by `hasher`: where that is
     /// random, nobody can pick keys and identifiers that make them slow.
-    pub fn open(alloc: Global, tables: Tables, hasher: RandomState) -> Shard
+    pub fn open(alloc: Global, tables: Tables, hasher: RandomState) -> Shard<K>
         ensures { result ≡ record { tables = tables; history = [] } }
     {
         Shard {
             tables,
-            history: Vec::new(alloc),
-            before: Vec::new(alloc),
-            vehicles: IndexMap::with_hasher(alloc, hasher),
-            names: IndexSet::with_hasher(alloc, hasher),
+            past: Past::new(alloc),
+            known: KnownVehicles::with_hasher(alloc, hasher),
         }
     }
 
@@ -102,7 +93,7 @@ impl Shard {
             if self.accept(request, at, vehicle)? {
                 return Ok(Reply { place, outcome });
             }
-        } else if !self.has_event(request) {
+        } else if !self.has_event(request, at) {
             return Ok(Reply { place, outcome });
         }
         known.has_event = true;
@@ -112,15 +103,16 @@ impl Shard {
         })
     }
 
-    fn has_event(&self, request: &Request) -> bool
+    /// The vehicle's key isn't looked up where it stands at this place.
+    fn has_event(&self, request: &Request, at: Option<usize>) -> bool
         ensures { result
             ≡ is_repeated (requests_of self.now.history (key_of request.now)) request.now }
     {
-        match request.event() {
-            Some(event) => self.names.contains(&EventName {
-                key: *request.key(),
-                id: event.id(),
-            }),
+        let Some(event) = request.event() else {
+            return false;
+        };
+        match place_of(&self.known, request.key(), at) {
+            Some(place) => self.known.has_event(place, event.id()),
             None => false,
         }
     }
@@ -128,15 +120,18 @@ impl Shard {
     fn vehicle(&self, key: &Key) -> Option<Vehicle>
         ensures { IsVehicle self.now.history key.now result }
     {
-        self.vehicles.get(key).copied()
+        match self.known.find(key) {
+            Some((_, vehicle)) => Some(*vehicle),
+            None => None,
+        }
     }
 
-    /// The vehicle, and its place in the map, where it can be written without another look-up.
+    /// The vehicle, and its place, by which it can be written without another look-up.
     fn find(&self, key: &Key) -> (Option<usize>, Option<Vehicle>)
         ensures { IsVehicle self.now.history key.now result.1 }
     {
-        match self.vehicles.get_full(key) {
-            Some((place, _, vehicle)) => (Some(place), Some(*vehicle)),
+        match self.known.find(key) {
+            Some((place, vehicle)) => (Some(place), Some(*vehicle)),
             None => (None, None),
         }
     }
@@ -165,28 +160,19 @@ impl Shard {
     {
         let before = last_in(vehicle);
         let standing = standing_after(standing_in(vehicle), request);
-        let last = self.history.len();
-        let Ok(()) = make_room(&mut self.history, &mut self.before) else {
-            if self.has_event(request) {
+        let last = self.past.len();
+        let Ok(()) = self.past.reserve() else {
+            if self.has_event(request, at) {
                 return Ok(false);
             }
             return Err(AllocError);
         };
         let vehicle = Vehicle { standing, last };
-        if !keep(&mut self.vehicles, &mut self.names, request, at, vehicle)? {
+        let Some(number) = keep(&mut self.known, request, at, vehicle)? else {
             return Ok(false);
-        }
-        self.history.extend_from_slice(from_ref(request))?;
-        self.before.push(before)?;
+        };
+        self.past.push(request, number, before);
         Ok(true)
-    }
-
-    /// The accepted requests, in the order in which they were accepted.
-    pub fn history(&self) -> &[Request]
-        ensures history { result.now ≡ self.now.history }
-        ensures lawful { IsLawful self.now.tables self.now.history }
-    {
-        self.history.as_slice()
     }
 
     /// Where the vehicle stands, or `None` where it isn't registered. It costs the same whatever the shard holds.
@@ -201,7 +187,9 @@ impl Shard {
     pub fn end_of(&self, key: &Key) -> usize
         ensures { IsEndOf self.now.history key.now result }
     {
-        match self.vehicles.get(key) {
+        // This call's contract says how long the history is at most.
+        let _ = self.len();
+        match self.vehicle(key) {
             Some(vehicle) => vehicle.last + 1,
             None => 0,
         }
@@ -220,13 +208,7 @@ impl Shard {
         let Some(vehicle) = self.vehicle(key) else {
             return Ok(None);
         };
-        let events = events_to(
-            alloc,
-            &self.history,
-            &self.before,
-            vehicle.last,
-            vehicle.standing.events,
-        )?;
+        let events = events_to(alloc, &self.past, vehicle.last, vehicle.standing.events)?;
         Ok(Some(events))
     }
 
@@ -243,20 +225,28 @@ impl Shard {
         })
     }
 
-    /// Copies events of a vehicle, the last one first, from the place of one of its requests on, over at most
+    /// Adds events of a vehicle to a list, the last one first, from the place of one of its requests on, over at most
     /// [`MAX_STEPS`] of them, and answers the place where the walk goes on, if it does. The history may have grown
     /// since the walk began.
-    pub fn walk_back(&self, from: usize, piece: &mut Vec<Event>) -> Option<usize>
+    pub fn walk_back<E: TakesEvents>(&self, from: usize, list: &mut E) -> Option<usize>
         requires from { from < length self.now.history }
-        requires empty { vec_len piece.old ≡ 0 }
-        requires room { MAX_STEPS ≤ vec_capacity piece.old }
-        ensures walk { (seen : List Requested) (key : Told) (found : List Reported)
-            → IsPrefix seen self.now.history → IsWalkOf seen key (Some from) found
-            → IsWalkOf seen key result (found ++ piece.new.items) }
+        requires room { MAX_STEPS ≤ E.room list.old }
+        ensures walk { (seen : List Requested) (key : Told) → IsPrefix seen self.now.history
+            → IsWalkOf seen key (Some from) (E.events list.old)
+            → IsWalkOf seen key result (E.events list.new) }
         ensures nears { steps_left result ≤ from }
-        ensures capacity { vec_capacity piece.old ≤ vec_capacity piece.new }
+        ensures room { E.room list.old + length (E.events list.old)
+            ≤ E.room list.new + length (E.events list.new) }
     {
-        walk_back(&self.history, &self.before, from, piece)
+        walk_back(&self.past, from, list)
+    }
+
+    /// The accepted requests as they are kept, and beside each the place of the one about its vehicle before it.
+    pub fn past(&self) -> &Past<K>
+        ensures requests { result.now.requests ≡ self.now.history }
+        ensures lawful { IsLawful self.now.tables self.now.history }
+    {
+        &self.past
     }
 
     /// The tables that decide, each event by the one in force at its time.
@@ -272,6 +262,16 @@ impl Shard {
         ensures lawful { IsLawful self.now.tables self.now.history }
         ensures small { result < 2 ^ 63 }
     {
-        self.history.len()
+        self.past.len()
+    }
+}
+
+impl Shard<Request> {
+    /// The accepted requests, in the order in which they were accepted.
+    pub fn history(&self) -> &[Request]
+        ensures history { result.now ≡ self.now.history }
+        ensures lawful { IsLawful self.now.tables self.now.history }
+    {
+        self.past.requests()
     }
 }

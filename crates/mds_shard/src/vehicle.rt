@@ -1,17 +1,14 @@
 //! What a shard keeps of each vehicle, beside its history.
-ghost use Rattle.std.specs.Prelude.{◌≡◌, ◌≢◌, ◌<◌, ◌++◌, ◌∷◌, List, [], None, Some, true, false, not, IfOk, IfSome, OnOk, OnErr, length, vec_len, vec_capacity, slice_get, option_map};
-ghost use Rattle.std.below.core.specs.declared.int.usize.TheConstants.{MAX};
-ghost use Rattle.indexmap.specs.IndexMap.{get, IsUnchanged};
-ghost use Rattle.indexmap.specs.IndexSet.{IsUnchanged as HasSame};
-ghost use Rattle.mds_core.specs.declared.key.Key.{Key};
-ghost use Rattle.mds_core.specs.declared.request.Request.{Request as Requested};
-ghost use Rattle.mds_core.specs.History.{key_of, same_key, requests_of, reports, report_of, standing_of};
-ghost use Rattle.mds_core.specs.Known.{standing_if};
+ghost use Rattle.std.specs.Prelude.{◌≡◌, ◌≢◌, ◌<◌, None, Some, true, false, not, is_some, length, IfOk, IfNone, IfSome, OnErr, slice_get, option_map};
+ghost use Rattle.mds_core.specs.declared.key.Key.{Key as Told};
+ghost use Rattle.mds_core.specs.History.{key_of, requests_of, reports, report_of};
+ghost use Rattle.mds_known.specs.Kept.{AreSame, PutsValue, value_of};
 ghost use Rattle.mds_shard.specs.declared.vehicle.Vehicle.{Vehicle as Kept};
-ghost use Rattle.mds_shard.specs.Replay.{AreBefore, IsLastPlace, PutsVehicle, AddsName, has_name};
+ghost use Rattle.mds_shard.specs.Replay.{AreBefore, IsLastPlace, AddsName, has_name};
 
-use indexmap::{IndexMap, IndexSet};
-use mds_core::{Event, EventName, Key, Request, Standing};
+use mds_core::{Event, Key, Request, Standing};
+use mds_known::KnownVehicles;
+use mds_past::{KeptForm, Past};
 use std::alloc::{AllocError, Global};
 use std::hash::RandomState;
 
@@ -23,6 +20,9 @@ pub struct Vehicle {
     /// The place in the history of its last request.
     pub last: usize,
 }
+
+/// What is kept of the vehicles of a shard.
+pub type Vehicles = KnownVehicles<Vehicle, RandomState>;
 
 pub fn standing_in(vehicle: Option<Vehicle>) -> Option<Standing>
     ensures { result ≡ option_map (λ v. v.standing) vehicle }
@@ -36,111 +36,80 @@ pub fn last_in(vehicle: Option<Vehicle>) -> Option<usize>
     vehicle.map(|vehicle| vehicle.last)
 }
 
-pub fn make_room(
-    history: &mut Vec<Request>,
-    before: &mut Vec<Option<usize>>,
-) -> Result<(), AllocError>
-    ensures history { history.new.items ≡ history.old.items }
-    ensures before { before.new.items ≡ before.old.items }
-    ensures history_room { OnOk result (vec_len history.new < vec_capacity history.new) }
-    ensures before_room { OnOk result (vec_len before.new < vec_capacity before.new) }
+/// The place, where the vehicle stands there.
+fn own_place(known: &Vehicles, key: &Key, at: Option<usize>) -> Option<usize>
+    ensures { IfSome result (λ place. (kept : Kept)
+        × (slice_get known.now.entries place ≡ Some (key.now, kept))) }
 {
-    history.reserve(1)?;
-    before.reserve(1)
+    let place = at?;
+    let (kept, _) = known.get_index(place)?;
+    if kept == key { Some(place) } else { None }
 }
 
-/// Answers whether the name is new.
-fn keep_name(
-    names: &mut IndexSet<EventName, RandomState>,
-    request: &Request,
-) -> Result<bool, AllocError>
+/// The place of the vehicle, if it is kept. Where it stands at `at`, its key isn't looked up.
+pub fn place_of(known: &Vehicles, key: &Key, at: Option<usize>) -> Option<usize>
+    ensures some { IfSome result (λ place. (kept : Kept)
+        × (slice_get known.now.entries place ≡ Some (key.now, kept))) }
+    ensures none { IfNone result (value_of known.now.entries key.now ≡ None) }
+{
+    if let Some(place) = own_place(known, key, at) {
+        return Some(place);
+    }
+    match known.find(key) {
+        Some((place, _)) => Some(place),
+        None => None,
+    }
+}
+
+/// Answers whether the name of the request's event is new.
+fn keep_name(known: &mut Vehicles, request: &Request, at: Option<usize>) -> Result<bool, AllocError>
+    requires { report_of request.now ≢ None → has_name known.old.names request.now ≡ false
+        → value_of known.old.entries (key_of request.now) ≢ None }
+    ensures entries { known.new.entries ≡ known.old.entries }
     ensures names { IfOk result (λ is_new.
-        is_new ≡ true → AddsName request.now names.old names.new) }
-    ensures new { IfOk result (λ is_new. is_new ≡ not (has_name names.old request.now)) }
-    ensures same { IfOk result (λ is_new. is_new ≡ false → names.new.keys ≡ names.old.keys) }
-    ensures none { report_of request.now ≡ None → HasSame names.old names.new }
-    ensures unchanged { OnErr result (HasSame names.old names.new) }
-    ensures absent { OnErr result (has_name names.old request.now ≡ false) }
+        is_new ≡ true → AddsName request.now known.old.names known.new.names) }
+    ensures new { IfOk result (λ is_new. is_new ≡ not (has_name known.old.names request.now)) }
+    ensures same { IfOk result (λ is_new. is_new ≡ false → known.new.names ≡ known.old.names) }
+    ensures none { report_of request.now ≡ None → AreSame known.old known.new }
+    ensures unchanged { OnErr result (AreSame known.old known.new) }
+    ensures absent { OnErr result (has_name known.old.names request.now ≡ false) }
 {
     let Some(event) = request.event() else {
         return Ok(true);
     };
-    let name = EventName {
-        key: *request.key(),
-        id: event.id(),
+    let Some(place) = place_of(known, request.key(), at) else {
+        return Ok(false);
     };
-    let Ok((_, is_new)) = names.insert_full(name) else {
-        return Err(AllocError);
-    };
+    let is_new = known.add_event(place, event.id())?;
     Ok(is_new)
 }
 
-/// The place, where the vehicle stands there.
-fn own_place(
-    vehicles: &IndexMap<Key, Vehicle, RandomState>,
-    key: &Key,
-    place: Option<usize>,
-) -> Option<usize>
-    ensures { IfSome result (λ at. (kept : Kept)
-        × (slice_get vehicles.now.entries at ≡ Some (key.now, kept))) }
-{
-    let place = place?;
-    let (kept, _) = vehicles.get_index(place)?;
-    if kept == key { Some(place) } else { None }
-}
-
-/// Where the vehicle stands at this place already, its key isn't looked up again.
-fn put(
-    vehicles: &mut IndexMap<Key, Vehicle, RandomState>,
-    key: &Key,
-    place: Option<usize>,
-    vehicle: Vehicle,
-) -> Result<(), AllocError>
-    ensures vehicles { OnOk result (PutsVehicle key.now vehicle vehicles.old vehicles.new) }
-    ensures unchanged { OnErr result (IsUnchanged vehicles.old vehicles.new) }
-    ensures absent { OnErr result (get same_key vehicles.old key.now ≡ None) }
-{
-    if let Some(at) = own_place(vehicles, key, place) {
-        // This call's contract says that no key is there twice.
-        let _ = vehicles.len();
-        vehicles[at] = vehicle;
-        return Ok(());
-    }
-    let Ok(_) = vehicles.insert(*key, vehicle) else {
-        return Err(AllocError);
-    };
-    Ok(())
-}
-
-/// Answers whether the name of the request's event is new: where it isn't, nothing is kept. A report's vehicle is kept
-/// already, so the insertion of the name or of a new vehicle is the only growth.
+/// Answers the place of the vehicle where the name of the request's event is new: where it isn't, nothing is kept. A report's
+/// vehicle is kept already, so the insertion of the name or of a new vehicle is the only growth. Where the vehicle stands at `at`,
+/// its key isn't looked up.
 pub fn keep(
-    vehicles: &mut IndexMap<Key, Vehicle, RandomState>,
-    names: &mut IndexSet<EventName, RandomState>,
+    known: &mut Vehicles,
     request: &Request,
     at: Option<usize>,
     vehicle: Vehicle,
-) -> Result<bool, AllocError>
-    requires { report_of request.now ≢ None → has_name names.old request.now ≡ false
-        → get same_key vehicles.old (key_of request.now) ≢ None }
-    ensures vehicles { IfOk result (λ is_new. is_new ≡ true
-        → PutsVehicle (key_of request.now) vehicle vehicles.old vehicles.new) }
-    ensures names { IfOk result (λ is_new.
-        is_new ≡ true → AddsName request.now names.old names.new) }
-    ensures new { IfOk result (λ is_new. is_new ≡ not (has_name names.old request.now)) }
-    ensures same_vehicles { IfOk result (λ is_new. is_new ≡ false → vehicles.new ≡ vehicles.old) }
-    ensures same_names { IfOk result (λ is_new. is_new ≡ false → names.new.keys ≡ names.old.keys) }
-    ensures no_vehicle { OnErr result (IsUnchanged vehicles.old vehicles.new) }
-    ensures no_name { OnErr result (HasSame names.old names.new) }
-    ensures absent { OnErr result (has_name names.old request.now ≡ false) }
+) -> Result<Option<usize>, AllocError>
+    requires { report_of request.now ≢ None → has_name known.old.names request.now ≡ false
+        → value_of known.old.entries (key_of request.now) ≢ None }
+    ensures vehicles { IfOk result (λ place. place ≢ None
+        → PutsValue (key_of request.now) vehicle known.old.entries known.new.entries) }
+    ensures names { IfOk result (λ place.
+        place ≢ None → AddsName request.now known.old.names known.new.names) }
+    ensures new { IfOk result (λ place.
+        is_some place ≡ not (has_name known.old.names request.now)) }
+    ensures same { IfOk result (λ place. place ≡ None → AreSame known.old known.new) }
+    ensures unchanged { OnErr result (AreSame known.old known.new) }
+    ensures absent { OnErr result (has_name known.old.names request.now ≡ false) }
 {
-    let Ok(is_new) = keep_name(names, request) else {
-        return Err(AllocError);
-    };
-    if is_new {
-        put(vehicles, request.key(), at, vehicle)?;
+    if !keep_name(known, request, at)? {
+        return Ok(None);
     }
-    Ok(is_new)
+    let place = known.put(at, request.key(), vehicle)?;
+    Ok(Some(place))
 }
 
 /// The events that lead to a place of the history, from one request about a vehicle to the one before it.
@@ -148,26 +117,25 @@ pub fn keep(
 /// # Errors
 ///
 /// `AllocError` where there is no memory for the list.
-pub fn events_to(
+pub fn events_to<K: KeptForm>(
     alloc: Global,
-    history: &[Request],
-    before: &[Option<usize>],
+    past: &Past<K>,
     last: usize,
     count: usize,
 ) -> Result<Vec<Event>, AllocError>
-    requires before { AreBefore history.now before.now }
-    requires last { last < length history.now }
+    requires before { AreBefore past.now.requests past.now.before }
+    requires last { last < length past.now.requests }
     ensures { IfOk result (λ events.
-        (key : Key) → IsLastPlace history.now key last
-        → events.items ≡ reports (requests_of history.now key)) }
+        (key : Told) → IsLastPlace past.now.requests key last
+        → events.items ≡ reports (requests_of past.now.requests key)) }
 {
     let mut events = Vec::with_capacity(alloc, count)?;
     let mut at = Some(last);
     while let Some(place) = at {
-        if let Some(event) = history[place].event() {
-            events.push(*event)?;
+        if let Some(event) = past.event(place) {
+            events.push(event.copy())?;
         }
-        at = before[place];
+        at = past.earlier(place);
     }
     events.reverse();
     Ok(events)

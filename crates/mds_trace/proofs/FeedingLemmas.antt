@@ -3,9 +3,9 @@ use Rattle.std.proofs.Common.{◌≡◌, ◌++◌, ℕ, List, Option, Some, None
 use Rattle.std.specs.Prelude.{OnOk}
 use Rattle.mds_table.specs.Tables.{Tables}
 use Rattle.mds_batch.specs.declared.item.EventItem.{EventItem}
-use Rattle.mds_batch.specs.declared.line_fault.LineFault.{LineFault}
-use Rattle.mds_batch.specs.Fed.{Fed}
-use Rattle.mds_batch.specs.Stream.{HasEndedItems, HasLineItems}
+use Rattle.mds_lines.specs.declared.line_fault.LineFault.{LineFault}
+use Rattle.mds_lines.specs.Fed.{Fed}
+use Rattle.mds_lines.specs.Stream.{HasEndedItems, HasLineItems}
 use Rattle.mds_trace.specs.declared.report.Opening.{Opening}
 use Rattle.mds_trace.specs.declared.report.Opening.TheVariants.{Removed}
 use Rattle.mds_trace.specs.declared.report.Report.{Report}

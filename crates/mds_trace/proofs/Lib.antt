@@ -2,6 +2,7 @@
 pub mod Following
 pub mod Entries
 pub mod Mentions
+pub mod Asks
 pub mod Verdicts
 pub mod Keeping
 pub mod Replaying

@@ -8,7 +8,7 @@ use Rattle.std.proofs.lemmas.Grind.{flat_map-append}
 use Rattle.std.proofs.lemmas.List.Elements.{All-nil, All-push}
 use Rattle.std.proofs.lemmas.Str.{IsUtf8-from_ascii}
 use Rattle.mds_table.specs.declared.state.State.TheVariants.{Removed, Available, NonOperational, Reserved, OnTrip, Elsewhere, NonContactable, Missing, InDepot}
-use Rattle.mds_batch.specs.Stream.{HasNoFeed, IsFirstLine}
+use Rattle.mds_lines.specs.Stream.{HasNoFeed, IsFirstLine}
 use Rattle.mds_io.specs.Page.{with_newline}
 use Rattle.mds_trace.specs.declared.script.ScriptCommand.{ScriptCommand}
 use Rattle.mds_trace.specs.declared.script.ScriptCommand.TheVariants.{Move as Moves, Chain, Quit}

@@ -1,25 +1,29 @@
 -- A worker's share, when one more item comes.
-use Rattle.std.proofs.Common.{◌≡◌, ◌⊎◌, inl, inr, ℕ, List, [], ◌∷◌, ◌++◌, length, map, slice_get, Contains, Some, Bool, true, false, zero, suc, refl, sym, ◌∙◌, ap, subst, arith}
+use Rattle.std.proofs.Common.{◌≡◌, inl, inr, ℕ, List, [], ◌∷◌, ◌++◌, length, map, slice_get, Contains, Some, true, false, sym, ◌∙◌, ap, subst, arith}
 use Rattle.std.specs.List.{All}
 use Rattle.std.proofs.lemmas.Bool.{true≢false}
 use Rattle.std.proofs.lemmas.List.{length-map, map-append}
 use Rattle.std.proofs.lemmas.List.Elements.{All-nil, All-push, All-weaker, Contains-append_left, Contains-push}
-use Rattle.mds_steps.proofs.Sets.{none_in_empty}
+use Rattle.indexmap.specs.IndexSet.{insert_key}
 use Rattle.mds_table.specs.Tables.{Tables}
 use Rattle.mds_core.specs.declared.event_name.EventName.{EventName}
 use Rattle.mds_core.specs.declared.key.Key.{Key}
+use Rattle.mds_core.specs.Reported.{Reported}
+use Rattle.mds_core.specs.History.{same_key}
 use Rattle.mds_batch.specs.declared.item.EventItem.{EventItem}
-use Rattle.mds_batch.specs.declared.item.EventItem.TheVariants.{Event, Fault as Faulty}
+use Rattle.mds_batch.specs.declared.item.EventItem.TheVariants.{Event}
 use Rattle.mds_batch.specs.declared.item.ItemFault.TheVariants.{NotObject}
 use Rattle.mds_trace.specs.declared.report.Opening.{Opening}
 use Rattle.mds_trace.specs.declared.report.Verdict.{Verdict}
 use Rattle.mds_trace.specs.declared.report.Verdict.TheVariants.{Fault}
 use Rattle.mds_trace.specs.declared.followed.Followed.{Followed}
 use Rattle.mds_trace.specs.declared.part.ToldVerdict.{ToldVerdict}
-use Rattle.mds_trace.specs.Followed.{IsReplayed}
-use Rattle.mds_trace.specs.Parts.{is_own, as_seen, IsToldOf, AreTold, IsShare}
+use Rattle.mds_trace.specs.Items.{events_of, vehicles_of}
+use Rattle.mds_trace.specs.Replay.{accepted_by, accepted_of, prior_of, IsVerdictOn}
+use Rattle.mds_trace.specs.Followed.{AreFollowed, IsReplayed}
+use Rattle.mds_trace.specs.Parts.{is_own, as_seen, IsOwnEvent, IsToldOf, AreTold, IsShare}
 use Rattle.mds_trace.proofs.Verdicts.{slice_get_push}
-use Rattle.mds_trace.proofs.Replaying.{none_replayed, fault_replayed}
+use Rattle.mds_trace.proofs.Replaying.{none_replayed, event_replayed, fault_replayed}
 use Rattle.mds_trace.proofs.Own.{seen_own, seen_other}
 use Rattle.mds_trace.proofs.Places.{earlier, last}
 
@@ -82,7 +86,7 @@ module _ (opening : Opening) (tables : Tables) (workers worker : ℕ) (items : L
   count = share.replayed.verdicts.count ∙ length-map items (as_seen workers worker)
 
   -- an item of the worker's own is judged, and the verdict told
-  pub share_own : (line : Verdict) (entries_now : List (Key × Followed)) (names_now : List EventName) → is_own workers worker item ≡ true
+  share_own : (line : Verdict) (entries_now : List (Key × Followed)) (names_now : List EventName) → is_own workers worker item ≡ true
       → IsReplayed opening tables (map (as_seen workers worker) items ++ item ∷ []) (share.lines ++ line ∷ []) entries_now names_now
       → IsShare opening tables (items ++ item ∷ []) workers worker (told ++ record { index = length items; verdict = line } ∷ []) entries_now names_now
   share_own line entries_now names_now own replayed = record {
@@ -92,6 +96,19 @@ module _ (opening : Opening) (tables : Tables) (workers worker : ℕ) (items : L
         replayed;
     are_told = told_more workers worker items share.lines told count share.are_told item line own;
   }
+
+  abbrev seen : List EventItem
+  seen = map (as_seen workers worker) items
+
+  -- an event of the worker's own is judged
+  pub share_event : (event : Reported) (line : Verdict) (entries_now : List (Key × Followed)) (names_now : List EventName) → IsOwnEvent workers worker item (Some event)
+      → IsVerdictOn opening tables (prior_of event.key (accepted_of seen share.lines)) event line
+      → AreFollowed opening tables (insert_key same_key (vehicles_of (events_of seen)) event.key) (accepted_of seen share.lines ++ accepted_by (Event event) line) entries_now names_now
+      → IsShare opening tables (items ++ item ∷ []) workers worker (told ++ record { index = length items; verdict = line } ∷ []) entries_now names_now
+  share_event event line entries_now names_now own verdict are =
+      share_own line entries_now names_now own.1
+      (subst (λ one. IsReplayed opening tables (seen ++ one ∷ []) (share.lines ++ line ∷ []) entries_now names_now) (sym own.0)
+      (event_replayed opening tables seen share.lines entries names share.replayed event line entries_now names_now verdict are))
 
   -- any other item is passed over
   pub share_other : is_own workers worker item ≡ false → IsShare opening tables (items ++ item ∷ []) workers worker told entries names

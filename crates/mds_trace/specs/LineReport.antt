@@ -2,7 +2,7 @@
 use Rattle.std.specs.Prelude.{◌≡◌, ℕ, List}
 use Rattle.mds_table.specs.Tables.{Tables}
 use Rattle.mds_batch.specs.declared.item.EventItem.{EventItem}
-use Rattle.mds_batch.specs.Stream.{HasLineItems}
+use Rattle.mds_lines.specs.Stream.{HasLineItems}
 use Rattle.mds_trace.specs.declared.report.Opening.{Opening}
 use Rattle.mds_trace.specs.declared.report.Opening.TheVariants.{Removed}
 use Rattle.mds_trace.specs.declared.report.Report.{Report}

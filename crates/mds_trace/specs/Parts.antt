@@ -1,14 +1,17 @@
 -- A replay by several workers: each goes over the events of its own vehicles, and what they tell is
 -- put together.
 use Rattle.std.specs.Prelude.{◌≡◌, ◌⊎◌, ◌<◌, ℕ, ◌%◌, ◌==◌, List, length, map}
-use Rattle.std.specs.Prelude.{if◌then◌else◌, slice_get, Contains, Some, Bool, true, false}
+use Rattle.std.specs.Prelude.{if◌then◌else◌, slice_get, Contains, Bool, true, false}
+use Rattle.std.specs.Prelude.{Option, Some, None}
 use Rattle.std.specs.List.{All, flat_map}
 use Rattle.std.specs.Int.{from_be_bytes, w128}
 use Rattle.mds_table.specs.Tables.{Tables}
 use Rattle.mds_core.specs.declared.event_name.EventName.{EventName}
 use Rattle.mds_core.specs.declared.key.Key.{Key}
+use Rattle.mds_core.specs.Reported.{Reported}
 use Rattle.mds_batch.specs.declared.item.EventItem.{EventItem}
 use Rattle.mds_batch.specs.declared.item.EventItem.TheVariants.{Event, Fault as Faulty}
+use Rattle.mds_batch.specs.declared.item.ItemFault.{ItemFault}
 use Rattle.mds_batch.specs.declared.item.ItemFault.TheVariants.{NotObject}
 use Rattle.mds_trace.specs.declared.report.Opening.{Opening}
 use Rattle.mds_trace.specs.declared.report.VehicleEnd.{VehicleEnd}
@@ -33,6 +36,12 @@ is_own workers worker (Faulty fault) = false
 -- an item as the worker sees it: any item that isn't its own is one fault like another
 abbrev pub as_seen : ℕ → ℕ → EventItem → EventItem
 as_seen workers worker item = if is_own workers worker item then item else Faulty NotObject
+
+-- what is found of an item: its event, where it is of the worker's own, and nothing where it isn't
+abbrev pub IsOwnEvent : ℕ → ℕ → EventItem → Option Reported → Type 0
+IsOwnEvent workers worker item (Some event) =
+    (item ≡ Event event) × (is_own workers worker item ≡ true)
+IsOwnEvent workers worker item None = is_own workers worker item ≡ false
 
 -- what is told stands at the place of an item of the worker's own, and is the verdict there
 abbrev pub IsToldOf : ℕ → ℕ → List EventItem → List Verdict → ToldVerdict → Type 0
@@ -92,6 +101,11 @@ HasPlacesWithin count part = All (λ one. one.index < count) part.told.items
 abbrev pub line_before : EventItem → Verdict
 line_before (Event event) = Fault NotObject
 line_before (Faulty fault) = Fault fault
+
+-- the same by what is wrong with the item, if anything is
+abbrev pub line_by : Option ItemFault → Verdict
+line_by None = Fault NotObject
+line_by (Some fault) = Fault fault
 
 -- where the vehicle ends, in a replay of any items of which these are the parts
 abbrev pub IsEndIn : Opening → List Part → Key → VehicleEnd → Type 0

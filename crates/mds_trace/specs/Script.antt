@@ -2,7 +2,7 @@
 use Rattle.std.specs.Prelude.{◌≡◌, ◌≢◌, ◌⊎◌, ℕ, List, [], ◌∷◌, ◌++◌, codes, Option, Some, None}
 use Rattle.std.specs.List.{All, AllZip, flat_map}
 use Rattle.mds_table.specs.State.{name_of}
-use Rattle.mds_batch.specs.Stream.{HasNoFeed}
+use Rattle.mds_lines.specs.Stream.{HasNoFeed}
 use Rattle.mds_io.specs.Page.{with_newline}
 use Rattle.mds_trace.specs.declared.script.Move.{Move}
 use Rattle.mds_trace.specs.declared.script.Move.TheVariants.{Step, Back, Next, Run}

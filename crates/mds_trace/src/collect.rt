@@ -2,22 +2,23 @@
 ghost use Rattle.std.specs.Prelude.{◌≡◌, ◌<◌, length, map, IfOk};
 ghost use Rattle.std.specs.List.{All, AllZip};
 ghost use Rattle.mds_table.specs.Tables.{Tables};
+ghost use Rattle.mds_batch.specs.Asking.{kept_fault};
 ghost use Rattle.mds_trace.specs.Items.{events_of, vehicles_of};
 ghost use Rattle.mds_trace.specs.Replay.{IsReport};
-ghost use Rattle.mds_trace.specs.Parts.{line_before as line_of, all_told, HasPlacesWithin, AreParts, ArePut, IsEndIn};
+ghost use Rattle.mds_trace.specs.Parts.{line_before as line_of, line_by as line_of_fault, all_told, HasPlacesWithin, AreParts, ArePut, IsEndIn};
 
 use crate::judge::vehicle_at;
-use crate::part::{Part, ToldVerdict, worker_of};
+use crate::part::{Part, ToldVerdict, blank_request, worker_of};
 use crate::replayer::{end_of, report_of};
 use crate::{Opening, Report, VehicleEnd, Verdict};
 use indexmap::IndexSet;
-use mds_batch::{EventItem, ItemFault};
+use mds_batch::{BatchItem, BatchItems, EventItems, ItemFault, KeptItem};
 use mds_core::Key;
 use std::alloc::{AllocError, Global};
 
 pub fn collect(
     alloc: Global,
-    items: &[EventItem],
+    items: &EventItems,
     opening: Opening,
     parts: &[Part],
 ) -> Result<Report, AllocError>
@@ -31,7 +32,7 @@ pub fn collect(
     Ok(report_of(lines, vehicles))
 }
 
-fn lines_of(alloc: Global, items: &[EventItem], parts: &[Part]) -> Result<Vec<Verdict>, AllocError>
+fn lines_of(alloc: Global, items: &EventItems, parts: &[Part]) -> Result<Vec<Verdict>, AllocError>
     requires { All (HasPlacesWithin (length items.now)) parts.now }
     ensures { IfOk result
         (λ lines. ArePut (all_told parts.now) (map line_of items.now) lines.items) }
@@ -41,20 +42,17 @@ fn lines_of(alloc: Global, items: &[EventItem], parts: &[Part]) -> Result<Vec<Ve
     Ok(lines)
 }
 
-fn lines_before(alloc: Global, items: &[EventItem]) -> Result<Vec<Verdict>, AllocError>
+fn lines_before(alloc: Global, items: &EventItems) -> Result<Vec<Verdict>, AllocError>
     ensures { IfOk result (λ lines. lines.items ≡ map line_of items.now) }
 {
-    items.iter().map(line_before).collect(alloc)
+    items.kept_items().iter().map(line_before).collect(alloc)
 }
 
 /// A faulty item's line is its fault. An event's line says anything, until its worker's verdict is put there.
-fn line_before(item: &EventItem) -> Verdict
-    ensures { result ≡ line_of item.now }
+fn line_before(item: &KeptItem) -> Verdict
+    ensures { result ≡ line_of_fault (kept_fault item.now) }
 {
-    match item {
-        EventItem::Event(_) => Verdict::Fault(ItemFault::NotObject),
-        EventItem::Fault(fault) => Verdict::Fault(*fault),
-    }
+    Verdict::Fault(item.fault().unwrap_or(ItemFault::NotObject))
 }
 
 fn put_parts(lines: &mut [Verdict], parts: &[Part])
@@ -77,7 +75,7 @@ fn put_told(lines: &mut [Verdict], told: &[ToldVerdict])
 
 fn ends_in(
     alloc: Global,
-    items: &[EventItem],
+    items: &EventItems,
     opening: Opening,
     parts: &[Part],
 ) -> Result<Vec<VehicleEnd>, AllocError>
@@ -93,13 +91,14 @@ fn ends_in(
     Ok(ends)
 }
 
-fn vehicles_in(alloc: Global, items: &[EventItem]) -> Result<IndexSet<Key>, AllocError>
+fn vehicles_in(alloc: Global, items: &EventItems) -> Result<IndexSet<Key>, AllocError>
     ensures { IfOk result (λ keys. keys.keys ≡ vehicles_of (events_of items.now)) }
 {
     let mut keys = IndexSet::new(alloc);
-    for item in items {
-        if let EventItem::Event(event) = item {
-            keys.insert(*event.key())?;
+    let mut request = blank_request();
+    for at in 0..items.count() {
+        if items.ask(at, &mut request) {
+            keys.insert(*request.key())?;
         }
     }
     Ok(keys)

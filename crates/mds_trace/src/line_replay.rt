@@ -1,12 +1,12 @@
 //! The replay of a stream's lines, which are fed in pieces.
 ghost use Rattle.std.specs.Prelude.{◌≡◌, ◌++◌, [], List, Some, None, IfOk, IfErr, OnOk, Err};
 ghost use Rattle.mds_batch.specs.declared.item.EventItem.{EventItem};
-ghost use Rattle.mds_batch.specs.declared.line_fault.LineFault.{LineFault as Fault};
-ghost use Rattle.mds_batch.specs.Stream.{HasEndedItems, HasLineFault, IsFaultyWith};
+ghost use Rattle.mds_lines.specs.declared.line_fault.LineFault.{LineFault as Fault};
+ghost use Rattle.mds_lines.specs.Stream.{HasEndedItems, HasLineFault, IsFaultyWith};
 ghost use Rattle.mds_trace.specs.LineReport.{IsLineReport};
 
 use crate::{Opening, Replayer, Report};
-use mds_batch::{LineFault, LineReader};
+use mds_lines::{LineFault, LineReader};
 use mds_table::Tables;
 use std::alloc::Global;
 use std::marker::Model;

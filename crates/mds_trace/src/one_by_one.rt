@@ -5,11 +5,11 @@ ghost use Rattle.mds_trace.specs.Replay.{IsReport};
 ghost use Rattle.mds_trace.specs.ReplayLaws.{AreOutcomes};
 ghost use Rattle.mds_trace.specs.Replayer.{Took};
 
-use crate::judge::{AcceptedNames, Vehicles, judge_item};
+use crate::judge::{Vehicles, judge_item};
 use crate::replayer::{ends_of, report_of};
 use crate::{Opening, Report, Verdict};
-use indexmap::{IndexMap, IndexSet};
 use mds_batch::{EventItem, TakesItems};
+use mds_known::KnownVehicles;
 use mds_table::Tables;
 use std::alloc::{AllocError, Global};
 use std::marker::Model;
@@ -23,7 +23,6 @@ pub struct Replayer {
     tables: Tables,
     opening: Opening,
     vehicles: Vehicles,
-    names: AcceptedNames,
     lines: Vec<Verdict>,
 }
 
@@ -37,7 +36,7 @@ impl Model for Replayer {
       opening = replayer.opening;
       lines = replayer.lines.items;
       vehicles = replayer.vehicles.entries;
-      names = replayer.names.keys;
+      names = replayer.vehicles.names;
     } };
 }
 
@@ -51,8 +50,7 @@ impl Replayer {
         Replayer {
             tables,
             opening,
-            vehicles: IndexMap::new(alloc),
-            names: IndexSet::new(alloc),
+            vehicles: KnownVehicles::new(alloc),
             lines: Vec::new(alloc),
         }
     }
@@ -73,13 +71,7 @@ impl Replayer {
     {
         // With room for the verdict first, nothing is kept of an item for which there is no memory.
         self.lines.reserve(1)?;
-        let line = judge_item(
-            &self.tables,
-            self.opening,
-            &mut self.vehicles,
-            &mut self.names,
-            item,
-        )?;
+        let line = judge_item(&self.tables, self.opening, &mut self.vehicles, item)?;
         self.lines.push_reserved(line);
         Ok(line)
     }

@@ -1,14 +1,16 @@
 //! What each of several workers tells of its own vehicles.
-ghost use Rattle.std.specs.Prelude.{◌≡◌, ◌<◌, IfOk};
-ghost use Rattle.mds_trace.specs.Parts.{worker_of as number_of, is_own as is_of, IsPart};
+ghost use Rattle.std.specs.Prelude.{◌≡◌, ◌<◌, length, slice_get, Some, option_map, IfOk};
+ghost use Rattle.mds_batch.specs.declared.item.EventItem.{EventItem as Item};
+ghost use Rattle.mds_trace.specs.Parts.{worker_of as number_of, IsOwnEvent, IsPart};
 
-use crate::judge::{Vehicles, judge_item};
+use crate::judge::{Vehicles, judge_event};
 use crate::{Opening, Verdict};
-use indexmap::{IndexMap, IndexSet};
-use mds_batch::EventItem;
-use mds_core::Key;
+use mds_batch::{BatchItems, EventItems};
+use mds_core::{Event, Key, Request};
+use mds_known::KnownVehicles;
 use mds_table::Tables;
 use std::alloc::{AllocError, Global};
+use uuid::Uuid;
 
 /// The verdict on an item, with the item's place.
 #[derive(Drop)]
@@ -36,20 +38,40 @@ pub fn worker_of(workers: usize, key: &Key) -> usize
     (key.device.as_u128() % workers as u128) as usize
 }
 
-fn is_own(workers: usize, worker: usize, item: &EventItem) -> bool
-    requires { 0 < workers }
-    ensures { result ≡ is_of workers worker item.now }
+/// A request whose place others take.
+pub fn blank_request() -> Request {
+    Request::Look(Key {
+        provider: Uuid::nil(),
+        device: Uuid::nil(),
+    })
+}
+
+/// The event of the item at this place, where it is one of this worker's own vehicles. Its request is made in the place of
+/// another one.
+fn own_event<'a>(
+    items: &EventItems,
+    at: usize,
+    workers: usize,
+    worker: usize,
+    request: &'a mut Request,
+) -> Option<&'a Event>
+    requires some { 0 < workers }
+    requires place { at < length items.now }
+    ensures { (item : Item) × (slice_get items.now at ≡ Some item)
+        × IsOwnEvent workers worker item (option_map (λ event. event.now) result) }
 {
-    match item {
-        EventItem::Event(event) => worker_of(workers, event.key()) == worker,
-        EventItem::Fault(_) => false,
+    if !items.ask(at, request) {
+        return None;
     }
+    let event = request.event()?;
+    let owner = worker_of(workers, event.key());
+    if owner == worker { Some(event) } else { None }
 }
 
 pub fn replay_part(
     alloc: Global,
     tables: &Tables,
-    items: &[EventItem],
+    items: &EventItems,
     opening: Opening,
     workers: usize,
     worker: usize,
@@ -57,12 +79,12 @@ pub fn replay_part(
     requires { 0 < workers }
     ensures { IfOk result (IsPart opening tables.now items.now workers worker) }
 {
-    let mut vehicles = IndexMap::new(alloc);
-    let mut names = IndexSet::new(alloc);
+    let mut vehicles = KnownVehicles::new(alloc);
     let mut told = Vec::new(alloc);
-    for (index, item) in items.iter().enumerate() {
-        if is_own(workers, worker, item) {
-            let verdict = judge_item(tables, opening, &mut vehicles, &mut names, item)?;
+    let mut request = blank_request();
+    for index in 0..items.count() {
+        if let Some(event) = own_event(items, index, workers, worker, &mut request) {
+            let verdict = judge_event(tables, opening, &mut vehicles, event)?;
             told.push(ToldVerdict { index, verdict })?;
         }
     }

@@ -1,6 +1,6 @@
 //! The commands of a script.
 ghost use Rattle.std.specs.Prelude.{◌≡◌, ◌≢◌, ◌<◌, length, IfOk, IfSome, IfNone, [], Some};
-ghost use Rattle.mds_batch.specs.Stream.{IsFirstLine};
+ghost use Rattle.mds_lines.specs.Stream.{IsFirstLine};
 ghost use Rattle.mds_trace.specs.declared.script.ScriptCommand.{ScriptCommand as Command};
 ghost use Rattle.mds_trace.specs.Script.{command_text, IsCommandOf, IsScript, move_text};
 

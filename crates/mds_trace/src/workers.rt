@@ -1,15 +1,15 @@
 //! The replay of a file's items by several workers at once.
-ghost use Rattle.std.specs.Prelude.{◌≡◌, ◌<◌, ◌↔◌, Some, Err, vec_len, IfOk};
+ghost use Rattle.std.specs.Prelude.{◌≡◌, ◌<◌, ◌↔◌, Some, Err, vec_len, IfOk, IfErr, OnOk};
 ghost use Rattle.mds_trace.specs.Replay.{IsReport};
 ghost use Rattle.mds_trace.specs.ReplayLaws.{AreOutcomes};
 ghost use Rattle.mds_trace.specs.Parts.{AreParts, IsPart};
-ghost use Rattle.mds_trace.specs.WithFault.{with_fault_text, IsBadCount};
+ghost use Rattle.mds_trace.specs.WithFault.{with_fault_text, IsBadCount, IsWorkerCount};
 
 use crate::collect::collect;
 use crate::part::{Part, replay_part};
 use crate::{Opening, Report};
-use mds_batch::EventItem;
-use mds_gate::{Gate, pass};
+use mds_batch::{EventItem, EventItems, TakesItems};
+use mds_io::{Gate, pass};
 use mds_table::Tables;
 use std::alloc::{AllocError, Global};
 use std::error::Error;
@@ -77,19 +77,80 @@ pub fn replay_with<R: Threads + Sync, G: Gate + Sync>(
         opening ≡ Opening.Removed → AreOutcomes tables.now items.now report.lines.items) }
     ensures range { (result ≡ Err WithFault.BadWorkers) ↔ IsBadCount workers }
 {
+    check_count(workers)?;
+    let items = close_together(alloc, items)?;
+    Ok(report_by(rt, alloc, tables, &items, opening, workers, gate)?)
+}
+
+/// Replays items that are kept close together, as [`replay_with`] does.
+///
+/// # Errors
+///
+/// [`WithFault::BadWorkers`] where the number of workers isn't 1 to [`MAX_WORKERS`], before any growth, and else
+/// [`WithFault::Memory`] where there is no memory for the report, or for what is kept of the vehicles on the way.
+pub fn replay_items_with<R: Threads + Sync, G: Gate + Sync>(
+    rt: &R,
+    alloc: Global,
+    tables: &Tables,
+    items: &EventItems,
+    opening: Opening,
+    workers: usize,
+    gate: &G,
+) -> Result<Report, WithFault>
+    ensures report { IfOk result (IsReport opening tables.now items.now) }
+    // With `Removed` the verdicts are the outcomes of the machine, asked anything that reports the same events, each behind
+    // a registration of its vehicle.
+    ensures runs { IfOk result (λ report.
+        opening ≡ Opening.Removed → AreOutcomes tables.now items.now report.lines.items) }
+    ensures range { (result ≡ Err WithFault.BadWorkers) ↔ IsBadCount workers }
+{
+    check_count(workers)?;
+    Ok(report_by(rt, alloc, tables, items, opening, workers, gate)?)
+}
+
+fn check_count(workers: usize) -> Result<(), WithFault>
+    ensures ok { OnOk result (IsWorkerCount workers) }
+    ensures fault { IfErr result (λ fault. (fault ≡ WithFault.BadWorkers) × IsBadCount workers) }
+{
     if workers == 0 || workers > MAX_WORKERS {
         return Err(WithFault::BadWorkers);
     }
+    Ok(())
+}
+
+fn close_together(alloc: Global, items: &[EventItem]) -> Result<EventItems, AllocError>
+    ensures { IfOk result (λ kept. kept ≡ items.now) }
+{
+    let mut kept = EventItems::new(alloc);
+    for item in items {
+        kept.take(item)?;
+    }
+    Ok(kept)
+}
+
+fn report_by<R: Threads + Sync, G: Gate + Sync>(
+    rt: &R,
+    alloc: Global,
+    tables: &Tables,
+    items: &EventItems,
+    opening: Opening,
+    workers: usize,
+    gate: &G,
+) -> Result<Report, AllocError>
+    requires { 0 < workers }
+    ensures report { IfOk result (IsReport opening tables.now items.now) }
+    ensures runs { IfOk result (λ report.
+        opening ≡ Opening.Removed → AreOutcomes tables.now items.now report.lines.items) }
+{
     let parts = replay_parts(rt, alloc, tables, items, opening, workers, gate)?;
-    let report = collect(alloc, items, opening, &parts)?;
-    Ok(report)
+    collect(alloc, items, opening, &parts)
 }
 
 fn replay_parts<R: Threads + Sync, G: Gate + Sync>(
     rt: &R,
     alloc: Global,
     tables: &Tables,
-    items: &[EventItem],
+    items: &EventItems,
     opening: Opening,
     workers: usize,
     gate: &G,

@@ -1,6 +1,7 @@
 //! Lines: that each call can succeed, and a taker without memory. Values are asked of the built program.
 use crate::batches::Few;
-use mds_batch::{BatchItem, EventItem, ItemFault, LineFault, LineReader, Member};
+use mds_batch::{BatchItem, EventItem, ItemFault, Member};
+use mds_lines::{LineFault, LineReader};
 use std::alloc::Global;
 use test_fixtures::{again, fence};
 

@@ -9,8 +9,8 @@ mod threads;
 
 use copies::{copied_of, copy_once};
 use mds_book::{
-    Blank, Book, Keep, Note, OpenFault, Progress, Seat, SettleFault, Settled, ShardLedger,
-    reconcile,
+    Blank, Book, Keep, NamedLedger, Note, OpenFault, Plain, Progress, Seat, SettleFault, Settled,
+    ShardLedger, SharedLedger, reconcile,
 };
 use mds_core::Outcome::{Done, Seen};
 use mds_core::{Key, Reply, Request};
@@ -74,7 +74,11 @@ struct Told {
 }
 
 /// The reply to a request. It is asked while the other shard is locked, and doesn't wait for that one.
-fn reply_beside<L: ShardLedger, M: ShardLedger, R: Wait>(
+fn reply_beside<
+    L: ShardLedger<Form = Request, Note = Note>,
+    M: ShardLedger<Form = Request>,
+    R: Wait,
+>(
     rt: &R,
     book: &Book<L, M>,
     seat: &mut Seat<L, M>,
@@ -85,7 +89,10 @@ fn reply_beside<L: ShardLedger, M: ShardLedger, R: Wait>(
 }
 
 /// How long the histories of the shards are.
-fn lengths_of<L: ShardLedger, M: ShardLedger, R: Wait>(rt: &R, book: &Book<L, M>) -> [usize; 2] {
+fn lengths_of<L: ShardLedger<Form = Request, Note = Note>, M: ShardLedger<Form = Request>, R: Wait>(
+    rt: &R,
+    book: &Book<L, M>,
+) -> [usize; 2] {
     [
         book.with_shard(rt, 0, |shard| shard.len()),
         book.with_shard(rt, 1, |shard| shard.len()),
@@ -93,7 +100,7 @@ fn lengths_of<L: ShardLedger, M: ShardLedger, R: Wait>(rt: &R, book: &Book<L, M>
 }
 
 /// The reply to a request, which is asked again where there was no memory. That changed nothing then.
-fn reply_to<L: ShardLedger, M: ShardLedger, R: Wait>(
+fn reply_to<L: ShardLedger<Form = Request, Note = Note>, M: ShardLedger<Form = Request>, R: Wait>(
     rt: &R,
     book: &Book<L, M>,
     seat: &mut Seat<L, M>,
@@ -110,7 +117,11 @@ fn reply_to<L: ShardLedger, M: ShardLedger, R: Wait>(
 }
 
 /// The place of the first step, each taken by the next seat, with another reply.
-fn first_other<L: ShardLedger, M: ShardLedger, R: Wait>(
+fn first_other<
+    L: ShardLedger<Form = Request, Note = Note>,
+    M: ShardLedger<Form = Request>,
+    R: Wait,
+>(
     rt: &R,
     book: &Book<L, M>,
     seats: &mut [Seat<L, M>],
@@ -132,7 +143,7 @@ fn first_other<L: ShardLedger, M: ShardLedger, R: Wait>(
 }
 
 /// Asks the requests in turn, up to the first that finds no memory.
-fn ask<L: ShardLedger, M: ShardLedger, R: Wait>(
+fn ask<L: ShardLedger<Form = Request, Note = Note>, M: ShardLedger<Form = Request>, R: Wait>(
     rt: &R,
     book: &Book<L, M>,
     seat: &mut Seat<L, M>,
@@ -147,8 +158,8 @@ fn ask<L: ShardLedger, M: ShardLedger, R: Wait>(
 
 /// Lets each seat ask its list in a thread of its own.
 fn ask_in_threads<
-    L: ShardLedger + Send + Sync,
-    M: ShardLedger + Send + Sync,
+    L: SharedLedger<SharedForm = Request, SharedNote = Note>,
+    M: SharedLedger<SharedForm = Request>,
     R: Threads + Wait + Sync,
 >(rt: &R, book: &Book<L, M>, seats: &mut [Seat<L, M>], each: &[Vec<Request>]) {
     thread::for_each_mut(
@@ -165,7 +176,7 @@ fn ask_in_threads<
 
 /// How many events a vehicle has, if it is registered. A list for the seat has the same as one for nobody, and as many as the
 /// one that takes little memory.
-fn count_of<L: ShardLedger, M: ShardLedger, R: Wait>(
+fn count_of<L: ShardLedger<Form = Request, Note = Note>, M: ShardLedger<Form = Request>, R: Wait>(
     rt: &R,
     alloc: Global,
     book: &Book<L, M>,
@@ -183,7 +194,7 @@ fn count_of<L: ShardLedger, M: ShardLedger, R: Wait>(
 }
 
 /// The same. The lists are asked for while the other shard is locked, and don't wait for that one.
-fn events_of<L: ShardLedger, M: ShardLedger, R: Wait>(
+fn events_of<L: ShardLedger<Form = Request, Note = Note>, M: ShardLedger<Form = Request>, R: Wait>(
     rt: &R,
     alloc: Global,
     book: &Book<L, M>,
@@ -196,7 +207,7 @@ fn events_of<L: ShardLedger, M: ShardLedger, R: Wait>(
 }
 
 /// What a book tells without memory.
-fn shown_by<L: ShardLedger, M: ShardLedger, R: Wait>(
+fn shown_by<L: ShardLedger<Form = Request, Note = Note>, M: ShardLedger<Form = Request>, R: Wait>(
     rt: &R,
     book: &Book<L, M>,
     seat: &Seat<L, M>,
@@ -219,7 +230,7 @@ fn shown_by<L: ShardLedger, M: ShardLedger, R: Wait>(
 }
 
 /// The book and the seats again, which were handed in and aren't all.
-fn handed_back<L: ShardLedger, M: ShardLedger>(
+fn handed_back<L: ShardLedger<Form = Request, Note = Note>, M: ShardLedger<Form = Request>>(
     book: Book<L, M>,
     seats: Vec<Seat<L, M>>,
 ) -> Option<(Book<L, M>, Vec<Seat<L, M>>)> {
@@ -230,7 +241,7 @@ fn handed_back<L: ShardLedger, M: ShardLedger>(
 }
 
 /// The same, with the seat that was left out behind the others.
-fn joined_again<L: ShardLedger, M: ShardLedger>(
+fn joined_again<L: ShardLedger<Form = Request, Note = Note>, M: ShardLedger<Form = Request>>(
     back: Option<(Book<L, M>, Vec<Seat<L, M>>)>,
     seat: Seat<L, M>,
 ) -> Option<(Book<L, M>, Vec<Seat<L, M>>)> {
@@ -242,7 +253,7 @@ fn joined_again<L: ShardLedger, M: ShardLedger>(
 }
 
 /// The settled book, where its seats are all handed in.
-fn settled<L: ShardLedger, M: ShardLedger>(
+fn settled<L: ShardLedger<Form = Request, Note = Note>, M: ShardLedger<Form = Request>>(
     back: Option<(Book<L, M>, Vec<Seat<L, M>>)>,
 ) -> Option<Settled<L, M>> {
     let (book, seats) = back?;
@@ -253,7 +264,7 @@ fn settled<L: ShardLedger, M: ShardLedger>(
 }
 
 /// The same, once the first seat was left out and missed; it is the last one then.
-fn missed_first<L: ShardLedger, M: ShardLedger>(
+fn missed_first<L: ShardLedger<Form = Request, Note = Note>, M: ShardLedger<Form = Request>>(
     back: Option<(Book<L, M>, Vec<Seat<L, M>>)>,
 ) -> Option<(Book<L, M>, Vec<Seat<L, M>>)> {
     let (book, mut seats) = back?;
@@ -265,7 +276,7 @@ fn missed_first<L: ShardLedger, M: ShardLedger>(
 }
 
 /// The settled book, once each of its seats was left out and missed.
-fn settled_once_missed<L: ShardLedger, M: ShardLedger>(
+fn settled_once_missed<L: ShardLedger<Form = Request, Note = Note>, M: ShardLedger<Form = Request>>(
     book: Book<L, M>,
     seats: Vec<Seat<L, M>>,
 ) -> Option<Settled<L, M>> {
@@ -283,7 +294,9 @@ fn length_of<T>(list: Option<&[T]>) -> Option<usize> {
 }
 
 /// What a settled book tells without memory.
-fn end_of<L: ShardLedger, M: ShardLedger>(settled: &Settled<L, M>) -> End {
+fn end_of<L: ShardLedger<Form = Request, Note = Note>, M: ShardLedger<Form = Request>>(
+    settled: &Settled<L, M>,
+) -> End {
     End {
         accepted: settled.accepted(),
         histories: [
@@ -297,7 +310,7 @@ fn end_of<L: ShardLedger, M: ShardLedger>(settled: &Settled<L, M>) -> End {
 }
 
 /// What the seats noted, one behind the other.
-fn notes_of<L: ShardLedger, M: ShardLedger>(
+fn notes_of<L: ShardLedger<Form = Request, Note = Note>, M: ShardLedger<Form = Request>>(
     alloc: Global,
     settled: &Settled<L, M>,
     seats: usize,
@@ -310,7 +323,7 @@ fn notes_of<L: ShardLedger, M: ShardLedger>(
 }
 
 /// What the shard of this number accepted.
-fn history_of<L: ShardLedger, M: ShardLedger>(
+fn history_of<L: ShardLedger<Form = Request, Note = Note>, M: ShardLedger<Form = Request>>(
     alloc: Global,
     settled: &Settled<L, M>,
     shard: usize,
@@ -319,7 +332,11 @@ fn history_of<L: ShardLedger, M: ShardLedger>(
 }
 
 /// What is told at these seats before the book is settled: without memory, and how many events A, B and C have.
-fn seen_at<L: ShardLedger + Send + Sync, M: ShardLedger + Send + Sync, R: Threads + Wait + Sync>(
+fn seen_at<
+    L: SharedLedger<SharedForm = Request, SharedNote = Note>,
+    M: SharedLedger<SharedForm = Request>,
+    R: Threads + Wait + Sync,
+>(
     rt: &R,
     alloc: Global,
     book: &Book<L, M>,
@@ -341,7 +358,7 @@ fn seen_at<L: ShardLedger + Send + Sync, M: ShardLedger + Send + Sync, R: Thread
 }
 
 /// How many events A, B and C have.
-fn events_at<L: ShardLedger, M: ShardLedger, R: Wait>(
+fn events_at<L: ShardLedger<Form = Request, Note = Note>, M: ShardLedger<Form = Request>, R: Wait>(
     rt: &R,
     alloc: Global,
     book: &Book<L, M>,
@@ -355,7 +372,7 @@ fn events_at<L: ShardLedger, M: ShardLedger, R: Wait>(
 }
 
 /// What a settled book holds, with what was seen before.
-fn held_in<L: ShardLedger, M: ShardLedger>(
+fn held_in<L: ShardLedger<Form = Request, Note = Note>, M: ShardLedger<Form = Request>>(
     alloc: Global,
     seen: (Shown, [Option<usize>; 3]),
     settled: &Settled<L, M>,
@@ -375,7 +392,11 @@ fn held_in<L: ShardLedger, M: ShardLedger>(
 }
 
 /// What is told at these seats, all of the book.
-fn told_at<L: ShardLedger + Send + Sync, M: ShardLedger + Send + Sync, R: Threads + Wait + Sync>(
+fn told_at<
+    L: SharedLedger<SharedForm = Request, SharedNote = Note>,
+    M: SharedLedger<SharedForm = Request>,
+    R: Threads + Wait + Sync,
+>(
     rt: &R,
     alloc: Global,
     book: Book<L, M>,
@@ -403,7 +424,7 @@ fn told_at<L: ShardLedger + Send + Sync, M: ShardLedger + Send + Sync, R: Thread
 }
 
 /// What a new book over the tables tells; nothing where it can't have so many seats.
-fn told_in<L: ShardLedger + Send + Sync, M: ShardLedger + Send + Sync, R: Threads + Wait + Sync>(
+fn told_in<L: NamedLedger + Send + Sync, M: NamedLedger + Send + Sync, R: Threads + Wait + Sync>(
     rt: &R,
     alloc: Global,
     tables: Tables,
@@ -421,7 +442,7 @@ fn told_in<L: ShardLedger + Send + Sync, M: ShardLedger + Send + Sync, R: Thread
     requires tables { (tables ≡ L.tables) × (tables ≡ M.tables) }
 {
     let Asking { seats, keep, .. } = asking;
-    match Book::<L, M>::open(alloc, tables, seats, keep, first, second, hashers) {
+    match Book::<Plain<L>, Plain<M>>::open(alloc, tables, seats, keep, first, second, hashers) {
         Ok((book, seats)) => Ok(Some(told_at(rt, alloc, book, seats, asking)?)),
         Err(OpenFault::BadSeats) => Ok(None),
         Err(OpenFault::Memory) => Err(Lack::Memory),

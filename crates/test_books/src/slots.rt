@@ -4,7 +4,7 @@ ghost use Rattle.std.specs.Prelude.{◌≡◌};
 ghost use Rattle.mds_core.specs.History.{key_of};
 ghost use Rattle.mds_book.specs.Shards.{shard_of as number_of};
 
-use mds_book::{Blank, Part, ShardLedger, Slot};
+use mds_book::{Blank, NamedLedger, Part, Plain, ShardLedger, Slot};
 use mds_core::Outcome::{Done, Refused, Seen};
 use mds_core::{Key, Refusal, Reply, Request};
 use mds_table::Tables;
@@ -60,7 +60,7 @@ fn two_steps<L: ShardLedger>(
 }
 
 /// What comes in a new slot of two requests, and then, between two fences, of two more.
-fn steps_in<L: ShardLedger>(
+fn steps_in<L: NamedLedger>(
     alloc: Global,
     tables: Tables,
     requests: [Request; 2],
@@ -72,7 +72,8 @@ fn steps_in<L: ShardLedger>(
     requires logs { (blank.log ≡ L.log) × (blank.marks ≡ L.marks) }
     requires tables { tables ≡ L.tables }
 {
-    let Some((mut slot, mut part)) = Slot::<L, 0>::open_single(alloc, tables, blank, hasher) else {
+    let Some((mut slot, mut part)) = Slot::<Plain<L>, 0>::open_single(alloc, tables, blank, hasher)
+    else {
         return Ok([None, None]);
     };
     let first = two_steps(&mut slot, &mut part, requests)?;

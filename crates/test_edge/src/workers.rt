@@ -6,7 +6,9 @@ mod loopback;
 ghost use Rattle.std.specs.Prelude.{◌≡◌, IfOk};
 ghost use Rattle.mds_book.specs.Books.{IsSeatCount};
 
-use mds_book::{Book, Gate, Keep, OpenGate, Seat, ShardLedger, reconcile};
+use mds_book::{
+    Book, Gate, Keep, NamedLedger, OpenGate, Packed, Seat, ShardLedger, SharedLedger, reconcile,
+};
 use mds_face::Face;
 use mds_pool::{Ending, NewBook, PoolCause, Port, PortFault, Stop, serve, serve_and_settle};
 use std::alloc::Global;
@@ -144,7 +146,7 @@ where
     P::Out: Send,
 {
     /// Serves the port with a new book, and settles it. It serves between two fences.
-    fn serve_new<L: ShardLedger + Send + Sync, M: ShardLedger + Send + Sync>(
+    fn serve_new<L: NamedLedger + Send + Sync, M: NamedLedger + Send + Sync>(
         &self,
         opening: NewBook,
     ) -> Result<Came, Lack>
@@ -165,7 +167,9 @@ where
             hashers,
         } = opening;
         let (alloc, keep) = (self.alloc, Keep::Accepted);
-        let opened = Book::<L, M>::open(alloc, tables, seats, keep, first, second, hashers);
+        let opened = Book::<Packed<L>, Packed<M>>::open(
+            alloc, tables, seats, keep, first, second, hashers,
+        );
         let Ok((book, list)) = opened else {
             return Err(Lack::Memory);
         };
@@ -176,7 +180,7 @@ where
 
     /// Serves the port in rounds, between two fences, each tried again where there was no memory for its workers: why one ended
     /// before its end, if one did, and the seats.
-    fn serve_in_rounds<L: ShardLedger + Send + Sync, M: ShardLedger + Send + Sync>(
+    fn serve_in_rounds<L: SharedLedger, M: SharedLedger>(
         &self,
         face: &Face,
         book: &Book<L, M>,
@@ -199,7 +203,7 @@ where
     }
 
     /// Serves the port once: why it ended before its end, if it did, and the seats.
-    fn serve_once<L: ShardLedger + Send + Sync, M: ShardLedger + Send + Sync>(
+    fn serve_once<L: SharedLedger, M: SharedLedger>(
         &self,
         face: &Face,
         book: &Book<L, M>,
@@ -357,8 +361,8 @@ fn workers_serve_after_a_refused_growth(rt: HostRuntime) {
 fn ended<
     R: Threads + Wait + Sync,
     P: Port + Sync,
-    L: ShardLedger + Send + Sync,
-    M: ShardLedger + Send + Sync,
+    L: NamedLedger + Send + Sync,
+    M: NamedLedger + Send + Sync,
 >(rt: &R, alloc: Global, port: &P, opening: NewBook) -> Result<(usize, usize, u128), Stop>
 where
     P::In: Send,
@@ -372,7 +376,7 @@ where
     requires tables { (opening.tables ≡ L.tables) × (opening.tables ≡ M.tables) }
     requires seats { IsSeatCount opening.seats }
 {
-    match serve_and_settle::<R, P, L, M>(rt, alloc, opening, port, 2) {
+    match serve_and_settle::<R, P, Packed<L>, Packed<M>>(rt, alloc, opening, port, 2) {
         Ok(book) => {
             let least = book.answered.iter().map(|count| count.get()).min();
             Ok((

@@ -1,5 +1,5 @@
 //! A gate at which two workers meet.
-use mds_gate::Gate;
+use mds_io::Gate;
 use std::sync::atomic::{AtomicBool, Ordering};
 use std::thread;
 use std::time::{Clock, Duration};

@@ -6,7 +6,9 @@ ghost use Rattle.mds_book.specs.Seats.{new_seat};
 ghost use Rattle.mds_follow.specs.Disk.{IsTold};
 ghost use Rattle.mds_follow.specs.Reading.{IsAtFirstRequest};
 
-use mds_book::{Blank, Book, Keep, RecordFault, Seat, ShardLedger, reconcile};
+use mds_book::{
+    Blank, Book, Keep, NamedLedger, Packed, RecordFault, Seat, ShardLedger, SharedLedger, reconcile,
+};
 use mds_core::Request;
 use mds_follow::{
     Disk, Follower, Receipt, Record, RecordLog, RequestReader, SharedFollower, StartFault, resume,
@@ -183,8 +185,8 @@ fn ended_by<D: Device + Drop, L: ShardLedger, M: ShardLedger, J: RecordLog, R: W
 /// The same, of a book of two seats that were told nothing: the first asks what the journal tells.
 fn end_at<
     D: Device + Drop + Send,
-    L: ShardLedger + Send + Sync,
-    M: ShardLedger + Send + Sync,
+    L: SharedLedger,
+    M: SharedLedger,
     J: RecordLog,
     R: Threads + Wait + Sync,
 >(
@@ -216,8 +218,8 @@ fn end_at<
 /// The same, of a new book.
 fn end_in<
     D: Device + Drop + Send,
-    L: ShardLedger + Send + Sync,
-    M: ShardLedger + Send + Sync,
+    L: NamedLedger + Send + Sync,
+    M: NamedLedger + Send + Sync,
     J: RecordLog,
     R: Threads + Wait + Sync,
 >(
@@ -244,8 +246,10 @@ fn end_in<
         → IsTold (recovered_texts (D.seen reader.opening.device)) told → J.held told }
 {
     let keep = Keep::Accepted;
-    match Book::<L, M>::open(alloc, tables, 2, keep, first, second, hashers) {
-        Ok((book, seats)) => { end_at::<D, L, M, J, R>(rt, alloc, book, seats, reader, log, case) }
+    match Book::<Packed<L>, Packed<M>>::open(alloc, tables, 2, keep, first, second, hashers) {
+        Ok((book, seats)) => {
+            end_at::<D, Packed<L>, Packed<M>, J, R>(rt, alloc, book, seats, reader, log, case)
+        }
         Err(_) => Err(Lack::Memory),
     }
 }

@@ -1,8 +1,9 @@
 //! Replays by several workers: what they come to, their gate, their number, and want of memory in one of them.
 use crate::replays::{CASES, Case, five_again};
-use crate::told::{FIVE, FIVE_REPORT, is_report, items_of, items_over};
-use mds_gate::{Gate, OpenGate};
-use mds_trace::{Opening, WithFault, replay_with};
+use crate::told::{Expected, FIVE, FIVE_REPORT, is_report, items_of, items_over};
+use mds_batch::{EventItems, TakesItems};
+use mds_io::{Gate, OpenGate};
+use mds_trace::{Opening, Report, WithFault, replay_items_with, replay_with};
 use std::alloc::{AllocError, Global};
 use std::sync::atomic::{AtomicBool, AtomicU64, Ordering};
 use std::thread::Threads;
@@ -19,18 +20,40 @@ fn comes_through<R: Threads + Sync, G: Gate + Sync>(
 ) -> Result<bool, Lack> {
     let items = items_over(alloc, told, expected.0.len())?;
     let tables = profile(alloc)?;
-    match replay_with(rt, alloc, &tables, &items, opening, workers, gate) {
+    let end = replay_with(rt, alloc, &tables, &items, opening, workers, gate);
+    is_expected(end, expected)
+}
+
+/// Whether a replay comes to the report that is expected.
+fn is_expected(end: Result<Report, WithFault>, expected: &Expected) -> Result<bool, Lack> {
+    match end {
         Ok(report) => Ok(is_report(&report, expected)),
         Err(WithFault::Memory) => Err(Lack::Memory),
         Err(WithFault::BadWorkers) => Ok(false),
     }
 }
 
+/// Whether two workers come to what is expected, of items that are kept close together.
+fn comes_close_together<R: Threads + Sync>(
+    rt: &R,
+    alloc: Global,
+    (told, opening, expected): Case,
+) -> Result<bool, Lack> {
+    let mut items = EventItems::new(alloc);
+    for item in items_over(alloc, told, expected.0.len())?.as_slice() {
+        items.take(item)?;
+    }
+    let tables = profile(alloc)?;
+    let end = replay_items_with(rt, alloc, &tables, &items, opening, 2, &OpenGate);
+    is_expected(end, expected)
+}
+
 /// The place of the first case that two workers come out of otherwise, or of which one gives up to wait for the other.
 fn first_alone<R: Threads + Clock + Sync>(rt: &R, alloc: Global) -> Result<Option<usize>, Lack> {
     for (at, case) in CASES.iter().enumerate() {
         let gate = MeetingGate::new(rt);
-        if !comes_through(rt, alloc, *case, 2, &gate)? || gate.gave_up() {
+        let comes = comes_through(rt, alloc, *case, 2, &gate)?;
+        if !comes || gate.gave_up() || !comes_close_together(rt, alloc, *case)? {
             return Ok(Some(at));
         }
     }

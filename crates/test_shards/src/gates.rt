@@ -1,5 +1,5 @@
 //! Gates: how a worker passes one with a piece of its work, and that the open gate takes no memory.
-use mds_gate::{Gate, OpenGate, pass};
+use mds_io::{Gate, OpenGate, pass};
 use std::alloc::{AllocError, Global};
 use std::sync::{Mutex, Wait};
 use test_fixtures::fence;

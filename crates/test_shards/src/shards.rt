@@ -4,12 +4,12 @@ mod many;
 mod refused;
 
 use mds_core::Reply;
-use mds_shard::Shard;
+use mds_shard::{KeptForm, Shard};
 use test_fixtures::{Lack, request_of};
 use test_steps::Step;
 
 /// The place of the first step in which the shard replies otherwise.
-fn first_other(shard: &mut Shard, steps: &[Step]) -> Result<Option<usize>, Lack> {
+fn first_other<K: KeptForm>(shard: &mut Shard<K>, steps: &[Step]) -> Result<Option<usize>, Lack> {
     for (at, (asked, place, outcome)) in steps.iter().enumerate() {
         let request = request_of(asked).ok_or(Lack::Case)?;
         let expected = Reply {

@@ -1,7 +1,7 @@
 //! The bodies of answers.
 ghost use Rattle.std.specs.Prelude.{◌≡◌, ◌++◌, IfOk, OnOk, IfSome, map, option_map, string_bytes};
 ghost use Rattle.mds_http.specs.Asked.{asked_in};
-ghost use Rattle.mds_texts.specs.Json.{with_commas, event_text};
+ghost use Rattle.mds_batch.specs.Texts.{with_commas, event_text};
 ghost use Rattle.mds_http.specs.Found.{finding_in, tables_of};
 ghost use Rattle.mds_http.specs.Bodies.{fault_body, events_body, tables_body};
 ghost use Rattle.mds_http.specs.Answer.{answer_to, batch_content, look_content, events_content};
@@ -10,10 +10,9 @@ use crate::response::batch::{answered_items, failures_of};
 use crate::response::found::count_accepted;
 use crate::response::json::StandingText;
 use crate::{Found, Plan};
-use mds_batch::BatchItem;
+use mds_batch::{BatchItem, Commas, Text};
 use mds_core::{Event, EventList, Key, Refusal, Reply, Standing};
 use mds_table::Row;
-use mds_texts::{Commas, Text};
 use std::alloc::{AllocError, Global};
 use std::fmt::{Display, Write as _};
 

@@ -4,9 +4,8 @@ ghost use Rattle.std.specs.Fmt.{DisplaysOnOk};
 ghost use Rattle.mds_http.specs.Json.{time_text, standing_text, cause_text, failure_text};
 
 use crate::{Cause, Failure};
-use mds_batch::ItemFault;
+use mds_batch::{ItemFault, Json, PositionText};
 use mds_core::{Key, Refusal, Standing};
-use mds_texts::{Json, PositionText};
 use std::fmt::{self, Display, Formatter};
 
 /// A time, or null where there is none.

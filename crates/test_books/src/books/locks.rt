@@ -1,7 +1,7 @@
 //! Two locks at once: while one shard is locked, a request about a vehicle of the other is answered.
 ghost use Rattle.std.specs.Prelude.{◌≡◌, ◌<◌};
 
-use mds_book::{Blank, Book, Keep, Seat, ShardLedger};
+use mds_book::{Blank, Book, Keep, NamedLedger, Note, Plain, Seat, ShardLedger, SharedLedger};
 use mds_core::Request;
 use mds_shard::Shard;
 use mds_table::Tables;
@@ -42,7 +42,11 @@ fn hold<C: Clock>(clock: &C, shard: &Shard, flags: &Flags) -> (usize, bool) {
 }
 
 /// Asks one request once the other shard is locked, and tells that it was answered.
-fn answer_and_tell<L: ShardLedger, M: ShardLedger, R: Wait + Clock>(
+fn answer_and_tell<
+    L: ShardLedger<Form = Request, Note = Note>,
+    M: ShardLedger<Form = Request>,
+    R: Wait + Clock,
+>(
     rt: &R,
     book: &Book<L, M>,
     mut seat: Seat<L, M>,
@@ -57,8 +61,8 @@ fn answer_and_tell<L: ShardLedger, M: ShardLedger, R: Wait + Clock>(
 
 /// Locks a shard until the request about a vehicle of the other was answered.
 fn while_locked<
-    L: ShardLedger + Send + Sync,
-    M: ShardLedger + Send + Sync,
+    L: SharedLedger<SharedForm = Request, SharedNote = Note>,
+    M: SharedLedger<SharedForm = Request>,
     R: Threads + Wait + Clock + Sync,
 >(
     rt: &R,
@@ -85,8 +89,8 @@ fn while_locked<
 
 /// Makes the first request, and the second one while the shard of this number is locked.
 fn in_two_locks<
-    L: ShardLedger + Send + Sync,
-    M: ShardLedger + Send + Sync,
+    L: NamedLedger + Send + Sync,
+    M: NamedLedger + Send + Sync,
     R: Threads + Wait + Clock + Sync,
 >(
     rt: &R,
@@ -106,7 +110,15 @@ fn in_two_locks<
     requires second_log { (second.log ≡ M.log) × (second.marks ≡ M.marks) }
     requires tables { (tables ≡ L.tables) × (tables ≡ M.tables) }
 {
-    let opened = Book::<L, M>::open(alloc, tables, 1, Keep::All, first, second, hashers);
+    let opened = Book::<Plain<L>, Plain<M>>::open(
+        alloc,
+        tables,
+        1,
+        Keep::All,
+        first,
+        second,
+        hashers,
+    );
     let Ok((book, mut seats)) = opened else {
         return Err(Lack::Memory);
     };

@@ -7,7 +7,7 @@ ghost use Rattle.mds_follow.specs.Disk.{IsTold};
 ghost use Rattle.mds_follow.specs.Reading.{IsAtFirstRequest};
 
 use super::{Counts, Listed, TWICE, opening};
-use mds_book::ShardLedger;
+use mds_book::{NamedLedger, Packed};
 use mds_follow::{Disk, RecordLog, RequestReader};
 use mds_journal::{Device, Memory};
 use mds_log::BlankLog;
@@ -42,8 +42,8 @@ fn ended<
     D: Device + Drop + Send,
     R: Threads + Wait + Sync,
     P: Port + Sync,
-    L: ShardLedger + Send + Sync,
-    M: ShardLedger + Send + Sync,
+    L: NamedLedger + Send + Sync,
+    M: NamedLedger + Send + Sync,
     J: RecordLog + Send + Sync,
 >(
     rt: &R,
@@ -71,7 +71,9 @@ where
     requires held { (told : List Requested)
         → IsTold (recovered_texts (D.seen reader.opening.device)) told → J.held told }
 {
-    let opened = RecordedBook::<Disk<D>, L, M, J>::open(rt, alloc, opening, reader, log);
+    let opened = RecordedBook::<Disk<D>, Packed<L>, Packed<M>, J>::open(
+        rt, alloc, opening, reader, log,
+    );
     let Ok(book) = opened else {
         return Err(Lack::Memory);
     };

@@ -4,7 +4,7 @@ ghost use Rattle.std.specs.Prelude.{◌≡◌};
 use super::answers::{AMONG_THREE, fleet_over};
 use super::{Exchange, first_other};
 use crate::cases::{PROFILE, WAKE_AND_REST, tables_of};
-use mds_book::{Blank, Book, Keep, Seat, ShardLedger};
+use mds_book::{Blank, Book, Keep, NamedLedger, Plain, Seat, ShardLedger};
 use mds_core::{Outcome, Reply};
 use mds_face::{Desk, Face, SeatDesk};
 use mds_table::{State, Tables};
@@ -83,7 +83,7 @@ fn seen_at<L: ShardLedger, M: ShardLedger, R: Wait>(
 }
 
 /// What is seen at the seat of a book that is opened over the tables.
-fn seen_in<L: ShardLedger, M: ShardLedger, R: Wait>(
+fn seen_in<L: NamedLedger, M: NamedLedger, R: Wait>(
     rt: &R,
     alloc: Global,
     tables: Tables,
@@ -98,7 +98,15 @@ fn seen_in<L: ShardLedger, M: ShardLedger, R: Wait>(
     requires second_log { (second.log ≡ M.log) × (second.marks ≡ M.marks) }
     requires tables { (tables ≡ L.tables) × (tables ≡ M.tables) }
 {
-    let opened = Book::<L, M>::open(alloc, tables, 1, Keep::All, first, second, hashers);
+    let opened = Book::<Plain<L>, Plain<M>>::open(
+        alloc,
+        tables,
+        1,
+        Keep::All,
+        first,
+        second,
+        hashers,
+    );
     let Ok((book, mut seats)) = opened else {
         return Err(Lack::Memory);
     };

@@ -2,7 +2,7 @@
 use super::first_other;
 use mds_core::Outcome::Done;
 use mds_core::{Event, Request};
-use mds_shard::Shard;
+use mds_shard::{KeptForm, PackedRequest, Shard};
 use mds_table::State::{Available, Removed};
 use std::alloc::{AllocError, Global};
 use std::random::RandomSource;
@@ -13,14 +13,14 @@ use test_steps::{
     tables_of, turns,
 };
 
-/// The name of the first case in which a shard replies otherwise.
-fn first_difference<R: RandomSource>(
+/// The name of the first case in which a shard that keeps its history so replies otherwise.
+fn first_difference<K: KeptForm, R: RandomSource>(
     rt: &R,
     alloc: Global,
     cases: &[WorkedCase],
 ) -> Result<Option<&'static str>, Lack> {
     for (name, file, steps) in cases {
-        let mut shard = Shard::open(alloc, tables_of(alloc, *file)?, hasher(rt)?);
+        let mut shard = Shard::<K>::open(alloc, tables_of(alloc, *file)?, hasher(rt)?);
         if first_other(&mut shard, steps)?.is_some() {
             return Ok(Some(*name));
         }
@@ -30,7 +30,10 @@ fn first_difference<R: RandomSource>(
 
 #[test]
 fn cases_of_vehicles(rt: HostRuntime) {
-    assert_eq!(rt; first_difference(&rt, rt.alloc(), CASES), Ok(None));
+    let whole = first_difference::<Request, HostRuntime>(&rt, rt.alloc(), CASES);
+    assert_eq!(rt; whole, Ok(None));
+    let packed = first_difference::<PackedRequest, HostRuntime>(&rt, rt.alloc(), CASES);
+    assert_eq!(rt; packed, Ok(None));
 }
 
 /// How many events the vehicle has, and the first one; nothing where it isn't registered.
@@ -54,7 +57,7 @@ struct Told {
 
 /// What a shard tells after these steps, in which it replies so.
 fn told_after<R: RandomSource>(rt: &R, alloc: Global, steps: &[Step]) -> Result<Told, Lack> {
-    let mut shard = Shard::open(alloc, profile(alloc)?, hasher(rt)?);
+    let mut shard = Shard::<Request>::open(alloc, profile(alloc)?, hasher(rt)?);
     if first_other(&mut shard, steps)?.is_some() {
         return Err(Lack::Case);
     }
@@ -90,7 +93,7 @@ const AFTER_TURNS: &[Step] = rows! {
 
 /// The places of the first steps of A and of C in which a shard over as many tables as there may be replies otherwise.
 fn over_most_tables<R: RandomSource>(rt: &R, alloc: Global) -> Result<[Option<usize>; 2], Lack> {
-    let mut shard = Shard::open(alloc, most_tables(alloc)?, hasher(rt)?);
+    let mut shard = Shard::<PackedRequest>::open(alloc, most_tables(alloc)?, hasher(rt)?);
     let steps = turns(alloc)?;
     Ok([
         first_other(&mut shard, &steps)?,

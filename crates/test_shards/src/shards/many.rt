@@ -2,7 +2,7 @@
 ghost use Rattle.std.specs.Prelude.{◌<◌};
 
 use mds_core::{Fleet, Outcome, Refusal};
-use mds_shard::Shard;
+use mds_shard::{PackedRequest, Shard};
 use mds_table::State::{self, Available, NonContactable, NonOperational};
 use std::alloc::Global;
 use std::random::RandomSource;
@@ -83,7 +83,10 @@ fn kind_of(outcome: &Outcome) -> usize
 
 /// The number of the first request to which a shard and a fleet reply otherwise, and whether there is a reply of each
 /// kind.
-fn compared(shard: &mut Shard, fleet: &mut Fleet) -> Result<(Option<u64>, [bool; 7]), Lack> {
+fn compared(
+    shard: &mut Shard<PackedRequest>,
+    fleet: &mut Fleet,
+) -> Result<(Option<u64>, [bool; 7]), Lack> {
     let mut numbers = Numbers { state: 1 };
     let mut kinds = [false; 7];
     for number in 0..BYSTANDERS + REQUESTS {

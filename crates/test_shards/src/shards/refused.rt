@@ -4,7 +4,7 @@ use super::first_other;
 use mds_core::Outcome::{self, Refused, Seen};
 use mds_core::Refusal::{AlreadyRegistered, Unregistered};
 use mds_core::{Reply, Request, Standing};
-use mds_shard::Shard;
+use mds_shard::{PackedRequest, Shard};
 use mds_table::Tables;
 use std::alloc::{AllocError, Global};
 use std::hash::RandomState;
@@ -15,7 +15,11 @@ use test_steps::{DROPPED_OFF, NEW, Step, hasher};
 
 /// Whether a shard accepts the request at this place; it's asked again where a growth is refused, which changes
 /// nothing.
-fn is_accepted(shard: &mut Shard, request: &Request, place: usize) -> Result<bool, AllocError> {
+fn is_accepted(
+    shard: &mut Shard<PackedRequest>,
+    request: &Request,
+    place: usize,
+) -> Result<bool, AllocError> {
     let accepted = Reply {
         place,
         outcome: Outcome::Done,
@@ -93,7 +97,7 @@ fn told_between(
 ) -> Result<Between, Lack> {
     let _begun = fence(alloc);
     let other = first_other(shard, OF_ONE)?;
-    let mut new = Shard::open(alloc, tables, hasher);
+    let mut new = Shard::<PackedRequest>::open(alloc, tables, hasher);
     let others = [other, first_other(&mut new, OF_NOBODY)?];
     let found = (told(alloc, shard), others, new.len());
     let _ended = fence(alloc);
@@ -103,7 +107,7 @@ fn told_between(
 /// The same of shards over the profile.
 fn told_of_profile<R: RandomSource>(rt: &R, alloc: Global) -> Result<Between, Lack> {
     let hasher = hasher(rt)?;
-    let mut shard = Shard::open(alloc, profile(alloc)?, hasher);
+    let mut shard = Shard::<Request>::open(alloc, profile(alloc)?, hasher);
     shard.step(&Request::Register(key(A)))?;
     told_between(alloc, &mut shard, profile(alloc)?, hasher)
 }

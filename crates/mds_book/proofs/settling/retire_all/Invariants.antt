@@ -10,6 +10,6 @@ invariant-loop-seat g l = record {
   items : l.room.items ++ l.seat-iterator.rest.items ≡ l.fn.seats.items;
   left : length l.seat-iterator.rest.items ≡ l.seat-iterator.rest.len;
   fits : vec_len l.room + l.seat-iterator.rest.len ≤ vec_capacity l.room;
-  first_retired : AreRetired g.L.ShardLedger.tables 0 l.first.log l.first.marks l.room.items;
-  second_retired : AreRetired g.M.ShardLedger.tables 1 l.second.log l.second.marks l.room.items;
+  first_retired : AreRetired g.L.NamedLedger.tables 0 l.first.log l.first.marks l.room.items;
+  second_retired : AreRetired g.M.NamedLedger.tables 1 l.second.log l.second.marks l.room.items;
 }

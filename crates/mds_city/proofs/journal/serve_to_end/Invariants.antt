@@ -5,14 +5,14 @@ use Rattle.mds_city.proofs.journal.serve_to_end.Given as goal
 abbrev pub ghosts-serve_reader-L-Ledger : goal.ghosts-serve_reader-L-Ledger
 ghosts-serve_reader-L-Ledger g a = record { name = a.opening.first.name; parts = a.opening.first.parts }
 
-abbrev pub ghosts-serve_reader-L-ShardLedger : goal.ghosts-serve_reader-L-ShardLedger
-ghosts-serve_reader-L-ShardLedger g a = record { tables = a.opening.tables }
+abbrev pub ghosts-serve_reader-L-NamedLedger : goal.ghosts-serve_reader-L-NamedLedger
+ghosts-serve_reader-L-NamedLedger g a = record { tables = a.opening.tables }
 
 abbrev pub ghosts-serve_reader-M-Ledger : goal.ghosts-serve_reader-M-Ledger
 ghosts-serve_reader-M-Ledger g a = record { name = a.opening.second.name; parts = a.opening.second.parts }
 
-abbrev pub ghosts-serve_reader-M-ShardLedger : goal.ghosts-serve_reader-M-ShardLedger
-ghosts-serve_reader-M-ShardLedger g a = record { tables = a.opening.tables }
+abbrev pub ghosts-serve_reader-M-NamedLedger : goal.ghosts-serve_reader-M-NamedLedger
+ghosts-serve_reader-M-NamedLedger g a = record { tables = a.opening.tables }
 
 abbrev pub ghosts-serve_reader-L-Logged : goal.ghosts-serve_reader-L-Logged
 ghosts-serve_reader-L-Logged g a = record { log = a.opening.first.log }

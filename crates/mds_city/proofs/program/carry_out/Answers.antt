@@ -1,10 +1,11 @@
-use Rattle.std.proofs.Common.{rules, subst, sym}
+use Rattle.std.proofs.Common.{rules, subst, sym, ℕ}
+use Rattle.std.specs.Option.{option_map}
 use Rattle.mds_args.specs.declared.words.Command.{Command}
 use Rattle.mds_commands.specs.declared.commands.ReplayOptions.{ReplayOptions}
 use Rattle.mds_commands.specs.Change.{change_of}
 use Rattle.mds_city.specs.Host.{FileHost, ServerHost, StandardInput}
 use Rattle.mds_city.specs.Outcome.{Outcome, outcome_of}
-use Rattle.mds_city.specs.Program.{Carries, CarriesReplay}
+use Rattle.mds_city.specs.Program.{Carries, CarriesReplay, CarriesServe}
 use Rattle.mds_city.proofs.program.carry_out.Goals as goal
 
 pub returns-in-Replay : goal.returns-in-Replay
@@ -40,5 +41,7 @@ returns-in-Serve g c =
     let outcome : Outcome = outcome_of c.serve_named.result
     (change_of (g.W.Write.contents c.args.out.now) (g.W.Write.contents c.serve_named.new.out))
     (change_of (g.E.Write.contents c.args.faults.now) (g.E.Write.contents c.serve_named.new.faults)) in
+    let asked : ℕ → Type 0 = λ each. CarriesServe host (record { bytes = g.O.File.Read.remaining; file = c.file_if_named-table.result })
+    (option_map (λ named. named.now) c.in-Serve.journal) (record { port = c.in-Serve.port; workers = c.in-Serve.workers; each = each }) outcome in
     subst (λ (command : Command). Carries files host input command outcome) (sym c.in-Serve.is)
-    (c.file_if_named-table.result, search rules, c.serve_named.ensures)
+    (c.file_if_named-table.result, search rules, subst asked c.connections_each.ensures c.serve_named.ensures)

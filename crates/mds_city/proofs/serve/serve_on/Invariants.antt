@@ -3,14 +3,14 @@ use Rattle.mds_city.proofs.serve.serve_on.Given as goal
 abbrev pub ghosts-serve_book-L-Ledger : goal.ghosts-serve_book-L-Ledger
 ghosts-serve_book-L-Ledger g a = record { name = a.opening.first.name; parts = a.opening.first.parts }
 
-abbrev pub ghosts-serve_book-L-ShardLedger : goal.ghosts-serve_book-L-ShardLedger
-ghosts-serve_book-L-ShardLedger g a = record { tables = a.opening.tables }
+abbrev pub ghosts-serve_book-L-NamedLedger : goal.ghosts-serve_book-L-NamedLedger
+ghosts-serve_book-L-NamedLedger g a = record { tables = a.opening.tables }
 
 abbrev pub ghosts-serve_book-M-Ledger : goal.ghosts-serve_book-M-Ledger
 ghosts-serve_book-M-Ledger g a = record { name = a.opening.second.name; parts = a.opening.second.parts }
 
-abbrev pub ghosts-serve_book-M-ShardLedger : goal.ghosts-serve_book-M-ShardLedger
-ghosts-serve_book-M-ShardLedger g a = record { tables = a.opening.tables }
+abbrev pub ghosts-serve_book-M-NamedLedger : goal.ghosts-serve_book-M-NamedLedger
+ghosts-serve_book-M-NamedLedger g a = record { tables = a.opening.tables }
 
 abbrev pub ghosts-serve_book-L-Logged : goal.ghosts-serve_book-L-Logged
 ghosts-serve_book-L-Logged g a = record { log = a.opening.first.log }

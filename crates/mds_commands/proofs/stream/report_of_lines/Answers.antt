@@ -1,9 +1,9 @@
 use Rattle.std.proofs.Common.{◌≡◌, ◌∙◌, ℕ, List, Option, ap, refl, subst, sym}
 use Rattle.std.proofs.lemmas.Result.{IfErr-weaker, IfOk-weaker}
 use Rattle.mds_table.specs.Tables.{Tables}
-use Rattle.mds_batch.specs.Stream.{HasLineFault}
-use Rattle.mds_batch.specs.declared.line_fault.LineFault.{LineFault}
-use Rattle.mds_batch.specs.declared.line_fault.LineFault.TheVariants.{Memory}
+use Rattle.mds_lines.specs.Stream.{HasLineFault}
+use Rattle.mds_lines.specs.declared.line_fault.LineFault.{LineFault}
+use Rattle.mds_lines.specs.declared.line_fault.LineFault.TheVariants.{Memory}
 use Rattle.mds_trace.specs.declared.report.Opening.{Opening}
 use Rattle.mds_trace.specs.Feeding.{Feeding}
 use Rattle.mds_trace.specs.LineReport.{IsLineReport}

@@ -1,6 +1,6 @@
 use Rattle.std.proofs.Common.{◌≡◌, ◌++◌, codes, take, string_bytes}
 use Rattle.std.specs.List.{flat_map}
-use Rattle.mds_texts.specs.Json.{quoted_text}
+use Rattle.mds_batch.specs.Texts.{quoted_text}
 use Rattle.mds_entries.proofs.laying.add_types.Given as goal
 
 -- the texts of the names so far are added, each behind a comma

@@ -8,11 +8,11 @@ use Rattle.mds_pool.specs.Recording.{IsRecordOf}
 use Rattle.mds_pool.proofs.recorded_book.settle_recorded.Goals as goal
 
 -- the seats are those of the settled book, and what is recorded has what they saw
-pub returns-in-Ok-settle-clause-recorded : goal.returns-in-Ok-settle-clause-recorded
-returns-in-Ok-settle-clause-recorded g c =
+pub returns-clause-recorded : goal.returns-clause-recorded
+returns-clause-recorded g c =
     let told = c.follow_all.new.self in
     let finish = c.finish-file.ensures in
-    let handed : c.as_slice.result.now ≡ c.in-Ok-settle.settled.seats = c.as_slice.ensures.value ∙ sym c.in-Ok-settle.ensures.0.seats in
+    let handed : c.as_slice.result.now ≡ c.settle-settled.result.seats = c.as_slice.ensures.value ∙ sym c.settle-settled.ensures.0.seats in
     subst (λ (all : Collected). IsRecordOf g.F.Record.is_sound g.F.Record.is_true g.F.Record.may_go_on g.F.Record.stands g.F.Tagged.tag g.F.Record.left_since
     g.J.RecordLog.start g.J.RecordLog.held c.finish-file.result all) (sym finish.same) (record {
       told = told;

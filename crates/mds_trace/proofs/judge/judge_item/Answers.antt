@@ -16,12 +16,12 @@ returns-in-Event-clause-judged c = IfOk-weaker c.judge_event.result _ _
     let within : length (accepted_of items lines) < MAX = omega (arith, accepted_few items lines, few) in
     let told = judged (vehicles_of (events_of items)) (accepted_of items lines) so_far.vehicles within in
     let Is : EventItem → Type 0 = λ item.
-    IsReplayed c.args.opening c.args.tables.now (items ++ item ∷ []) (lines ++ line ∷ []) c.judge_event.new.vehicles.entries c.judge_event.new.names.keys in
+    IsReplayed c.args.opening c.args.tables.now (items ++ item ∷ []) (lines ++ line ∷ []) c.judge_event.new.vehicles.entries c.judge_event.new.vehicles.names in
     subst Is (sym c.in-Event.is) (event_replayed c.args.opening c.args.tables.now items lines _ _ so_far c.in-Event.event line _ _ told.0 told.1))
     c.judge_event.ensures.judged
 
 pub returns-in-Fault-clause-judged : goal.returns-in-Fault-clause-judged
 returns-in-Fault-clause-judged c = λ items lines so_far few.
     let Is : EventItem → Type 0 = λ item.
-    IsReplayed c.args.opening c.args.tables.now (items ++ item ∷ []) (lines ++ Fault c.in-Fault.fault ∷ []) c.args.vehicles.now.entries c.args.names.now.keys in
+    IsReplayed c.args.opening c.args.tables.now (items ++ item ∷ []) (lines ++ Fault c.in-Fault.fault ∷ []) c.args.vehicles.now.entries c.args.vehicles.now.names in
     subst Is (sym c.in-Fault.is) (fault_replayed c.args.opening c.args.tables.now items lines _ _ so_far c.in-Fault.fault)

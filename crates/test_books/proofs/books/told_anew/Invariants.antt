@@ -3,14 +3,14 @@ use Rattle.test_books.proofs.books.told_anew.Given as goal
 abbrev pub ghosts-told_in-L-Ledger : goal.ghosts-told_in-L-Ledger
 ghosts-told_in-L-Ledger g a = record { name = a.first.name; parts = a.first.parts }
 
-abbrev pub ghosts-told_in-L-ShardLedger : goal.ghosts-told_in-L-ShardLedger
-ghosts-told_in-L-ShardLedger g a = record { tables = a.tables }
+abbrev pub ghosts-told_in-L-NamedLedger : goal.ghosts-told_in-L-NamedLedger
+ghosts-told_in-L-NamedLedger g a = record { tables = a.tables }
 
 abbrev pub ghosts-told_in-M-Ledger : goal.ghosts-told_in-M-Ledger
 ghosts-told_in-M-Ledger g a = record { name = a.second.name; parts = a.second.parts }
 
-abbrev pub ghosts-told_in-M-ShardLedger : goal.ghosts-told_in-M-ShardLedger
-ghosts-told_in-M-ShardLedger g a = record { tables = a.tables }
+abbrev pub ghosts-told_in-M-NamedLedger : goal.ghosts-told_in-M-NamedLedger
+ghosts-told_in-M-NamedLedger g a = record { tables = a.tables }
 
 abbrev pub ghosts-told_in-L-Logged : goal.ghosts-told_in-L-Logged
 ghosts-told_in-L-Logged g a = record { log = a.first.log }

@@ -3,14 +3,14 @@ use Rattle.test_edge.proofs.workers.served.Given as goal
 abbrev pub ghosts-serve_new-L-Ledger : goal.ghosts-serve_new-L-Ledger
 ghosts-serve_new-L-Ledger g a = record { name = a.opening.first.name; parts = a.opening.first.parts }
 
-abbrev pub ghosts-serve_new-L-ShardLedger : goal.ghosts-serve_new-L-ShardLedger
-ghosts-serve_new-L-ShardLedger g a = record { tables = a.opening.tables }
+abbrev pub ghosts-serve_new-L-NamedLedger : goal.ghosts-serve_new-L-NamedLedger
+ghosts-serve_new-L-NamedLedger g a = record { tables = a.opening.tables }
 
 abbrev pub ghosts-serve_new-M-Ledger : goal.ghosts-serve_new-M-Ledger
 ghosts-serve_new-M-Ledger g a = record { name = a.opening.second.name; parts = a.opening.second.parts }
 
-abbrev pub ghosts-serve_new-M-ShardLedger : goal.ghosts-serve_new-M-ShardLedger
-ghosts-serve_new-M-ShardLedger g a = record { tables = a.opening.tables }
+abbrev pub ghosts-serve_new-M-NamedLedger : goal.ghosts-serve_new-M-NamedLedger
+ghosts-serve_new-M-NamedLedger g a = record { tables = a.opening.tables }
 
 abbrev pub ghosts-serve_new-L-Logged : goal.ghosts-serve_new-L-Logged
 ghosts-serve_new-L-Logged g a = record { log = a.opening.first.log }

@@ -6,14 +6,14 @@ use Rattle.test_follow.proofs.journals.ended.Given as goal
 abbrev pub ghosts-end_in-L-Ledger : goal.ghosts-end_in-L-Ledger
 ghosts-end_in-L-Ledger g a = record { name = a.first.name; parts = a.first.parts }
 
-abbrev pub ghosts-end_in-L-ShardLedger : goal.ghosts-end_in-L-ShardLedger
-ghosts-end_in-L-ShardLedger g a = record { tables = a.tables }
+abbrev pub ghosts-end_in-L-NamedLedger : goal.ghosts-end_in-L-NamedLedger
+ghosts-end_in-L-NamedLedger g a = record { tables = a.tables }
 
 abbrev pub ghosts-end_in-M-Ledger : goal.ghosts-end_in-M-Ledger
 ghosts-end_in-M-Ledger g a = record { name = a.second.name; parts = a.second.parts }
 
-abbrev pub ghosts-end_in-M-ShardLedger : goal.ghosts-end_in-M-ShardLedger
-ghosts-end_in-M-ShardLedger g a = record { tables = a.tables }
+abbrev pub ghosts-end_in-M-NamedLedger : goal.ghosts-end_in-M-NamedLedger
+ghosts-end_in-M-NamedLedger g a = record { tables = a.tables }
 
 abbrev pub ghosts-end_in-L-Logged : goal.ghosts-end_in-L-Logged
 ghosts-end_in-L-Logged g a = record { log = a.first.log }

@@ -1,12 +1,25 @@
-use Rattle.std.proofs.Common.{◌≡◌, ◌++◌, ◌∙◌, inl, inr, List, length, sym, ap, subst, arith}
+use Rattle.std.proofs.Common.{◌≡◌, ◌++◌, ◌∙◌, inl, inr, List, length, refl, sym, ap, subst, arith}
 use Rattle.mds_table.specs.Tables.{Tables}
-use Rattle.mds_settle.specs.declared.note.Note.{Note}
 use Rattle.mds_log.specs.Log.{requests}
 use Rattle.mds_book.specs.Seats.{Seated}
 use Rattle.mds_book.specs.Refilling.{IsRefusedAt, IsRefusedIn}
 use Rattle.mds_book.specs.declared.refilling.RefillFault.TheVariants.{Refused}
+use Rattle.mds_book.specs.Notes.{seen_by}
+use Rattle.mds_book.proofs.NotesTold.{kept_three, seen_both, told_length}
+use Rattle.mds_book.proofs.Trues.{requests_length, requests_prefix}
 use Rattle.mds_book.proofs.Refills.{of_either, part_lengths, true_first, true_second}
 use Rattle.mds_book.proofs.book.Book.refill.Goals as goal
+
+-- the seat has asked all that it has seen
+pub ask_both-ones-requires-clause-first : goal.ask_both-ones-requires-clause-first
+ask_both-ones-requires-clause-first g c κs within =
+    let Asked : Seated → Type 0 = λ s. s.first ≡ length s.first_seen in
+    subst Asked (sym c.seat.view_is) c.requires.first ∙ requests_length c.seat.inside.first.sight.seen
+
+pub ask_both-ones-requires-clause-second : goal.ask_both-ones-requires-clause-second
+ask_both-ones-requires-clause-second g c κs within =
+    let Asked : Seated → Type 0 = λ s. s.second ≡ length s.second_seen in
+    subst Asked (sym c.seat.view_is) c.requires.second ∙ requests_length c.seat.inside.second.sight.seen
 
 -- there is room for the notes of all requests
 pub add-requires : goal.add-requires
@@ -14,12 +27,8 @@ add-requires g c =
     let asked = c.ask_both-ones in
     omega (
       arith,
-      c.in-Ok.ensures.ok,
-      asked.ensures.capacity,
-      asked.new.notes.ok.0,
-      c.reserve.new.self.ok.0,
-      ap (λ (w : List Note). length w) asked.ensures.items,
-      ap (λ (w : List Note). length w) c.as_slice.ensures.value,
+      c.in-Ok.ensures.room,
+      told_length g.L.SharedNote.NoteForm.number g.L.SharedNote.NoteForm.tells asked.new.first.sight.seen asked.result.0.notes.list,
       asked.ensures.first.few,
       part_lengths c.args.requests.now,
     )
@@ -29,36 +38,35 @@ add-requires-2 g c =
     let asked = c.ask_both-ones in
     omega (
       arith,
-      c.in-Ok.ensures.ok,
-      asked.ensures.capacity,
-      asked.new.notes.ok.0,
-      c.reserve.new.self.ok.0,
-      ap (λ (w : List Note). length w) asked.ensures.items,
-      ap (λ (w : List Note). length w) c.as_slice.ensures.value,
+      c.in-Ok.ensures.room,
+      told_length g.L.SharedNote.NoteForm.number g.L.SharedNote.NoteForm.tells asked.new.first.sight.seen asked.result.0.notes.list,
+      told_length g.L.SharedNote.NoteForm.number g.L.SharedNote.NoteForm.tells asked.new.second.sight.seen asked.result.1.notes.list,
       asked.ensures.first.few,
-      part_lengths c.args.requests.now,
-      c.add.ensures.len,
-      c.add.ensures.capacity,
-      ap (λ (w : List Note). length w) c.as_slice-2.ensures.value,
       asked.ensures.second.few,
+      part_lengths c.args.requests.now,
+      c.add.ensures.room,
     )
 
 -- the notes stay true to what the seat saw of either shard
 pub invariant_of-seat-2 : goal.invariant_of-seat-2
 invariant_of-seat-2 g c =
     let asked = c.ask_both-ones in
-    let notes = c.seat.inside.notes.items in
-    let ones = asked.result.0.notes.items in
-    let others = asked.result.1.notes.items in
-    let first : c.add.new.notes.items ≡ notes ++ ones =
-    c.add.ensures.items ∙ (ap (λ (w : List Note). w ++ c.as_slice.result.now) (asked.ensures.items ∙ c.reserve.ensures.items) ∙ ap (λ (w : List Note). notes ++ w) c.as_slice.ensures.value) in
-    let all : c.add-2.new.notes.items ≡ (notes ++ ones) ++ others =
-    c.add-2.ensures.items ∙ (ap (λ (w : List Note). w ++ c.as_slice-2.result.now) first ∙ ap (λ (w : List Note). (notes ++ ones) ++ w) c.as_slice-2.ensures.value) in (
-      true_first g.L.ShardLedger.tables c.seat.inside.first.mark asked.new.first.mark c.seat.inside.first.sight.seen c.seat.inside.first.count c.args.requests.now asked.new.first.sight.seen
-          asked.new.first.count notes ones others c.add-2.new.notes.items asked.result.0.asked asked.ensures.first_mark c.seat.invariant.0 asked.ensures.first asked.ensures.second.of_shard all,
-      true_second g.M.ShardLedger.tables c.seat.inside.second.mark asked.new.second.mark c.seat.inside.second.sight.seen c.seat.inside.second.count c.args.requests.now
-          asked.new.second.sight.seen asked.new.second.count notes ones others c.add-2.new.notes.items asked.result.1.asked asked.ensures.second_mark c.seat.invariant.1 asked.ensures.second
-          asked.ensures.first.of_shard all,
+    let ones = asked.result.0.notes.list in
+    let others = asked.result.1.notes.list in
+    let listed : c.add-2.new.self.list ≡ (c.seat.inside.notes.list ++ ones) ++ others =
+    c.add-2.ensures.list ∙ ap (λ w. w ++ others) (c.add.ensures.list ∙ ap (λ w. w ++ ones) c.reserve.ensures.list) in
+    let kept = kept_three (seen_by (requests c.seat.inside.first.sight.seen) (requests c.seat.inside.second.sight.seen))
+    (seen_by (requests asked.new.first.sight.seen) (requests asked.new.second.sight.seen)) c.add-2.new.self.list c.seat.invariant.2 c.tell.ensures
+    (seen_both (requests c.seat.inside.first.sight.seen) (requests asked.new.first.sight.seen) (requests c.seat.inside.second.sight.seen) (requests asked.new.second.sight.seen)
+    (requests_prefix c.seat.inside.first.sight.seen asked.new.first.sight.seen asked.ensures.first.begins)
+    (requests_prefix c.seat.inside.second.sight.seen asked.new.second.sight.seen asked.ensures.second.begins))
+    asked.ensures.first_kept asked.ensures.second_kept refl refl listed in (
+      true_first g.L.NamedLedger.tables c.seat.inside.first.mark asked.new.first.mark c.seat.inside.first.sight.seen c.seat.inside.first.count c.args.requests.now asked.new.first.sight.seen
+          asked.new.first.count _ _ _ _ asked.result.0.asked asked.ensures.first_mark c.seat.invariant.0 asked.ensures.first asked.ensures.second.of_shard kept.1,
+      true_second g.M.NamedLedger.tables c.seat.inside.second.mark asked.new.second.mark c.seat.inside.second.sight.seen c.seat.inside.second.count c.args.requests.now
+          asked.new.second.sight.seen asked.new.second.count _ _ _ _ asked.result.1.asked asked.ensures.second_mark c.seat.invariant.1 asked.ensures.second
+          asked.ensures.first.of_shard kept.1,
+      kept.0,
     )
 
 -- what either thread was refused
@@ -69,8 +77,8 @@ returns-clause-refused g c =
     let tables = c.args.self.now.tables in
     let seat = c.args.seat.now in
     of_either asked.result.0.asked asked.result.1.asked c.first_stop.result
-    (λ stop. stop.fault ≡ Refused → IsRefusedIn g.L.ShardLedger.tables 0 (requests c.seat.inside.first.sight.seen) told stop.at)
-    (λ stop. stop.fault ≡ Refused → IsRefusedIn g.M.ShardLedger.tables 1 (requests c.seat.inside.second.sight.seen) told stop.at)
+    (λ stop. stop.fault ≡ Refused → IsRefusedIn g.L.NamedLedger.tables 0 (requests c.seat.inside.first.sight.seen) told stop.at)
+    (λ stop. stop.fault ≡ Refused → IsRefusedIn g.M.NamedLedger.tables 1 (requests c.seat.inside.second.sight.seen) told stop.at)
     (λ stop. stop.fault ≡ Refused → IsRefusedAt tables seat told stop.at)
     (λ stop refused why.
     let By : Tables → Type 0 = λ t. IsRefusedIn t 0 (requests c.seat.inside.first.sight.seen) told stop.at in

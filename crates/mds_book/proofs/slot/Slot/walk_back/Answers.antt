@@ -11,12 +11,12 @@ walk_back-requires-clause-from g c =
     let shown : IsPrefix c.args.seen.now c.self.inside.keeper = rw (← c.again-shown.ensures) c.show.ensures.begins in
     let begins : IsPrefix (requests c.args.seen.now) history = rw (← c.self.invariant.3) (requests_prefix c.args.seen.now c.self.inside.keeper shown) in
     let from = c.requires.from in
-    let stands = walk_stands (requests c.args.seen.now) from.0 c.args.from from.1 from.2 in
+    let stands = walk_stands (requests c.args.seen.now) from.0 c.args.from (g.E.TakesEvents.events c.args.events.now) from.1 in
     omega (arith, stands, length-append (requests c.args.seen.now) begins.0, ap length begins.1)
 
 pub returns-clause-walk : goal.returns-clause-walk
-returns-clause-walk g c = λ key found is.
+returns-clause-walk g c = λ key is.
     let history = c.self.inside.shard.history in
     let shown : IsPrefix c.args.seen.now c.self.inside.keeper = rw (← c.again-shown.ensures) c.show.ensures.begins in
     let begins : IsPrefix (requests c.args.seen.now) history = rw (← c.self.invariant.3) (requests_prefix c.args.seen.now c.self.inside.keeper shown) in
-    c.walk_back.ensures.walk (requests c.args.seen.now) key found begins is
+    c.walk_back.ensures.walk (requests c.args.seen.now) key begins is

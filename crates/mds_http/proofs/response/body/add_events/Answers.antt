@@ -1,6 +1,6 @@
 use Rattle.std.proofs.Common.{refl, sym, ◌∙◌, arith}
 use Rattle.std.proofs.lemmas.Option.{slice_get-get_or}
-use Rattle.mds_texts.specs.Json.{event_text}
+use Rattle.mds_batch.specs.Texts.{event_text}
 use Rattle.mds_http.proofs.ListTexts.{commas_first, commas_grow}
 use Rattle.mds_http.proofs.response.body.add_events.Goals as goal
 

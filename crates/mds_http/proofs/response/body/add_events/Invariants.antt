@@ -1,5 +1,5 @@
 use Rattle.std.proofs.Common.{◌≡◌, ◌++◌, take, string_bytes}
-use Rattle.mds_texts.specs.Json.{with_commas, event_text}
+use Rattle.mds_batch.specs.Texts.{with_commas, event_text}
 use Rattle.mds_http.proofs.response.body.add_events.Given as goal
 
 -- the texts of the events so far stand behind what was there

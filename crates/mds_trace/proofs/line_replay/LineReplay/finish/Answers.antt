@@ -1,6 +1,6 @@
 use Rattle.std.proofs.Common.{◌≡◌, None, refl, ap, subst, ◌∙◌}
-use Rattle.mds_batch.specs.Stream.{HasLineFault}
-use Rattle.mds_batch.proofs.ErrorLemmas.{passed_on}
+use Rattle.mds_lines.specs.Stream.{HasLineFault}
+use Rattle.mds_lines.proofs.ErrorLemmas.{passed_on}
 use Rattle.mds_trace.specs.Feeding.{Feeding}
 use Rattle.mds_trace.specs.LinesTaken.{AreReplayed}
 use Rattle.mds_trace.proofs.FeedingLemmas.{line_report_of}

@@ -1,6 +1,6 @@
 use Rattle.std.proofs.Common.{[], sym, subst}
-use Rattle.mds_batch.specs.Fed.{Fed}
-use Rattle.mds_batch.proofs.FeedLemmas.{none_ended}
+use Rattle.mds_lines.specs.Fed.{Fed}
+use Rattle.mds_lines.proofs.FeedLemmas.{none_ended}
 use Rattle.mds_trace.specs.LinesTaken.{AreReplayed}
 use Rattle.mds_trace.proofs.line_replay.LineReplay.open.Goals as goal
 

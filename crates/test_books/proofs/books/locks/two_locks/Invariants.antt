@@ -3,14 +3,14 @@ use Rattle.test_books.proofs.books.locks.two_locks.Given as goal
 abbrev pub ghosts-in_two_locks-L-Ledger : goal.ghosts-in_two_locks-L-Ledger
 ghosts-in_two_locks-L-Ledger g a = record { name = a.first.name; parts = a.first.parts }
 
-abbrev pub ghosts-in_two_locks-L-ShardLedger : goal.ghosts-in_two_locks-L-ShardLedger
-ghosts-in_two_locks-L-ShardLedger g a = record { tables = a.tables }
+abbrev pub ghosts-in_two_locks-L-NamedLedger : goal.ghosts-in_two_locks-L-NamedLedger
+ghosts-in_two_locks-L-NamedLedger g a = record { tables = a.tables }
 
 abbrev pub ghosts-in_two_locks-M-Ledger : goal.ghosts-in_two_locks-M-Ledger
 ghosts-in_two_locks-M-Ledger g a = record { name = a.second.name; parts = a.second.parts }
 
-abbrev pub ghosts-in_two_locks-M-ShardLedger : goal.ghosts-in_two_locks-M-ShardLedger
-ghosts-in_two_locks-M-ShardLedger g a = record { tables = a.tables }
+abbrev pub ghosts-in_two_locks-M-NamedLedger : goal.ghosts-in_two_locks-M-NamedLedger
+ghosts-in_two_locks-M-NamedLedger g a = record { tables = a.tables }
 
 abbrev pub ghosts-in_two_locks-L-Logged : goal.ghosts-in_two_locks-L-Logged
 ghosts-in_two_locks-L-Logged g a = record { log = a.first.log }

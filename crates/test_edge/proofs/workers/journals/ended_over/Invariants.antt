@@ -6,14 +6,14 @@ use Rattle.test_edge.proofs.workers.journals.ended_over.Given as goal
 abbrev pub ghosts-ended-L-Ledger : goal.ghosts-ended-L-Ledger
 ghosts-ended-L-Ledger g a = record { name = a.opening.first.name; parts = a.opening.first.parts }
 
-abbrev pub ghosts-ended-L-ShardLedger : goal.ghosts-ended-L-ShardLedger
-ghosts-ended-L-ShardLedger g a = record { tables = a.opening.tables }
+abbrev pub ghosts-ended-L-NamedLedger : goal.ghosts-ended-L-NamedLedger
+ghosts-ended-L-NamedLedger g a = record { tables = a.opening.tables }
 
 abbrev pub ghosts-ended-M-Ledger : goal.ghosts-ended-M-Ledger
 ghosts-ended-M-Ledger g a = record { name = a.opening.second.name; parts = a.opening.second.parts }
 
-abbrev pub ghosts-ended-M-ShardLedger : goal.ghosts-ended-M-ShardLedger
-ghosts-ended-M-ShardLedger g a = record { tables = a.opening.tables }
+abbrev pub ghosts-ended-M-NamedLedger : goal.ghosts-ended-M-NamedLedger
+ghosts-ended-M-NamedLedger g a = record { tables = a.opening.tables }
 
 abbrev pub ghosts-ended-L-Logged : goal.ghosts-ended-L-Logged
 ghosts-ended-L-Logged g a = record { log = a.opening.first.log }

@@ -3,14 +3,14 @@ use Rattle.test_faces.proofs.connections.seats.seen_over.Given as goal
 abbrev pub ghosts-seen_in-L-Ledger : goal.ghosts-seen_in-L-Ledger
 ghosts-seen_in-L-Ledger g a = record { name = a.first.name; parts = a.first.parts }
 
-abbrev pub ghosts-seen_in-L-ShardLedger : goal.ghosts-seen_in-L-ShardLedger
-ghosts-seen_in-L-ShardLedger g a = record { tables = a.tables }
+abbrev pub ghosts-seen_in-L-NamedLedger : goal.ghosts-seen_in-L-NamedLedger
+ghosts-seen_in-L-NamedLedger g a = record { tables = a.tables }
 
 abbrev pub ghosts-seen_in-M-Ledger : goal.ghosts-seen_in-M-Ledger
 ghosts-seen_in-M-Ledger g a = record { name = a.second.name; parts = a.second.parts }
 
-abbrev pub ghosts-seen_in-M-ShardLedger : goal.ghosts-seen_in-M-ShardLedger
-ghosts-seen_in-M-ShardLedger g a = record { tables = a.tables }
+abbrev pub ghosts-seen_in-M-NamedLedger : goal.ghosts-seen_in-M-NamedLedger
+ghosts-seen_in-M-NamedLedger g a = record { tables = a.tables }
 
 abbrev pub ghosts-seen_in-L-Logged : goal.ghosts-seen_in-L-Logged
 ghosts-seen_in-L-Logged g a = record { log = a.first.log }

@@ -1,5 +1,0 @@
-use Rattle.mds_batch.proofs.LineLaws.{streams_have_one_fault}
-use Rattle.mds_batch.proofs.laws.streams_have_one_fault.Goals as goal
-
-pub returns : goal.returns
-returns c = streams_have_one_fault

@@ -1,5 +1,0 @@
-use Rattle.mds_batch.proofs.LineLaws.{streams_with_items_have_no_fault}
-use Rattle.mds_batch.proofs.laws.streams_with_items_have_no_fault.Goals as goal
-
-pub returns : goal.returns
-returns c = streams_with_items_have_no_fault

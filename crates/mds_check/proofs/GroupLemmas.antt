@@ -1,0 +1,123 @@
+-- Groups of lines, and what fits from a line on.
+use Rattle.std.proofs.Common.{◌≡◌, ◌↔◌, inl, inr, ℕ, ◌==◌, Bool, true, false, not, IsTrue, List, [], ◌∷◌, ◌++◌, length, All, refl, sym, ap, ◌∙◌, subst, append_assoc}
+use Rattle.std.proofs.lemmas.Bool.{cases_eq, ne_eqb, eq-eqb, cond-false, cond-true}
+use Rattle.std.proofs.lemmas.List.{append-nil, append_cancel_left}
+use Rattle.std.proofs.lemmas.List.Elements.{All-nil, All-cons, All-head, All-tail, All-append}
+use Rattle.mds_journal.specs.Lines.{open_lines}
+use Rattle.mds_journal.proofs.LineLemmas.{open_lines-append}
+use Rattle.mds_check.specs.Crc.{after_bytes, crc32}
+use Rattle.mds_check.specs.Form.{check_text, IsText, laid_out, with_text, groups_of, IsChecked, CheckState, between_groups, behind_text, FitsFrom, HasTaken}
+use Rattle.mds_check.proofs.StateLemmas.{after_bytes-append}
+use Rattle.mds_check.proofs.FormLemmas.{check_text-length}
+
+-- ---- the groups of lines
+
+text_first : (text : List ℕ) (lines : List (List ℕ)) → IsText text → groups_of (text ∷ lines) ≡ with_text text (groups_of lines)
+text_first text lines is =
+    cond-false (length text == 20) ([] ∷ groups_of lines) (with_text text (groups_of lines)) (ne_eqb (length text) 20 is)
+
+check_first : (check : List ℕ) (lines : List (List ℕ)) → length check ≡ 20 → groups_of (check ∷ lines) ≡ [] ∷ groups_of lines
+check_first check lines is =
+    cond-true (length check == 20) ([] ∷ groups_of lines) (with_text check (groups_of lines)) (eq-eqb (length check) 20 is)
+
+-- texts and a check are a group
+group_first : (texts : List (List ℕ)) (check : List ℕ) (lines : List (List ℕ)) → All IsText texts → length check ≡ 20
+    → groups_of (texts ++ check ∷ lines) ≡ texts ∷ groups_of lines
+group_first [] check lines are is = check_first check lines is
+group_first (text ∷ texts) check lines are is =
+    text_first text (texts ++ check ∷ lines) (All-head IsText text texts are)
+    ∙ ap (with_text text) (group_first texts check lines (All-tail IsText text texts are) is)
+
+-- texts alone are none
+no_group : (texts : List (List ℕ)) → All IsText texts → groups_of texts ≡ []
+no_group [] are = refl
+no_group (text ∷ texts) are =
+    text_first text texts (All-head IsText text texts are) ∙ ap (with_text text) (no_group texts (All-tail IsText text texts are))
+
+-- the groups of lines that were laid out are those that were laid out
+pub groups_read_back : (groups : List (List (List ℕ))) → All (All IsText) groups → groups_of (laid_out groups) ≡ groups
+groups_read_back [] are = refl
+groups_read_back (group ∷ groups) are =
+    let check = crc32 (open_lines group) in
+    group_first group (check_text check) (laid_out groups) (All-head (All IsText) group groups are) (check_text-length check)
+    ∙ ap (λ (rest : List (List (List ℕ))). group ∷ rest) (groups_read_back groups (All-tail (All IsText) group groups are))
+
+-- ---- what fits from a line on
+
+-- whether there is a text
+is_begun : List (List ℕ) → Bool
+is_begun [] = false
+is_begun (text ∷ texts) = true
+
+-- how far the check of a group has come behind these texts of it
+behind_texts : List (List ℕ) → CheckState
+behind_texts texts = record { state = after_bytes 0xFFFF_FFFF (open_lines texts); begun = is_begun texts }
+
+begun_more : (texts : List (List ℕ)) (text : List ℕ) → is_begun (texts ++ text ∷ []) ≡ true
+unfolding is_begun
+begun_more [] text = refl
+begun_more (first ∷ texts) text = refl
+
+behind_more : (texts : List (List ℕ)) (text : List ℕ) → behind_texts (texts ++ text ∷ []) ≡ behind_text (behind_texts texts) text
+unfolding behind_texts
+behind_more texts text =
+    let state : after_bytes 0xFFFF_FFFF (open_lines (texts ++ text ∷ [])) ≡ after_bytes (after_bytes 0xFFFF_FFFF (open_lines texts)) (open_lines (text ∷ [])) =
+    ap (after_bytes 0xFFFF_FFFF) (open_lines-append texts (text ∷ [])) ∙ after_bytes-append 0xFFFF_FFFF (open_lines texts) (open_lines (text ∷ [])) in
+    let begun = begun_more texts text in
+    cc (state, begun)
+
+-- where nothing is left, no text may be
+fits_end : (texts : List (List ℕ)) → All IsText texts → IsChecked (texts ++ []) ↔ (is_begun texts ≡ false)
+unfolding is_begun
+fits_end [] are = (λ checked. refl, λ fits. refl)
+fits_end (text ∷ texts) are =
+    let none : laid_out (groups_of ((text ∷ texts) ++ [])) ≡ [] =
+    ap (λ (lines : List (List ℕ)). laid_out (groups_of lines)) (append-nil (text ∷ texts)) ∙ ap laid_out (no_group (text ∷ texts) are) in
+    (λ checked. absurd (cc (none, checked)), λ fits. absurd cc)
+
+-- lines behind texts of a group are checked where they fit from there on
+fits_is : (texts lines : List (List ℕ)) → All IsText texts → IsChecked (texts ++ lines) ↔ FitsFrom (behind_texts texts) lines
+unfolding behind_texts is_begun
+fits_is texts [] are = fits_end texts are
+fits_is texts (line ∷ lines) are = elim (cases_eq (length line) 20) [
+  | inl is ↦
+      let check = check_text (crc32 (open_lines texts)) in
+      let rest = laid_out (groups_of lines) in
+      let whole : laid_out (groups_of (texts ++ line ∷ lines)) ≡ texts ++ check ∷ rest = ap laid_out (group_first texts line lines are is) in
+      let later = fits_is [] lines (All-nil IsText) in (
+        λ checked.
+            let tail : check ∷ rest ≡ line ∷ lines = append_cancel_left texts (check ∷ rest) (line ∷ lines) (sym whole ∙ checked) in
+            let fits : line ≡ check = cc tail in
+            let behind : rest ≡ lines = cc tail in
+            (λ text. absurd (text is), λ _. (fits, later.0 behind)),
+        λ fits.
+            let both = fits.1 is in
+            let behind : rest ≡ lines = later.1 both.1 in
+            let tail : check ∷ rest ≡ line ∷ lines = cc (both.0, behind) in
+            whole ∙ ap (λ (more : List (List ℕ)). texts ++ more) tail,
+      )
+  | inr text ↦
+      let assoc : (texts ++ line ∷ []) ++ lines ≡ texts ++ line ∷ lines = append_assoc texts (line ∷ []) lines in
+      let later = fits_is (texts ++ line ∷ []) lines (All-append IsText texts (line ∷ []) are (All-cons IsText line [] text (All-nil IsText))) in
+      let behind = behind_more texts line in (
+        λ checked.
+            (λ _. subst (λ (check : CheckState). FitsFrom check lines) behind (later.0 (subst IsChecked (sym assoc) checked)), λ is. absurd (text is)),
+        λ fits.
+            subst IsChecked assoc (later.1 (subst (λ (check : CheckState). FitsFrom check lines) (sym behind) (fits.0 text))),
+      )
+]
+
+-- nothing has been taken yet
+pub taken_none : HasTaken between_groups []
+unfolding behind_texts is_begun
+taken_none later = fits_is [] later (All-nil IsText)
+
+-- the lines that have been taken are checked where no group is begun
+pub taken_whole : (check : CheckState) (lines : List (List ℕ)) → HasTaken check lines → IsTrue (not check.begun) ↔ IsChecked lines
+taken_whole check lines taken = by_begun check.begun refl where
+  ends : IsChecked (lines ++ []) ↔ (check.begun ≡ false)
+  ends = taken []
+
+  by_begun : (begun : Bool) → check.begun ≡ begun → IsTrue (not begun) ↔ IsChecked lines
+  by_begun true is = (λ no. absurd cc, λ checked. let end = ends.0 (subst IsChecked (sym (append-nil lines)) checked) in absurd (cc (is, end)))
+  by_begun false is = (λ _. subst IsChecked (append-nil lines) (ends.1 is), λ _. refl)

@@ -1,0 +1,5 @@
+pub mod StateLemmas
+pub mod TableLemmas
+pub mod FormLemmas
+pub mod GroupLemmas
+pub mod LawLemmas

@@ -1,0 +1,5 @@
+pub mod ErrorLemmas
+pub mod LineLemmas
+pub mod FeedLemmas
+pub mod FeedSearch
+pub mod LineLaws

@@ -1,0 +1,5 @@
+pub mod Stream
+pub mod LineReading
+pub mod Fed
+pub mod LineFault
+pub mod LineLaws

@@ -1,2 +1,0 @@
-pub use Rattle.mds_core.specs.Reported
-pub mod Json

@@ -1,0 +1,109 @@
+"""Servers over a journal in little address space, which clients fill until there is no memory, and which SIGKILL then ends: each
+starts again in as much address space, and has all that was answered."""
+
+import os
+import signal
+import tempfile
+import threading
+from pathlib import Path
+
+from crashing.clients import side_by_side
+from crashing.reports import device_at, looking, registering, reporting, standing, status_of
+from harness.counting import Unwell
+from model.http import answer
+from serving.http import done
+from serving.server import Server
+from serving.wire import ask
+
+WORKERS, EACH = 4, 100_000
+OF_A_CLIENT = 8
+"""The vehicles of a client, each of which it reports in turn: those of all clients lie in both halves."""
+ITEMS = 1000
+"""Of a batch."""
+LIMITS = [120_000, 135_000, 150_000, 165_000, 180_000]
+"""Kilobytes of address space. What is had of them for events doubles from the first to the last, so each list and each index of the
+server is doubled somewhere between."""
+FEWEST = 50_000
+"""Events that a server takes in the least of them."""
+AS_THE_UNIT = {"MALLOC_MMAP_THRESHOLD_": "1048576", "MALLOC_TRIM_THRESHOLD_": "8388608", "MALLOC_ARENA_MAX": "1"}
+PLACEHOLDER = device_at(0)
+
+
+class Bodies:
+    """Requests that report the same events of any device, each made once."""
+
+    def __init__(self):
+        self.lock, self.of_front = threading.Lock(), {}
+
+    def reporting(self, device, front):
+        with self.lock:
+            if front not in self.of_front:
+                self.of_front[front] = reporting(PLACEHOLDER, front, front + ITEMS)
+        return self.of_front[front].replace(PLACEHOLDER.encode(), device.encode())
+
+
+def devices_of(client):
+    return [device_at(1 + client * OF_A_CLIENT + number) for number in range(OF_A_CLIENT)]
+
+
+def reports_until_full(port, client, bodies, known, full):
+    """Reports events of a client's vehicles until a request isn't answered for want of memory, and notes how many of each were."""
+    devices = devices_of(client)
+    front = 0
+    while True:
+        for device in devices:
+            if full.is_set():
+                return
+            answered = ask(port, bodies.reporting(device, front))
+            if status_of(answered) == 503:
+                full.set()
+                return
+            if answered != done(ITEMS):
+                raise Unwell(f"events from {front} on of {device}: {answered[:300]!r}")
+            known[device] = front + ITEMS
+        front += ITEMS
+
+
+def fill(program, path, limit, bodies):
+    """How many events of each vehicle a server had answered when there was no memory for more, and it was ended."""
+    known, full = {}, threading.Event()
+    env = {**os.environ, **AS_THE_UNIT}
+    with Server(program, EACH, workers=WORKERS, env=env, address_space=limit, journal=path) as server:
+        for client in range(WORKERS):
+            devices = devices_of(client)
+            if ask(server.port, registering(*devices)) != done(len(devices)):
+                raise Unwell(f"the vehicles of client {client} aren't registered")
+            known.update(dict.fromkeys(devices, 0))
+        jobs = [
+            lambda client=client: reports_until_full(server.port, client, bodies, known, full) for client in range(WORKERS)
+        ]
+        side_by_side(jobs)
+        os.kill(server.child.pid, signal.SIGKILL)
+        server.child.wait()
+    return known
+
+
+def started_amiss(program, path, limit, known):
+    """What is wrong with a server that starts over the file in as much address space: each vehicle has all that was answered, and
+    at most the one batch behind it that was asked last."""
+    env = {**os.environ, **AS_THE_UNIT}
+    with Server(program, EACH, workers=WORKERS, env=env, address_space=limit, journal=path) as server:
+        for device, count in known.items():
+            answered = ask(server.port, looking(device))
+            if all(answered != answer(200, standing(device, count + more)) for more in range(ITEMS + 1)):
+                yield f"{count} events of {device} were answered, and a look tells {answered[:300]!r}"
+
+
+def filled_and_started_again(program):
+    """Servers in address spaces around a doubling of what events take."""
+    bodies = Bodies()
+    for limit in LIMITS:
+        with tempfile.TemporaryDirectory() as folder:
+            path = Path(folder, "journal")
+            known = fill(program, path, limit, bodies)
+            if sum(known.values()) < FEWEST:
+                yield f"in {limit} kB it took {sum(known.values())} events"
+            yield from (f"in {limit} kB: {it}" for it in started_amiss(program, path, limit, known))
+
+
+FILLING = [filled_and_started_again]
