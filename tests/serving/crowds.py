@@ -7,6 +7,7 @@ import time
 from cases.replays import A, B, P, batch, history, item
 from harness.case import padded
 from harness.counting import Skipped
+from harness.stalls import stalled
 from serving.connections import SMALL_ROOM, long_list
 from serving.http import Exchange, done, look, registered
 from serving.limits import HEAD, is_sent
@@ -53,23 +54,25 @@ def idle_beside_working(program):
         yield from talk_over(server, registered(A))
         before, start = server.memory(), time.monotonic()
         idle = [connect(server.port) for _ in range(IDLE)]
+        whole = time.monotonic()
         try:
             yield from looks.times(10)
             grown = server.memory() - before
             if grown > MOST_MEMORY:
                 yield f"{grown} bytes more beside {IDLE} idle connections, in place of {MOST_MEMORY}"
             yield from looks.judged(f"{IDLE} idle connections")
-            yield from let_go(idle, start)
+            yield from let_go(idle, start, whole)
         finally:
             for connection in idle:
                 connection.close()
         yield from server.end()
 
 
-def let_go(idle, start):
-    """What is wrong with idle connections: each is over in time, without an answer."""
+def let_go(idle, start, whole):
+    """What is wrong with idle connections, of which the first was begun at `start` and the last at `whole`: each is over in time,
+    without an answer."""
     for connection in idle:
-        connection.settimeout(max(start + HEAD[1] - time.monotonic(), 0.1))
+        connection.settimeout(max(whole + HEAD[1] + stalled(start) - time.monotonic(), 1))
         try:
             found = connection.recv(1000)
         except ConnectionResetError:

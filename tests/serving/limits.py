@@ -14,6 +14,7 @@ from cases.replays import A, B, P
 from harness.building import Refusal, built
 from harness.case import SOCKET
 from harness.counting import Unwell
+from harness.stalls import stalled
 from harness.texts import differing
 from model.http import error
 from model.json_text import compact
@@ -109,7 +110,7 @@ class LetGo(threading.Thread):
         while not self.is_taken and time.monotonic() - self.begun < TAKEN:
             time.sleep(0.05)
             self.is_taken = self.server.sockets() > self.before
-        while (seconds := time.monotonic() - self.begun) < self.most:
+        while (seconds := time.monotonic() - self.begun) < self.most + stalled(self.begun):
             if self.server.sockets() <= self.before:
                 self.seconds = seconds
                 return
@@ -140,7 +141,7 @@ def beside(server):
     start = time.monotonic()
     yield from talk_over(server, Exchange(NOWHERE, error(404, "not_found")))
     seconds = time.monotonic() - start
-    if seconds > MOST_BESIDE:
+    if seconds > MOST_BESIDE + stalled(start):
         yield f"another client was answered after {seconds:.1f} s"
 
 

@@ -8,6 +8,7 @@ import tempfile
 import time
 
 from harness.building import loading_client
+from harness.stalls import stalled
 from serving.talking import talk_over
 
 BURST = 100
@@ -25,7 +26,8 @@ class Looks:
     def __init__(self, server, exchange, burst=BURST):
         self.server, self.exchange, self.burst = server, exchange, burst
         self.first, self.within, self.longest = [], [], []
-        """Of each burst, after how many seconds a look before it was answered, and within how many 99 of its 100, and all."""
+        """Of each burst, after how many seconds a look before it was answered, and within how many 99 of its 100, and all: without
+        those in which the machine stood still."""
 
     def __enter__(self):
         request = self.exchange.request
@@ -41,8 +43,8 @@ class Looks:
         """One burst: what is wrong with its answers, and with that to a look before it, which is compared byte for byte."""
         start = time.monotonic()
         yield from talk_over(self.server, self.exchange)
-        self.first.append(time.monotonic() - start)
-        words = [loading_client(), str(self.server.port), self.file.name]
+        self.first.append(max(0, time.monotonic() - start - stalled(start)))
+        words, start = [loading_client(), str(self.server.port), self.file.name], time.monotonic()
         try:
             ran = subprocess.run(words, capture_output=True, text=True, timeout=TOO_LONG)
         except subprocess.TimeoutExpired:
@@ -53,8 +55,9 @@ class Looks:
         if ran.returncode or told[:2] != [str(self.burst)] * 2:
             yield f"status {ran.returncode}, {ran.stdout!r} {ran.stderr!r}, in place of {self.burst} answers"
             return
-        self.within.append(float(told[5]) / 1e6)
-        self.longest.append(float(told[7]) / 1e6)
+        still = stalled(start)
+        self.within.append(max(0, float(told[5]) / 1e6 - still))
+        self.longest.append(max(0, float(told[7]) / 1e6 - still))
 
     def times(self, count):
         """So many bursts."""

@@ -1,5 +1,6 @@
 -- What an item of a batch asks for, or what is wrong with it.
 use Rattle.std.specs.Prelude.{Option, Some, None}
+use Rattle.mds_core.specs.declared.key.Key.{Key}
 use Rattle.mds_core.specs.declared.request.Request.{Request}
 use Rattle.mds_core.specs.declared.request.Request.TheVariants.{Register, Report}
 use Rattle.mds_batch.specs.declared.item.ItemFault.{ItemFault}
@@ -19,6 +20,11 @@ registration_of (vehicle.Fault fault) = None
 abbrev pub report_in : EventItem → Option Request
 report_in (event.Event reported) = Some (Report reported)
 report_in (event.Fault fault) = None
+
+-- the vehicle of an item that is an event
+abbrev pub vehicle_in : EventItem → Option Key
+vehicle_in (event.Event reported) = Some reported.key
+vehicle_in (event.Fault fault) = None
 
 -- what is wrong with an item of a batch of registrations, if anything is
 abbrev pub vehicle_fault : VehicleItem → Option ItemFault

@@ -57,6 +57,13 @@ impl Told {
         }
     }
 
+    /// The vehicle that it is about.
+    pub(crate) fn key(&self) -> &Key
+        ensures { result.now ≡ self.now.key }
+    {
+        &self.key
+    }
+
     /// The event of what is told and of these types.
     pub(crate) fn event(self, types: &[TypeName]) -> Event
         requires { MayBeReported types.now self.time }

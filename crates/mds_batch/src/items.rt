@@ -1,14 +1,15 @@
 //! The items of a batch of events, close together.
-ghost use Rattle.std.specs.Prelude.{◌≡◌, [], map};
+ghost use Rattle.std.specs.Prelude.{◌≡◌, ◌<◌, [], map, length, slice_get, Some, option_map};
 ghost use Rattle.mds_core.specs.Reported.{MayBeReported};
 ghost use Rattle.mds_core.specs.declared.request.Request.TheVariants.{Report as Reports};
-ghost use Rattle.mds_batch.specs.Asking.{event_fault, kept_fault};
+ghost use Rattle.mds_batch.specs.Asking.{event_fault, kept_fault, vehicle_in};
+ghost use Rattle.mds_batch.specs.declared.item.EventItem.{EventItem as Item};
 ghost use Rattle.mds_batch.specs.Told.{reported_by};
 
 use crate::event::Told;
 use crate::kept::KeptItem;
 use crate::{BatchItems, EventItem, TakesItems};
-use mds_core::Request;
+use mds_core::{Key, Request};
 use mds_table::TypeName;
 use std::alloc::{AllocError, Global};
 use std::marker::Model;
@@ -57,6 +58,18 @@ impl EventItems {
         ensures { map kept_fault result.now ≡ map event_fault self.now }
     {
         &self.items
+    }
+
+    /// The vehicle of the event at this place, without a copy of the event; none where something is wrong with the item.
+    pub fn key_at(&self, at: usize) -> Option<&Key>
+        requires { at < length self.now }
+        ensures { (item : Item) × (slice_get self.now at ≡ Some item)
+            × (option_map (λ key. key.now) result ≡ vehicle_in item) }
+    {
+        match &self.items[at] {
+            KeptItem::Event(kept) => Some(kept.key()),
+            KeptItem::Fault(_) => None,
+        }
     }
 }
 

@@ -4,6 +4,7 @@ ghost use Rattle.mds_batch.specs.Kept.{IsKept, item_in, types_at};
 
 use crate::event::Told;
 use crate::{BatchItem, EventItem, ItemFault};
+use mds_core::Key;
 use mds_table::TypeName;
 use std::alloc::AllocError;
 
@@ -30,6 +31,13 @@ impl KeptEvent {
         ensures { result ≡ self.now.told }
     {
         self.told
+    }
+
+    /// Its vehicle.
+    pub(crate) fn key(&self) -> &Key
+        ensures { result.now ≡ self.now.told.key }
+    {
+        self.told.key()
     }
 
     /// Its types, of these names.

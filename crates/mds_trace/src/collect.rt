@@ -8,7 +8,7 @@ ghost use Rattle.mds_trace.specs.Replay.{IsReport};
 ghost use Rattle.mds_trace.specs.Parts.{line_before as line_of, line_by as line_of_fault, all_told, HasPlacesWithin, AreParts, ArePut, IsEndIn};
 
 use crate::judge::vehicle_at;
-use crate::part::{Part, ToldVerdict, blank_request, worker_of};
+use crate::part::{Part, ToldVerdict, worker_of};
 use crate::replayer::{end_of, report_of};
 use crate::{Opening, Report, VehicleEnd, Verdict};
 use indexmap::IndexSet;
@@ -95,10 +95,9 @@ fn vehicles_in(alloc: Global, items: &EventItems) -> Result<IndexSet<Key>, Alloc
     ensures { IfOk result (λ keys. keys.keys ≡ vehicles_of (events_of items.now)) }
 {
     let mut keys = IndexSet::new(alloc);
-    let mut request = blank_request();
     for at in 0..items.count() {
-        if items.ask(at, &mut request) {
-            keys.insert(*request.key())?;
+        if let Some(key) = items.key_at(at) {
+            keys.insert(*key)?;
         }
     }
     Ok(keys)

@@ -46,8 +46,8 @@ pub fn blank_request() -> Request {
     })
 }
 
-/// The event of the item at this place, where it is one of this worker's own vehicles. Its request is made in the place of
-/// another one.
+/// The event of the item at this place, where it is one of this worker's own vehicles: only then is its request made, in the
+/// place of another one.
 fn own_event<'a>(
     items: &EventItems,
     at: usize,
@@ -60,12 +60,12 @@ fn own_event<'a>(
     ensures { (item : Item) × (slice_get items.now at ≡ Some item)
         × IsOwnEvent workers worker item (option_map (λ event. event.now) result) }
 {
-    if !items.ask(at, request) {
+    let key = items.key_at(at)?;
+    if worker_of(workers, key) != worker {
         return None;
     }
-    let event = request.event()?;
-    let owner = worker_of(workers, event.key());
-    if owner == worker { Some(event) } else { None }
+    items.ask(at, request);
+    request.event()
 }
 
 pub fn replay_part(
