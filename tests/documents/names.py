@@ -19,8 +19,7 @@ NAME = re.compile(r"[A-Z][A-Za-z0-9]*[a-z][A-Za-z0-9]*|[a-z0-9]+(?:_[a-z0-9]+)+"
 LINK = re.compile(r"\]\(([^):\s]+)\)")
 HEADING = re.compile(r"^#+ (.*)$", re.M)
 FILE = re.compile(r"(?:bench|crates|deploy|docs|examples|tests|tools)/[\w./*-]+")
-LISTED = re.compile(r"^`(\w+)::laws`:\n\n((?:- .*\n(?:  .*\n)*)+)", re.M)
-LAW = re.compile(r"`([a-z]+(?:_[a-z0-9]+)+)`")
+LINKED = re.compile(r"\[(`[^\]]+`)\]\([^)]*\)")
 MOST_LINES = {"README.md": 180}
 """How long a document may be."""
 OF_THE_KIT = {"std"}
@@ -28,8 +27,8 @@ OF_THE_KIT = {"std"}
 
 
 def in_one_line(text):
-    """A text without its fenced blocks, and with one space in place of each line's end."""
-    return " ".join(FENCED.sub("", text).split())
+    """A text without its fenced blocks and what links lead to, and with one space in place of each line's end."""
+    return " ".join(LINKED.sub(r"\1", FENCED.sub("", text)).split())
 
 
 def functions_at(path, crates):
@@ -124,14 +123,6 @@ def links_amiss(name, found):
             yield f"a link leads to {target}, and {to} has no such heading"
 
 
-def listing_amiss(text, crates):
-    """What is wrong with a list of all laws, by crates."""
-    listed = {crate: set(LAW.findall(laws)) for crate, laws in LISTED.findall(text)}
-    for name, crate in sorted(crates.items()):
-        for law in sorted(crate.laws ^ listed.get(name, set())):
-            yield f"{name}::laws::{law} is {'not listed' if law in crate.laws else 'listed, and not there'}"
-
-
 def words_of(found):
     """The words of all texts that are no documents."""
     return {word for path, text in found.items() if not path.endswith(".md") for word in WORD.findall(text)}
@@ -147,5 +138,3 @@ def amiss(name, found, crates, words):
     yield from words_amiss(text, crates, words)
     yield from files_amiss(text, found)
     yield from links_amiss(name, found)
-    if name == "docs/model.md":
-        yield from listing_amiss(found[name], crates)
