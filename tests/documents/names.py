@@ -22,6 +22,10 @@ FILE = re.compile(r"(?:bench|crates|deploy|docs|examples|tests|tools)/[\w./*-]+"
 LINKED = re.compile(r"\[(`[^\]]+`)\]\([^)]*\)")
 MOST_LINES = {"README.md": 180}
 """How long a document may be."""
+TO_READ = re.compile(r"README\.md|docs/[^/]+\.md")
+MOST_WORDS = 26000
+"""How many words README.md and docs/ may have together: what is read in two hours."""
+ROW = re.compile(r"^\|.*$", re.M)
 OF_THE_KIT = {"std"}
 """The first names of paths that aren't this repository's."""
 
@@ -123,6 +127,26 @@ def links_amiss(name, found):
             yield f"a link leads to {target}, and {to} has no such heading"
 
 
+def cells_in(row):
+    """How many cells a row of a table has."""
+    return len(CODE.sub("", row).strip().strip("|").split("|"))
+
+
+def tables_amiss(text):
+    """Which rows of tables have more or fewer cells than the row before."""
+    lines = FENCED.sub("", text).splitlines()
+    for one, other in zip(lines, lines[1:]):
+        if ROW.match(one) and ROW.match(other) and cells_in(one) != cells_in(other):
+            yield f"a row has {cells_in(other)} cells, and the one before it {cells_in(one)}: {other[:60]}"
+
+
+def too_many_words(found):
+    """Whether the documents that are to be read have too many words, in words: those with a letter or a digit count."""
+    count = sum(bool(WORD.search(it)) for name, text in found.items() if TO_READ.fullmatch(name) for it in text.split())
+    if count > MOST_WORDS:
+        yield f"README.md and docs/ have {count} words, and {MOST_WORDS} are the most"
+
+
 def words_of(found):
     """The words of all texts that are no documents."""
     return {word for path, text in found.items() if not path.endswith(".md") for word in WORD.findall(text)}
@@ -138,3 +162,4 @@ def amiss(name, found, crates, words):
     yield from words_amiss(text, crates, words)
     yield from files_amiss(text, found)
     yield from links_amiss(name, found)
+    yield from tables_amiss(found[name])
