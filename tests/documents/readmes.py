@@ -1,14 +1,17 @@
 """The crates' READMEs: each library and the program has one, of 60 lines at most. What it shows of code stands in a source, it names
-each law of its crate, and its table of calls has clauses that these have. README.md names all crates."""
+each law of its crate and each of the kit's crates that it trusts, and its table of calls has clauses that these have. README.md names
+all crates."""
 
 import re
 
+from documents.changing import CRATES, LISTED
 from documents.names import CODE, functions_at, in_one_line
 
 LIBRARY = re.compile(r"crates/(mds_\w+)/src/(?:lib|main)\.rt")
 MOST_LINES = 60
 SHOWN = re.compile(r"^```rust\n(.*?)^```", re.M | re.S)
 CALLS = re.compile(r"^\| call \| clauses \| .*\n\|---.*\n((?:\|.*\n)+)", re.M)
+TRUSTS = re.compile(r"The crate trusts the toolchain(?:, and what the kit's (.*?) states?\.| alone\.)")
 NO_NAME = re.compile(r"\b(?:its clause|their clauses)\b")
 INNER = re.compile(r"(?:src|specs|proofs|must-fail)/[\w./-]+")
 
@@ -57,6 +60,15 @@ def unclaused(text, crates):
                 yield f"no call of {', '.join(calls)} has the clause {name or 'without a name'}"
 
 
+def mistrusted(crate, text, found):
+    """Whether a README tells other crates of the kit than those on which the crate stands by its line of crates.txt."""
+    names = dict(LISTED.findall(found[CRATES]))[crate].split()
+    kit = [name for name in names if not name.startswith("mds_")]
+    told = TRUSTS.search(in_one_line(text))
+    if not told or CODE.findall(told.group(1) or "") != kit:
+        yield f"it doesn't say that the crate trusts {', '.join(kit) or 'the toolchain alone'}"
+
+
 def unfit(crate, text, crates, found, sources):
     """What is wrong with the README of a crate, in words."""
     lines = text.count("\n")
@@ -67,6 +79,7 @@ def unfit(crate, text, crates, found, sources):
     yield from unshown(text, sources)
     yield from outside(crate, text, found)
     yield from unclaused(text, {crate: crates[crate]})
+    yield from mistrusted(crate, text, found)
     lacking = crates[crate].laws - {*CODE.findall(in_one_line(text))}
     yield from (f"it doesn't name the law {law}" for law in sorted(lacking))
 
