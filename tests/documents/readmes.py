@@ -8,6 +8,8 @@ from documents.changing import CRATES, LISTED
 from documents.names import CODE, functions_at, in_one_line
 
 LIBRARY = re.compile(r"crates/(mds_\w+)/src/(?:lib|main)\.rt")
+EXAMPLE = "CONTRIBUTING.md"
+"""Its code stands in a source, too."""
 MOST_LINES = 60
 SHOWN = re.compile(r"^```rust\n(.*?)^```", re.M | re.S)
 CALLS = re.compile(r"^\| call \| clauses \| .*\n\|---.*\n((?:\|.*\n)+)", re.M)
@@ -85,8 +87,9 @@ def unfit(crate, text, crates, found, sources):
 
 
 def readmes(found, crates):
-    """Each README of a crate, by its path, with what is wrong with it."""
+    """Each document that shows code, by its path, with what is wrong with it: each README of a crate, and CONTRIBUTING.md."""
     sources = sources_in(found)
+    yield EXAMPLE, unshown(found[EXAMPLE], sources)
     for crate in sorted(match.group(1) for match in map(LIBRARY.fullmatch, found) if match):
         path = f"crates/{crate}/README.md"
         text = found.get(path)
