@@ -19,7 +19,7 @@ FILE = re.compile(r"[\w.-]+(?:/[\w.*-]+)*(?:/|\.(?:antt|edit|html|json|md|out|py
 
 def has(text, name):
     """Whether a text has a name that isn't a part of a longer one."""
-    return re.search(rf"(?<!\w){re.escape(name)}(?!\w)", text)
+    return name in text and re.search(rf"(?<!\w){re.escape(name)}(?!\w)", text)
 
 
 def paths_in(text):
