@@ -23,6 +23,8 @@ STATUSES = """exit statuses:
 HEAD = {"format": "mds_city vehicles 1"}
 MAX_ITEMS, MAX_BYTES = 10000, 4194304
 """The server's limits of a batch."""
+WANTED = ("timestamp", "vehicle_state")
+"""The members of an event from which follows how its vehicle stands behind it."""
 SECONDS = 120
 """How long an answer may be waited for."""
 OFTEN, SELDOM = 0.5, 10.0
@@ -202,7 +204,7 @@ def line_of(path, file):
 
 
 def checked(path, at, value):
-    """A vehicle of a file, whose events are its own."""
+    """A vehicle of a file, whose events are its own, and have what tells how it stands."""
     key = [value.get("provider_id"), value.get("device_id")]
     events = value.get("events")
     if not all(isinstance(part, str) for part in key) or not isinstance(events, list):
@@ -210,6 +212,9 @@ def checked(path, at, value):
     for event in events:
         if not isinstance(event, dict) or [event.get("provider_id"), event.get("device_id")] != key:
             raise Fault(BAD_FILE, f"{path}: line {at + 2} has an event that isn't its vehicle's")
+        lacking = [name for name in WANTED if name not in event]
+        if lacking:
+            raise Fault(BAD_FILE, f"{path}: line {at + 2} has an event without {lacking[0]}")
     return value
 
 
