@@ -15,7 +15,7 @@ from harness.counting import ROOT, Unwell
 from model.json_text import compact
 
 PAGE = ROOT / "deploy/page/index.html"
-OF_PROXIES = {"unauthorized", "forbidden", "unavailable"}
+OF_PROXIES = {"unauthorized", "forbidden", "too_many_requests", "unavailable"}
 """The refusals that nginx.conf has of its own, beside `too_long`."""
 UNCERTAIN = {"out_of_memory", "not_kept", "unavailable"}
 """The refusals of a whole request of which items may have been accepted."""
