@@ -132,6 +132,8 @@ class City:
         self.holder = tempfile.TemporaryDirectory()
         self.folder = Path(self.holder.name)
         self.folder.chmod(0o755)
+        self.lists = self.folder / "lists"
+        self.lists.mkdir()
         for left in reversed(range(STARTS)):
             try:
                 self.start()
@@ -211,6 +213,7 @@ class City:
             "/run/nginx.pid": f"{self.folder}/nginx.pid",
             "/etc/mds_city": str(self.folder),
             "/var/log/nginx": str(self.folder),
+            "/var/lib/mds_city_lists": str(self.lists),
             "client_body_timeout 10s;": f"client_body_timeout {SECONDS}s;",
             "send_timeout 10s;": f"send_timeout {SECONDS}s;",
             "worker_shutdown_timeout 60s;": f"worker_shutdown_timeout {SHUT}s;",

@@ -34,7 +34,8 @@ def the_units(program):
     with tempfile.TemporaryDirectory() as folder:
         names = [Path(folder, name.replace("@", f"@{INSTANCE}")) for name in unit_names()]
         for name, unit in zip(unit_names(), names):
-            unit.write_text((ROOT / "deploy" / name).read_text().replace("/usr/local/bin/mds_city", program))
+            text = (ROOT / "deploy" / name).read_text().replace("/usr/local/bin/mds_city", program)
+            unit.write_text(text.replace("/usr/local/lib/mds_city", str(ROOT / "deploy")))
         proxy = Path(folder, "proxy.service")
         proxy.write_text("[Service]\nExecStart=/bin/true\n")
         proxy.with_suffix(".service.d").mkdir()
