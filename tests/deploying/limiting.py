@@ -7,8 +7,8 @@ import time
 import urllib.request
 
 from deploying.passing import are_open, fill_shared, path_of, sent
-from deploying.proxies import CITY, LONG_REPORTS, PROVIDERS, REPORTS, SECONDS, TOKENS, read_answer
-from harness.counting import Unwell
+from deploying.proxies import CITY, LONG_REPORTS, PROVIDERS, REPORTS, SECONDS, TOKENS, changed, read_answer
+from harness.counting import ROOT, Unwell
 
 REPORTS_BURST, LONG_BURST = 100, 10
 """How many reports, and how many long ones, may wait their turn, by nginx.conf."""
@@ -29,8 +29,31 @@ FEW_A_SECOND = {
 """Limits that a few clients reach."""
 LOOKS, LATE = 12, 60
 """How many looks come at once, and for how many seconds an answer of another status is waited for."""
+ROWS = {
+    "reports": r"\[reports of a token\]\(#what-a-token-may-ask\)",
+    "long_reports": "its reports of 100,000 bytes or more, or in chunks",
+    "looks": "its looks and lists",
+}
+ROWS_AT_ONCE = {"reports_at_once": "its reports under way", "looks_at_once": "its looks and lists under way"}
+"""The rows of docs/operations.md with the limits of each zone of nginx.conf."""
 REFUSED = '{"error":"too_many_requests"}'
 FIGURE = re.compile(r"haproxy_server_http_responses_total\{(.*)\} ([0-9]+)")
+
+
+def limits_as_told(_):
+    """docs/operations.md has the figures of nginx.conf. The first half of those that wait goes on at once."""
+    text, rows = changed("nginx.conf", {}), (ROOT / "docs/operations.md").read_text()
+    for zone, row in ROWS.items():
+        rate = re.search(rf"zone={zone}:1m rate=([0-9]+)r/s;", text).group(1)
+        found = re.findall(rf"limit_req zone={zone} burst=([0-9]+) delay=([0-9]+);", text)
+        told = re.findall(rf"^\| {row} \| {rate} a second, ([0-9]+) that wait \|", rows, re.MULTILINE)
+        if set(found) != {(burst, str(int(burst) // 2)) for burst in told} or len(told) != 1:
+            yield f"{zone}: {rate} a second, {found}, in place of {told}"
+    for zone, row in ROWS_AT_ONCE.items():
+        found = re.findall(rf"limit_conn {zone} ([0-9]+);", text)
+        told = re.findall(rf"^\| {row} \| ([0-9]+) \|", rows, re.MULTILINE)
+        if set(found) != set(told) or len(told) != 1:
+            yield f"{zone}: {found}, in place of {told}"
 
 
 def padded(length):
@@ -216,4 +239,5 @@ def figures_of_haproxy(city):
         yield "there is no page of figures"
 
 
+LIMITS = [limits_as_told]
 LIMITING = [floods_of_reports, few_at_once, a_flood_of_looks, figures_of_haproxy]

@@ -26,8 +26,8 @@ FOLDERS = ("/etc/mds_city", "/etc/systemd", "/var/lib/mds_city", "/var/log/nginx
 """What stands in the machine's folder in place of the root of a real one."""
 SMALL_DISK, MOST_KEPT, AT_ONCE = "3M", 50000, 1000
 """How large a disk is that is full soon; more vehicles than it has room for, and how many are registered by one request."""
-MANY, FORM = 250000, ' {"form":"mds_city","version":1}\n'
-"""How many vehicles take more than 64 MiB; the first line of a journal (docs/formats.md, `Journal`)."""
+MANY, LITTLE, FORM = 400000, 64, ' {"form":"mds_city","version":1}\n'
+"""How many vehicles take more than so many MiB; and the first line of a journal (docs/formats.md, `Journal`)."""
 GREATEST = 9007199254740991
 """The greatest time that an event may have (docs/formats.md, `Members`)."""
 
@@ -57,6 +57,12 @@ LATER = event(A, 8, ["trip_start"], "on_trip", 4)
 """One more event of the first vehicle."""
 
 
+def exported(names):
+    """The command by which a shell has these names, and finds the scripts that stand in place of others."""
+    commands = [f"export {name}={value}" for name, value in names.items()]
+    return "; ".join([f"export PATH={ROOT}/tests/deploying/machine:$PATH", *commands])
+
+
 class Machine:
     """A folder in place of a machine, with two instances, and a shell on it. As a context it is taken down at its end."""
 
@@ -74,8 +80,8 @@ class Machine:
         shutil.copy(program, self.root / "usr/local/bin/mds_city")
         shutil.copy(program, self.root / "var/tmp/mds_city")
         self.shell = Shell(program)
-        scripts, names = ROOT / "tests/deploying/machine", {"MACHINE": self.root, "P": P, "A": A, "C": C}
-        self.shell.__enter__().run("; ".join([f"export PATH={scripts}:$PATH", *(f"export {k}={v}" for k, v in names.items())]))
+        names = {"MACHINE": self.root, "P": P, "A": A, "C": C}
+        self.shell.__enter__().run(exported(names))
         self.shell.ports["8001"] = str(self.ports["one"])
 
     def __enter__(self):
@@ -130,13 +136,16 @@ def device_of(number):
 
 
 def without_memory(machine):
-    """The instance may have less address space than its start wants: its vehicles take some 300 bytes each."""
+    """The instance may have less address space than its start wants: its vehicles take some 300 bytes each. A program that can't
+    run in that at all, as one that checks its memory, isn't tried."""
+    if machine.run(f"(ulimit -v {LITTLE * 1024}; mds_city --version > /dev/null 2>&1); echo $?") != ["0"]:
+        raise Skipped(f"the program doesn't run in {LITTLE} MiB")
     text = compact(registration("%s"))
     lines = [f' {text.replace("%s", device_of(number))}\n' for number in range(MANY)]
     machine.journal().parent.mkdir(parents=True)
     machine.journal().write_text("".join([FORM, *lines]))
     machine.path("/etc/systemd/system/mds_city@one.service.d").mkdir()
-    machine.write("/etc/systemd/system/mds_city@one.service.d/before.conf", "[Service]\nLimitAS=64M\n")
+    machine.write("/etc/systemd/system/mds_city@one.service.d/before.conf", f"[Service]\nLimitAS={LITTLE}M\n")
     machine.run("systemctl start mds_city@one")
 
 
@@ -289,8 +298,7 @@ def of_proxies(name, check):
         names = {"MACHINE": city.folder, "PROXY": city.paths["nginx"], "P": P}
         try:
             with Shell(city.program) as shell:
-                exports = "; ".join(f"export {name}={value}" for name, value in names.items())
-                shell.run(f"export PATH={ROOT}/tests/deploying/machine:$PATH; {exports}")
+                shell.run(exported(names))
                 yield from run_steps(sections()[name], lambda command: shell.run(here(command)))
                 yield from check(city)
         finally:
@@ -304,8 +312,9 @@ def of_proxies(name, check):
 def shut_out(city):
     """The provider's token is nobody's any more, and the others' are as they were."""
     yield from is_nobodys(city)
-    if (city.folder / "tokens.before").read_text().count("Bearer") <= (city.folder / "tokens.map").read_text().count("Bearer"):
-        yield "the tokens of before aren't kept"
+    before, now = ((city.folder / name).read_text().count(TOKENS[1]) for name in ("tokens.before", "tokens.map"))
+    if (before, now) != (1, 0):
+        yield f"the token stands {before} times in the file of before, and {now} times in that of now"
 
 
 def renewed(city):
