@@ -9,6 +9,7 @@ import urllib.request
 from deploying.passing import are_open, fill_shared, path_of, sent
 from deploying.proxies import CITY, LONG_REPORTS, PROVIDERS, REPORTS, SECONDS, TOKENS, changed, read_answer
 from harness.counting import ROOT, Unwell
+from harness.stalls import stalled, watch
 
 REPORTS_BURST, LONG_BURST = 100, 10
 """How many reports, and how many long ones, may wait their turn, by nginx.conf."""
@@ -106,13 +107,14 @@ class Beside(threading.Thread):
         looks = [sent("GET", "/table", CITY), sent("GET", "/table", TOKENS[3])]
         self.city, self.requests = city, [sent("POST", "/events", TOKENS[3], b"[]"), *looks]
         self.over, self.waited, self.wrong = threading.Event(), [], []
+        watch()
 
     def run(self):
         while not self.over.wait(PACE) and not self.wrong:
             for request in self.requests:
                 start = time.monotonic()
                 status, _, body = self.city.ask(request)
-                self.waited.append(time.monotonic() - start)
+                self.waited.append(time.monotonic() - start - stalled(start))
                 if status != 200:
                     self.wrong.append(f"beside a flood, {request[:20]!r}: {status} {body}")
 

@@ -90,7 +90,7 @@ class Machine:
     def __exit__(self, *_):
         for name in self.ports:
             self.shell.run(f"systemctl stop mds_city@{name}")
-        self.shell.run(f"mountpoint -q {self.journal().parent} && umount {self.journal().parent}")
+        self.shell.run(f"mountpoint -q {self.journal().parent} && umount -l {self.journal().parent}")
         self.shell.__exit__()
         self.holder.cleanup()
 
