@@ -1,7 +1,7 @@
 use crate::{Front, compaction};
 use mds_core::{Event, Key, Position, Request};
 use mds_table::{State, TypeName};
-use std::alloc::{AllocError, Global};
+use std::alloc::{AllocError, AllocFailed, Global};
 use std::hash::RandomState;
 use std::random::RandomSource;
 use uuid::Uuid;
@@ -17,6 +17,12 @@ enum Lack {
 
 impl From<AllocError> for Lack {
     fn from(_error: AllocError) -> Lack {
+        Lack::Means
+    }
+}
+
+impl<T: Drop> From<AllocFailed<T>> for Lack {
+    fn from(_error: AllocFailed<T>) -> Lack {
         Lack::Means
     }
 }
@@ -49,6 +55,7 @@ enum Ask {
     ReportAt(u64, State, u64),
 }
 
+/// The request that is asked, or `None` where it reports what is no event.
 fn request_of(asked: &Ask) -> Option<Request> {
     match asked {
         Ask::Register(device) => Some(Request::Register(key(*device))),
@@ -57,37 +64,46 @@ fn request_of(asked: &Ask) -> Option<Request> {
     }
 }
 
+/// The requests that are asked.
 fn history_of(alloc: Global, asked: &[Ask]) -> Result<Vec<Request>, Lack> {
     let mut history = Vec::new(alloc);
     for ask in asked {
         let request = request_of(ask).ok_or(Lack::Case)?;
-        let Ok(()) = history.push(request) else {
-            return Err(Lack::Means);
-        };
+        history.push(request)?;
     }
     Ok(history)
 }
 
-/// The marks of a compaction, as they stand, or the error.
-fn marks_of<R: RandomSource>(
+/// Whether the marks of a compaction of what is asked are these.
+fn marks_are<R: RandomSource>(
     rt: &R,
     alloc: Global,
     asked: &[Ask],
     from: u64,
-) -> Result<Vec<bool>, Lack> {
-    let Ok(hasher) = RandomState::new(rt) else {
-        return Err(Lack::Means);
-    };
+    wanted: &[bool],
+) -> Result<bool, Lack> {
+    let hasher = RandomState::new(rt).map_err(|_| Lack::Means)?;
     let history = history_of(alloc, asked)?;
-    Ok(compaction(alloc, &history, from, hasher)?)
+    let marks = compaction(alloc, &history, from, hasher)?;
+    Ok(marks.as_slice() == wanted)
 }
 
-fn are(marks: Result<Vec<bool>, Lack>, wanted: &[bool]) -> bool {
-    marks.is_ok_and(|marks| marks.as_slice() == wanted)
+/// The same, asked again where a growth is refused.
+fn marks_are_again<R: RandomSource>(
+    rt: &R,
+    alloc: Global,
+    asked: &[Ask],
+    from: u64,
+    wanted: &[bool],
+) -> Result<bool, Lack> {
+    match marks_are(rt, alloc, asked, from, wanted) {
+        Err(Lack::Means) => marks_are(rt, alloc, asked, from, wanted),
+        told => told,
+    }
 }
 
 use Ask::{Register, Report, ReportAt};
-use State::{Available, OnTrip, Reserved};
+use State::{Available, OnTrip, Removed, Reserved};
 
 #[test]
 fn a_loop_is_cut(rt: HostRuntime) {
@@ -101,7 +117,7 @@ fn a_loop_is_cut(rt: HostRuntime) {
         Report(1, OnTrip, 4),
     ];
     let wanted = [true, true, true, false, false, true, true];
-    assert!(rt; are(marks_of(&rt, rt.alloc(), &asked, 10), &wanted));
+    assert_eq!(rt; marks_are(&rt, rt.alloc(), &asked, 10, &wanted), Ok(true));
 }
 
 #[test]
@@ -114,9 +130,9 @@ fn recent_events_stay(rt: HostRuntime) {
         Report(1, OnTrip, 4),
     ];
     let wanted = [true, true, true, true, true];
-    assert!(rt; are(marks_of(&rt, rt.alloc(), &asked, 2), &wanted));
+    assert_eq!(rt; marks_are(&rt, rt.alloc(), &asked, 2, &wanted), Ok(true));
     let wanted = [true, true, false, false, true];
-    assert!(rt; are(marks_of(&rt, rt.alloc(), &asked, 4), &wanted));
+    assert_eq!(rt; marks_are(&rt, rt.alloc(), &asked, 4, &wanted), Ok(true));
 }
 
 #[test]
@@ -131,7 +147,7 @@ fn the_last_position_stays(rt: HostRuntime) {
         Report(1, OnTrip, 6),
     ];
     let wanted = [true, true, true, true, false, false, true];
-    assert!(rt; are(marks_of(&rt, rt.alloc(), &asked, 10), &wanted));
+    assert_eq!(rt; marks_are(&rt, rt.alloc(), &asked, 10, &wanted), Ok(true));
 }
 
 #[test]
@@ -149,4 +165,45 @@ fn a_front_is_kept(rt: HostRuntime) {
         let mark = request_of(ask).map(|request| front.next_mark(&request));
         assert_eq!(rt; mark, Some(want));
     }
+}
+
+#[test]
+fn each_vehicle_is_thinned_by_itself(rt: HostRuntime) {
+    let asked = [
+        Register(1),
+        Register(2),
+        Report(1, Available, 1),
+        Report(2, Reserved, 1),
+        Report(1, OnTrip, 2),
+        Report(2, OnTrip, 2),
+        Report(1, Removed, 3),
+        Report(2, Reserved, 3),
+        Report(1, Available, 4),
+        Report(2, Available, 3),
+    ];
+    let wanted = [
+        true, true, false, true, false, true, false, true, true, true,
+    ];
+    assert_eq!(rt; marks_are(&rt, rt.alloc(), &asked, 10, &wanted), Ok(true));
+}
+
+#[test]
+fn nothing_is_left_out_of_nothing(rt: HostRuntime) {
+    assert_eq!(rt; marks_are(&rt, rt.alloc(), &[], 10, &[]), Ok(true));
+}
+
+#[test]
+fn a_history_is_compacted_after_a_refused_growth(rt: HostRuntime) {
+    let asked = [
+        Register(1),
+        Report(1, Available, 1),
+        Report(1, OnTrip, 2),
+        Report(1, Available, 3),
+        Report(1, OnTrip, 4),
+    ];
+    let wanted = [true, true, false, false, true];
+    assert_eq!(rt;
+        marks_are_again(&rt, rt.alloc(), &asked, 10, &wanted),
+        Ok(true)
+    );
 }
