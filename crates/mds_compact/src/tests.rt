@@ -1,4 +1,4 @@
-use crate::{Front, compaction};
+use crate::{Front, Marking, Survey, Thinning, compaction};
 use mds_core::{Event, Key, Position, Request};
 use mds_table::{State, TypeName};
 use std::alloc::{AllocError, AllocFailed, Global};
@@ -192,18 +192,68 @@ fn nothing_is_left_out_of_nothing(rt: HostRuntime) {
     assert_eq!(rt; marks_are(&rt, rt.alloc(), &[], 10, &[]), Ok(true));
 }
 
+/// The survey of a history.
+fn surveyed(alloc: Global, hasher: RandomState, history: &[Request]) -> Result<Survey, AllocError> {
+    let mut survey = Survey::open(alloc, hasher);
+    for request in history {
+        survey.note(request)?;
+    }
+    Ok(survey)
+}
+
+/// The thinning of a history, of which no event is recent but for its time's being the last.
+fn thinned(survey: Survey, history: &[Request]) -> Result<Thinning, AllocError> {
+    let mut thinning = Thinning::open(survey, 10);
+    for request in history {
+        thinning.take(request)?;
+    }
+    Ok(thinning)
+}
+
+/// Whether the passes give a history these marks.
+fn passes_mark<R: RandomSource>(
+    rt: &R,
+    alloc: Global,
+    asked: &[Ask],
+    wanted: &[bool],
+) -> Result<bool, Lack> {
+    let hasher = RandomState::new(rt).map_err(|_| Lack::Means)?;
+    let history = history_of(alloc, asked)?;
+    let survey = surveyed(alloc, hasher, &history)?;
+    let mut marking = Marking::open(thinned(survey, &history)?);
+    for (request, want) in history.iter().zip(wanted) {
+        if marking.next_mark(request) != *want {
+            return Ok(false);
+        }
+    }
+    Ok(history.len() == wanted.len())
+}
+
+/// What is asked, of which the loop from available to available is cut.
+const WITH_A_LOOP: &[Ask] = &[
+    Register(1),
+    Report(1, Available, 1),
+    Report(1, OnTrip, 2),
+    Report(1, Available, 3),
+    Report(1, OnTrip, 4),
+];
+
+/// Whether each of its requests stays.
+const WITHOUT_THE_LOOP: &[bool] = &[true, true, false, false, true];
+
 #[test]
 fn a_history_is_compacted_after_a_refused_growth(rt: HostRuntime) {
-    let asked = [
-        Register(1),
-        Report(1, Available, 1),
-        Report(1, OnTrip, 2),
-        Report(1, Available, 3),
-        Report(1, OnTrip, 4),
-    ];
-    let wanted = [true, true, false, false, true];
     assert_eq!(rt;
-        marks_are_again(&rt, rt.alloc(), &asked, 10, &wanted),
+        marks_are_again(&rt, rt.alloc(), WITH_A_LOOP, 10, WITHOUT_THE_LOOP),
         Ok(true)
     );
+}
+
+#[test]
+fn passes_are_begun_anew_after_a_refused_growth(rt: HostRuntime) {
+    let told = match passes_mark(&rt, rt.alloc(), WITH_A_LOOP, WITHOUT_THE_LOOP) {
+        Err(Lack::Means) => passes_mark(&rt, rt.alloc(), WITH_A_LOOP, WITHOUT_THE_LOOP),
+        told => told,
+    };
+    assert_eq!(rt; told, Ok(true));
 }
