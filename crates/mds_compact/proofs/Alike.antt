@@ -18,7 +18,7 @@ use Rattle.mds_core.specs.Lawful.{IsLawfulOf}
 use Rattle.mds_core.proofs.Standings.{has_event-append}
 use Rattle.mds_core.proofs.Outcomes.{outcome_one}
 use Rattle.mds_compact.specs.Compaction.{CutsLoops, IsCompacted, held_after}
-use Rattle.mds_compact.specs.Laws.{uncounted, outcome_uncounted}
+use Rattle.mds_compact.specs.Laws.{without_count, outcome_without_count}
 use Rattle.mds_compact.proofs.Held.{state_of-more, last_time-more, last_position-more, time_after, position_in}
 use Rattle.mds_compact.proofs.Cuts.{cuts_has, push_some}
 
@@ -67,7 +67,7 @@ alike_compacted tables from old new lawful compacted = record {
 }
 
 -- what is alike stands alike
-pub standing_alike : (left : List ℕ → Type 0) (old new : List Request) → AreAlike left old new → option_map uncounted (standing_if new) ≡ option_map uncounted (standing_if old)
+pub standing_alike : (left : List ℕ → Type 0) (old new : List Request) → AreAlike left old new → option_map without_count (standing_if new) ≡ option_map without_count (standing_if old)
 standing_alike left [] [] alike = refl
 standing_alike left [] (first ∷ new) alike = absurd (let none : first ∷ new ≡ [] = alike.none refl in cc)
 standing_alike left (request ∷ old) [] alike = absurd (let none : request ∷ old ≡ [] = alike.there refl in cc)
@@ -122,13 +122,13 @@ module _ (tables : Tables) (left : List ℕ → Type 0) (old new : List Request)
   gives_alike (Report event) (Refused (Late last)) unleft gives = (λ none. gives.0 (alike.there none), same_has event unleft ∙ gives.1, alike.last ∙ gives.2, gives.3)
   gives_alike (Report event) (Refused (NoChain state at)) unleft gives = (opens event unleft gives.0, gives.1 ∙ sym alike.state, gives.2)
 
-  uncounted_carried : (request : Request) (outcome : Outcome) → Gives tables old request outcome → outcome_uncounted (carried outcome new) ≡ outcome_uncounted outcome
-  uncounted_carried request Done gives = refl
-  uncounted_carried request (Refused refusal) gives = refl
-  uncounted_carried (Register key) (Seen standing) gives = absurd gives
-  uncounted_carried (Report event) (Seen standing) gives = absurd gives
-  uncounted_carried (Look key) (Seen standing) gives =
-      (λ i. Seen (record { state = alike.state i; events = 0; last = alike.last i; position = alike.position i })) ∙ ap (λ s. Seen (uncounted s)) (sym gives.1)
+  carried_without_count : (request : Request) (outcome : Outcome) → Gives tables old request outcome → outcome_without_count (carried outcome new) ≡ outcome_without_count outcome
+  carried_without_count request Done gives = refl
+  carried_without_count request (Refused refusal) gives = refl
+  carried_without_count (Register key) (Seen standing) gives = absurd gives
+  carried_without_count (Report event) (Seen standing) gives = absurd gives
+  carried_without_count (Look key) (Seen standing) gives =
+      (λ i. Seen (record { state = alike.state i; events = 0; last = alike.last i; position = alike.position i })) ∙ ap (λ s. Seen (without_count s)) (sym gives.1)
 
   -- an outcome after the other list is the same
   pub carried_one : (request : Request) (one other : Outcome) → IsUnleft left request → Gives tables old request one → Gives tables new request other → other ≡ carried one new
@@ -136,9 +136,9 @@ module _ (tables : Tables) (left : List ℕ → Type 0) (old new : List Request)
 
   -- but for the number of events
   pub outcome_alike : (request : Request) (one other : Outcome) → IsUnleft left request → Gives tables old request one → Gives tables new request other
-      → outcome_uncounted other ≡ outcome_uncounted one
+      → outcome_without_count other ≡ outcome_without_count one
   outcome_alike request one other unleft gives gives_other =
-      ap outcome_uncounted (carried_one request one other unleft gives gives_other) ∙ uncounted_carried request one gives
+      ap outcome_without_count (carried_one request one other unleft gives gives_other) ∙ carried_without_count request one gives
 
 -- the same request more keeps lists alike
 alike_more : (left : List ℕ → Type 0) (old new : List Request) (request : Request) → AreAlike left old new → AreAlike left (old ++ request ∷ []) (new ++ request ∷ [])

@@ -23,7 +23,7 @@ use Rattle.mds_core.proofs.Outcomes.{outcome_one}
 use Rattle.mds_core.proofs.Histories.{same_key_is, requests_of-next_other, requests_of-next_same}
 use Rattle.mds_core.proofs.Standings.{has_event-append}
 use Rattle.mds_compact.specs.Compaction.{IsCompaction, HasLeftOut, has_to_stay, is_recent}
-use Rattle.mds_compact.specs.Laws.{outcome_uncounted, outcomes_uncounted, IsLateAfter}
+use Rattle.mds_compact.specs.Laws.{outcome_without_count, outcomes_without_counts, IsLateAfter}
 use Rattle.mds_compact.proofs.Alike.{AreAlike, IsLeft, IsUnleft, alike_compacted, carried, carried_one, outcome_alike, alike_next}
 
 -- an identifier that was left out, of a vehicle's own
@@ -37,7 +37,7 @@ unleft old new (Look key) none = tt
 
 -- a request has the same outcome after a compaction
 pub outcome_stays : (tables : Tables) (from : ℕ) (old new : List Request) (request : Request) (a b : Reply) → IsLawful tables old → IsCompaction from old new → (HasLeftOut old new request → ⊥)
-    → Answers tables old request a → Answers tables new request b → outcome_uncounted b.outcome ≡ outcome_uncounted a.outcome
+    → Answers tables old request a → Answers tables new request b → outcome_without_count b.outcome ≡ outcome_without_count a.outcome
 outcome_stays tables from old new request a b lawful compaction none first second =
     let key = key_of request in
     let alike = alike_compacted tables from (requests_of old key) (requests_of new key) (lawful key) (compaction key) in
@@ -69,7 +69,7 @@ all_alike_next tables left old new request one other alike none gives gives_othe
 -- runs from both have the same outcomes
 runs_alike : (tables : Tables) (left : Key → List ℕ → Type 0) (old new requests : List Request) (replies answers : List Reply) (after other : List Request) → AreAllAlike left old new
     → AllByRecursion (λ request. IsUnleft (left (key_of request)) request) requests → IsRun tables old requests replies after → IsRun tables new requests answers other
-    → outcomes_uncounted answers ≡ outcomes_uncounted replies
+    → outcomes_without_counts answers ≡ outcomes_without_counts replies
 unfolding AreAllAlike
 runs_alike tables left old new [] [] [] after other alike none first second = refl
 runs_alike tables left old new [] [] (answer ∷ answers) after other alike none first second = absurd second
@@ -89,7 +89,7 @@ all_unleft old new (request ∷ requests) none = (unleft old new request none.0,
 
 pub run_goes_on : (tables : Tables) (from : ℕ) (old new requests : List Request) (replies answers : List Reply) (after other : List Request) → IsLawful tables old → IsCompaction from old new
     → All (λ request. HasLeftOut old new request → ⊥) requests → IsRun tables old requests replies after → IsRun tables new requests answers other
-    → outcomes_uncounted answers ≡ outcomes_uncounted replies
+    → outcomes_without_counts answers ≡ outcomes_without_counts replies
 unfolding AreAllAlike
 run_goes_on tables from old new requests replies answers after other lawful compaction none first second =
     let alike : AreAllAlike (IsLeftOf old new) old new = λ key. alike_compacted tables from (requests_of old key) (requests_of new key) (lawful key) (compaction key) in

@@ -5,7 +5,7 @@ use Rattle.mds_core.specs.declared.key.Key.{Key}
 use Rattle.mds_core.specs.declared.request.Request.{Request}
 use Rattle.mds_core.specs.History.{key_of, requests_of, same_key}
 use Rattle.mds_compact.specs.Compaction.{kept_of}
-use Rattle.mds_compact.specs.Path.{cleared}
+use Rattle.mds_compact.specs.Path.{marks_up_to}
 use Rattle.mds_compact.specs.Passes.{marks_of}
 
 module _ {A : Type 0} where
@@ -31,19 +31,19 @@ module _ {A : Type 0} where
   none_kept (suc count) (first ∷ all) = none_kept count all
 
   -- marks that keep nothing add nothing
-  pub kept_cleared : (marks : List Bool) (count : ℕ) (all : List A) → kept_of (marks ++ replicate count false) all ≡ kept_of marks all
-  kept_cleared [] count all = none_kept count all
-  kept_cleared (one ∷ marks) count [] = refl
-  kept_cleared (true ∷ marks) count (first ∷ all) = ap (λ rest. first ∷ rest) (kept_cleared marks count all)
-  kept_cleared (false ∷ marks) count (first ∷ all) = kept_cleared marks count all
+  pub kept_nothing_more : (marks : List Bool) (count : ℕ) (all : List A) → kept_of (marks ++ replicate count false) all ≡ kept_of marks all
+  kept_nothing_more [] count all = none_kept count all
+  kept_nothing_more (one ∷ marks) count [] = refl
+  kept_nothing_more (true ∷ marks) count (first ∷ all) = ap (λ rest. first ∷ rest) (kept_nothing_more marks count all)
+  kept_nothing_more (false ∷ marks) count (first ∷ all) = kept_nothing_more marks count all
 
   -- of nothing nothing is kept
   pub kept_nil : (marks : List Bool) → kept_of {A = A} marks [] ≡ []
   kept_nil [] = refl
   kept_nil (one ∷ marks) = refl
 
-pub length-cleared : (count : ℕ) (marks : List Bool) → length (cleared count marks) ≡ length marks
-length-cleared count marks =
+pub length-marks_up_to : (count : ℕ) (marks : List Bool) → length (marks_up_to count marks) ≡ length marks
+length-marks_up_to count marks =
     let front = take count marks in
     let few = length_take_few count marks in
     length-append front (replicate (length marks - length front) false) ∙ ap (λ n. length front + n) (length-replicate (length marks - length front) false) ∙ omega arith where

@@ -18,7 +18,7 @@ pub front_other : (key : Key) (events : ℕ) (old : List Request) (marks : List 
 front_other key events old marks front request apart is = record {
   vehicle = is.vehicle;
   limit = is.limit;
-  told = is.told ∙ ap length (sym (requests_of-push_other old request key apart));
+  next = is.next ∙ ap length (sym (requests_of-push_other old request key apart));
   count = longer marks old true request is.count;
   left = record {
     own =
@@ -47,12 +47,12 @@ front_more events all request false is =
 
 -- a request of the vehicle stays where the front isn't full
 pub front_own : (key : Key) (events : ℕ) (old : List Request) (marks : List Bool) (front now : Front) (request : Request) (stays : Bool) → same_key (key_of request) key ≡ true
-    → IsFrontOf key events old marks front → stays ≡ nat_le front.told front.events → now ≡ record front { told = front.told + 1 }
+    → IsFrontOf key events old marks front → stays ≡ nat_le front.next front.events → now ≡ record front { next = front.next + 1 }
     → IsFrontOf key events (old ++ request ∷ []) (marks ++ stays ∷ []) now
 front_own key events old marks front now request stays same is test next = subst Now (sym next) (record {
   vehicle = is.vehicle;
   limit = is.limit;
-  told = ap (λ n. n + 1) is.told ∙ sym (length-append (requests_of old key) (request ∷ [])) ∙ ap length (sym own_now);
+  next = ap (λ n. n + 1) is.next ∙ sym (length-append (requests_of old key) (request ∷ [])) ∙ ap length (sym own_now);
   count = longer marks old stays request is.count;
   left = record {
     own =
@@ -83,4 +83,4 @@ front_own key events old marks front now request stays same is test next = subst
   none_of other apart false = refl
 
   tested : stays ≡ nat_le (length (requests_of old key)) events
-  tested = test ∙ ap (λ told. nat_le told front.events) is.told ∙ ap (nat_le (length (requests_of old key))) is.limit
+  tested = test ∙ ap (λ next. nat_le next front.events) is.next ∙ ap (nat_le (length (requests_of old key))) is.limit

@@ -70,29 +70,29 @@ has_own old request rest none =
       some (first ∷ front) tail nil = cc
 
 -- what is known in the first pass of a vehicle
-abbrev pub Surveyed : List Request → Key → Option Way → Type 0
-Surveyed history key found = IsKnownBy (λ way. way ≡ way_to (requests_of history key)) (requests_of history key) found
+abbrev pub IsSurveyedFor : List Request → Key → Option Way → Type 0
+IsSurveyedFor history key found = IsKnownBy (λ way. way ≡ way_to (requests_of history key)) (requests_of history key) found
 
-pub surveyed_more : (history : List Request) (request : Request) (before after : Key → Option Way) (way : Way) → ((key : Key) → Surveyed history key (before key))
+pub surveyed_more : (history : List Request) (request : Request) (before after : Key → Option Way) (way : Way) → ((key : Key) → IsSurveyedFor history key (before key))
     → ((key : Key) → after key ≡ cond (same_key (key_of request) key) (Some way) (before key)) → way ≡ way_to (requests_of history (key_of request) ++ request ∷ [])
-    → (key : Key) → Surveyed (history ++ request ∷ []) key (after key)
+    → (key : Key) → IsSurveyedFor (history ++ request ∷ []) key (after key)
 surveyed_more history request before after way known updates now =
-    each_next (Surveyed history) (Surveyed (history ++ request ∷ [])) request before after way known updates (now ∙ ap way_to (own_now history request))
+    each_next (IsSurveyedFor history) (IsSurveyedFor (history ++ request ∷ [])) request before after way known updates (now ∙ ap way_to (own_now history request))
     (λ key found apart was.
     let P : List Request → Type 0 = λ own. IsKnownBy (λ one. one ≡ way_to own) own found in
     subst P (sym (requests_of-push_other history request key apart)) was)
 
 -- and in the second
-abbrev pub Thinned : ℕ → List Request → List Request → Key → Option Way → Type 0
-Thinned from old rest key found = IsKnownBy (IsPath from (requests_of old key) (requests_of rest key)) (requests_of (old ++ rest) key) found
+abbrev pub IsThinnedFor : ℕ → List Request → List Request → Key → Option Way → Type 0
+IsThinnedFor from old rest key found = IsKnownBy (IsPath from (requests_of old key) (requests_of rest key)) (requests_of (old ++ rest) key) found
 
-pub thinned_more : (from : ℕ) (old rest : List Request) (request : Request) (before after : Key → Option Way) (way : Way) → ((key : Key) → Thinned from old (request ∷ rest) key (before key))
+pub thinned_more : (from : ℕ) (old rest : List Request) (request : Request) (before after : Key → Option Way) (way : Way) → ((key : Key) → IsThinnedFor from old (request ∷ rest) key (before key))
     → ((key : Key) → after key ≡ cond (same_key (key_of request) key) (Some way) (before key))
     → IsPath from (requests_of old (key_of request) ++ request ∷ []) (requests_of rest (key_of request)) way
-    → (key : Key) → Thinned from (old ++ request ∷ []) rest key (after key)
+    → (key : Key) → IsThinnedFor from (old ++ request ∷ []) rest key (after key)
 thinned_more from old rest request before after way known updates now =
     let Own : List Request → Type 0 = λ own. IsPath from own (requests_of rest (key_of request)) way in
-    each_next (Thinned from old (request ∷ rest)) (Thinned from (old ++ request ∷ []) rest) request before after way known updates (subst Own (own_now old request) now)
+    each_next (IsThinnedFor from old (request ∷ rest)) (IsThinnedFor from (old ++ request ∷ []) rest) request before after way known updates (subst Own (own_now old request) now)
     (λ key found apart was.
     let All : List Request → Type 0 = λ all. IsKnownBy (IsPath from (requests_of old key) (requests_of (request ∷ rest) key)) all found in
     let Rest : List Request → Type 0 = λ tail. IsKnownBy (IsPath from (requests_of old key) tail) (requests_of ((old ++ request ∷ []) ++ rest) key) found in
@@ -100,19 +100,19 @@ thinned_more from old rest request before after way known updates now =
     subst Old (sym (requests_of-push_other old request key apart)) (subst Rest (other_first request rest key apart) (subst All (whole_same old request rest key) was)))
 
 -- and in the third
-abbrev pub Marked : ℕ → List Bool → List Request → List Request → Key → Option Way → Type 0
-Marked from marks old rest key found = IsKnownBy (IsMarked from (marks_of marks old key) (requests_of old key) (requests_of rest key)) (requests_of (old ++ rest) key) found
+abbrev pub IsMarkedFor : ℕ → List Bool → List Request → List Request → Key → Option Way → Type 0
+IsMarkedFor from marks old rest key found = IsKnownBy (IsMarked from (marks_of marks old key) (requests_of old key) (requests_of rest key)) (requests_of (old ++ rest) key) found
 
 pub marked_more : (from : ℕ) (marks : List Bool) (old rest : List Request) (request : Request) (mark : Bool) (before after : Key → Option Way) (way : Way) → length marks ≡ length old
-    → ((key : Key) → Marked from marks old (request ∷ rest) key (before key)) → ((key : Key) → after key ≡ cond (same_key (key_of request) key) (Some way) (before key))
+    → ((key : Key) → IsMarkedFor from marks old (request ∷ rest) key (before key)) → ((key : Key) → after key ≡ cond (same_key (key_of request) key) (Some way) (before key))
     → IsMarked from (marks_of marks old (key_of request) ++ mark ∷ []) (requests_of old (key_of request) ++ request ∷ []) (requests_of rest (key_of request)) way
-    → (key : Key) → Marked from (marks ++ mark ∷ []) (old ++ request ∷ []) rest key (after key)
+    → (key : Key) → IsMarkedFor from (marks ++ mark ∷ []) (old ++ request ∷ []) rest key (after key)
 marked_more from marks old rest request mark before after way same known updates now =
     let Own : List Request → Type 0 = λ own. IsMarked from (marks_of marks old (key_of request) ++ mark ∷ []) own (requests_of rest (key_of request)) way in
-    let Told : List Bool → Type 0 = λ told. IsMarked from told (requests_of (old ++ request ∷ []) (key_of request)) (requests_of rest (key_of request)) way in
-    let told = marks_of-more marks old mark request (key_of request) same ∙ ap (λ b. marks_of marks old (key_of request) ++ cond b (mark ∷ []) []) (same_key_refl (key_of request)) in
-    each_next (Marked from marks old (request ∷ rest)) (Marked from (marks ++ mark ∷ []) (old ++ request ∷ []) rest) request before after way known updates
-    (subst Told (sym told) (subst Own (own_now old request) now))
+    let Told : List Bool → Type 0 = λ next. IsMarked from next (requests_of (old ++ request ∷ []) (key_of request)) (requests_of rest (key_of request)) way in
+    let next = marks_of-more marks old mark request (key_of request) same ∙ ap (λ b. marks_of marks old (key_of request) ++ cond b (mark ∷ []) []) (same_key_refl (key_of request)) in
+    each_next (IsMarkedFor from marks old (request ∷ rest)) (IsMarkedFor from (marks ++ mark ∷ []) (old ++ request ∷ []) rest) request before after way known updates
+    (subst Told (sym next) (subst Own (own_now old request) now))
     (λ key found apart was.
     let All : List Request → Type 0 = λ all. IsKnownBy (IsMarked from (marks_of marks old key) (requests_of old key) (requests_of (request ∷ rest) key)) all found in
     let Rest : List Request → Type 0 = λ tail. IsKnownBy (IsMarked from (marks_of marks old key) (requests_of old key) tail) (requests_of ((old ++ request ∷ []) ++ rest) key) found in
@@ -122,15 +122,15 @@ marked_more from marks old rest request mark before after way same known updates
     subst Ours (sym ours) (subst Old (sym (requests_of-push_other old request key apart)) (subst Rest (other_first request rest key apart) (subst All (whole_same old request rest key) was))))
 
 -- the second pass begins with what the first one saw
-pub thinned_begins : (from : ℕ) (history : List Request) (key : Key) (found : Option Way) → Surveyed history key found → Thinned from [] history key found
+pub thinned_begins : (from : ℕ) (history : List Request) (key : Key) (found : Option Way) → IsSurveyedFor history key found → IsThinnedFor from [] history key found
 thinned_begins from history key None none = none
 thinned_begins from history key (Some way) is =
     let P : Way → Type 0 = λ one. IsPath from [] (requests_of history key) one in subst P (sym is) (path_begins from (requests_of history key))
 
 -- the third with what the second one marked
-pub marked_begins : (from : ℕ) (history : List Request) (key : Key) (found : Option Way) → Thinned from history [] key found → Marked from [] [] history key found
+pub marked_begins : (from : ℕ) (history : List Request) (key : Key) (found : Option Way) → IsThinnedFor from history [] key found → IsMarkedFor from [] [] history key found
 marked_begins from history key None none = ap (λ all. requests_of all key) (sym (append-nil history)) ∙ none
-marked_begins from history key (Some way) is = record { kept = path_ends from (requests_of history key) way is; told = is.told; ours = refl }
+marked_begins from history key (Some way) is = record { kept = path_ends from (requests_of history key) way is; next = is.next; ours = refl }
 
 nothing_compacted : (from : ℕ) → IsCompacted from [] []
 nothing_compacted from = record { cuts = tt; state = refl; last = refl; position = refl; stay = refl }
@@ -140,7 +140,7 @@ abbrev pub IsThinOf : ℕ → List Request → List Request → Type 0
 IsThinOf from old new = thinned_count from (last_time old) new ≤ 17
 
 -- the marks that were told keep what has to be kept of each vehicle
-own_kept : (from : ℕ) (marks : List Bool) (history : List Request) (key : Key) (found : Option Way) → Marked from marks history [] key found
+own_kept : (from : ℕ) (marks : List Bool) (history : List Request) (key : Key) (found : Option Way) → IsMarkedFor from marks history [] key found
     → IsCompacted from (requests_of history key) (kept_of (marks_of marks history key) (requests_of history key))
     × ((tables : Tables) → IsLawfulOf tables (requests_of history key) → IsThinOf from (requests_of history key) (kept_of (marks_of marks history key) (requests_of history key)))
 own_kept from marks history key None none =
@@ -162,7 +162,7 @@ own_kept from marks history key (Some way) is =
     subst Q (sym whole) (kept.compacted, kept.thin)
 
 -- what was marked of a history is a compaction of it, and thin where it's lawful
-pub marked_is : (from : ℕ) (history : List Request) (marks : List Bool) (found : Key → Option Way) → ((key : Key) → Marked from marks history [] key (found key))
+pub marked_is : (from : ℕ) (history : List Request) (marks : List Bool) (found : Key → Option Way) → ((key : Key) → IsMarkedFor from marks history [] key (found key))
     → IsCompaction from history (kept_of marks history) × ((tables : Tables) → IsLawful tables history → IsThin from history (kept_of marks history))
 marked_is from history marks found known = (
   λ key.

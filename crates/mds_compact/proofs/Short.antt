@@ -18,7 +18,7 @@ use Rattle.mds_core.specs.History.{last_time, is_late}
 use Rattle.mds_core.specs.Lawful.{IsLawfulOf}
 use Rattle.mds_compact.specs.declared.path.Visit.{Visit}
 use Rattle.mds_compact.specs.Compaction.{kept_of, has_to_stay, is_recent, thinned_count, position_count}
-use Rattle.mds_compact.specs.Path.{Way, stood, IsPath, IsShort, base, spare, ends_recent}
+use Rattle.mds_compact.specs.Path.{Way, way_at, IsPath, IsShort, base, spare, ends_recent}
 use Rattle.mds_compact.proofs.Held.{last_time-more}
 use Rattle.mds_compact.proofs.Kept.{kept_more, kept_nil}
 use Rattle.mds_compact.proofs.Visits.{standing_at, codes_of, visits_few, distinct_one, apart_more}
@@ -110,7 +110,7 @@ module _ (from : ℕ) (old rest : List Request) (request : Request) (way : Way) 
 
     -- one visit alone is short
     short_one : (state : State) → spare from way.last (old ++ request ∷ []) (way.marks ++ true ∷ []) ≤ base after
-        → IsShort from (old ++ request ∷ []) (stood 0 state (way.marks ++ true ∷ []) (record way { positions = after }))
+        → IsShort from (old ++ request ∷ []) (way_at 0 state (way.marks ++ true ∷ []) (record way { positions = after }))
     short_one state few = record { ranks = ranks; all = omega arith; apart = distinct_one (code_of state) } where
       marks : List Bool
       marks = way.marks ++ true ∷ []
@@ -129,7 +129,7 @@ module _ (from : ℕ) (old rest : List Request) (request : Request) (way : Way) 
 
     -- and short where the last event may go
     pub keep_short : (state : State) → IsForGood from request way after → (tables : Tables) → IsLawfulOf tables (old ++ request ∷ []) → ends_recent from way.last (old ++ request ∷ []) ≡ false
-        → IsShort from (old ++ request ∷ []) (stood 0 state (way.marks ++ true ∷ []) (record way { positions = after }))
+        → IsShort from (old ++ request ∷ []) (way_at 0 state (way.marks ++ true ∷ []) (record way { positions = after }))
     keep_short state good tables lawful goes = short_one state (by_request request refl good) where
       Goal : Type 0
       Goal = spare from way.last (old ++ request ∷ []) (way.marks ++ true ∷ []) ≤ base after
@@ -173,7 +173,7 @@ module _ (from : ℕ) (old rest : List Request) (event : Reported) (way : Way) (
   visits_now : length (take place way.visits ++ record { state = state; count = length marks } ∷ []) ≡ place + 1
   visits_now = length-append (take place way.visits) (record { state = state; count = length marks } ∷ []) ∙ ap (λ n. n + 1) (length-take-le place way.visits within)
 
-  pub go_short : (tables : Tables) → IsLawfulOf tables (old ++ Report event ∷ []) → IsShort from (old ++ Report event ∷ []) (stood place state marks (record way { positions = after }))
+  pub go_short : (tables : Tables) → IsLawfulOf tables (old ++ Report event ∷ []) → IsShort from (old ++ Report event ∷ []) (way_at place state marks (record way { positions = after }))
   go_short tables lawful = record { ranks = ranks; all = omega (arith, few short, visits_now); apart = apart_now short } where
     short : IsShort from old way
     short = short_before tables lawful

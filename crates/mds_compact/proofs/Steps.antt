@@ -17,9 +17,9 @@ use Rattle.mds_core.specs.History.{state_of, last_time}
 use Rattle.mds_core.specs.Lawful.{IsLawfulOf}
 use Rattle.mds_compact.specs.declared.path.Visit.{Visit}
 use Rattle.mds_compact.specs.Compaction.{kept_of, held_after, is_recent, thinned_count, position_count}
-use Rattle.mds_compact.specs.Path.{Way, way_to, stood, cleared, IsThinned, IsVisit, IsPath, IsShort, IsKept, IsMarked, base, spare, ends_recent}
+use Rattle.mds_compact.specs.Path.{Way, way_to, way_at, marks_up_to, IsThinned, IsVisit, IsPath, IsShort, IsKept, IsMarked, base, spare, ends_recent}
 use Rattle.mds_compact.proofs.Held.{state_of-more}
-use Rattle.mds_compact.proofs.Kept.{kept_nil, kept_more, kept_longer, kept_cleared, length-cleared, front_same}
+use Rattle.mds_compact.proofs.Kept.{kept_nil, kept_more, kept_longer, kept_nothing_more, length-marks_up_to, front_same}
 use Rattle.mds_compact.proofs.Thinned.{position_count-first, thinned_left, thinned_kept, compacted_at_end}
 use Rattle.mds_compact.proofs.Visits.{standing_at, codes_of, distinct_one, none_before}
 use Rattle.mds_compact.proofs.Short.{thinned_more, base_after, IsForGood, keep_few, keep_short, go_short, go_few}
@@ -41,7 +41,7 @@ module _ (from : ℕ) (old rest : List Request) (request : Request) (way : Way) 
     pub before : (at : ℕ) (visit : Visit) → at < place → slice_get way.visits at ≡ Some visit
         → IsThinned from way.last after (old ++ request ∷ []) (kept_of (take visit.count marks) (old ++ request ∷ [])) visit.state
     pub short : (tables : Tables) → IsLawfulOf tables (old ++ request ∷ []) → ends_recent from way.last (old ++ request ∷ []) ≡ false
-        → IsShort from (old ++ request ∷ []) (stood place state marks (record way { positions = after }))
+        → IsShort from (old ++ request ∷ []) (way_at place state marks (record way { positions = after }))
     pub few : (tables : Tables) → IsLawfulOf tables (old ++ request ∷ []) → spare from way.last (old ++ request ∷ []) marks ≤ 17
 
   module _ (is : IsStep) where
@@ -57,16 +57,16 @@ module _ (from : ℕ) (old rest : List Request) (request : Request) (way : Way) 
     longer : length all ≡ length old + 1
     longer = length-append old (request ∷ [])
 
-    visit_at : (at : ℕ) (visit : Visit) → slice_get (take place way.visits ++ visit_here ∷ []) at ≡ Some visit → IsVisit from all (stood place state marks way_counted) visit
+    visit_at : (at : ℕ) (visit : Visit) → slice_get (take place way.visits ++ visit_here ∷ []) at ≡ Some visit → IsVisit from all (way_at place state marks way_counted) visit
     visit_at at visit found = by_place (standing_at way.visits place at visit_here visit is.within found) where
       Here : Visit → Type 0
-      Here one = IsVisit from all (stood place state marks way_counted) one
+      Here one = IsVisit from all (way_at place state marks way_counted) one
 
-      by_place : ((at < place) × (slice_get way.visits at ≡ Some visit)) ⊎ ((at ≡ place) × (visit_here ≡ visit)) → IsVisit from all (stood place state marks way_counted) visit
+      by_place : ((at < place) × (slice_get way.visits at ≡ Some visit)) ⊎ ((at ≡ place) × (visit_here ≡ visit)) → IsVisit from all (way_at place state marks way_counted) visit
       by_place (inl front) = record { within = omega (arith, few_before at visit front.1, longer); thinned = is.before at visit front.0 front.1 }
       by_place (inr last) =
           let Kept : List Bool → Type 0 = λ front. IsThinned from way.last after all (kept_of front all) state in
-          let here : IsVisit from all (stood place state marks way_counted) visit_here = record { within = omega (arith, is.count); thinned = subst Kept (sym (take-length marks)) is.thinned } in
+          let here : IsVisit from all (way_at place state marks way_counted) visit_here = record { within = omega (arith, is.count); thinned = subst Kept (sym (take-length marks)) is.thinned } in
           subst Here last.1 here
 
     in_order : (at later : ℕ) (visit other : Visit) → at < later → slice_get (take place way.visits ++ visit_here ∷ []) at ≡ Some visit
@@ -82,11 +82,11 @@ module _ (from : ℕ) (old rest : List Request) (request : Request) (way : Way) 
       by_both (inr one) (inl two) = absurd (omega (arith, one.0, two.0))
       by_both (inr one) (inr two) = absurd (omega (arith, one.0, two.0))
 
-    pub path_stood : IsPath from (old ++ request ∷ []) rest (stood place state marks (record way { positions = after }))
-    path_stood = record {
+    pub path_at : IsPath from (old ++ request ∷ []) rest (way_at place state marks (record way { positions = after }))
+    path_at = record {
       last = is.path.last ∙ ap last_time (sym (append_assoc old (request ∷ []) rest));
       positions = is.counts;
-      told = is.path.told;
+      next = is.path.next;
       count = is.count;
       held = is.holds;
       thinned = is.thinned;
@@ -99,7 +99,7 @@ module _ (from : ℕ) (old rest : List Request) (request : Request) (way : Way) 
 -- a request that is kept for good
 pub path_kept : (from : ℕ) (old rest : List Request) (request : Request) (way : Way) (after : ℕ) (state : State) → IsPath from old (request ∷ rest) way → after ≡ position_count rest
     → IsForGood from request way after → state ≡ held_after way.held request
-    → IsPath from (old ++ request ∷ []) rest (stood 0 state (way.marks ++ true ∷ []) (record way { positions = after }))
+    → IsPath from (old ++ request ∷ []) rest (way_at 0 state (way.marks ++ true ∷ []) (record way { positions = after }))
 path_kept from old rest request way after state is counted good held =
     let all = old ++ request ∷ [] in
     let marks = way.marks ++ true ∷ [] in
@@ -107,7 +107,7 @@ path_kept from old rest request way after state is counted good held =
     let Kept : List Request → Type 0 = λ new. IsThinned from way.last after all new state in
     let Held : State → Type 0 = λ one. IsThinned from way.last after all (kept_of way.marks old ++ request ∷ []) one in
     let thinned = thinned_kept from way.last way.positions after old (kept_of way.marks old) way.held is.thinned request is.held positions in
-    path_stood from old rest request way after marks 0 state (record {
+    path_at from old rest request way after marks 0 state (record {
       path = is;
       counts = counted;
       within = omega arith;
@@ -158,8 +158,8 @@ module _ (from : ℕ) (old rest : List Request) (event : Reported) (way : Way) (
       (thinned : IsThinned from way.last after (old ++ Report event ∷ []) (kept_of marks (old ++ Report event ∷ [])) event.state)
       (few : IsShort from old way → spare from way.last (old ++ Report event ∷ []) marks ≤ base way.positions + place)
       (apart : IsShort from old way → list_any (nat_eq (code_of event.state)) (take place (codes_of way.visits)) ≡ false) where
-    path_goes : IsPath from (old ++ Report event ∷ []) rest (stood place event.state marks (record way { positions = after }))
-    path_goes = path_stood from old rest (Report event) way after marks place event.state (record {
+    path_goes : IsPath from (old ++ Report event ∷ []) rest (way_at place event.state marks (record way { positions = after }))
+    path_goes = path_at from old rest (Report event) way after marks place event.state (record {
       path = is;
       counts = counted;
       within = within;
@@ -175,7 +175,7 @@ module _ (from : ℕ) (old rest : List Request) (event : Reported) (way : Way) (
 
   -- it's kept at a new visit
   pub path_gone : list_any (nat_eq (code_of event.state)) (codes_of way.visits) ≡ false
-      → IsPath from (old ++ Report event ∷ []) rest (stood (length way.visits) event.state (way.marks ++ true ∷ []) (record way { positions = after }))
+      → IsPath from (old ++ Report event ∷ []) rest (way_at (length way.visits) event.state (way.marks ++ true ∷ []) (record way { positions = after }))
   path_gone new =
       let marks = way.marks ++ true ∷ [] in
       let kept = kept_more way.marks old true (Report event) is.count in
@@ -194,23 +194,23 @@ module _ (from : ℕ) (old rest : List Request) (event : Reported) (way : Way) (
 
   -- it's left out, with what was kept since the visit
   pub path_cut : (place : ℕ) (visit : Visit) → slice_get way.visits place ≡ Some visit → visit.state ≡ event.state
-      → IsPath from (old ++ Report event ∷ []) rest (stood place visit.state (cleared visit.count way.marks ++ false ∷ []) (record way { positions = after }))
+      → IsPath from (old ++ Report event ∷ []) rest (way_at place visit.state (marks_up_to visit.count way.marks ++ false ∷ []) (record way { positions = after }))
   path_cut place visit found same =
-      let marks = cleared visit.count way.marks ++ false ∷ [] in
+      let marks = marks_up_to visit.count way.marks ++ false ∷ [] in
       let more = replicate (length way.marks - length (take visit.count way.marks)) false ++ false ∷ [] in
       let made : marks ≡ take visit.count way.marks ++ more = append_assoc (take visit.count way.marks) (replicate (length way.marks - length (take visit.count way.marks)) false) (false ∷ []) in
       let inside : visit.count ≤ length way.marks = omega (arith, (is.visits place visit found).within, is.count) in
-      let full : length (cleared visit.count way.marks) ≡ length old = length-cleared visit.count way.marks ∙ is.count in
+      let full : length (marks_up_to visit.count way.marks) ≡ length old = length-marks_up_to visit.count way.marks ∙ is.count in
       let kept : kept_of marks (old ++ Report event ∷ []) ≡ kept_of (take visit.count way.marks) old =
-      kept_more (cleared visit.count way.marks) old false (Report event) full ∙ append-nil (kept_of (cleared visit.count way.marks) old)
-      ∙ kept_cleared (take visit.count way.marks) (length way.marks - length (take visit.count way.marks)) old in
+      kept_more (marks_up_to visit.count way.marks) old false (Report event) full ∙ append-nil (kept_of (marks_up_to visit.count way.marks) old)
+      ∙ kept_nothing_more (take visit.count way.marks) (length way.marks - length (take visit.count way.marks)) old in
       let Kept : List Request → Type 0 = λ one. IsThinned from way.last after (old ++ Report event ∷ []) one event.state in
       let Held : State → Type 0 = λ state. IsThinned from way.last after (old ++ Report event ∷ []) (kept_of (take visit.count way.marks) old) state in
-      let Stood : State → Type 0 = λ state. IsPath from (old ++ Report event ∷ []) rest (stood place state marks (record way { positions = after })) in
+      let Stood : State → Type 0 = λ state. IsPath from (old ++ Report event ∷ []) rest (way_at place state marks (record way { positions = after })) in
       let within : place < length way.visits = slice_get_within way.visits place visit found in
       subst Stood (sym same)
       (path_goes marks place (omega arith)
-      (length-append (cleared visit.count way.marks) (false ∷ []) ∙ ap (λ n. n + 1) full ∙ one_longer)
+      (length-append (marks_up_to visit.count way.marks) (false ∷ []) ∙ ap (λ n. n + 1) full ∙ one_longer)
       (λ at other before there. front_kept marks more visit.count at other made inside (is.order at place other visit before there found) there)
       (subst Kept (sym kept) (subst Held same (visit_left place visit found)))
       (λ short.
@@ -223,7 +223,7 @@ pub path_begins : (from : ℕ) (requests : List Request) → IsPath from [] requ
 path_begins from requests = record {
   last = refl;
   positions = refl;
-  told = refl;
+  next = refl;
   count = refl;
   held = refl;
   thinned = nothing;
@@ -266,18 +266,18 @@ path_ends from requests way is =
     }
 
 -- one more mark is told
-pub mark_told : (from : ℕ) (marks : List Bool) (old rest : List Request) (request : Request) (way : Way) (mark : Bool) → IsMarked from marks old (request ∷ rest) way → mark ≡ get_or way.marks way.told mark
-    → (way.told < length way.marks) × IsMarked from (marks ++ mark ∷ []) (old ++ request ∷ []) rest (record way { told = way.told + 1 })
+pub mark_told : (from : ℕ) (marks : List Bool) (old rest : List Request) (request : Request) (way : Way) (mark : Bool) → IsMarked from marks old (request ∷ rest) way → mark ≡ get_or way.marks way.next mark
+    → (way.next < length way.marks) × IsMarked from (marks ++ mark ∷ []) (old ++ request ∷ []) rest (record way { next = way.next + 1 })
 mark_told from marks old rest request way mark is at =
-    let inside : way.told < length way.marks = omega (arith, is.told, is.kept.count, length-append old (request ∷ rest)) in
-    let within : length old < length way.marks = omega (arith, is.told) in
+    let inside : way.next < length way.marks = omega (arith, is.next, is.kept.count, length-append old (request ∷ rest)) in
+    let within : length old < length way.marks = omega (arith, is.next) in
     let P : List Request → Type 0 = λ all. IsKept from all way.marks in
     let next : length old + 1 ≡ length (old ++ request ∷ []) = sym (length-append old (request ∷ [])) in
-    let item : mark ≡ get_or way.marks (length old) mark = at ∙ ap (λ n. get_or way.marks n mark) is.told in (
+    let item : mark ≡ get_or way.marks (length old) mark = at ∙ ap (λ n. get_or way.marks n mark) is.next in (
       inside,
       record {
         kept = subst P (sym (append_assoc old (request ∷ []) rest)) is.kept;
-        told = ap (λ n. n + 1) is.told ∙ next;
+        next = ap (λ n. n + 1) is.next ∙ next;
         ours =
             ap (λ front. front ++ mark ∷ []) is.ours ∙ ap (λ one. take (length old) way.marks ++ one ∷ []) item
             ∙ sym (take_more way.marks (length old) mark within) ∙ ap (λ n. take n way.marks) next;

@@ -14,7 +14,7 @@ use Rattle.mds_core.specs.Reported.{Reported}
 use Rattle.mds_core.specs.History.{report_of, last_time}
 use Rattle.mds_compact.specs.declared.path.Visit.{Visit}
 use Rattle.mds_compact.specs.Compaction.{has_to_stay, position_count}
-use Rattle.mds_compact.specs.Path.{Way, way_to, stood, cleared, IsPath}
+use Rattle.mds_compact.specs.Path.{Way, way_to, way_at, marks_up_to, IsPath}
 use Rattle.mds_compact.proofs.Held.{last_time-more, time_after}
 use Rattle.mds_compact.proofs.Thinned.{position_count-first, position_count-more}
 use Rattle.mds_compact.proofs.Visits.{is_at, visit_found, visit_none}
@@ -28,7 +28,7 @@ report_is (Look key) event is = absurd cc
 
 -- what reports nothing is kept for good
 pub none_taken : (from : ℕ) (old rest : List Request) (request : Request) (way : Way) → None ≡ report_of request → IsPath from old (request ∷ rest) way
-    → IsPath from (old ++ request ∷ []) rest (stood 0 way.held (way.marks ++ true ∷ []) way)
+    → IsPath from (old ++ request ∷ []) rest (way_at 0 way.held (way.marks ++ true ∷ []) way)
 none_taken from old rest (Register key) way none is = path_kept from old rest (Register key) way way.positions way.held is is.positions (inl refl) refl
 none_taken from old rest (Look key) way none is = path_kept from old rest (Look key) way way.positions way.held is is.positions (inl refl) refl
 none_taken from old rest (Report event) way none is = absurd cc
@@ -53,9 +53,9 @@ module _ (from : ℕ) (old rest : List Request) (event : Reported) (way now : Wa
   last_now = ap (λ (w : Way). w.last) counted
 
   -- it's kept for good
-  pub good_taken : (is_last event now ≡ true) ⊎ (has_to_stay from now.last (Report event) ≡ true) → IsPath from (old ++ Report event ∷ []) rest (stood 0 event.state (now.marks ++ true ∷ []) now)
+  pub good_taken : (is_last event now ≡ true) ⊎ (has_to_stay from now.last (Report event) ≡ true) → IsPath from (old ++ Report event ∷ []) rest (way_at 0 event.state (now.marks ++ true ∷ []) now)
   good_taken good =
-      let P : Way → Type 0 = λ one. IsPath from (old ++ Report event ∷ []) rest (stood 0 event.state (one.marks ++ true ∷ []) one) in
+      let P : Way → Type 0 = λ one. IsPath from (old ++ Report event ∷ []) rest (way_at 0 event.state (one.marks ++ true ∷ []) one) in
       subst P (sym counted) (path_kept from old rest (Report event) way after event.state is to_come (by_test good) refl) where
         by_test : (is_last event now ≡ true) ⊎ (has_to_stay from now.last (Report event) ≡ true)
             → (has_to_stay from way.last (Report event) ≡ true) ⊎ ((way.positions - position_count (Report event ∷ []) ≡ 0) × (0 < position_count (Report event ∷ [])))
@@ -83,20 +83,20 @@ module _ (from : ℕ) (old rest : List Request) (event : Reported) (way now : Wa
           absurd cc
 
     -- it's kept at a new visit
-    pub new_taken : position (is_at event.state) now.visits ≡ None → IsPath from (old ++ Report event ∷ []) rest (stood (length now.visits) event.state (now.marks ++ true ∷ []) now)
+    pub new_taken : position (is_at event.state) now.visits ≡ None → IsPath from (old ++ Report event ∷ []) rest (way_at (length now.visits) event.state (now.marks ++ true ∷ []) now)
     new_taken none =
-        let P : Way → Type 0 = λ one. IsPath from (old ++ Report event ∷ []) rest (stood (length one.visits) event.state (one.marks ++ true ∷ []) one) in
+        let P : Way → Type 0 = λ one. IsPath from (old ++ Report event ∷ []) rest (way_at (length one.visits) event.state (one.marks ++ true ∷ []) one) in
         let new : position (is_at event.state) way.visits ≡ None = ap (λ (w : Way). position (is_at event.state) w.visits) (sym counted) ∙ none in
         subst P (sym counted) (path_gone from old rest event way is after to_come goes_now none_behind (visit_none way.visits event.state new))
 
     -- it's left out, with what was kept since an old one
     pub old_taken : (place : ℕ) (next : Way) → position (is_at event.state) now.visits ≡ Some place
-        → ((visit : Visit) → slice_get now.visits place ≡ Some visit → next ≡ stood place visit.state (cleared visit.count now.marks ++ false ∷ []) now)
+        → ((visit : Visit) → slice_get now.visits place ≡ Some visit → next ≡ way_at place visit.state (marks_up_to visit.count now.marks ++ false ∷ []) now)
         → IsPath from (old ++ Report event ∷ []) rest next
     old_taken place next found stands =
         let there = visit_found now.visits event.state place found in
         let visit = there.0 in
-        let P : Way → Type 0 = λ one. IsPath from (old ++ Report event ∷ []) rest (stood place visit.state (cleared visit.count one.marks ++ false ∷ []) one) in
+        let P : Way → Type 0 = λ one. IsPath from (old ++ Report event ∷ []) rest (way_at place visit.state (marks_up_to visit.count one.marks ++ false ∷ []) one) in
         let Next : Way → Type 0 = λ one. IsPath from (old ++ Report event ∷ []) rest one in
         let at : slice_get way.visits place ≡ Some visit = ap (λ (w : Way). slice_get w.visits place) (sym counted) ∙ there.1 in
         subst Next (sym (stands visit there.1)) (subst P (sym counted) (path_cut from old rest event way is after to_come goes_now none_behind place visit at there.2))
@@ -115,21 +115,21 @@ module _ (from : ℕ) (old rest : List Request) (request : Request) (event : Rep
   back new path = let P : Request → Type 0 = λ one. IsPath from (old ++ one ∷ []) rest new in subst P (sym (report_is request event asked)) path
 
   pub event_kept : (state : State) (new : Way) → state ≡ event.state → (is_last event now ≡ true) ⊎ (has_to_stay from now.last (Report event) ≡ true)
-      → new ≡ stood 0 state (now.marks ++ true ∷ []) now → IsPath from (old ++ request ∷ []) rest new
+      → new ≡ way_at 0 state (now.marks ++ true ∷ []) now → IsPath from (old ++ request ∷ []) rest new
   event_kept state new same good stands =
       let P : Way → Type 0 = λ one. IsPath from (old ++ Report event ∷ []) rest one in
-      let equal = stands ∙ ap (λ one. stood 0 one (now.marks ++ true ∷ []) now) same in
+      let equal = stands ∙ ap (λ one. way_at 0 one (now.marks ++ true ∷ []) now) same in
       back new (subst P (sym equal) (good_taken from old rest event way now is_report counted good))
 
   pub event_new : (state : State) (new : Way) → state ≡ event.state → is_last event now ≡ false → has_to_stay from now.last (Report event) ≡ false → position (is_at event.state) now.visits ≡ None
-      → new ≡ stood (length now.visits) state (now.marks ++ true ∷ []) now → IsPath from (old ++ request ∷ []) rest new
+      → new ≡ way_at (length now.visits) state (now.marks ++ true ∷ []) now → IsPath from (old ++ request ∷ []) rest new
   event_new state new same not_last goes none stands =
       let P : Way → Type 0 = λ one. IsPath from (old ++ Report event ∷ []) rest one in
-      let equal = stands ∙ ap (λ one. stood (length now.visits) one (now.marks ++ true ∷ []) now) same in
+      let equal = stands ∙ ap (λ one. way_at (length now.visits) one (now.marks ++ true ∷ []) now) same in
       back new (subst P (sym equal) (new_taken from old rest event way now is_report counted not_last goes none))
 
   pub event_old : (place : ℕ) (new : Way) → is_last event now ≡ false → has_to_stay from now.last (Report event) ≡ false → position (is_at event.state) now.visits ≡ Some place
-      → ((visit : Visit) → slice_get now.visits place ≡ Some visit → new ≡ stood place visit.state (cleared visit.count now.marks ++ false ∷ []) now) → IsPath from (old ++ request ∷ []) rest new
+      → ((visit : Visit) → slice_get now.visits place ≡ Some visit → new ≡ way_at place visit.state (marks_up_to visit.count now.marks ++ false ∷ []) now) → IsPath from (old ++ request ∷ []) rest new
   event_old place new not_last goes found stands = back new (old_taken from old rest event way now is_report counted not_last goes place new found stands)
 
 -- an event has one position or none
@@ -166,7 +166,7 @@ none_noted requests request none = λ i. record {
   held = Removed;
   marks = [];
   visits = record { state = Removed; count = 0 } ∷ [];
-  told = 0;
+  next = 0;
 } where
   nothing : (asked : Request) → None ≡ report_of asked → (last : Option ℕ) → time_after last asked ≡ last
   nothing (Register key) is last = refl
@@ -201,5 +201,5 @@ event_noted requests request event way last positions asked is same count =
       held = Removed;
       marks = [];
       visits = record { state = Removed; count = 0 } ∷ [];
-      told = 0;
+      next = 0;
     })

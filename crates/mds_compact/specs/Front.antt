@@ -11,6 +11,6 @@ pub record IsFrontOf (key : Key) (events : ℕ) (old : List Request) (marks : Li
     (front : Front) : Type 0 where
   pub vehicle : front.key ≡ key
   pub limit : front.events ≡ events
-  pub told : front.told ≡ length (requests_of old key)
+  pub next : front.next ≡ length (requests_of old key)
   pub count : length marks ≡ length old
   pub left : IsFront key events old (kept_of marks old)

@@ -22,18 +22,18 @@ use Rattle.mds_compact.specs.Passes.{IsMarkingOf}
 use Rattle.mds_compact.specs.declared.marking.Marking.{Marking}
 
 -- where a vehicle stands, but for the number of its events
-abbrev pub uncounted : Standing → Standing
-uncounted standing = record standing { events = 0 }
+abbrev pub without_count : Standing → Standing
+without_count standing = record standing { events = 0 }
 
 -- the outcome, but for the number of events in a standing
-abbrev pub outcome_uncounted : Outcome → Outcome
-outcome_uncounted Done = Done
-outcome_uncounted (Seen standing) = Seen (uncounted standing)
-outcome_uncounted (Refused refusal) = Refused refusal
+abbrev pub outcome_without_count : Outcome → Outcome
+outcome_without_count Done = Done
+outcome_without_count (Seen standing) = Seen (without_count standing)
+outcome_without_count (Refused refusal) = Refused refusal
 
 -- the outcomes, in their order, but for the numbers of events in standings
-abbrev pub outcomes_uncounted : List Reply → List Outcome
-outcomes_uncounted replies = map (λ reply. outcome_uncounted reply.outcome) replies
+abbrev pub outcomes_without_counts : List Reply → List Outcome
+outcomes_without_counts replies = map (λ reply. outcome_without_count reply.outcome) replies
 
 -- a compaction of a lawful history is lawful
 abbrev pub CompactionsAreLawful : Type 0
@@ -46,7 +46,7 @@ abbrev pub VehiclesStandAlike : Type 0
 VehiclesStandAlike =
     (tables : Tables) (from : ℕ) (old new : List Request) (key : Key)
     → IsLawful tables old → IsCompaction from old new
-    → option_map uncounted (standing_in new key) ≡ option_map uncounted (standing_in old key)
+    → option_map without_count (standing_in new key) ≡ option_map without_count (standing_in old key)
 
 -- a request has the same outcome after both, unless it reports an event whose identifier was left
 -- out
@@ -55,7 +55,7 @@ OutcomesStay =
     (tables : Tables) (from : ℕ) (old new : List Request) (request : Request) (a b : Reply)
     → IsLawful tables old → IsCompaction from old new → (HasLeftOut old new request → ⊥)
     → Answers tables old request a → Answers tables new request b
-    → outcome_uncounted b.outcome ≡ outcome_uncounted a.outcome
+    → outcome_without_count b.outcome ≡ outcome_without_count a.outcome
 
 -- the event comes too late for what is left of its vehicle's events
 abbrev pub IsLateAfter : Tables → List Request → List Request → Reported → Type 0
@@ -82,7 +82,7 @@ RunsGoOn =
     → IsLawful tables old → IsCompaction from old new
     → All (λ request. HasLeftOut old new request → ⊥) requests
     → IsRun tables old requests replies after → IsRun tables new requests answers other
-    → outcomes_uncounted answers ≡ outcomes_uncounted replies
+    → outcomes_without_counts answers ≡ outcomes_without_counts replies
 
 -- what makes a lawful history with the old one before it makes one with the new one
 abbrev pub TailsGoOn : Type 0

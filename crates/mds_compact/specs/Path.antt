@@ -24,7 +24,7 @@ pub record Way : Type 0 where
   pub held : State
   pub marks : List Bool
   pub visits : List Visit
-  pub told : ℕ
+  pub next : ℕ
 
 -- the way of a vehicle to which these requests are to come
 abbrev pub way_to : List Request → Way
@@ -34,23 +34,23 @@ way_to requests = record {
   held = Removed;
   marks = [];
   visits = record { state = Removed; count = 0 } ∷ [];
-  told = 0;
+  next = 0;
 }
 
 -- the way with these marks, which holds the state; behind its first visits stands one there
-abbrev pub stood : ℕ → State → List Bool → Way → Way
-stood place state marks way = record {
+abbrev pub way_at : ℕ → State → List Bool → Way → Way
+way_at place state marks way = record {
   last = way.last;
   positions = way.positions;
   held = state;
   marks = marks;
   visits = take place way.visits ++ record { state = state; count = length marks } ∷ [];
-  told = way.told;
+  next = way.next;
 }
 
 -- the marks, with those behind the first so many turned to false
-abbrev pub cleared : ℕ → List Bool → List Bool
-cleared count marks = take count marks ++ replicate (length marks - length (take count marks)) false
+abbrev pub marks_up_to : ℕ → List Bool → List Bool
+marks_up_to count marks = take count marks ++ replicate (length marks - length (take count marks)) false
 
 -- Half of the way: of a vehicle's requests so far those of `new` are kept, and lead to the state
 -- `held`. So many events with a position are still to come.
@@ -94,7 +94,7 @@ pub record IsShort (from : ℕ) (old : List Request) (way : Way) : Type 0 where
 pub record IsPath (from : ℕ) (old rest : List Request) (way : Way) : Type 0 where
   pub last : way.last ≡ last_time (old ++ rest)
   pub positions : way.positions ≡ position_count rest
-  pub told : way.told ≡ 0
+  pub next : way.next ≡ 0
   pub count : length way.marks ≡ length old
   pub held : way.held ≡ state_of old
   pub thinned : IsThinned from way.last way.positions old (kept_of way.marks old) way.held
@@ -118,5 +118,5 @@ pub record IsKept (from : ℕ) (requests : List Request) (marks : List Bool) : T
 pub record IsMarked (from : ℕ) (marks : List Bool) (old rest : List Request) (way : Way)
     : Type 0 where
   pub kept : IsKept from (old ++ rest) way.marks
-  pub told : way.told ≡ length old
+  pub next : way.next ≡ length old
   pub ours : marks ≡ take (length old) way.marks

@@ -9,7 +9,7 @@ use mds_core::{Key, Request};
 pub struct Front {
     key: Key,
     events: usize,
-    told: usize,
+    next: usize,
 }
 
 impl Front {
@@ -22,7 +22,7 @@ impl Front {
         Front {
             key,
             events,
-            told: 0,
+            next: 0,
         }
     }
 
@@ -36,8 +36,8 @@ impl Front {
         if *request.key() != self.key {
             return true;
         }
-        let mark = self.told <= self.events;
-        self.told = self.told.saturating_add(1);
+        let mark = self.next <= self.events;
+        self.next = self.next.saturating_add(1);
         mark
     }
 }

@@ -34,7 +34,7 @@ pub struct Path {
     /// Where a loop may be closed: states that were held since the last request that stays for good, in order, each once.
     visits: Vec<Visit>,
     /// How many marks were told.
-    told: usize,
+    next: usize,
 }
 
 impl Model for Path {
@@ -48,13 +48,13 @@ impl Model for Path {
       held = path.held;
       marks = path.marks.items;
       visits = path.visits.items;
-      told = path.told;
+      next = path.next;
     } };
 }
 
 impl Path {
     ghost use Rattle.mds_compact.specs.declared.path.Visit.{Visit as Visited};
-    ghost use Rattle.mds_compact.specs.Path.{way_to, stood, cleared, IsPath, IsMarked};
+    ghost use Rattle.mds_compact.specs.Path.{way_to, way_at, marks_up_to, IsPath, IsMarked};
 
     /// The way of a vehicle of which no request has come.
     ///
@@ -75,7 +75,7 @@ impl Path {
             held: State::Removed,
             marks: Vec::new(alloc),
             visits,
-            told: 0,
+            next: 0,
         })
     }
 
@@ -148,7 +148,7 @@ impl Path {
     /// Keeps the next request, which leads to the state. The visits behind the first `place` go, and this is one.
     fn keep(&mut self, place: usize, state: State) -> Result<(), AllocError>
         ensures { OnOk result
-            (self.new ≡ stood place state (self.old.marks ++ true ∷ []) self.old) }
+            (self.new ≡ way_at place state (self.old.marks ++ true ∷ []) self.old) }
     {
         self.marks.push(true)?;
         self.stand(place, state)
@@ -160,7 +160,7 @@ impl Path {
         ensures { OnOk result ((visit : Visited)
             → slice_get self.old.visits place ≡ Some visit
             → self.new
-            ≡ stood place visit.state (cleared visit.count self.old.marks ++ false ∷ []) self.old) }
+            ≡ way_at place visit.state (marks_up_to visit.count self.old.marks ++ false ∷ []) self.old) }
     {
         let visit = self.visits[place];
         let count = self.marks.len();
@@ -172,7 +172,7 @@ impl Path {
 
     /// Holds the state, with the visit there behind the first `place` ones.
     fn stand(&mut self, place: usize, state: State) -> Result<(), AllocError>
-        ensures { OnOk result (self.new ≡ stood place state self.old.marks self.old) }
+        ensures { OnOk result (self.new ≡ way_at place state self.old.marks self.old) }
     {
         let count = self.marks.len();
         self.visits.truncate(place);
@@ -187,11 +187,11 @@ impl Path {
             → IsMarked from marks old (request ∷ rest) self.old
             → IsMarked from (marks ++ result ∷ []) (old ++ request ∷ []) rest self.new }
     {
-        if self.told >= self.marks.len() {
+        if self.next >= self.marks.len() {
             return false;
         }
-        let mark = self.marks[self.told];
-        self.told += 1;
+        let mark = self.marks[self.next];
+        self.next += 1;
         mark
     }
 }

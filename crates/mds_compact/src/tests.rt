@@ -193,7 +193,11 @@ fn nothing_is_left_out_of_nothing(rt: HostRuntime) {
 }
 
 /// The survey of a history.
-fn surveyed(alloc: Global, hasher: RandomState, history: &[Request]) -> Result<Survey, AllocError> {
+fn survey_of(
+    alloc: Global,
+    hasher: RandomState,
+    history: &[Request],
+) -> Result<Survey, AllocError> {
     let mut survey = Survey::open(alloc, hasher);
     for request in history {
         survey.note(request)?;
@@ -202,7 +206,7 @@ fn surveyed(alloc: Global, hasher: RandomState, history: &[Request]) -> Result<S
 }
 
 /// The thinning of a history, of which no event is recent but for its time's being the last.
-fn thinned(survey: Survey, history: &[Request]) -> Result<Thinning, AllocError> {
+fn thinning_of(survey: Survey, history: &[Request]) -> Result<Thinning, AllocError> {
     let mut thinning = Thinning::open(survey, 10);
     for request in history {
         thinning.take(request)?;
@@ -219,8 +223,8 @@ fn passes_mark<R: RandomSource>(
 ) -> Result<bool, Lack> {
     let hasher = RandomState::new(rt).map_err(|_| Lack::Means)?;
     let history = history_of(alloc, asked)?;
-    let survey = surveyed(alloc, hasher, &history)?;
-    let mut marking = Marking::open(thinned(survey, &history)?);
+    let survey = survey_of(alloc, hasher, &history)?;
+    let mut marking = Marking::open(thinning_of(survey, &history)?);
     for (request, want) in history.iter().zip(wanted) {
         if marking.next_mark(request) != *want {
             return Ok(false);

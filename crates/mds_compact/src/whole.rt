@@ -28,12 +28,12 @@ pub fn compaction(
     ensures thin { IfOk result (λ marks. (tables : Tables) → IsLawful tables history.now
         → IsThin from history.now (kept_of marks.items history.now)) }
 {
-    let survey = surveyed(alloc, history, hasher)?;
-    let thinning = thinned(survey, history, from)?;
-    marked(alloc, thinning, history)
+    let survey = survey_of(alloc, history, hasher)?;
+    let thinning = thinning_of(survey, history, from)?;
+    marks_of(alloc, thinning, history)
 }
 
-fn surveyed(alloc: Global, history: &[Request], hasher: RandomState) -> Result<Survey, AllocError>
+fn survey_of(alloc: Global, history: &[Request], hasher: RandomState) -> Result<Survey, AllocError>
     ensures { IfOk result (IsSurveyOf history.now) }
 {
     let mut survey = Survey::open(alloc, hasher);
@@ -43,7 +43,7 @@ fn surveyed(alloc: Global, history: &[Request], hasher: RandomState) -> Result<S
     Ok(survey)
 }
 
-fn thinned(survey: Survey, history: &[Request], from: u64) -> Result<Thinning, AllocError>
+fn thinning_of(survey: Survey, history: &[Request], from: u64) -> Result<Thinning, AllocError>
     ensures { IfOk result (λ thinning.
         IsSurveyOf history.now survey → IsThinningOf from history.now [] thinning) }
 {
@@ -54,7 +54,7 @@ fn thinned(survey: Survey, history: &[Request], from: u64) -> Result<Thinning, A
     Ok(thinning)
 }
 
-fn marked(alloc: Global, thinning: Thinning, history: &[Request]) -> Result<Vec<bool>, AllocError>
+fn marks_of(alloc: Global, thinning: Thinning, history: &[Request]) -> Result<Vec<bool>, AllocError>
     ensures count { IfOk result (λ marks. length marks.items ≡ length history.now) }
     ensures compaction { IfOk result (λ marks. (from : ℕ)
         → IsThinningOf from history.now [] thinning

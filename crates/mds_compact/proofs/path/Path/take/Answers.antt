@@ -3,7 +3,7 @@ use Rattle.std.proofs.lemmas.Result.{on_ok_weaker}
 use Rattle.mds_core.specs.declared.request.Request.TheVariants.{Report}
 use Rattle.mds_compact.specs.Compaction.{has_to_stay}
 use Rattle.mds_table.specs.declared.state.State.{State}
-use Rattle.mds_compact.specs.Path.{Way, IsPath, stood}
+use Rattle.mds_compact.specs.Path.{Way, IsPath, way_at}
 use Rattle.mds_compact.proofs.Visits.{is_at}
 use Rattle.mds_compact.proofs.Taken.{none_taken, is_last, event_kept, event_new, event_old}
 use Rattle.mds_compact.proofs.path.Path.take.Goals as goal
@@ -13,7 +13,7 @@ pub returns-in_default : goal.returns-in_default
 returns-in_default c = on_ok_weaker c.keep.result (λ stands old rest is.
     let way = c.args.self.now in
     let P : Way → Type 0 = λ one. IsPath c.args.from (old ++ c.args.request.now ∷ []) rest one in
-    let Q : State → Type 0 = λ state. IsPath c.args.from (old ++ c.args.request.now ∷ []) rest (stood 0 state (way.marks ++ true ∷ []) way) in
+    let Q : State → Type 0 = λ state. IsPath c.args.from (old ++ c.args.request.now ∷ []) rest (way_at 0 state (way.marks ++ true ∷ []) way) in
     let held = ap (λ (one : Way). one.held) c.self.view_is in
     subst P (sym stands) (subst Q (sym held) (none_taken c.args.from old rest c.args.request.now way c.in_default.ensures is))) c.keep.ensures
 
@@ -44,4 +44,4 @@ returns-in-None c = on_ok_weaker c.keep-in-None.result (λ stands old rest is.
     c.state-in-None.ensures (sym c.count_down-is_last_position.ensures.last ∙ c.if-is_last_position.false)
     (ap (λ last. has_to_stay c.args.from last (Report c.in-Some.event.now)) (sym (ap (λ (one : Way). one.last) c.self-2.view_is)) ∙ sym c.has_to_stay.ensures ∙ c.if-has_to_stay.false)
     (sym (c.in-None.ensures ∙ ap (λ state. position (is_at state) now.visits) c.state-2.ensures))
-    (stands ∙ ap (λ place. stood place c.state-in-None.result (now.marks ++ true ∷ []) now) (c.len-place.ensures ∙ c.self-in-None.inside.visits.ok.0 ∙ ap (λ (one : Way). length one.visits) c.self-in-None.view_is))) c.keep-in-None.ensures
+    (stands ∙ ap (λ place. way_at place c.state-in-None.result (now.marks ++ true ∷ []) now) (c.len-place.ensures ∙ c.self-in-None.inside.visits.ok.0 ∙ ap (λ (one : Way). length one.visits) c.self-in-None.view_is))) c.keep-in-None.ensures

@@ -3,7 +3,7 @@ use Rattle.std.proofs.lemmas.List.{take_all, drop_all}
 use Rattle.mds_core.specs.declared.request.Request.{Request}
 use Rattle.mds_compact.specs.Passes.{IsThinningOf}
 use Rattle.mds_compact.proofs.Items.{next_item}
-use Rattle.mds_compact.proofs.whole.thinned.Goals as goal
+use Rattle.mds_compact.proofs.whole.thinning_of.Goals as goal
 
 pub loop-request-preserved : goal.loop-request-preserved
 loop-request-preserved c = λ survey.

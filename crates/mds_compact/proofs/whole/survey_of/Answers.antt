@@ -4,7 +4,7 @@ use Rattle.std.proofs.lemmas.List.{take_all}
 use Rattle.mds_core.specs.declared.request.Request.{Request}
 use Rattle.mds_compact.specs.Passes.{IsSurveyOf}
 use Rattle.mds_compact.proofs.Items.{next_item}
-use Rattle.mds_compact.proofs.whole.surveyed.Goals as goal
+use Rattle.mds_compact.proofs.whole.survey_of.Goals as goal
 
 pub loop-request-preserved : goal.loop-request-preserved
 loop-request-preserved c =
