@@ -46,7 +46,8 @@ abbrev pub VehiclesStandAlike : Type 0
 VehiclesStandAlike =
     (tables : Tables) (from : ℕ) (old new : List Request) (key : Key)
     → IsLawful tables old → IsCompaction from old new
-    → option_map without_count (standing_in new key) ≡ option_map without_count (standing_in old key)
+    → option_map without_count (standing_in new key)
+    ≡ option_map without_count (standing_in old key)
 
 -- a request has the same outcome after both, unless it reports an event whose identifier was left
 -- out

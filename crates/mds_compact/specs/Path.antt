@@ -50,7 +50,8 @@ way_at place state marks way = record {
 
 -- the marks, with those behind the first so many turned to false
 abbrev pub marks_up_to : ℕ → List Bool → List Bool
-marks_up_to count marks = take count marks ++ replicate (length marks - length (take count marks)) false
+marks_up_to count marks =
+    take count marks ++ replicate (length marks - length (take count marks)) false
 
 -- Half of the way: of a vehicle's requests so far those of `new` are kept, and lead to the state
 -- `held`. So many events with a position are still to come.
