@@ -12,6 +12,7 @@ PASSED_ON = {
     "mds_commands/print.rt": {"add_table": ["table.rows"]},
     "mds_commands/problem.rt": {"tell_whole": ["writeln!"]},
     "mds_commands/vehicles/problem.rt": {"tell_fault": ["writeln!"]},
+    "mds_compact/survey.rt": {"Survey::note": ["self.paths.insert"]},
     "mds_face/asking.rt": {"ask_one": ["desk.call"], "ask_all": ["ask_one"]},
     "mds_face/connection.rt": {"answer": ["find", "answer_bytes"]},
     "mds_face/kept_desk.rt": {"answer_kept": ["find", "answer_bytes"]},

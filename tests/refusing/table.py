@@ -18,6 +18,8 @@ TESTED = {
     ("mds_core", "test_rules", "fleet_calls_succeed_after_a_refused_growth"): ["Fleet::step", "Fleet::events", "run"],
     ("mds_core", "test_rules", "a_list_of_events_grows_after_a_refused_growth"): ["EventList::with_room", "EventList::push"],
     ("mds_past", "test_shards", "a_packed_past_takes_events_after_a_refused_growth"): ["Past::reserve"],
+    ("mds_compact", "mds_compact", "a_history_is_compacted_after_a_refused_growth"): ["compaction"],
+    ("mds_compact", "mds_compact", "passes_are_begun_anew_after_a_refused_growth"): ["Survey::note", "Thinning::take"],
     ("mds_shard", "test_shards", "step_succeeds_after_a_refused_growth"): ["Shard::step", "Shard::events"],
     ("mds_commands", "test_replays", "a_roster_takes_after_a_refused_growth"): ["Roster::take"],
     ("mds_book", "test_books", "calls_succeed_after_a_refused_growth"): [

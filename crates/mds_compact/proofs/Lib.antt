@@ -1,0 +1,15 @@
+pub mod Held
+pub mod Cuts
+pub mod Alike
+pub mod Goes
+pub mod Codes
+pub mod Fronts
+pub mod Kept
+pub mod Thinned
+pub mod Visits
+pub mod Short
+pub mod Steps
+pub mod Taken
+pub mod Passes
+pub mod Items
+pub mod Marks
