@@ -1,6 +1,8 @@
 use Rattle.std.proofs.Common.{◌≡◌, ℕ, ap, subst, sym, slice_set}
+use Rattle.mds_table.specs.Tables.{Tables}
 use Rattle.mds_book.specs.Books.{Opened}
 use Rattle.mds_pool.specs.Serving.{AreWorkers}
+use Rattle.mds_follow.specs.Reading.{IsStartFault}
 use Rattle.mds_follow.proofs.Blanks.{keeps_all, untouched_self}
 use Rattle.mds_pool.proofs.EndLemmas.{first_resumed, resumed}
 use Rattle.mds_pool.proofs.recorded_book.RecordedBook+Disk+D+L+M+J.open.Goals as goal
@@ -22,3 +24,9 @@ returns-in-Err-clause-any_moment_err g c =
     rw c.into_device.ensures (λ truth.
     keeps_all g.D.Device.seen g.D.Device.may_leave g.D.Device.moment g.D.Device.left_since device device (c.requires.at_first.reading.read truth).durable ((g.met.D.Device g.world.𝓛 g.world.𝓜 g.world.𝓡 ((λ s x. x), (λ x. x), (λ x. x), λ x. x)).only_now device)
     (untouched_self g.D.Device.seen g.D.Device.may_leave g.D.Device.moment g.D.Device.left_since device))
+
+-- the tables of the book are those that it was opened with
+pub returns-in-Err-resume-clause-fault : goal.returns-in-Err-resume-clause-fault
+returns-in-Err-resume-clause-fault g c truth =
+    let Fault : Tables → Type 0 = λ w. IsStartFault w (g.D.Device.seen c.args.reader.opening.device) c.in-Err-resume.error.0 in
+    subst Fault (ap (λ (b : Opened). b.tables) c.in-Ok.ensures.book) (c.in-Err-resume.ensures.fault truth)
