@@ -2,7 +2,7 @@
 ghost use Rattle.std.specs.Prelude.{◌≡◌};
 
 use mds_journal::{JournalFault, StreamError};
-use std::alloc::AllocError;
+use std::alloc::{AllocError, AllocFailed};
 
 /// Why the requests of a journal can't be read.
 #[derive(Clone, Copy, Debug, PartialEq, Eq)]
@@ -21,6 +21,16 @@ impl From<AllocError> for LinesError {
     ghost from_gives = { λ _ error. error ≡ Memory };
 
     fn from(_refused: AllocError) -> LinesError {
+        LinesError::Memory
+    }
+}
+
+impl<T: Drop> From<AllocFailed<T>> for LinesError {
+    ghost use Rattle.mds_retention.specs.declared.error.LinesError.TheVariants.{Memory};
+
+    ghost from_gives = { λ _ error. error ≡ Memory };
+
+    fn from(_refused: AllocFailed<T>) -> LinesError {
         LinesError::Memory
     }
 }

@@ -21,7 +21,7 @@ pub struct RequestLines<R: Read> {
     line: Vec<u8>,
 }
 
-impl<R: Read> RequestLines<R> {
+impl<R: Read + Drop> RequestLines<R> {
     ghost use Rattle.mds_retention.specs.Lines.{AreLines, left_of, number_of};
 
     /// The requests of what a reader gives, once its first line was read.
