@@ -1,13 +1,16 @@
-"""What `backup` and `restore` share: a server over HTTP, the file that goes between them, their progress, and their ends.
+"""What `backup`, `restore` and `list` share: a server over HTTP, how a file is put in its place, the file that goes between the
+first two, their progress, and their ends.
 
-The file is text, a value of JSON a line. The first line is HEAD. Then each vehicle has a line: its identifiers, and its
+That file is text, a value of JSON a line. The first line is HEAD. Then each vehicle has a line: its identifiers, and its
 accepted events as the server gives them. The last line counts vehicles and events, so a file that was cut short is found."""
 
+import contextlib
 import http.client
 import json
 import os
 import ssl
 import sys
+import tempfile
 import time
 import urllib.parse
 import uuid
@@ -23,6 +26,8 @@ STATUSES = """exit statuses:
 HEAD = {"format": "mds_city vehicles 1"}
 MAX_ITEMS, MAX_BYTES = 10000, 4194304
 """The server's limits of a batch."""
+WANTED = ("timestamp", "vehicle_state")
+"""The members of an event from which follows how its vehicle stands behind it."""
 SECONDS = 120
 """How long an answer may be waited for."""
 OFTEN, SELDOM = 0.5, 10.0
@@ -202,7 +207,7 @@ def line_of(path, file):
 
 
 def checked(path, at, value):
-    """A vehicle of a file, whose events are its own."""
+    """A vehicle of a file, whose events are its own, and have what tells how it stands."""
     key = [value.get("provider_id"), value.get("device_id")]
     events = value.get("events")
     if not all(isinstance(part, str) for part in key) or not isinstance(events, list):
@@ -210,6 +215,9 @@ def checked(path, at, value):
     for event in events:
         if not isinstance(event, dict) or [event.get("provider_id"), event.get("device_id")] != key:
             raise Fault(BAD_FILE, f"{path}: line {at + 2} has an event that isn't its vehicle's")
+        lacking = [name for name in WANTED if name not in event]
+        if lacking:
+            raise Fault(BAD_FILE, f"{path}: line {at + 2} has an event without {lacking[0]}")
     return value
 
 
@@ -246,6 +254,37 @@ def key_of(path, where, words):
         return provider, device
     except (ValueError, AttributeError, TypeError):
         raise Fault(BAD_FILE, f"{path}: {where} isn't a provider's and a device's UUID") from None
+
+
+def put(part, path):
+    """Puts a synced part in the place of the file, and has that on the disk."""
+    folder = os.open(os.path.dirname(path) or os.curdir, os.O_RDONLY)
+    try:
+        os.replace(part, path)
+        os.fsync(folder)
+    finally:
+        os.close(folder)
+
+
+def save(path, write, mode=0o600):
+    """Has a file written to a part of this run's own beside it, and puts that in place once it is whole and synced. So a file
+    that is there is a whole one. Where the run fails, its part is removed."""
+    folder, name = os.path.split(path)
+    try:
+        number, part = tempfile.mkstemp(suffix=".part", prefix=f"{name}.", dir=folder or os.curdir)
+        try:
+            with open(number, "w", encoding="utf-8") as file:
+                write(file)
+                file.flush()
+                os.fchmod(file.fileno(), mode)
+                os.fsync(file.fileno())
+            put(part, path)
+        except BaseException:
+            with contextlib.suppress(OSError):
+                os.remove(part)
+            raise
+    except OSError as fault:
+        raise Fault(BAD_FILE, f"{path}: {fault.strerror}") from None
 
 
 class Progress:

@@ -17,9 +17,9 @@ PICTURE = ROOT / "tools/picture"
 PICTURES = ROOT / "docs/pictures"
 NAMESPACE = "{http://www.w3.org/2000/svg}"
 SHOWN_IN = {"request.svg": "docs/contracts.md", "shards.svg": "docs/model.md"}
-SHOWN_IN |= dict.fromkeys(("profile.svg", "life.svg"), "README.md docs/model.md")
+SHOWN_IN |= {"profile.svg": "docs/model.md", "life.svg": "README.md", "crash.svg": "docs/disk.md"}
 """The pictures, and the documents that show them."""
-SOURCES = {"life.dot"}
+SOURCES = {"life.dot", "crash.dot"}
 """What pictures are made of."""
 SECONDS = 300
 LETTER, ABOVE, BELOW = 0.605, 0.8, 0.25
@@ -51,6 +51,8 @@ LIFE = ["removed", "available", "reserved", "on_trip", "non_operational"]
 """The states of a vehicle's everyday life."""
 LABEL = r"\[label=<<table [^>]*><tr><td [^>]*>(.*)</td></tr></table>>\]"
 EDGE = re.compile(rf"^  (\w+)(?::\w+)? -> (\w+)(?::\w+)?\n    {LABEL}$", re.M)
+SIGNS = {"␣": " ", "⏎": "\n", "\xa0": " "}
+"""The signs of the bytes of a file, in the picture of a crash."""
 STEPS = 40
 """In how many pieces each curve of an arrow is looked at."""
 
@@ -337,6 +339,33 @@ def graph_as_it_is_laid_out(_):
     yield from graph_amiss(ElementTree.fromstring(ran.stdout))
 
 
+def lines_told(file):
+    """The texts of a journal's lines that count: those up to the first gate that isn't open."""
+    whole = file.split("\n")[:-1]
+    return [line[1:] for line in takewhile(lambda line: line.startswith(" "), whole)]
+
+
+def bytes_shown(node):
+    """The bytes of the file that a node of the picture of a crash shows in its last line."""
+    texts = list(node.iter(f"{NAMESPACE}text"))
+    lowest = max(float(it.get("y")) for it in texts)
+    shown = "".join(it.text for it in texts if float(it.get("y")) == lowest)
+    return "".join(SIGNS.get(sign, sign) for sign in shown)
+
+
+def graph_of_a_crash(_):
+    """Of each file that the picture of a crash shows, the lines that count are among those that a crash leaves."""
+    nodes = groups_in(ElementTree.parse(PICTURES / "crash.svg").getroot(), "node")
+    files = {name: node for name, node in nodes.items() if f"left_{name}" in nodes}
+    if len(files) != 5:
+        yield f"files {sorted(files)}"
+    for name, node in files.items():
+        left = [it.text.removeprefix("or: ") for it in nodes[f"left_{name}"].iter(f"{NAMESPACE}text")]
+        told = ", ".join(lines_told(bytes_shown(node)))
+        if told not in left:
+            yield f"{name}: the lines {told}, and a crash leaves {left}"
+
+
 PICTURED = [
     picture_of_the_profile,
     pictures_of_large_tables,
@@ -345,4 +374,5 @@ PICTURED = [
     pictures_of_the_documents,
     graph_of_the_everyday_life,
     graph_as_it_is_laid_out,
+    graph_of_a_crash,
 ]

@@ -31,7 +31,9 @@ MOST_BEHIND = 16 << 20
 """Bytes behind the lines that count: a group has no more."""
 LARGE = 2 << 30
 MANY = 2500
-"""Lines of two pieces, the second of which a start reads while it asks the first."""
+"""Lines of three pieces, each of which a start reads while it asks the one before it."""
+AMID = (100, 500, 900)
+"""Places in the first piece, each of which is read by another thread."""
 REGISTERED = journal(registered(DEVICE))
 DROPPED = event(DEVICE, "0", "provider_drop_off", "available", 1000)
 WAKE = event(DEVICE, "0", "wake", "available", 1000)
@@ -187,6 +189,9 @@ def files_that_are_none(program):
         (journal(*many, many[0]), f"refused {MANY + 1}"),
         (journal(*many, "{}"), f"bad_line {MANY + 1}"),
         (journal(*many, LONG), f"too_long {MANY + 1}"),
+        *((journal(*many[:at], "{}", *many[at:]), f"bad_line {at + 1}") for at in AMID),
+        *((journal(*many[:at], "{}", *many[at:], "{}"), f"bad_line {at + 1}") for at in AMID),
+        *((journal(*many[: AMID[0]], many[0], *many[AMID[0] : at], "{}"), f"refused {AMID[0] + 1}") for at in AMID[1:]),
     ):
         yield from refused(program, text.encode(), not_a_journal(fault))
     yield from refused(program, journal(new, DROPPED).encode(), not_a_journal("refused 2"), table=ONE_ROW)

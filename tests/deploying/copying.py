@@ -266,6 +266,22 @@ def changed_files(whole):
     yield whole.replace(b'"events":[{', b'"events":[7,{', 1), "an event that isn't its vehicle's"
 
 
+def events_that_lack_a_member(program):
+    """Of a file with an event that lacks its time, or its state, nothing is sent: one line tells which."""
+    owner, listed = next(fleet(1, 2))
+    head, nowhere = compact(module("vehicles.py").HEAD), "http://127.0.0.1:1"
+    for lacking in ("timestamp", "vehicle_state"):
+        for at in range(len(listed)):
+            events = [{name: it[name] for name in it if (number, name) != (at, lacking)} for number, it in enumerate(listed)]
+            counts = compact({"vehicles": 1, "events": len(listed)})
+            with Files() as files:
+                lines = [head, compact({**owner, "events": events}), counts, ""]
+                path = files.path("lacking", "\n".join(lines))
+                status, told = run("restore", nowhere, path)
+                if (status, told) != (3, f"restore: {path}: line 2 has an event without {lacking}\n"):
+                    yield f"event {at} without {lacking}: status {status}, {told!r}"
+
+
 def files_cut_short(program):
     """Of a file that isn't whole nothing is sent."""
     vehicles = list(fleet(4, 3))
@@ -485,6 +501,7 @@ COPYING = [
     no_server,
     server_that_ends,
     files_cut_short,
+    events_that_lack_a_member,
     another_history,
     words,
     not_this_server,

@@ -15,7 +15,7 @@ from harness.counting import ROOT, Unwell
 from model.json_text import compact
 
 PAGE = ROOT / "deploy/page/index.html"
-OF_PROXIES = {"unauthorized", "forbidden", "unavailable"}
+OF_PROXIES = {"unauthorized", "forbidden", "too_many_requests", "unavailable"}
 """The refusals that nginx.conf has of its own, beside `too_long`."""
 UNCERTAIN = {"out_of_memory", "not_kept", "unavailable"}
 """The refusals of a whole request of which items may have been accepted."""
@@ -23,11 +23,13 @@ ENTER = ("Enter", 13, "\r")
 TAB = ("Tab", 9)
 LOOKED_AT, UNKNOWN, TRIED = (vehicle(PROVIDERS[0], number) for number in (900, 901, 902))
 EVENTS, AT_ONCE = 250, 200
-"""How many events a vehicle has, and how many of them the page shows at first."""
+"""How many events a vehicle has, and how many of them the page shows at first, as of vehicles."""
+LISTED_AT = 1772368215000
+"""2026-03-01 12:30:15 UTC, in milliseconds."""
 HOSTILE = "<img src=x onerror=\"document.title='marked'\"><script>document.title='marked'</script>"
 UNWANTED = re.compile(r"innerHTML|outerHTML|insertAdjacent|document\.write|\beval\(|src=|<link|@import|Storage|cookie")
 """What reads text as markup, loads another file, or keeps something."""
-FOCUSED = ["token", "in-milliseconds", "provider", "device", "vehicle-form", "time", "table-form", "route", "body", "batch-form"]
+FOCUSED = ["token", "in-milliseconds", "listed", "list-form", "provider", "device", "vehicle-form", "time", "table-form", "route", "body", "batch-form"]
 """Where the focus goes, in this order: fields by their own names, the buttons of forms by those of the forms."""
 MATRIX = "Types of events that lead from the state in the row to the state in the column"
 NO_TIME = "The time has to be a date in UTC from 1970 on, such as 2026-03-01 12:30, or a number of milliseconds."
@@ -120,6 +122,11 @@ def submit(page, part):
     page.run(f"document.querySelector('#{part}-form button').focus()")
     page.run(f"document.getElementById('{part}-status').textContent = ''")
     page.press(*ENTER)
+    return status_of(page, part)
+
+
+def status_of(page, part):
+    """What the status of a form says, once there is an answer."""
     status = f"document.getElementById('{part}-status').innerText"
     return page.wait(f"!['', 'Waiting for the answer.'].includes({status}) && {status}")
 
@@ -193,6 +200,68 @@ def a_vehicle(city):
         yield from unlike("lanes", count_of(page, "#line svg .lane"), len({one["vehicle_state"] for one in events}))
         page.run("document.getElementById('earlier').click()")
     yield from unlike("earlier ones", page.run("document.getElementById('earlier').hidden"), True)
+    yield from faults_of(page)
+
+
+def all_vehicles(city):
+    """The list of a provider's vehicles: the longest silent first, those of a state alone where that is chosen, so many at first,
+    and when it was made. A vehicle's button looks at it."""
+    page, vehicles = city.page(), list(listed_vehicles())
+    (city.lists / "one.json").write_text(json.dumps({"time": LISTED_AT, "vehicles": vehicles}))
+    there_is(city, TRIED)
+    fill_in(page, token=CITY, listed=f" {PROVIDERS[0]} ")
+    told = f"Vehicles: {len(vehicles)}, as of 2026-03-01 12:30:15 UTC ({LISTED_AT} ms)."
+    yield from unlike("the status", submit(page, "list"), told)
+    states = sorted({it["vehicle_state"] for it in vehicles})
+    of_state = lambda state: [it for it in vehicles if it["vehicle_state"] == state]
+    options = [f"all: {len(vehicles)}", *(f"{state}: {len(of_state(state))}" for state in states)]
+    yield from unlike("states", page.run("[...document.getElementById('state').options].map((it) => it.text)"), options)
+    for count in (AT_ONCE, len(vehicles)):
+        yield from listed_as(page, vehicles[::-1][:count], len(vehicles))
+        page.run("document.getElementById('more').click()")
+    yield from unlike("more", page.run("document.getElementById('more').hidden"), True)
+    for state in states:
+        page.run(f"state.value = {json.dumps(state)}, state.dispatchEvent(new Event('change')), true")
+        yield from listed_as(page, of_state(state)[::-1][:AT_ONCE], len(of_state(state)))
+    page.run("state.value = '', state.dispatchEvent(new Event('change')), true")
+    page.run("document.querySelector('#vehicles button').click()")
+    yield from unlike("the vehicle", status_of(page, "vehicle"), "State held: removed. Accepted events: 0.")
+    yield from faults_of(page)
+
+
+def listed_vehicles():
+    """More vehicles than are shown at first, the longest silent last: one without an event, which the server has, too."""
+    for number in range(AT_ONCE + 50, 0, -1):
+        where = {"lat": 525000000 + number, "lng": -number} if number % 2 else None
+        standing = {"events": number, "last": 1000 * number, "location_e7": where, "vehicle_state": STATES[number % 3]}
+        yield {**vehicle(PROVIDERS[0], 2000 + number), **standing}
+    yield {**TRIED, "events": 0, "last": None, "location_e7": None, "vehicle_state": "removed"}
+
+
+def listed_as(page, vehicles, total):
+    """What is wrong with the vehicles that are shown, of so many that hold the state."""
+    time = lambda it: "none" if it["last"] is None else date_of({"timestamp": it["last"]})
+    row = lambda it: [it["device_id"], it["vehicle_state"], time(it), str(it["events"]), position_of(it)]
+    yield from unlike("the vehicles", rows_of(page, "vehicles"), [row(it) for it in vehicles])
+    counts = f"{len(vehicles)} of {total}" if len(vehicles) < total else str(total)
+    found = page.run("document.getElementById('list-caption').textContent")
+    yield from unlike("the caption", found, f"Vehicles, the longest silent first: {counts}")
+
+
+def lists_that_are_not_there(city):
+    """A list that isn't made yet, another provider's, and no UUID: what that means."""
+    page = city.page()
+    for token, provider, told in (
+        (TOKENS[2], PROVIDERS[1], "Status 503, unavailable: "),
+        (TOKENS[2], PROVIDERS[0], "Status 403, forbidden: "),
+        (CITY, "x", "Status 403, forbidden: "),
+        ("", PROVIDERS[0], "Status 401, unauthorized: "),
+        (CITY, "..", "Neither . nor .. can be a part of a path: "),
+    ):
+        fill_in(page, token=token, listed=provider)
+        found = submit(page, "list")
+        if not found.startswith(told) or rows_of(page, "vehicles") is not None:
+            yield f"{provider}: {found}, in place of {told}"
     yield from faults_of(page)
 
 
@@ -394,7 +463,7 @@ def answers_without_words(city):
     """Answers that name no refusal: of a 503 without a body the page says that items may have been accepted, of others only the
     status."""
     page = city.page()
-    fill_in(page, provider=PROVIDERS[0], device=UNKNOWN["device_id"], body="[]")
+    fill_in(page, listed=PROVIDERS[0], provider=PROVIDERS[0], device=UNKNOWN["device_id"], body="[]")
     for status, text, told in (
         (503, "", "Status 503: There was no memory. Items may have been accepted. Send it again."),
         (503, "<html>", "Status 503, without a reason."),
@@ -402,7 +471,7 @@ def answers_without_words(city):
         (200, "", "Status 200, without a reason."),
     ):
         answering_text(page, status, text)
-        for part in ("vehicle", "table", "batch"):
+        for part in ("list", "vehicle", "table", "batch"):
             yield from unlike(f"{status} {text!r} to the {part}", submit(page, part), told)
     yield from faults_of(page)
 
@@ -424,6 +493,11 @@ def hostile_texts(city):
     submit(page, "table")
     yield from unlike("rows", rows_of(page, "rows"), [[HOSTILE] * 3])
     yield from matrix_of(page, [{"from": HOSTILE, "to": HOSTILE, "type": HOSTILE}], [HOSTILE])
+    of_one = {**vehicle(PROVIDERS[0], 1), "vehicle_state": HOSTILE, "last": 1, "events": 1, "location_e7": None}
+    answering(page, 200, {"time": 1, "vehicles": [{**of_one, "device_id": HOSTILE}]})
+    fill_in(page, listed=HOSTILE)
+    submit(page, "list")
+    yield from unlike("the list", rows_of(page, "vehicles")[0][:2], [HOSTILE, HOSTILE])
     one = {"event_id": HOSTILE, "event_types": [HOSTILE], "location_e7": None, "timestamp": 10**16, "vehicle_state": HOSTILE}
     answering(page, 200, {"vehicle_state": HOSTILE, "events": [one], "last": 1, "location_e7": None})
     if HOSTILE not in submit(page, "vehicle") or HOSTILE not in dict(rows_of(page, "standing"))["State held"]:
@@ -452,9 +526,10 @@ def by_keyboard(city):
     for link in links:
         if count_of(page, f"section{link}[aria-labelledby]") != 1:
             yield f"{link} leads nowhere"
-    fill_in(page, token=TOKENS[1], provider=PROVIDERS[0], device=LOOKED_AT["device_id"], body="[]")
+    fill_in(page, token=TOKENS[1], listed=PROVIDERS[0], provider=PROVIDERS[0], device=LOOKED_AT["device_id"], body="[]")
     there_is(city, LOOKED_AT, list(short_events(LOOKED_AT, EVENTS)))
-    for part in ("vehicle", "table", "batch"):
+    (city.lists / "one.json").write_text(json.dumps({"time": LISTED_AT, "vehicles": list(listed_vehicles())}))
+    for part in ("list", "vehicle", "table", "batch"):
         submit(page, part)
     yield from heard(page.ask("Accessibility.getFullAXTree")["nodes"])
 
@@ -465,13 +540,13 @@ def heard(nodes):
     for node in nodes:
         if not node["ignored"]:
             named.setdefault(node["role"]["value"], []).append(node.get("name", {}).get("value", ""))
-    wanted = {"textbox": 5, "checkbox": 1, "combobox": 1, "button": 4, "link": 4, "image": 1, "table": 8, "heading": 5, "region": 8}
+    wanted = {"textbox": 6, "checkbox": 1, "combobox": 2, "button": 5, "link": 5, "image": 1, "table": 9, "heading": 6, "region": 9}
     for role, least in wanted.items():
         names = named.get(role, named.get("img", []) if role == "image" else [])
         if len(names) < least or not all(name.strip() for name in names) or len(set(names)) != len(names):
             yield f"{role}: {names}"
     told = [(it["name"], it["value"].get("value")) for node in nodes for it in node.get("properties", ())]
-    if told.count(("live", "polite")) < 3:
+    if told.count(("live", "polite")) < 4:
         yield "the results aren't told"
 
 
@@ -490,6 +565,8 @@ def the_page_itself(city):
 TEXTS = [one_file, meanings]
 SCREENS = [
     the_page_itself,
+    all_vehicles,
+    lists_that_are_not_there,
     a_vehicle,
     times_of_a_vehicle,
     a_vehicle_without_events,

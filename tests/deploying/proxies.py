@@ -1,6 +1,6 @@
 """nginx and haproxy with the files of deploy/, before three servers. Only ports, paths and users are changed in the files, a
-provider, so that there is one with letters, how long a client may pause, since a busy machine may make it do so, and how long
-an old process of nginx goes on."""
+provider, so that there is one with letters, how long a client may pause, since a busy machine may make it do so, how long an old
+process of nginx goes on, and how many reports a second a token may make, where that isn't what is tried."""
 
 import os
 import random
@@ -24,6 +24,8 @@ INSTANCES = ("one", "two", "three")
 EACH, WORKERS = 1000000, 4
 SECONDS = 300
 """How long a proxy may take to listen, an answer to come, and a proxy to end."""
+REPORTS, LONG_REPORTS, FASTER = 10, 1, 1000
+"""How many reports a second a token may make, and how many long ones, by nginx.conf; and by what stands there in most cases."""
 SHUT = 3
 """How long an old process of nginx goes on behind a reload, in place of 60 seconds."""
 STARTS = 3
@@ -130,6 +132,8 @@ class City:
         self.holder = tempfile.TemporaryDirectory()
         self.folder = Path(self.holder.name)
         self.folder.chmod(0o755)
+        self.lists = self.folder / "lists"
+        self.lists.mkdir()
         for left in reversed(range(STARTS)):
             try:
                 self.start()
@@ -154,7 +158,7 @@ class City:
         self.servers, self.proxies = [], []
 
     def start(self):
-        self.port, *inner = free_ports(1 + 2 * len(INSTANCES))
+        self.port, self.figures, *inner = free_ports(2 + 2 * len(INSTANCES))
         self.queues, self.ports = inner[: len(INSTANCES)], inner[len(INSTANCES) :]
         for number in range(len(INSTANCES)):
             self.servers.append(self.server(number))
@@ -166,7 +170,7 @@ class City:
         self.write("haproxy.cfg", self.haproxy())
         self.write("nginx.conf", self.nginx())
         words = [self.paths["haproxy"], "-db", "-f", str(self.folder / "haproxy.cfg")]
-        self.proxies.append(Proxy(words, self.folder, self.queues))
+        self.proxies.append(Proxy(words, self.folder, [*self.queues, self.figures]))
         words = [self.paths["nginx"], "-p", str(self.folder), "-c", str(self.folder / "nginx.conf"), "-g", "daemon off;"]
         self.proxies.append(Proxy(words, self.folder, [self.port]))
         self.trust = ssl.create_default_context(cafile=self.folder / "cert.pem")
@@ -195,12 +199,13 @@ class City:
 
     def haproxy(self):
         changes = {"/etc/mds_city": str(self.folder), "    user haproxy\n    group haproxy\n": ""}
+        changes["127.0.0.1:8100"] = f"127.0.0.1:{self.figures}"
         for number, (queue, port) in enumerate(zip(self.queues, self.ports), 1):
             changes |= {f"127.0.0.1:810{number}": f"127.0.0.1:{queue}", f"127.0.0.1:800{number}": f"127.0.0.1:{port}"}
         return changed("haproxy.cfg", changes)
 
-    def nginx(self, **more):
-        """The text of its file, with these further changes."""
+    def nginx(self, is_limited=False, **more):
+        """The text of its file, with these further changes; `is_limited`: with its limits of reports a second."""
         kept = ("client_body", "proxy", "fastcgi", "uwsgi", "scgi")
         temporary = "".join(f"    {name}_temp_path {self.folder}/{name};\n" for name in kept)
         changes = {
@@ -208,6 +213,7 @@ class City:
             "/run/nginx.pid": f"{self.folder}/nginx.pid",
             "/etc/mds_city": str(self.folder),
             "/var/log/nginx": str(self.folder),
+            "/var/lib/mds_city_lists": str(self.lists),
             "client_body_timeout 10s;": f"client_body_timeout {SECONDS}s;",
             "send_timeout 10s;": f"send_timeout {SECONDS}s;",
             "worker_shutdown_timeout 60s;": f"worker_shutdown_timeout {SHUT}s;",
@@ -217,6 +223,8 @@ class City:
         }
         for number, queue in enumerate(self.queues, 1):
             changes[f"127.0.0.1:810{number}"] = f"127.0.0.1:{queue}"
+        if not is_limited:
+            changes |= {f"rate={rate}r/s": f"rate={FASTER}r/s" for rate in (REPORTS, LONG_REPORTS)}
         return changed("nginx.conf", {**changes, **more})
 
     def connect(self, room=None):

@@ -1,4 +1,4 @@
-"""The unit and the environment file."""
+"""The units and the environment file."""
 
 import json
 import re
@@ -22,33 +22,49 @@ STATE = "/var/lib"
 EACH, VEHICLES, EVENTS = 1000, 20, 10
 
 
-def the_unit(program):
-    """`systemd-analyze` finds nothing wrong with the unit."""
+def unit_names():
+    """The units of deploy/, each by its file."""
+    return sorted(path.name for kind in ("service", "timer") for path in (ROOT / "deploy").glob(f"*.{kind}"))
+
+
+def the_units(program):
+    """`systemd-analyze` finds nothing wrong with the units, nor with the drop-in of a proxy."""
     if not shutil.which("systemd-analyze"):
         raise Skipped("no `systemd-analyze` here")
     with tempfile.TemporaryDirectory() as folder:
-        unit = Path(folder, f"mds_city@{INSTANCE}.service")
-        unit.write_text(changed(NAME, {"/usr/local/bin/mds_city": program}))
-        ran = subprocess.run(["systemd-analyze", "verify", unit], capture_output=True, text=True, timeout=300)
-    if ran.returncode or str(unit.name) in ran.stderr:
+        names = [Path(folder, name.replace("@", f"@{INSTANCE}")) for name in unit_names()]
+        for name, unit in zip(unit_names(), names):
+            text = (ROOT / "deploy" / name).read_text().replace("/usr/local/bin/mds_city", program)
+            unit.write_text(text.replace("/usr/local/lib/mds_city", str(ROOT / "deploy")))
+        proxy = Path(folder, "proxy.service")
+        proxy.write_text("[Service]\nExecStart=/bin/true\n")
+        proxy.with_suffix(".service.d").mkdir()
+        shutil.copy(ROOT / "deploy/memory.conf", proxy.with_suffix(".service.d"))
+        words = ["systemd-analyze", "verify", *names, proxy]
+        ran = subprocess.run(words, capture_output=True, text=True, timeout=300)
+    if ran.returncode or folder in ran.stderr or "mds_city" in ran.stderr or len(names) < 1:
         yield f"status {ran.returncode}: {ran.stdout}{ran.stderr}"
 
 
-def setting(name):
-    """What the unit says of this name, for the instance."""
-    text = changed(NAME, {"\\\n": ""})
+def setting(name, unit=NAME):
+    """What a unit says of this name, for the instance."""
+    text = changed(unit, {}).replace("\\\n", "")
     return re.search(rf"^{name}=(.*)$", text, re.MULTILINE).group(1).replace("%i", INSTANCE)
 
 
-def variables():
-    """What the environment file sets."""
-    return dict(re.findall(r"^([A-Z]+)=(.*)$", (ROOT / "deploy/one.env").read_text(), re.MULTILINE))
+def exec_start(unit, names):
+    """The command that a unit runs for the instance, with these variables."""
+    return re.sub(r"\$\{?([A-Z]+)\}?", lambda found: names[found.group(1)], setting("ExecStart", unit))
+
+
+def variables(name="one.env"):
+    """What an environment file sets."""
+    return dict(re.findall(r"^([A-Z]+)=(.*)$", (ROOT / "deploy" / name).read_text(), re.MULTILINE))
 
 
 def words_of():
     """The words that the unit runs with the environment file, behind the program."""
-    names = variables()
-    return re.sub(r"\$\{?([A-Z]+)\}?", lambda found: names[found.group(1)], setting("ExecStart")).split()[1:]
+    return exec_start(NAME, variables()).split()[1:]
 
 
 def words_of_the_unit(program):
@@ -108,4 +124,4 @@ def a_restart(program):
             yield f"vehicles: {ran.returncode} {ran.stdout[-200:]!r} {ran.stderr!r}"
 
 
-UNITS = [the_unit, words_of_the_unit, folder_of_the_unit, a_restart]
+UNITS = [the_units, words_of_the_unit, folder_of_the_unit, a_restart]

@@ -19,17 +19,20 @@ NAME = re.compile(r"[A-Z][A-Za-z0-9]*[a-z][A-Za-z0-9]*|[a-z0-9]+(?:_[a-z0-9]+)+"
 LINK = re.compile(r"\]\(([^):\s]+)\)")
 HEADING = re.compile(r"^#+ (.*)$", re.M)
 FILE = re.compile(r"(?:bench|crates|deploy|docs|examples|tests|tools)/[\w./*-]+")
-LISTED = re.compile(r"^`(\w+)::laws`:\n\n((?:- .*\n(?:  .*\n)*)+)", re.M)
-LAW = re.compile(r"`([a-z]+(?:_[a-z0-9]+)+)`")
+LINKED = re.compile(r"\[(`[^\]]+`)\]\([^)]*\)")
 MOST_LINES = {"README.md": 180}
 """How long a document may be."""
+TO_READ = re.compile(r"README\.md|docs/[^/]+\.md")
+MOST_WORDS = 26000
+"""How many words README.md and docs/ may have together: what is read in two hours."""
+ROW = re.compile(r"^\|.*$", re.M)
 OF_THE_KIT = {"std"}
 """The first names of paths that aren't this repository's."""
 
 
 def in_one_line(text):
-    """A text without its fenced blocks, and with one space in place of each line's end."""
-    return " ".join(FENCED.sub("", text).split())
+    """A text without its fenced blocks and what links lead to, and with one space in place of each line's end."""
+    return " ".join(LINKED.sub(r"\1", FENCED.sub("", text)).split())
 
 
 def functions_at(path, crates):
@@ -124,12 +127,24 @@ def links_amiss(name, found):
             yield f"a link leads to {target}, and {to} has no such heading"
 
 
-def listing_amiss(text, crates):
-    """What is wrong with a list of all laws, by crates."""
-    listed = {crate: set(LAW.findall(laws)) for crate, laws in LISTED.findall(text)}
-    for name, crate in sorted(crates.items()):
-        for law in sorted(crate.laws ^ listed.get(name, set())):
-            yield f"{name}::laws::{law} is {'not listed' if law in crate.laws else 'listed, and not there'}"
+def cells_in(row):
+    """How many cells a row of a table has."""
+    return len(CODE.sub("", row).strip().strip("|").split("|"))
+
+
+def tables_amiss(text):
+    """Which rows of tables have more or fewer cells than the row before."""
+    lines = FENCED.sub("", text).splitlines()
+    for one, other in zip(lines, lines[1:]):
+        if ROW.match(one) and ROW.match(other) and cells_in(one) != cells_in(other):
+            yield f"a row has {cells_in(other)} cells, and the one before it {cells_in(one)}: {other[:60]}"
+
+
+def too_many_words(found):
+    """Whether the documents that are to be read have too many words, in words: those with a letter or a digit count."""
+    count = sum(bool(WORD.search(it)) for name, text in found.items() if TO_READ.fullmatch(name) for it in text.split())
+    if count > MOST_WORDS:
+        yield f"README.md and docs/ have {count} words, and {MOST_WORDS} are the most"
 
 
 def words_of(found):
@@ -147,5 +162,4 @@ def amiss(name, found, crates, words):
     yield from words_amiss(text, crates, words)
     yield from files_amiss(text, found)
     yield from links_amiss(name, found)
-    if name == "docs/model.md":
-        yield from listing_amiss(found[name], crates)
+    yield from tables_amiss(found[name])

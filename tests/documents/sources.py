@@ -20,7 +20,7 @@ def owner_in(words):
     while PARAMETERS.search(words):
         words = PARAMETERS.sub("", words)
     found = OWNER.match(" ".join(words.split()))
-    return found.group(1).rpartition(":")[2] if found else ""
+    return found.group(1).rstrip(":").rpartition(":")[2] if found else ""
 
 
 def texts():
@@ -37,8 +37,8 @@ def texts():
 
 
 def documents_in(found):
-    """The documents among these texts."""
-    return [name for name in found if name == "README.md" or re.fullmatch(r"docs/[^/]*\.md", name)]
+    """The documents among these texts: those at the top, those of docs/, and each crate's README."""
+    return [name for name in found if re.fullmatch(r"(?:docs/)?[^/]+\.md|crates/\w+/README\.md", name)]
 
 
 @dataclass

@@ -16,9 +16,9 @@ PASSED_ON = {
     "mds_face/asking.rt": {"ask_one": ["desk.call"], "ask_all": ["ask_one"]},
     "mds_face/connection.rt": {"answer": ["find", "answer_bytes"]},
     "mds_face/kept_desk.rt": {"answer_kept": ["find", "answer_bytes"]},
-    "mds_follow/ahead.rt": {"Ahead::read": ["self.next.requests.push"]},
+    "mds_follow/ahead.rt": {"Ahead::read_lines": ["self.lines.reserve"]},
     "mds_follow/follower.rt": {"Follower::pull": ["next_group"]},
-    "mds_follow/restart.rt": {"resume": ["(Piece::new(..), Piece::new(..))"]},
+    "mds_follow/piece.rt": {"Portion::read": ["make_places"]},
     "mds_io/page.rt": {"add_line": ["writeln!"], "end_page": ["writeln!"]},
     "mds_io/read.rt": {"read_more": ["bytes.extend_from_slice"]},
     "mds_core/event_list.rt": {

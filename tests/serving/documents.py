@@ -4,7 +4,8 @@ In a fenced block that begins with `$ `, the lines that do are commands, each wi
 lines behind a command are what it prints. The commands of a document are run in order by one shell, at the top of the
 repository. Of a shown line, `,..` stands for any bytes; a line `...` stands for any lines. Commands that build or test aren't
 run. A server goes on beside the commands behind it, on a port that is free in place of the one shown. What it prints has to
-be shown behind its own command, or at the end of a later one."""
+be shown behind its own command, or at the end of a later one. In place of `rt try --`, which builds the program and runs it, the
+built program is run; what a server that is so tried prints comes at its end."""
 
 import os
 import re
@@ -22,9 +23,10 @@ from serving.server import Server, success_of
 
 DOCUMENTS = ["README.md", "docs/formats.md"]
 PROGRAM = "crates/mds_city/out/mds_city"
+TRIES = re.compile(r"\brt try (?:--seconds [0-9]+ )?-- ")
 SERVES = re.compile(r"\bmds_city serve\b")
 LISTENS = re.compile(r"listening 127\.0\.0\.1:([0-9]+)")
-PORT = re.compile(r"--port[ =][0-9]+")
+PORT = re.compile(r"--port[ =]([0-9]+)")
 NOT_RUN = re.compile(r"(^|[\s(])(rt|tests/[a-z-]+|bench/run|git)(\s|$)")
 ASSIGNS = re.compile(r"[A-Za-z_]+=\S+")
 MARK = "-- the end of a command --"
@@ -40,6 +42,13 @@ class Step:
 
     command: str
     wanted: list = field(default_factory=list)
+    is_tried: bool = False
+    """Whether it is shown by `rt try`."""
+
+
+def step_of(command):
+    """The step of a command that is shown: the built program is run where it tries the program."""
+    return Step(TRIES.sub("mds_city ", command), is_tried=bool(TRIES.search(command)))
 
 
 def blocks(text):
@@ -69,7 +78,7 @@ def steps_in(lines):
         if not whole:
             steps[-1].command += "\n" + (line[2:] if line.startswith("> ") else line)
         elif line.startswith("$ "):
-            steps.append(Step(line[2:]))
+            steps.append(step_of(line[2:]))
         else:
             steps[-1].wanted.append(line)
             continue
@@ -181,7 +190,7 @@ class Served:
 
     def __init__(self, shell, step):
         self.shell, self.step = shell, step
-        shown = LISTENS.fullmatch(step.wanted[0]) if step.wanted else None
+        shown = PORT.search(step.command) if step.is_tried else LISTENS.fullmatch((step.wanted or [""])[0])
         if not shown:
             raise Unwell(f"`{step.command}` isn't shown with its first line, `listening 127.0.0.1:N`")
         self.path = Path(tempfile.mkstemp(dir=shell.folder.name)[1])
@@ -203,7 +212,7 @@ class Served:
 
     def end(self):
         """What is wrong with what it printed. Where no line is shown behind the first, it is taken down."""
-        if len(self.step.wanted) == 1:
+        if len(self.step.wanted) < 2:
             self.shell.run(f"kill {self.number}; wait {self.number} 2> /dev/null")
         else:
             self.shell.run(f"wait {self.number}")

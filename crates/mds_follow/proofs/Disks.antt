@@ -17,7 +17,7 @@ use Rattle.mds_entries.proofs.EntryLemmas.{lines_tell_one_request}
 use Rattle.mds_follow.specs.Disk.{IsTold, Stands, MayRead, TextsTellOneList}
 
 -- two pairs of lists that fit
-zip_append : {X Y : Type 0} (R : X → Y → Type 0) (xs us : List X) (ys vs : List Y) → AllZip R xs ys → AllZip R us vs → AllZip R (xs ++ us) (ys ++ vs)
+pub zip_append : {X Y : Type 0} (R : X → Y → Type 0) (xs us : List X) (ys vs : List Y) → AllZip R xs ys → AllZip R us vs → AllZip R (xs ++ us) (ys ++ vs)
 zip_append R [] us [] vs first second = second
 zip_append R [] us (y ∷ ys) vs first second = absurd first
 zip_append R (x ∷ xs) us [] vs first second = absurd first

@@ -9,3 +9,5 @@ pub mod Disks
 pub mod Blanks
 pub mod ReadBack
 pub mod Begins
+pub mod PieceLemmas
+pub mod Asking

@@ -6,3 +6,4 @@ pub mod Restart
 pub mod Lives
 pub mod Disk
 pub mod Reading
+pub mod Pieces

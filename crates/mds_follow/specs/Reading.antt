@@ -7,6 +7,7 @@ use Rattle.mds_core.specs.declared.request.Request.{Request}
 use Rattle.mds_core.specs.Answer.{MayBeDone}
 use Rattle.mds_journal.specs.Lines.{recovered_texts}
 use Rattle.mds_journal.specs.Journal.{HasShortEnd}
+use Rattle.mds_journal.specs.Device.{Untouched}
 use Rattle.mds_journal.specs.Opening.{IsReading, IsTooLong, limit_of, number_of, unread_bytes}
 use Rattle.mds_journal.specs.declared.opening.Opening.{Opening}
 use Rattle.mds_journal.specs.declared.device.DeviceError.{DeviceError}
@@ -74,6 +75,20 @@ IsNoJournalFault Device = Unit {0}
 IsNoJournalFault (Journal fault) = ⊥
 IsNoJournalFault Shared = ⊥
 
+-- a journal is read at a start, with the limit of what clients send
+pub record IsAtRequest {D : Type 0} (seen : D → List ℕ) (may_leave : D → List ℕ → Type 0)
+    (may_be_used is_true : D → Type 0) (opening : Opening D) : Type 0 where
+  pub reading : IsReading seen may_leave may_be_used is_true opening
+  pub limit : limit_of opening ≡ max_bytes
+
+-- a journal was read on, and nothing else was done to its device
+pub record IsReadOn {D : Type 0} (seen : D → List ℕ) (may_leave : D → List ℕ → Type 0)
+    (is_true : D → Type 0) (moment : D → ℕ) (left_since : D → ℕ → List ℕ → Type 0)
+    (old new : Opening D) : Type 0 where
+  pub untouched : is_true new.device
+      → Untouched seen may_leave moment left_since old.device new.device
+  pub was_true : is_true new.device → is_true old.device
+
 -- a journal is read at a start: its first line names the form, and the line of its first request
 -- comes next
 pub record IsAtFirstRequest {D : Type 0} (seen : D → List ℕ) (may_leave : D → List ℕ → Type 0)
@@ -88,6 +103,22 @@ pub record IsAtFirstRequest {D : Type 0} (seen : D → List ℕ) (may_leave : D 
 -- no more lines count
 abbrev pub HasNoMore : List ℕ → Type 0
 HasNoMore bytes = recovered_texts bytes ≡ []
+
+-- the first line has this text, and these bytes are left
+abbrev pub HandsOut : List ℕ → List ℕ → List ℕ → Type 0
+HandsOut bytes text left = recovered_texts bytes ≡ text ∷ recovered_texts left
+
+-- the first lines have these texts, and these bytes are left
+abbrev pub HandsOutAll : List ℕ → List (List ℕ) → List ℕ → Type 0
+HandsOutAll bytes [] left = left ≡ bytes
+HandsOutAll bytes (text ∷ texts) left =
+    (behind : List ℕ) × HandsOut bytes text behind × HandsOutAll behind texts left
+
+-- how many texts an answer gives
+abbrev pub texts_given : Result Bool StartFault → ℕ
+texts_given (Ok true) = 1
+texts_given (Ok false) = 0
+texts_given (Err fault) = 0
 
 -- the first line tells this request, and these bytes are left
 abbrev pub TellsNext : List ℕ → Request → List ℕ → Type 0
@@ -124,6 +155,20 @@ IsLineFault number bytes (Journal fault) = ⊥
 IsLineFault number bytes Memory = Unit {0}
 IsLineFault number bytes Device = Unit {0}
 IsLineFault number bytes Shared = ⊥
+
+-- what comes of asking for the text of the line of this number, which comes first: these bytes are
+-- left behind it, no more lines count, or the line gives none
+abbrev pub IsNextText : List ℕ → List ℕ → List ℕ → ℕ → Result Bool StartFault → Type 0
+IsNextText bytes text left number (Ok true) = HandsOut bytes text left
+IsNextText bytes text left number (Ok false) = (left ≡ bytes) × HasNoMore left
+IsNextText bytes text left number (Err fault) = (left ≡ bytes) × IsLineFault number left fault
+
+-- what comes behind texts that were handed out: more lines, none, or one that gives no text, which
+-- has this number
+abbrev pub IsEndOfTexts : List ℕ → ℕ → Result Bool StartFault → Type 0
+IsEndOfTexts left number (Ok true) = Unit {0}
+IsEndOfTexts left number (Ok false) = HasNoMore left
+IsEndOfTexts left number (Err fault) = IsLineFault number left fault
 
 -- why the end of the file isn't mended: more stands there than a crash leaves
 abbrev pub IsEndFault : List ℕ → StartFault → Type 0

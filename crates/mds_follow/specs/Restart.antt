@@ -1,16 +1,22 @@
 -- A book that is opened again over what was recorded.
-use Rattle.std.specs.Prelude.{◌≡◌, ◌+◌, ◌++◌, ◌∷◌, ℕ, [], List, length, Bool, true, Result, Ok}
+use Rattle.std.specs.Prelude.{◌≡◌, ◌+◌, ◌<◌, ◌≤◌, ◌^◌, ◌++◌, ◌∷◌, ℕ, List, length}
+use Rattle.std.specs.Prelude.{Bool, true, Result, IfOk}
 use Rattle.mds_table.specs.Tables.{Tables}
 use Rattle.mds_core.specs.declared.request.Request.{Request}
 use Rattle.mds_core.specs.Answer.{MayBeDone}
+use Rattle.mds_journal.specs.Lines.{recovered_texts}
+use Rattle.mds_journal.specs.Opening.{number_of, place_of, unread_bytes}
+use Rattle.mds_journal.specs.declared.opening.Opening.{Opening}
 use Rattle.mds_journal.specs.declared.fault.JournalFault.TheVariants.{Refused}
 use Rattle.mds_log.specs.Log.{Acceptance, requests}
 use Rattle.mds_book.specs.Seats.{Seated}
 use Rattle.mds_book.specs.Refilling.{HasAll}
 use Rattle.mds_book.specs.Shards.{part}
+use Rattle.mds_follow.specs.Disk.{IsTold}
 use Rattle.mds_follow.specs.Record.{recorded_at}
-use Rattle.mds_follow.specs.Reading.{IsEndOf, IsReadTo}
-use Rattle.mds_follow.specs.declared.ahead.Piece.{Piece}
+use Rattle.mds_follow.specs.Reading.{HasNoMore, IsEndOf, IsReadTo}
+use Rattle.mds_follow.specs.Pieces.{requests_in}
+use Rattle.mds_follow.specs.declared.piece.Piece.{Piece}
 use Rattle.mds_follow.specs.declared.start_fault.StartFault.{StartFault}
 use Rattle.mds_follow.specs.declared.start_fault.StartFault.TheVariants.{Memory, Device}
 use Rattle.mds_follow.specs.declared.start_fault.StartFault.TheVariants.{Journal, Shared}
@@ -55,8 +61,31 @@ pub record IsAhead (file left : List ℕ) (recorded : List Request) (number : �
   pub read : IsReadTo file recorded bytes
   pub end : IsEndOf bytes left number requests last
 
--- nothing was read yet, and the line of the first request comes next
-pub record IsFirstPiece (piece : Piece) : Type 0 where
-  pub number : piece.number ≡ 1
-  pub empty : piece.requests.items ≡ []
-  pub more : piece.end ≡ Ok true
+-- what is recorded was asked, behind it this piece was read, and no more of the journal
+pub record IsHalfway {D : Type 0} (seen : D → List ℕ) (is_true : D → Type 0) (opening : Opening D)
+    (seat : Seated) (recorded : List Acceptance) (piece : Piece) : Type 0 where
+  pub refilled : IsRefilled seat recorded
+  pub number : piece.number ≡ length recorded + 1
+  pub counted : IfOk piece.end
+      (λ _. number_of opening ≡ piece.number + length (requests_in piece))
+  pub short : piece.number + length (requests_in piece) ≤ 2 ^ 62
+  pub ahead : is_true opening.device
+      → IsAhead (seen opening.device) (unread_bytes seen opening) (requests recorded) piece.number
+      (requests_in piece) piece.end
+
+-- a piece was asked and is recorded, at this moment, and another one was read behind it
+pub record IsTaken {D : Type 0} (seen : D → List ℕ) (is_true : D → Type 0) (moment : D → ℕ)
+    (before opening : Opening D) (seat : Seated) (old new : List Acceptance) (piece next : Piece)
+    : Type 0 where
+  pub noted : new ≡ old ++ recorded_at (moment opening.device) (requests_in piece)
+  pub halfway : IsHalfway seen is_true opening seat new next
+  pub further : IfOk next.end (λ more. more ≡ true → place_of before < place_of opening)
+
+-- all that the file tells was asked, and is recorded
+pub record IsAllTaken {D : Type 0} (seen : D → List ℕ) (is_true : D → Type 0) (opening : Opening D)
+    (seat : Seated) (recorded : List Acceptance) : Type 0 where
+  pub refilled : IsRefilled seat recorded
+  pub short : length recorded < 2 ^ 63
+  pub done : is_true opening.device → HasNoMore (unread_bytes seen opening)
+  pub told : is_true opening.device
+      → IsTold (recovered_texts (seen opening.device)) (requests recorded)

@@ -1,49 +1,29 @@
 //! A journal that is read a piece ahead of what is asked.
 ghost use Rattle.std.specs.Prelude.{◌≡◌, ◌+◌, ◌^◌, ◌<◌, ◌≤◌, length, true, IfOk};
-ghost use Rattle.mds_table.specs.Json.{max_bytes};
-ghost use Rattle.mds_journal.specs.Device.{Untouched};
-ghost use Rattle.mds_journal.specs.Opening.{IsReading, limit_of, number_of, place_of, unread_bytes};
-ghost use Rattle.mds_follow.specs.Reading.{IsEndOf};
-ghost use Rattle.mds_follow.specs.Restart.{IsFirstPiece};
+ghost use Rattle.mds_journal.specs.Opening.{number_of, place_of, unread_bytes};
+ghost use Rattle.mds_follow.specs.Reading.{HandsOutAll, IsAtRequest, IsEndOfTexts, IsReadOn};
+ghost use Rattle.mds_follow.specs.Pieces.{IsNext, texts_in};
 
+use crate::piece::Piece;
 use crate::{RequestReader, StartFault};
-use mds_core::Request;
 use mds_journal::Device;
 use mds_log::Tagged;
 use std::alloc::{AllocError, Global};
+use std::thread::Threads;
 
-/// How many requests are read at a time: enough that threads for each piece cost little, and so few that two pieces of them take
+/// How many lines are read at a time: enough that threads for each piece cost little, and so few that two pieces of them take
 /// no more memory than what a running server has for its requests.
-const PIECE: usize = 512;
+const PIECE: usize = 1024;
 
-/// Requests that were read one after the other.
-#[derive(Drop)]
-pub(crate) struct Piece {
-    /// The number of the first one's line.
-    pub(crate) number: usize,
-    /// They, in their order.
-    pub(crate) requests: Vec<Request>,
-    /// Whether more may come, or why the line behind them gives none.
-    pub(crate) end: Result<bool, StartFault>,
-}
-
-impl Piece {
-    /// A piece with nothing in it, as before the first request of a journal, and room for as many as are read at a time.
-    pub(crate) fn new(alloc: Global) -> Result<Piece, AllocError>
-        ensures { IfOk result IsFirstPiece }
-    {
-        Ok(Piece {
-            number: 1,
-            requests: Vec::with_capacity(alloc, PIECE)?,
-            end: Ok(true),
-        })
-    }
-}
+/// Behind how many bytes no more lines are read at a time, so that long lines take no more memory than many short ones.
+const MOST_BYTES: usize = 1 << 20;
 
 /// A journal that is read at a start, and the piece of it that was read last.
 #[derive(Drop)]
 pub(crate) struct Ahead<D: Device> {
     pub(crate) reader: RequestReader<D>,
+    /// The lines of that piece.
+    pub(crate) lines: Vec<Vec<u8>>,
     pub(crate) next: Piece,
 }
 
@@ -52,51 +32,61 @@ impl<D: Device> Tagged for Ahead<D> {
 }
 
 impl<D: Device> Ahead<D> {
-    /// Reads a piece, in the place of the one before it: as many requests as are read at a time, or those before the line that
-    /// gives none.
-    pub(crate) fn read(&mut self)
-        requires reading { IsReading D.seen D.may_leave D.may_be_used D.is_true
-            self.old.reader.opening }
-        requires limit { limit_of self.old.reader.opening ≡ max_bytes }
-        ensures reading { IsReading D.seen D.may_leave D.may_be_used D.is_true
+    /// Reads a piece, in the place of the one before it: the requests of as many lines as are read at a time, or those before the
+    /// line that gives none. Two threads share them.
+    pub(crate) fn read<R: Threads + Sync>(&mut self, rt: &R)
+        requires { IsAtRequest D.seen D.may_leave D.may_be_used D.is_true self.old.reader.opening }
+        ensures reading { IsAtRequest D.seen D.may_leave D.may_be_used D.is_true
             self.new.reader.opening }
-        ensures limit { limit_of self.new.reader.opening ≡ max_bytes }
-        ensures read { D.is_true self.new.reader.opening.device → IsEndOf
-            (unread_bytes D.seen self.old.reader.opening)
-            (unread_bytes D.seen self.new.reader.opening)
-            (number_of self.old.reader.opening) self.new.next.requests.items self.new.next.end }
-        ensures number { self.new.next.number ≡ number_of self.old.reader.opening }
-        ensures counted { IfOk self.new.next.end (λ _. number_of self.new.reader.opening
-            ≡ self.new.next.number + length self.new.next.requests.items) }
-        ensures short { self.new.next.number + length self.new.next.requests.items ≤ 2 ^ 62 }
-        ensures further { IfOk self.new.next.end (λ more. more ≡ true
-            → place_of self.old.reader.opening < place_of self.new.reader.opening) }
-        ensures untouched { D.is_true self.new.reader.opening.device
-            → Untouched D.seen D.may_leave D.moment D.left_since
-            self.old.reader.opening.device self.new.reader.opening.device }
-        ensures was_true { D.is_true self.new.reader.opening.device
-            → D.is_true self.old.reader.opening.device }
+        ensures read_on { IsReadOn D.seen D.may_leave D.is_true D.moment D.left_since
+            self.old.reader.opening self.new.reader.opening }
+        ensures next { IsNext D.seen D.is_true self.old.reader.opening self.new.reader.opening
+            self.new.next }
     {
-        self.next.number = self.reader.number();
-        self.next.requests.clear();
-        self.next.end = Ok(true);
-        for _ in 0..PIECE {
-            match self.reader.next_request() {
+        let number = self.reader.number();
+        let end = self.read_lines();
+        self.next.read(rt, number, &self.lines, end);
+    }
+
+    /// Reads as many lines as are read at a time, in the place of those before them, and says whether more may come.
+    ///
+    /// # Errors
+    ///
+    /// As [`RequestReader::next_text`], of the line behind them.
+    fn read_lines(&mut self) -> Result<bool, StartFault>
+        requires { IsAtRequest D.seen D.may_leave D.may_be_used D.is_true self.old.reader.opening }
+        ensures reading { IsAtRequest D.seen D.may_leave D.may_be_used D.is_true
+            self.new.reader.opening }
+        ensures read_on { IsReadOn D.seen D.may_leave D.is_true D.moment D.left_since
+            self.old.reader.opening self.new.reader.opening }
+        ensures texts { D.is_true self.new.reader.opening.device → HandsOutAll
+            (unread_bytes D.seen self.old.reader.opening) (texts_in self.new.lines.items)
+            (unread_bytes D.seen self.new.reader.opening) }
+        ensures end { D.is_true self.new.reader.opening.device → IsEndOfTexts
+            (unread_bytes D.seen self.new.reader.opening) (number_of self.new.reader.opening)
+            result }
+        ensures number { number_of self.new.reader.opening
+            ≡ number_of self.old.reader.opening + length self.new.lines.items }
+        ensures further { IfOk result (λ more. more ≡ true
+            → place_of self.old.reader.opening < place_of self.new.reader.opening) }
+        ensures same { self.new.next ≡ self.old.next }
+    {
+        self.lines.clear();
+        let mut bytes = 0;
+        'lines: while self.lines.len() < PIECE && bytes < MOST_BYTES {
+            let mut text = Vec::new(self.reader.alloc);
+            if self.lines.reserve(1).is_err() {
+                return Err(StartFault::Memory);
+            }
+            match self.reader.next_text(&mut text) {
                 Ok(true) => {}
-                Ok(false) => {
-                    self.next.end = Ok(false);
-                    return;
-                }
-                Err(fault) => {
-                    self.next.end = Err(fault);
-                    return;
-                }
+                Ok(false) => return Ok(false),
+                Err(fault) => return Err(fault),
             }
-            if self.next.requests.push(self.reader.request).is_err() {
-                self.next.end = Err(StartFault::Memory);
-                return;
-            }
+            bytes += text.len();
+            self.lines.push_reserved(text);
         }
+        Ok(true)
     }
 
     /// The file, as it is.
@@ -105,6 +95,7 @@ impl<D: Device> Ahead<D> {
     {
         let Ahead {
             reader,
+            lines: _lines,
             next: _next,
         } = self;
         reader.into_device()

@@ -17,6 +17,7 @@ mod desk;
 mod disk;
 mod follower;
 pub mod laws;
+mod piece;
 mod reader;
 mod receipt;
 mod record;

@@ -1,23 +1,21 @@
 //! A journal that is read at a start.
-ghost use Rattle.std.specs.Prelude.{◌≡◌, ◌⊎◌, ◌+◌, ◌<◌, ◌∷◌, [], true, false, IfOk, IfErr, OnOk, OnErr};
+ghost use Rattle.std.specs.Prelude.{◌≡◌, ◌⊎◌, ◌+◌, ◌<◌, ◌≤◌, ◌∷◌, true, length, IfOk, IfErr, OnOk};
 ghost use Rattle.mds_table.specs.Json.{max_bytes};
 ghost use Rattle.mds_journal.specs.Device.{LeavesOnly, Untouched};
 ghost use Rattle.mds_journal.specs.Lines.{recovered_texts};
 ghost use Rattle.mds_journal.specs.Journal.{IsSound, MayGoOn, StandsFor};
 ghost use Rattle.mds_journal.specs.Opening.{IsReading, KeepsLines, limit_of, number_of, place_of, unread_bytes};
 ghost use Rattle.mds_entries.specs.Form.{form_line};
-ghost use Rattle.mds_follow.specs.Reading.{HasNoMore, IsAtFirstRequest, IsEndFault, IsFormFault, IsJournalFault, IsLineFault, IsOpenFault, KeepsOrBegins, StaysOrBegins, TellsNext};
+ghost use Rattle.mds_follow.specs.Reading.{HasNoMore, IsAtFirstRequest, IsAtRequest, IsEndFault, IsFormFault, IsJournalFault, IsNextText, IsOpenFault, IsReadOn, KeepsOrBegins, StaysOrBegins, texts_given};
 
 use crate::blank::with_form;
 use crate::start_fault::{call_fault, line_fault};
 use crate::{Disk, StartFault};
-use mds_core::{Key, Request};
-use mds_entries::{EntryFault, EntryReader, is_form};
+use mds_entries::{EntryReader, is_form};
 use mds_journal::{Device, Group, JournalFault, OpenError, Opening};
 use mds_log::Tagged;
 use mds_table::MAX_BYTES;
 use std::alloc::{AllocError, Global};
-use uuid::Uuid;
 
 /// Takes the first line, which has to name the form.
 ///
@@ -51,16 +49,12 @@ fn take_form<D: Device>(opening: &mut Opening<D>, line: &mut Vec<u8>) -> Result<
     }
 }
 
-/// A journal that is read at a start, one request after the other.
+/// A journal that is read at a start, one line after the other.
 #[derive(Drop)]
 pub struct RequestReader<D: Device> {
     pub(crate) opening: Opening<D>,
     pub(crate) alloc: Global,
-    /// The request that was read last.
-    pub(crate) request: Request,
-    entries: EntryReader,
     group: Group,
-    line: Vec<u8>,
 }
 
 impl<D: Device> Tagged for RequestReader<D> {
@@ -113,58 +107,35 @@ impl<D: Device> RequestReader<D> {
             Ok(()) => Ok(RequestReader {
                 opening,
                 alloc,
-                // It is none of a line, and is never handed on.
-                request: Request::Look(Key {
-                    provider: Uuid::nil(),
-                    device: Uuid::nil(),
-                }),
-                entries: EntryReader::new(alloc),
                 group,
-                line,
             }),
             Err(fault) => Err((fault, opening.into_device())),
         }
     }
 
-    /// Reads the request of the next line, in the place of the one before it, or says `false` where no more lines count.
+    /// Puts the text of the next line into `text`, or says `false` where no more lines count.
     ///
     /// # Errors
     ///
-    /// `BadLine` where the line tells no request, `TooLong` where it has too many bytes, `Device` and `Memory`.
-    pub(crate) fn next_request(&mut self) -> Result<bool, StartFault>
-        requires reading { IsReading D.seen D.may_leave D.may_be_used D.is_true self.old.opening }
-        requires limit { limit_of self.old.opening ≡ max_bytes }
-        ensures reading { IsReading D.seen D.may_leave D.may_be_used D.is_true self.new.opening }
-        ensures limit { limit_of self.new.opening ≡ max_bytes }
-        ensures some { IfOk result (λ more. more ≡ true → D.is_true self.new.opening.device
-            → TellsNext (unread_bytes D.seen self.old.opening) self.new.request
-            (unread_bytes D.seen self.new.opening)) }
-        ensures number { IfOk result (λ more. more ≡ true
-            → number_of self.new.opening ≡ number_of self.old.opening + 1) }
+    /// `TooLong` where the line has too many bytes, `Device` and `Memory`.
+    pub(crate) fn next_text(&mut self, text: &mut Vec<u8>) -> Result<bool, StartFault>
+        requires { IsAtRequest D.seen D.may_leave D.may_be_used D.is_true self.old.opening }
+        ensures reading { IsAtRequest D.seen D.may_leave D.may_be_used D.is_true self.new.opening }
+        ensures read_on { IsReadOn D.seen D.may_leave D.is_true D.moment D.left_since
+            self.old.opening self.new.opening }
+        ensures text { D.is_true self.new.opening.device → IsNextText
+            (unread_bytes D.seen self.old.opening) text.new.items
+            (unread_bytes D.seen self.new.opening) (number_of self.old.opening) result }
+        ensures within { IfOk result (λ more. more ≡ true → length text.new.items ≤ max_bytes) }
         ensures further { IfOk result (λ more. more ≡ true
             → place_of self.old.opening < place_of self.new.opening) }
-        ensures none { IfOk result (λ more. more ≡ false → D.is_true self.new.opening.device
-            → HasNoMore (unread_bytes D.seen self.old.opening)
-            × (unread_bytes D.seen self.new.opening ≡ unread_bytes D.seen self.old.opening)) }
-        ensures same_number { IfOk result (λ more. more ≡ false
-            → number_of self.new.opening ≡ number_of self.old.opening) }
-        ensures fault { IfErr result (λ fault. D.is_true self.new.opening.device → IsLineFault
-            (number_of self.old.opening) (unread_bytes D.seen self.old.opening) fault) }
-        ensures untouched { D.is_true self.new.opening.device → Untouched D.seen D.may_leave
-            D.moment D.left_since self.old.opening.device self.new.opening.device }
-        ensures was_true { D.is_true self.new.opening.device
-            → D.is_true self.old.opening.device }
+        ensures number { number_of self.new.opening
+            ≡ number_of self.old.opening + texts_given result }
     {
         let number = self.opening.number();
-        match self.opening.next_line(&mut self.line) {
-            Ok(true) => {}
-            Ok(false) => return Ok(false),
-            Err(error) => return Err(line_fault(error, number)),
-        }
-        match self.entries.read_into(&self.line, &mut self.request) {
-            Ok(()) => Ok(true),
-            Err(EntryFault::Memory) => Err(StartFault::Memory),
-            Err(_) => Err(StartFault::Journal(JournalFault::BadLine(number))),
+        match self.opening.next_line(text) {
+            Ok(is_there) => Ok(is_there),
+            Err(error) => Err(line_fault(error, number)),
         }
     }
 
@@ -201,16 +172,13 @@ impl<D: Device> RequestReader<D> {
     {
         let RequestReader {
             opening,
-            alloc: _alloc,
-            request: _request,
-            entries,
+            alloc,
             group,
-            line: _line,
         } = self;
         match opening.finish() {
             Ok(journal) => Ok(Disk {
                 journal,
-                reader: entries,
+                reader: EntryReader::new(alloc),
                 group,
             }),
             Err((OpenError::Damaged, device)) => {
@@ -233,10 +201,7 @@ impl<D: Device> RequestReader<D> {
         let RequestReader {
             opening,
             alloc: _alloc,
-            request: _request,
-            entries: _entries,
             group: _group,
-            line: _line,
         } = self;
         opening.into_device()
     }

@@ -1,34 +1,90 @@
 //! A book that is filled again with what was recorded.
-ghost use Rattle.std.specs.Prelude.{◌≡◌, ◌≢◌, ◌+◌, ◌<◌, ◌≤◌, ◌^◌, ◌∷◌, ◌++◌, [], List, length, true, Ok, Err, OnOk, IfOk, IfErr};
+ghost use Rattle.std.specs.Prelude.{◌≡◌, ◌≢◌, ◌+◌, ◌<◌, ◌≤◌, ◌^◌, ◌++◌, [], List, length, true, Ok, OnOk, IfOk, IfErr};
 ghost use Rattle.mds_core.specs.declared.request.Request.{Request as Requested};
-ghost use Rattle.mds_log.specs.Log.{Acceptance, requests};
-ghost use Rattle.mds_table.specs.Json.{max_bytes};
-ghost use Rattle.mds_journal.specs.Device.{LeavesOnly, Untouched};
+ghost use Rattle.mds_log.specs.Log.{Acceptance, requests as requests_of};
+ghost use Rattle.mds_journal.specs.Device.{LeavesOnly};
 ghost use Rattle.mds_journal.specs.Lines.{recovered_texts};
-ghost use Rattle.mds_journal.specs.Opening.{IsReading, KeepsLines, limit_of, number_of, place_of, unread_bytes};
+ghost use Rattle.mds_journal.specs.Opening.{KeepsLines};
 ghost use Rattle.mds_follow.specs.Disk.{IsTold};
 ghost use Rattle.mds_follow.specs.Record.{recorded_at};
-ghost use Rattle.mds_follow.specs.Reading.{HasNoMore, IsAtFirstRequest, IsEndOf, IsJournalFault, IsStartFault};
+ghost use Rattle.mds_follow.specs.Reading.{IsAtFirstRequest, IsAtRequest, IsJournalFault, IsReadOn, IsStartFault};
 ghost use Rattle.mds_book.specs.Refilling.{HasAll, IsFilled};
-ghost use Rattle.mds_follow.specs.Restart.{IsAhead, IsAskFault, IsFirstPiece, IsRefilled};
+ghost use Rattle.mds_follow.specs.Pieces.{IsFirstPiece, IsNext, requests_in, requests_of_rest};
+ghost use Rattle.mds_follow.specs.Restart.{IsAllTaken, IsAskFault, IsHalfway, IsRefilled, IsTaken};
 
-use crate::ahead::{Ahead, Piece};
+use crate::ahead::Ahead;
 use crate::desk::note;
+use crate::piece::{Piece, Rest};
 use crate::{Disk, Follower, RecordLog, RequestReader, StartFault};
 use mds_book::{Book, RefillFault, Seat, SharedLedger};
+use mds_core::Request;
 use mds_journal::{Device, JournalFault};
-use mds_log::{BlankLog, Keeper};
+use mds_log::{BlankLog, Keeper, Tagged};
 use std::alloc::Global;
 use std::mem::swap;
 use std::sync::Wait;
 use std::thread::{Threads, join_mut};
 
-/// Asks the requests of a piece of a book that nobody else asks. Each has to be accepted.
+/// Asks requests of a book that nobody else asks, of which the line of the first one has this number. Each has to be accepted.
 ///
 /// # Errors
 ///
 /// `Refused`, with the number of its line, where the tables don't accept one behind those before it, `Memory`; and `Shared` where
 /// another seat has asked the book.
+fn ask_portion<L: SharedLedger, M: SharedLedger, R: Threads + Wait + Sync>(
+    rt: &R,
+    alloc: Global,
+    book: &Book<L, M>,
+    number: usize,
+    requests: &[Request],
+    seat: &mut Seat<L, M>,
+) -> Result<(), StartFault>
+    requires all { HasAll seat.old }
+    requires short { number + length requests.now ≤ 2 ^ 62 }
+    ensures keep { seat.new.keeps_all ≡ seat.old.keeps_all }
+    ensures filled { OnOk result (HasAll seat.new × IsFilled seat.old requests.now seat.new) }
+    ensures fault { (told : List Acceptance) → IsRefilled seat.old told
+        → IfErr result (IsAskFault book.now.tables (requests_of told) number requests.now) }
+{
+    let Err(stop) = book.refill(rt, alloc, seat, requests) else {
+        return Ok(());
+    };
+    let line = number + stop.at;
+    Err(match stop.fault {
+        RefillFault::Memory => StartFault::Memory,
+        RefillFault::Refused => StartFault::Journal(JournalFault::Refused(line)),
+        RefillFault::Shared => StartFault::Shared,
+    })
+}
+
+/// As [`ask_portion`], what stands behind the first third of a piece.
+fn ask_rest<L: SharedLedger, M: SharedLedger, R: Threads + Wait + Sync>(
+    rt: &R,
+    alloc: Global,
+    book: &Book<L, M>,
+    number: usize,
+    rest: &Rest,
+    seat: &mut Seat<L, M>,
+) -> Result<(), StartFault>
+    requires all { HasAll seat.old }
+    requires short { number + length (requests_of_rest rest.now) ≤ 2 ^ 62 }
+    ensures keep { seat.new.keeps_all ≡ seat.old.keeps_all }
+    ensures filled { OnOk result
+        (HasAll seat.new × IsFilled seat.old (requests_of_rest rest.now) seat.new) }
+    ensures fault { (told : List Acceptance) → IsRefilled seat.old told
+        → IfErr result (IsAskFault book.now.tables (requests_of told) number
+        (requests_of_rest rest.now)) }
+{
+    let second = rest.second.requests.as_slice();
+    match ask_portion(rt, alloc, book, number, second, seat) {
+        Ok(()) => {}
+        Err(fault) => return Err(fault),
+    }
+    let third = rest.third.requests.as_slice();
+    ask_portion(rt, alloc, book, number + second.len(), third, seat)
+}
+
+/// As [`ask_portion`], a piece.
 fn ask_piece<L: SharedLedger, M: SharedLedger, R: Threads + Wait + Sync>(
     rt: &R,
     alloc: Global,
@@ -37,26 +93,30 @@ fn ask_piece<L: SharedLedger, M: SharedLedger, R: Threads + Wait + Sync>(
     seat: &mut Seat<L, M>,
 ) -> Result<(), StartFault>
     requires all { HasAll seat.old }
-    requires short { piece.now.number + length piece.now.requests.items ≤ 2 ^ 62 }
+    requires short { piece.now.number + length (requests_in piece.now) ≤ 2 ^ 62 }
     ensures keep { seat.new.keeps_all ≡ seat.old.keeps_all }
-    ensures all { OnOk result (HasAll seat.new) }
-    ensures filled { OnOk result (IsFilled seat.old piece.now.requests.items seat.new) }
+    ensures filled { OnOk result
+        (HasAll seat.new × IsFilled seat.old (requests_in piece.now) seat.new) }
     ensures fault { (told : List Acceptance) → IsRefilled seat.old told
-        → IfErr result (IsAskFault book.now.tables (requests told) piece.now.number
-        piece.now.requests.items) }
+        → IfErr result (IsAskFault book.now.tables (requests_of told) piece.now.number
+        (requests_in piece.now)) }
 {
-    let Err(stop) = book.refill(rt, alloc, seat, piece.requests.as_slice()) else {
-        return Ok(());
-    };
-    let line = piece.number + stop.at;
-    Err(match stop.fault {
-        RefillFault::Memory => StartFault::Memory,
-        RefillFault::Refused => StartFault::Journal(JournalFault::Refused(line)),
-        RefillFault::Shared => StartFault::Shared,
-    })
+    let first = piece.first.requests.as_slice();
+    match ask_portion(rt, alloc, book, piece.number, first, seat) {
+        Ok(()) => {}
+        Err(fault) => return Err(fault),
+    }
+    ask_rest(
+        rt,
+        alloc,
+        book,
+        piece.number + first.len(),
+        &piece.rest,
+        seat,
+    )
 }
 
-/// As [`ask_piece`], while another thread reads the next piece.
+/// Asks a piece, as [`ask_piece`] does, while other threads read the next one.
 fn ask_and_read<'a, D: Device + Send, L: SharedLedger, M: SharedLedger, R: Threads + Wait + Sync>(
     rt: &'a R,
     book: &'a Book<L, M>,
@@ -64,51 +124,56 @@ fn ask_and_read<'a, D: Device + Send, L: SharedLedger, M: SharedLedger, R: Threa
     seat: &mut Seat<L, M>,
     ahead: &mut Ahead<D>,
 ) -> Result<(), StartFault>
-    requires reading { IsReading D.seen D.may_leave D.may_be_used D.is_true
+    requires reading { IsAtRequest D.seen D.may_leave D.may_be_used D.is_true
         ahead.old.reader.opening }
-    requires limit { limit_of ahead.old.reader.opening ≡ max_bytes }
     requires all { HasAll seat.old }
-    requires short { piece.now.number + length piece.now.requests.items ≤ 2 ^ 62 }
+    requires short { piece.now.number + length (requests_in piece.now) ≤ 2 ^ 62 }
     ensures keep { seat.new.keeps_all ≡ seat.old.keeps_all }
-    ensures all { OnOk result (HasAll seat.new) }
-    ensures filled { OnOk result (IsFilled seat.old piece.now.requests.items seat.new) }
+    ensures filled { OnOk result
+        (HasAll seat.new × IsFilled seat.old (requests_in piece.now) seat.new) }
     ensures fault { (told : List Acceptance) → IsRefilled seat.old told
-        → IfErr result (IsAskFault book.now.tables (requests told) piece.now.number
-        piece.now.requests.items) }
-    ensures reading { IsReading D.seen D.may_leave D.may_be_used D.is_true
+        → IfErr result (IsAskFault book.now.tables (requests_of told) piece.now.number
+        (requests_in piece.now)) }
+    ensures reading { IsAtRequest D.seen D.may_leave D.may_be_used D.is_true
         ahead.new.reader.opening }
-    ensures limit { limit_of ahead.new.reader.opening ≡ max_bytes }
-    ensures read { D.is_true ahead.new.reader.opening.device → IsEndOf
-        (unread_bytes D.seen ahead.old.reader.opening)
-        (unread_bytes D.seen ahead.new.reader.opening)
-        (number_of ahead.old.reader.opening) ahead.new.next.requests.items ahead.new.next.end }
-    ensures number { ahead.new.next.number ≡ number_of ahead.old.reader.opening }
-    ensures counted { IfOk ahead.new.next.end (λ _. number_of ahead.new.reader.opening
-        ≡ ahead.new.next.number + length ahead.new.next.requests.items) }
-    ensures short { ahead.new.next.number + length ahead.new.next.requests.items ≤ 2 ^ 62 }
-    ensures further { IfOk ahead.new.next.end (λ more. more ≡ true
-        → place_of ahead.old.reader.opening < place_of ahead.new.reader.opening) }
-    ensures untouched { D.is_true ahead.new.reader.opening.device
-        → Untouched D.seen D.may_leave D.moment D.left_since
-        ahead.old.reader.opening.device ahead.new.reader.opening.device }
-    ensures was_true { D.is_true ahead.new.reader.opening.device
-        → D.is_true ahead.old.reader.opening.device }
+    ensures read_on { IsReadOn D.seen D.may_leave D.is_true D.moment D.left_since
+        ahead.old.reader.opening ahead.new.reader.opening }
+    ensures next { IsNext D.seen D.is_true ahead.old.reader.opening ahead.new.reader.opening
+        ahead.new.next }
 {
     let alloc = ahead.reader.alloc;
-    let mut read = || ahead.read();
+    let mut read = ||
+        requires { IsAtRequest D.seen D.may_leave D.may_be_used D.is_true
+            ahead.now.reader.opening }
+        ensures reading { IsAtRequest D.seen D.may_leave D.may_be_used D.is_true
+            ahead.exit.now.reader.opening }
+        ensures read_on { IsReadOn D.seen D.may_leave D.is_true D.moment D.left_since
+            ahead.entry.now.reader.opening ahead.exit.now.reader.opening }
+        ensures next { IsNext D.seen D.is_true ahead.entry.now.reader.opening
+            ahead.exit.now.reader.opening ahead.exit.now.next }
+    { ahead.read(rt) };
     let mut ask = || -> Result<(), StartFault>
         requires all { HasAll seat.now }
-        requires short { piece.now.number + length piece.now.requests.items ≤ 2 ^ 62 }
+        requires short { piece.now.number + length (requests_in piece.now) ≤ 2 ^ 62 }
         ensures keep { seat.exit.now.keeps_all ≡ seat.entry.now.keeps_all }
-        ensures all { OnOk result (HasAll seat.exit.now) }
-        ensures filled { OnOk result
-            (IsFilled seat.entry.now piece.entry.now.requests.items seat.exit.now) }
+        ensures filled { OnOk result (HasAll seat.exit.now
+            × IsFilled seat.entry.now (requests_in piece.entry.now) seat.exit.now) }
         ensures fault { (told : List Acceptance) → IsRefilled seat.entry.now told
-            → IfErr result (IsAskFault book.entry.now.tables (requests told)
-            piece.entry.now.number piece.entry.now.requests.items) }
+            → IfErr result (IsAskFault book.entry.now.tables (requests_of told)
+            piece.entry.now.number (requests_in piece.entry.now)) }
     { ask_piece(rt, alloc, book, piece, seat) };
     let ((), asked) = join_mut(rt, &mut read, &mut ask);
     asked
+}
+
+/// Notes the requests of a piece as recorded.
+fn note_piece<F: Tagged, J: RecordLog>(keeper: &mut Keeper<J>, file: &F, piece: &Piece)
+    requires { length keeper.old + length (requests_in piece.now) < 2 ^ 63 }
+    ensures { keeper.new ≡ keeper.old ++ recorded_at (F.tag file.now) (requests_in piece.now) }
+{
+    note(keeper, file, piece.first.requests.as_slice());
+    note(keeper, file, piece.rest.second.requests.as_slice());
+    note(keeper, file, piece.rest.third.requests.as_slice());
 }
 
 /// Asks a piece of a journal of a book that nobody else asks, while the next one is read, and notes its requests as recorded. The
@@ -116,7 +181,7 @@ fn ask_and_read<'a, D: Device + Send, L: SharedLedger, M: SharedLedger, R: Threa
 ///
 /// # Errors
 ///
-/// As [`ask_piece`].
+/// As [`ask_portion`].
 fn take_piece<
     D: Device + Send,
     L: SharedLedger,
@@ -131,48 +196,26 @@ fn take_piece<
     keeper: &mut Keeper<J>,
     piece: &mut Piece,
 ) -> Result<(), StartFault>
-    requires reading { IsReading D.seen D.may_leave D.may_be_used D.is_true
+    requires reading { IsAtRequest D.seen D.may_leave D.may_be_used D.is_true
         ahead.old.reader.opening }
-    requires limit { limit_of ahead.old.reader.opening ≡ max_bytes }
-    requires number { piece.old.number ≡ length keeper.old + 1 }
-    requires counted { IfOk piece.old.end (λ _. number_of ahead.old.reader.opening
-        ≡ piece.old.number + length piece.old.requests.items) }
-    requires short { piece.old.number + length piece.old.requests.items ≤ 2 ^ 62 }
+    requires halfway { IsHalfway D.seen D.is_true ahead.old.reader.opening seat.old keeper.old
+        piece.old }
     requires more { piece.old.end ≡ Ok true }
-    requires refilled { IsRefilled seat.old keeper.old }
-    requires ahead { D.is_true ahead.old.reader.opening.device → IsAhead
-        (D.seen ahead.old.reader.opening.device) (unread_bytes D.seen ahead.old.reader.opening)
-        (requests keeper.old) piece.old.number piece.old.requests.items piece.old.end }
     ensures keep { seat.new.keeps_all ≡ seat.old.keeps_all }
-    ensures reading { IsReading D.seen D.may_leave D.may_be_used D.is_true
+    ensures reading { IsAtRequest D.seen D.may_leave D.may_be_used D.is_true
         ahead.new.reader.opening }
-    ensures limit { limit_of ahead.new.reader.opening ≡ max_bytes }
-    ensures noted { OnOk result (keeper.new ≡ keeper.old
-        ++ recorded_at (D.moment ahead.new.reader.opening.device) piece.old.requests.items) }
-    ensures refilled { OnOk result (IsRefilled seat.new keeper.new) }
-    ensures number { OnOk result (piece.new.number ≡ length keeper.new + 1) }
-    ensures counted { OnOk result (IfOk piece.new.end (λ _. number_of ahead.new.reader.opening
-        ≡ piece.new.number + length piece.new.requests.items)) }
-    ensures short { OnOk result
-        (piece.new.number + length piece.new.requests.items ≤ 2 ^ 62) }
-    ensures ahead { OnOk result (D.is_true ahead.new.reader.opening.device → IsAhead
-        (D.seen ahead.new.reader.opening.device) (unread_bytes D.seen ahead.new.reader.opening)
-        (requests keeper.new) piece.new.number piece.new.requests.items piece.new.end) }
-    ensures further { OnOk result (IfOk piece.new.end (λ more. more ≡ true
-        → place_of ahead.old.reader.opening < place_of ahead.new.reader.opening)) }
+    ensures read_on { IsReadOn D.seen D.may_leave D.is_true D.moment D.left_since
+        ahead.old.reader.opening ahead.new.reader.opening }
+    ensures taken { OnOk result (IsTaken D.seen D.is_true D.moment ahead.old.reader.opening
+        ahead.new.reader.opening seat.new keeper.old keeper.new piece.old piece.new) }
     ensures fault { IfErr result (λ fault. D.is_true ahead.new.reader.opening.device
         → IsStartFault book.now.tables (D.seen ahead.new.reader.opening.device) fault) }
-    ensures untouched { D.is_true ahead.new.reader.opening.device
-        → Untouched D.seen D.may_leave D.moment D.left_since
-        ahead.old.reader.opening.device ahead.new.reader.opening.device }
-    ensures was_true { D.is_true ahead.new.reader.opening.device
-        → D.is_true ahead.old.reader.opening.device }
 {
     match ask_and_read(rt, book, piece, seat, ahead) {
         Ok(()) => {}
         Err(fault) => return Err(fault),
     }
-    note(keeper, ahead, piece.requests.as_slice());
+    note_piece(keeper, ahead, piece);
     swap(piece, &mut ahead.next);
     Ok(())
 }
@@ -181,7 +224,7 @@ fn take_piece<
 ///
 /// # Errors
 ///
-/// As [`ask_piece`], and then as [`RequestReader::next_request`], where the line behind it gives no request.
+/// As [`ask_portion`], and then why the line behind the piece gives no request.
 fn take_last<D: Device, L: SharedLedger, M: SharedLedger, J: RecordLog, R: Threads + Wait + Sync>(
     rt: &R,
     book: &Book<L, M>,
@@ -190,22 +233,14 @@ fn take_last<D: Device, L: SharedLedger, M: SharedLedger, J: RecordLog, R: Threa
     keeper: &mut Keeper<J>,
     last: &Piece,
 ) -> Result<(), StartFault>
-    requires number { last.now.number ≡ length keeper.old + 1 }
-    requires short { last.now.number + length last.now.requests.items ≤ 2 ^ 62 }
+    requires halfway { IsHalfway D.seen D.is_true ahead.now.reader.opening seat.old keeper.old
+        last.now }
     requires end { last.now.end ≢ Ok true }
-    requires refilled { IsRefilled seat.old keeper.old }
-    requires ahead { D.is_true ahead.now.reader.opening.device → IsAhead
-        (D.seen ahead.now.reader.opening.device) (unread_bytes D.seen ahead.now.reader.opening)
-        (requests keeper.old) last.now.number last.now.requests.items last.now.end }
     ensures keep { seat.new.keeps_all ≡ seat.old.keeps_all }
     ensures noted { OnOk result (keeper.new ≡ keeper.old
-        ++ recorded_at (D.moment ahead.now.reader.opening.device) last.now.requests.items) }
-    ensures refilled { OnOk result (IsRefilled seat.new keeper.new) }
-    ensures short { OnOk result (length keeper.new < 2 ^ 63) }
-    ensures done { OnOk result (D.is_true ahead.now.reader.opening.device
-        → HasNoMore (unread_bytes D.seen ahead.now.reader.opening)) }
-    ensures told { OnOk result (D.is_true ahead.now.reader.opening.device
-        → IsTold (recovered_texts (D.seen ahead.now.reader.opening.device)) (requests keeper.new)) }
+        ++ recorded_at (D.moment ahead.now.reader.opening.device) (requests_in last.now)) }
+    ensures all { OnOk result (IsAllTaken D.seen D.is_true ahead.now.reader.opening seat.new
+        keeper.new) }
     ensures fault { IfErr result (λ fault. D.is_true ahead.now.reader.opening.device
         → IsStartFault book.now.tables (D.seen ahead.now.reader.opening.device) fault) }
 {
@@ -213,7 +248,7 @@ fn take_last<D: Device, L: SharedLedger, M: SharedLedger, J: RecordLog, R: Threa
         Ok(()) => {}
         Err(fault) => return Err(fault),
     }
-    note(keeper, ahead, last.requests.as_slice());
+    note_piece(keeper, ahead, last);
     match last.end {
         Ok(_) => Ok(()),
         Err(fault) => Err(fault),
@@ -242,29 +277,19 @@ fn read_back<
 ) -> Result<(), StartFault>
     requires at_first { IsAtFirstRequest D.seen D.may_leave D.may_be_used D.is_true
         ahead.old.reader.opening }
-    requires none { keeper.old ≡ [] }
-    requires fresh { IsRefilled seat.old [] }
-    requires empty { IsFirstPiece piece }
+    requires none { (keeper.old ≡ []) × IsRefilled seat.old [] × IsFirstPiece piece }
     ensures keep { seat.new.keeps_all ≡ seat.old.keeps_all }
-    ensures reading { IsReading D.seen D.may_leave D.may_be_used D.is_true
+    ensures reading { IsAtRequest D.seen D.may_leave D.may_be_used D.is_true
         ahead.new.reader.opening }
-    ensures short { OnOk result (length keeper.new < 2 ^ 63) }
-    ensures refilled { OnOk result (IsRefilled seat.new keeper.new) }
-    ensures done { OnOk result (D.is_true ahead.new.reader.opening.device
-        → HasNoMore (unread_bytes D.seen ahead.new.reader.opening)) }
-    ensures told { OnOk result (D.is_true ahead.new.reader.opening.device
-        → IsTold (recovered_texts (D.seen ahead.old.reader.opening.device))
-        (requests keeper.new)) }
+    ensures read_on { IsReadOn D.seen D.may_leave D.is_true D.moment D.left_since
+        ahead.old.reader.opening ahead.new.reader.opening }
+    ensures all { OnOk result (IsAllTaken D.seen D.is_true ahead.new.reader.opening seat.new
+        keeper.new) }
     ensures at_start { OnOk result (D.is_true ahead.new.reader.opening.device
         → keeper.new
-        ≡ recorded_at (D.moment ahead.old.reader.opening.device) (requests keeper.new)) }
+        ≡ recorded_at (D.moment ahead.old.reader.opening.device) (requests_of keeper.new)) }
     ensures fault { IfErr result (λ fault. D.is_true ahead.new.reader.opening.device
         → IsStartFault book.now.tables (D.seen ahead.old.reader.opening.device) fault) }
-    ensures untouched { D.is_true ahead.new.reader.opening.device
-        → Untouched D.seen D.may_leave D.moment D.left_since
-        ahead.old.reader.opening.device ahead.new.reader.opening.device }
-    ensures was_true { D.is_true ahead.new.reader.opening.device
-        → D.is_true ahead.old.reader.opening.device }
 {
     'pieces: while let Ok(true) = piece.end {
         match take_piece(rt, book, seat, ahead, keeper, &mut piece) {
@@ -321,16 +346,18 @@ pub fn resume<
         return Err((StartFault::Shared, reader.into_device()));
     };
     let alloc = reader.alloc;
-    let (Ok(first), Ok(next)) = (Piece::new(alloc), Piece::new(alloc)) else {
-        return Err((StartFault::Memory, reader.into_device()));
+    let mut ahead = Ahead {
+        reader,
+        lines: Vec::new(alloc),
+        next: Piece::new(alloc),
     };
-    let mut ahead = Ahead { reader, next };
-    match read_back(rt, book, seat, &mut ahead, &mut keeper, first) {
+    match read_back(rt, book, seat, &mut ahead, &mut keeper, Piece::new(alloc)) {
         Ok(()) => {}
         Err(fault) => return Err((fault, ahead.into_device())),
     }
     let Ahead {
         reader,
+        lines: _lines,
         next: _next,
     } = ahead;
     match reader.into_disk() {

@@ -1,16 +1,10 @@
-use Rattle.std.proofs.Common.{◌+◌, List, refl, subst}
-use Rattle.mds_core.specs.declared.request.Request.{Request}
-use Rattle.mds_book.specs.Refilling.{IsRefusedAt}
-use Rattle.mds_follow.proofs.ReadBack.{refused_told}
+use Rattle.mds_follow.specs.Pieces.{requests_of_rest}
+use Rattle.mds_follow.proofs.Asking.{second_fault}
 use Rattle.mds_follow.proofs.restart.ask_piece.Goals as goal
 
--- the request that the tables refuse is one of the piece
-pub returns-in-Refused-clause-fault : goal.returns-in-Refused-clause-fault
-returns-in-Refused-clause-fault g c told refilled =
-    let tables = c.args.book.now.tables in
-    let seat = c.args.seat.now in
-    let piece = c.args.piece.now in
-    let at = c.in-Err.stop.at in
-    let RefusedAt : List Request → Type 0 = λ w. IsRefusedAt tables seat w at in
-    refused_told tables seat told piece.requests.items piece.number (piece.number + at) at refilled refl
-    (subst RefusedAt c.as_slice.ensures.value (c.in-Err.ensures.refused c.in-Refused.is))
+-- why what stands behind the first third isn't asked is why the piece isn't
+pub returns-clause-fault : goal.returns-clause-fault
+returns-clause-fault g c told refilled =
+    rw (← c.as_slice-first.ensures.value)
+    (second_fault c.args.book.now.tables c.args.seat.now c.ask_portion.new.seat told c.args.piece.now.number c.as_slice-first.result.now (requests_of_rest c.args.piece.now.rest) c.ask_rest.result refilled
+    c.in-Ok.ensures.filled.0 c.in-Ok.ensures.filled.1 c.ask_rest.ensures.fault)

@@ -4,6 +4,7 @@ use Rattle.mds_journal.specs.Opening.{number_of, unread_bytes}
 use Rattle.mds_journal.proofs.MomentLemmas.{still_untouched}
 use Rattle.mds_log.specs.Log.{Acceptance, requests}
 use Rattle.mds_follow.specs.Record.{recorded_at}
+use Rattle.mds_follow.specs.Pieces.{requests_in}
 use Rattle.mds_follow.specs.Restart.{IsRefilled}
 use Rattle.mds_follow.specs.declared.start_fault.StartFault.{StartFault}
 use Rattle.mds_follow.proofs.ReadBack.{at_one_moment, on_ok, read_none}
@@ -12,28 +13,32 @@ use Rattle.mds_follow.proofs.restart.read_back.Goals as goal
 -- nothing is read yet but the form
 pub pieces-init : goal.pieces-init
 pieces-init g c =
-    let none = c.requires.none in
+    let none = c.requires.none.0 in
+    let empty = c.requires.none.2 in
     let first = c.requires.at_first in
-    let empty = c.requires.empty in
     let piece = c.args.piece in
     let opening = c.args.ahead.now.reader.opening in
     let Refilled : List Acceptance → Type 0 = λ w. IsRefilled c.args.seat.now w in
     let At : List Acceptance → Type 0 = λ w. w ≡ recorded_at (g.D.Device.moment opening.device) (requests w) in
-    let Counted : Result Bool StartFault → Type 0 = λ w. IfOk w (λ _. number_of opening ≡ piece.number + length piece.requests.items) in
-    let size : length piece.requests.items ≡ 0 = ap (λ (w : List Request). length w) empty.empty in
+    let Counted : Result Bool StartFault → Type 0 = λ w. IfOk w (λ _. number_of opening ≡ piece.number + length (requests_in piece)) in
+    let size : length (requests_in piece) ≡ 0 = ap (λ (w : List Request). length w) empty.empty in
     record {
-      reading = first.reading;
-      limit = first.limit;
-      number = omega (arith, empty.number, ap (λ (w : List Acceptance). length w) none);
-      counted = subst Counted (sym empty.more) (omega (arith, first.number, empty.number, size));
-      short = omega (arith, empty.number, size);
-      refilled = subst Refilled (sym none) c.requires.fresh;
+      reading = record { reading = first.reading; limit = first.limit };
+      read_on = record {
+        untouched = λ truth. record { file = refl; outcomes = λ outcome may. may; time = refl; past = λ t outcome was. was };
+        was_true = λ truth. truth;
+      };
+      halfway = record {
+        refilled = subst Refilled (sym none) c.requires.none.1;
+        number = omega (arith, empty.number, ap (λ (w : List Acceptance). length w) none);
+        counted = subst Counted (sym empty.more) (omega (arith, first.number, empty.number, size));
+        short = omega (arith, empty.number, size);
+        ahead = λ truth.
+            read_none (g.D.Device.seen opening.device) (unread_bytes g.D.Device.seen opening) c.args.keeper.now piece.number (requests_in piece) piece.end none empty.empty empty.more
+            (first.form truth);
+      };
       keep = refl;
-      ahead = λ truth.
-          read_none (g.D.Device.seen opening.device) (unread_bytes g.D.Device.seen opening) c.args.keeper.now piece.number piece.requests.items piece.end none empty.empty empty.more (first.form truth);
       at_start = λ truth. subst At (sym none) refl;
-      untouched = λ truth. record { file = refl; outcomes = λ outcome may. may; time = refl; past = λ t outcome was. was };
-      was_true = λ truth. truth;
     }
 
 -- a piece more is asked and noted
@@ -44,26 +49,24 @@ pieces-preserved g c =
     let new = c.take_piece.new.keeper in
     let first = c.args.ahead.now.reader.opening.device in
     let then = c.take_piece.new.ahead.reader.opening.device in
-    let asked = c.pieces.piece.requests.items in
+    let read_on = c.take_piece.ensures.read_on in
+    let asked = requests_in c.pieces.piece in
+    let taken = c.in-Ok.ensures.taken in
     let Noted : ℕ → Type 0 = λ t. new ≡ old ++ recorded_at t asked in
     record {
       reading = c.take_piece.ensures.reading;
-      limit = c.take_piece.ensures.limit;
-      number = c.in-Ok.ensures.number;
-      counted = c.in-Ok.ensures.counted;
-      short = c.in-Ok.ensures.short;
-      refilled = c.in-Ok.ensures.refilled;
+      read_on = record {
+        untouched = λ truth.
+            still_untouched g.D.Device.seen g.D.Device.may_leave g.D.Device.moment g.D.Device.left_since first c.pieces.ahead.reader.opening.device then
+            (was.read_on.untouched (read_on.was_true truth)) (read_on.untouched truth);
+        was_true = λ truth. was.read_on.was_true (read_on.was_true truth);
+      };
+      halfway = taken.halfway;
       keep = c.take_piece.ensures.keep ∙ was.keep;
-      ahead = c.in-Ok.ensures.ahead;
       at_start = λ truth.
-          let before = c.take_piece.ensures.was_true truth in
-          let same = (c.take_piece.ensures.untouched truth).time ∙ (was.untouched before).time in
-          at_one_moment (g.D.Device.moment first) old new asked (subst Noted same c.in-Ok.ensures.noted) (was.at_start before);
-      untouched = λ truth.
-          let before = c.take_piece.ensures.was_true truth in
-          still_untouched g.D.Device.seen g.D.Device.may_leave g.D.Device.moment g.D.Device.left_since first c.pieces.ahead.reader.opening.device then (was.untouched before)
-          (c.take_piece.ensures.untouched truth);
-      was_true = λ truth. was.was_true (c.take_piece.ensures.was_true truth);
+          let before = read_on.was_true truth in
+          let same = (read_on.untouched truth).time ∙ (was.read_on.untouched before).time in
+          at_one_moment (g.D.Device.moment first) old new asked (subst Noted same taken.noted) (was.at_start before);
     }
 
 -- the last piece is noted like those before it
@@ -72,9 +75,9 @@ returns-clause-at_start g c =
     let was = c.pieces.invariant in
     let old = c.pieces.keeper in
     let new = c.take_last.new.keeper in
-    let asked = c.pieces.piece.requests.items in
+    let asked = requests_in c.pieces.piece in
     let start = g.D.Device.moment c.args.ahead.now.reader.opening.device in
     let Noted : ℕ → Type 0 = λ t. new ≡ old ++ recorded_at t asked in
     on_ok c.take_last.result (Noted (g.D.Device.moment c.pieces.ahead.reader.opening.device))
     (g.D.Device.is_true c.pieces.ahead.reader.opening.device → new ≡ recorded_at start (requests new))
-    (λ noted truth. at_one_moment start old new asked (subst Noted (was.untouched truth).time noted) (was.at_start truth)) c.take_last.ensures.noted
+    (λ noted truth. at_one_moment start old new asked (subst Noted (was.read_on.untouched truth).time noted) (was.at_start truth)) c.take_last.ensures.noted

@@ -1,7 +1,5 @@
-use Rattle.std.proofs.Common.{◌≡◌, ◌∙◌, ℕ, List, refl, sym, subst}
-use Rattle.mds_journal.specs.Lines.{recovered_texts}
+use Rattle.std.proofs.Common.{◌≡◌, ◌∙◌, ℕ, refl, sym, subst}
 use Rattle.mds_log.specs.Log.{requests}
-use Rattle.mds_follow.specs.Disk.{IsTold}
 use Rattle.mds_follow.specs.Record.{recorded_at}
 use Rattle.mds_follow.proofs.Blanks.{keeps_all}
 use Rattle.mds_follow.proofs.ReadBack.{read_only}
@@ -11,13 +9,12 @@ use Rattle.mds_follow.proofs.restart.resume.Goals as goal
 pub begin-requires-clause-read : goal.begin-requires-clause-read
 begin-requires-clause-read g c truth =
     let then = c.in-Ok-into_disk.ensures.was_true truth in
-    let none = c.read_back.ensures.untouched then in
+    let none = c.read_back.ensures.read_on.untouched then in
     let told = c.read_back.new.keeper in
     let opened = c.read_back.new.ahead.reader.opening.device in
-    let Told : List ℕ → Type 0 = λ w. IsTold (recovered_texts w) (requests told) in
     let At : ℕ → Type 0 = λ t. told ≡ recorded_at t (requests told) in
     read_only g.D.Device.seen g.D.Device.moment g.D.Device.left_since opened c.in-Ok-into_disk.disk.journal.device told g.J.RecordLog.start (c.requires.start ∙ sym none.time)
-    (subst Told (sym none.file) (c.in-Ok.ensures.told then)) (subst At (sym none.time) (c.in-Ok.ensures.at_start then)) (c.in-Ok-into_disk.ensures.any_moment truth)
+    (c.in-Ok.ensures.all.told then) (subst At (sym none.time) (c.in-Ok.ensures.at_start then)) (c.in-Ok-into_disk.ensures.any_moment truth)
 
 -- the file was read, and nothing else was done to it
 pub returns-in-Err-clause-any_moment_err : goal.returns-in-Err-clause-any_moment_err
@@ -25,21 +22,14 @@ returns-in-Err-clause-any_moment_err g c =
     let opened = c.args.reader.opening.device in
     let read = c.read_back.new.ahead.reader.opening.device in
     rw c.into_device-in-Err.ensures (λ truth.
-    let then = c.read_back.ensures.was_true truth in
+    let then = c.read_back.ensures.read_on.was_true truth in
     keeps_all g.D.Device.seen g.D.Device.may_leave g.D.Device.moment g.D.Device.left_since opened read (c.requires.at_first.reading.read then).durable ((g.met.D.Device g.world.𝓛 g.world.𝓜 g.world.𝓡 ((λ s x. x), (λ x. x), (λ x. x), λ x. x)).only_now read)
-    (c.read_back.ensures.untouched truth))
+    (c.read_back.ensures.read_on.untouched truth))
 
 -- the file wasn't read further
 pub returns-in_default-clause-any_moment_err : goal.returns-in_default-clause-any_moment_err
 returns-in_default-clause-any_moment_err g c =
     let opened = c.args.reader.opening.device in
     rw c.into_device.ensures (λ truth.
-    keeps_all g.D.Device.seen g.D.Device.may_leave g.D.Device.moment g.D.Device.left_since opened opened (c.requires.at_first.reading.read truth).durable ((g.met.D.Device g.world.𝓛 g.world.𝓜 g.world.𝓡 ((λ s x. x), (λ x. x), (λ x. x), λ x. x)).only_now opened)
-    (record { file = refl; outcomes = λ outcome may. may; time = refl; past = λ t outcome was. was }))
-
-pub returns-in_default-2-clause-any_moment_err : goal.returns-in_default-2-clause-any_moment_err
-returns-in_default-2-clause-any_moment_err g c =
-    let opened = c.args.reader.opening.device in
-    rw c.into_device-in_default-2.ensures (λ truth.
     keeps_all g.D.Device.seen g.D.Device.may_leave g.D.Device.moment g.D.Device.left_since opened opened (c.requires.at_first.reading.read truth).durable ((g.met.D.Device g.world.𝓛 g.world.𝓜 g.world.𝓡 ((λ s x. x), (λ x. x), (λ x. x), λ x. x)).only_now opened)
     (record { file = refl; outcomes = λ outcome may. may; time = refl; past = λ t outcome was. was }))

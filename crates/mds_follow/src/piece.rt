@@ -1,0 +1,239 @@
+//! Requests that are read a piece at a time, by several threads, in room that is kept for the next ones.
+ghost use Rattle.std.specs.Prelude.{◌≡◌, ◌+◌, ◌^◌, ◌≤◌, [], ℕ, List, length, IfOk, OnOk, OnErr};
+ghost use Rattle.mds_follow.specs.Reading.{HandsOutAll, IsEndOf, IsEndOfTexts};
+ghost use Rattle.mds_follow.specs.Pieces.{AreRead, IsFirstPiece, first_fault, fault_of_text, requests_in, requests_of_rest, texts_in};
+
+use crate::StartFault;
+use mds_core::{Key, Request};
+use mds_entries::{EntryFault, EntryReader};
+use mds_journal::JournalFault;
+use std::alloc::{AllocError, Global};
+use std::thread::{Threads, join_mut};
+use uuid::Uuid;
+
+/// A third of a piece: its requests, and what reads them.
+#[derive(Drop)]
+pub(crate) struct Portion {
+    entries: EntryReader,
+    /// They, in their order.
+    pub(crate) requests: Vec<Request>,
+}
+
+/// The two thirds behind the first one.
+#[derive(Drop)]
+pub(crate) struct Rest {
+    pub(crate) second: Portion,
+    pub(crate) third: Portion,
+}
+
+/// Requests that were read one after the other.
+#[derive(Drop)]
+pub(crate) struct Piece {
+    /// The number of the first one's line.
+    pub(crate) number: usize,
+    /// The first of them.
+    pub(crate) first: Portion,
+    /// Those behind them.
+    pub(crate) rest: Rest,
+    /// Whether more may come, or why the line behind them gives none.
+    pub(crate) end: Result<bool, StartFault>,
+}
+
+/// A request whose place others take: it is none of a line, and is never handed on.
+fn blank_request() -> Request {
+    Request::Look(Key {
+        provider: Uuid::nil(),
+        device: Uuid::nil(),
+    })
+}
+
+/// Leaves so many places of requests, whatever stands there.
+fn make_places(requests: &mut Vec<Request>, count: usize) -> Result<(), AllocError>
+    ensures { OnOk result (length requests.new.items ≡ count) }
+{
+    requests.truncate(count);
+    'places: while requests.len() < count {
+        requests.push(blank_request())?;
+    }
+    Ok(())
+}
+
+/// Why the line of this number gives no request.
+fn fault_at(number: usize, fault: EntryFault) -> StartFault
+    ensures { result ≡ fault_of_text number fault }
+{
+    match fault {
+        EntryFault::Memory => StartFault::Memory,
+        EntryFault::BadLine | EntryFault::NoLine => {
+            StartFault::Journal(JournalFault::BadLine(number))
+        }
+    }
+}
+
+fn first_of(one: Result<(), EntryFault>, other: Result<(), EntryFault>) -> Result<(), EntryFault>
+    ensures { result ≡ first_fault one other }
+{
+    match one {
+        Ok(()) => other,
+        Err(fault) => Err(fault),
+    }
+}
+
+impl Portion {
+    fn new(alloc: Global) -> Portion
+        ensures { result.requests.items ≡ [] }
+    {
+        Portion {
+            entries: EntryReader::new(alloc),
+            requests: Vec::new(alloc),
+        }
+    }
+
+    fn clear(&mut self)
+        ensures { self.new.requests.items ≡ [] }
+    {
+        self.requests.clear();
+    }
+
+    /// Reads the requests that these lines tell, in the places of those before them, up to the first line that tells none. Of an
+    /// event only what it has of its own is written.
+    ///
+    /// # Errors
+    ///
+    /// Those of [`EntryReader::read_into`], of the line behind the requests; `Memory` where there is none for their places.
+    fn read(&mut self, lines: &[Vec<u8>]) -> Result<(), EntryFault>
+        ensures { AreRead (texts_in lines.now) self.new.requests.items result }
+    {
+        if make_places(&mut self.requests, lines.len()).is_err() {
+            self.clear();
+            return Err(EntryFault::Memory);
+        }
+        for at in 0..lines.len() {
+            match self.entries.read_into(&lines[at], &mut self.requests[at]) {
+                Ok(()) => {}
+                Err(fault) => {
+                    self.requests.truncate(at);
+                    return Err(fault);
+                }
+            }
+        }
+        Ok(())
+    }
+}
+
+impl Rest {
+    fn clear(&mut self)
+        ensures { requests_of_rest self.new ≡ [] }
+    {
+        self.second.clear();
+        self.third.clear();
+    }
+
+    /// Reads the requests of both thirds, each by a thread.
+    fn read_both<R: Threads + Sync>(
+        &mut self,
+        rt: &R,
+        front: &[Vec<u8>],
+        behind: &[Vec<u8>],
+    ) -> (Result<(), EntryFault>, Result<(), EntryFault>)
+        ensures second { AreRead (texts_in front.now) self.new.second.requests.items result.0 }
+        ensures third { AreRead (texts_in behind.now) self.new.third.requests.items result.1 }
+    {
+        let (second, third) = (&mut self.second, &mut self.third);
+        let mut read_behind = || third.read(behind);
+        let mut read_front = || second.read(front);
+        let (others, ones) = join_mut(rt, &mut read_behind, &mut read_front);
+        (ones, others)
+    }
+
+    /// As [`Portion::read`], by two threads.
+    fn read<R: Threads + Sync>(&mut self, rt: &R, lines: &[Vec<u8>]) -> Result<(), EntryFault>
+        ensures { AreRead (texts_in lines.now) (requests_of_rest self.new) result }
+    {
+        let middle = lines.len() / 2;
+        let (ones, others) = self.read_both(rt, &lines[..middle], &lines[middle..]);
+        if ones.is_err() {
+            self.third.clear();
+        }
+        first_of(ones, others)
+    }
+}
+
+impl Piece {
+    /// A piece with nothing in it, as before the first request of a journal.
+    pub(crate) fn new(alloc: Global) -> Piece
+        ensures { IsFirstPiece result }
+    {
+        Piece {
+            number: 1,
+            first: Portion::new(alloc),
+            rest: Rest {
+                second: Portion::new(alloc),
+                third: Portion::new(alloc),
+            },
+            end: Ok(true),
+        }
+    }
+
+    fn len(&self) -> usize
+        requires { length (requests_in self.now) ≤ 2 ^ 62 }
+        ensures { result ≡ length (requests_in self.now) }
+    {
+        self.first.requests.len() + self.rest.second.requests.len() + self.rest.third.requests.len()
+    }
+
+    /// Reads the requests of the first third, and by other threads those behind it.
+    fn read_both<R: Threads + Sync>(
+        &mut self,
+        rt: &R,
+        front: &[Vec<u8>],
+        behind: &[Vec<u8>],
+    ) -> (Result<(), EntryFault>, Result<(), EntryFault>)
+        ensures first { AreRead (texts_in front.now) self.new.first.requests.items result.0 }
+        ensures rest { AreRead (texts_in behind.now) (requests_of_rest self.new.rest) result.1 }
+    {
+        let (first, rest) = (&mut self.first, &mut self.rest);
+        let mut read_behind = || rest.read(rt, behind);
+        let mut read_front = || first.read(front);
+        let (others, ones) = join_mut(rt, &mut read_behind, &mut read_front);
+        (ones, others)
+    }
+
+    /// As [`Portion::read`], by three threads.
+    fn read_texts<R: Threads + Sync>(&mut self, rt: &R, lines: &[Vec<u8>]) -> Result<(), EntryFault>
+        ensures { AreRead (texts_in lines.now) (requests_in self.new) result }
+    {
+        let third = lines.len() / 3;
+        let (ones, others) = self.read_both(rt, &lines[..third], &lines[third..]);
+        if ones.is_err() {
+            self.rest.clear();
+        }
+        first_of(ones, others)
+    }
+
+    /// Reads the requests that these lines tell, in the place of those before them, up to the first line that tells none, by three
+    /// threads. The first line has this number, and behind the last one comes this end.
+    pub(crate) fn read<R: Threads + Sync>(
+        &mut self,
+        rt: &R,
+        number: usize,
+        lines: &[Vec<u8>],
+        end: Result<bool, StartFault>,
+    )
+        requires { number + length lines.now ≤ 2 ^ 62 }
+        ensures number { self.new.number ≡ number }
+        ensures read { (bytes left : List ℕ) → HandsOutAll bytes (texts_in lines.now) left
+            → IsEndOfTexts left (number + length lines.now) end
+            → IsEndOf bytes left number (requests_in self.new) self.new.end }
+        ensures all { IfOk self.new.end (λ _. (self.new.end ≡ end)
+            × (length (requests_in self.new) ≡ length lines.now)) }
+        ensures few { length (requests_in self.new) ≤ length lines.now }
+    {
+        let told = self.read_texts(rt, lines);
+        self.number = number;
+        self.end = match told {
+            Ok(()) => end,
+            Err(fault) => Err(fault_at(number + self.len(), fault)),
+        };
+    }
+}

@@ -1,0 +1,337 @@
+"""The steps of docs/runbook.md, each section over a machine that has the trouble of which it tells.
+
+A machine is a folder with the files of deploy/ and with journals. The scripts of `tests/deploying/machine` stand in place of
+systemd and of its journal, and start the built program by the unit's words. Paths and ports are those of the folder."""
+
+import re
+import shutil
+import subprocess
+import tempfile
+from pathlib import Path
+
+from deploying.passing import answered, sent
+from deploying.proxies import PROVIDERS, TOKENS, changed, free_ports, installed
+from deploying.vehicles import vehicle
+from harness.counting import ROOT, Skipped, Unwell
+from model.json_text import compact
+from serving.documents import Shell, steps_of, unlike
+from serving.server import success_of
+from serving.wire import ask, post
+
+RUNBOOK = ROOT / "docs/runbook.md"
+HEADING = re.compile(r"^#{2,3} (.*)$", re.MULTILINE)
+P = PROVIDERS[0]
+A, B, C = (f"00000000-0000-4000-8000-00000000000{letter}" for letter in "abc")
+FOLDERS = ("/etc/mds_city", "/etc/systemd", "/var/lib/mds_city", "/var/log/nginx", "/var/tmp", "/usr/local/bin")
+"""What stands in the machine's folder in place of the root of a real one."""
+SMALL_DISK, MOST_KEPT, AT_ONCE = "3M", 50000, 1000
+"""How large a disk is that is full soon; more vehicles than it has room for, and how many are registered by one request."""
+MANY, LITTLE, FORM = 400000, 64, ' {"form":"mds_city","version":1}\n'
+"""How many vehicles take more than so many MiB; and the first line of a journal (docs/formats.md, `Journal`)."""
+GREATEST = 9007199254740991
+"""The greatest time that an event may have (docs/formats.md, `Members`)."""
+
+
+def registration(device):
+    return {"provider_id": P, "device_id": device}
+
+
+def event(device, number, types, state, hour):
+    """An event at an hour of 30 April 2025, from 8 in the morning on."""
+    identifier = f"00000000-0000-4000-8000-0000000000e{number}"
+    when = 1746000000000 + 3600000 * hour
+    return {**registration(device), "event_id": identifier, "event_types": types, "timestamp": when, "vehicle_state": state}
+
+
+REQUESTS = [
+    ("/vehicles", registration(A)),
+    ("/vehicles", registration(B)),
+    ("/events", event(A, 1, ["provider_drop_off"], "available", 0)),
+    ("/events", event(A, 2, ["trip_start"], "on_trip", 1)),
+    ("/events", event(A, 3, ["trip_end"], "available", 2)),
+    ("/events", event(B, 4, ["provider_drop_off"], "available", 3)),
+]
+"""What the instance `one` has accepted, a line of its journal each, behind the first line. A copy lacks the last."""
+
+LATER = event(A, 8, ["trip_start"], "on_trip", 4)
+"""One more event of the first vehicle."""
+
+
+def exported(names):
+    """The command by which a shell has these names, and finds the scripts that stand in place of others."""
+    commands = [f"export {name}={value}" for name, value in names.items()]
+    return "; ".join([f"export PATH={ROOT}/tests/deploying/machine:$PATH", *commands])
+
+
+class Machine:
+    """A folder in place of a machine, with two instances, and a shell on it. As a context it is taken down at its end."""
+
+    def __init__(self, program):
+        for name in ("curl", "jq", "numfmt"):
+            installed(name)
+        self.program, self.holder = program, tempfile.TemporaryDirectory()
+        self.root = Path(self.holder.name)
+        self.ports = dict(zip(("one", "two"), free_ports(2)))
+        for folder in ("run", "etc/mds_city", "etc/systemd/system", "var/tmp", "usr/local/bin", "var/lib/mds_city_copies"):
+            (self.root / folder).mkdir(parents=True)
+        for name, port in self.ports.items():
+            self.write(f"/etc/mds_city/{name}.env", changed("one.env", {"PORT=8001": f"PORT={port}"}))
+        self.write("/etc/systemd/system/mds_city@.service", self.here(changed("mds_city@.service", {})))
+        shutil.copy(program, self.root / "usr/local/bin/mds_city")
+        shutil.copy(program, self.root / "var/tmp/mds_city")
+        self.shell = Shell(program)
+        names = {"MACHINE": self.root, "P": P, "A": A, "C": C}
+        self.shell.__enter__().run(exported(names))
+        self.shell.ports["8001"] = str(self.ports["one"])
+
+    def __enter__(self):
+        return self
+
+    def __exit__(self, *_):
+        for name in self.ports:
+            self.shell.run(f"systemctl stop mds_city@{name}")
+        self.shell.run(f"mountpoint -q {self.journal().parent} && umount -l {self.journal().parent}")
+        self.shell.__exit__()
+        self.holder.cleanup()
+
+    def here(self, text):
+        """A text with the paths of the folder, which may be named in it."""
+        return re.sub(rf"(?<![\w/])({'|'.join(map(re.escape, FOLDERS))})", rf"{self.root}\1", text)
+
+    def path(self, name):
+        return self.root / name.lstrip("/")
+
+    def write(self, name, text):
+        self.path(name).write_text(text)
+
+    def journal(self, name="one"):
+        return self.path(f"/var/lib/mds_city/{name}/journal")
+
+    def run(self, command):
+        """What a command prints, with the paths of a real machine."""
+        return [line.replace(str(self.root), "").strip() for line in self.shell.run(self.here(command))]
+
+    def ask(self, target, value):
+        return ask(self.ports["one"], post(target, compact(value)))
+
+    def fill(self):
+        """Starts the instance, has it accept all requests, and copies its journal before the last one."""
+        self.run("systemctl start mds_city@one")
+        for target, value in REQUESTS:
+            if value is REQUESTS[-1][1]:
+                shutil.copy(self.journal(), self.path("/var/lib/mds_city_copies/one.journal"))
+            if success_of(self.ask(target, value)) != 1:
+                raise Unwell(f"{target} {value} isn't accepted")
+
+    def change(self, line, old, new):
+        """Stops the instance, and changes a line of its journal, from 0."""
+        self.run("systemctl stop mds_city@one")
+        lines = self.journal().read_bytes().splitlines(keepends=True)
+        lines[line] = lines[line].replace(old, new, 1)
+        self.journal().write_bytes(b"".join(lines))
+
+
+def device_of(number):
+    return vehicle(P, number)["device_id"]
+
+
+def without_memory(machine):
+    """The instance may have less address space than its start wants: its vehicles take some 300 bytes each. A program that can't
+    run in that at all, as one that checks its memory, isn't tried."""
+    if machine.run(f"(ulimit -v {LITTLE * 1024}; mds_city --version > /dev/null 2>&1); echo $?") != ["0"]:
+        raise Skipped(f"the program doesn't run in {LITTLE} MiB")
+    text = compact(registration("%s"))
+    lines = [f' {text.replace("%s", device_of(number))}\n' for number in range(MANY)]
+    machine.journal().parent.mkdir(parents=True)
+    machine.journal().write_text("".join([FORM, *lines]))
+    machine.path("/etc/systemd/system/mds_city@one.service.d").mkdir()
+    machine.write("/etc/systemd/system/mds_city@one.service.d/before.conf", f"[Service]\nLimitAS={LITTLE}M\n")
+    machine.run("systemctl start mds_city@one")
+
+
+def on_a_full_disk(machine):
+    """The instance's folder is a small disk, which a copy fills, and then the journal all that it took as room."""
+    folder = machine.journal().parent
+    folder.mkdir(parents=True)
+    if subprocess.run(["mount", "-t", "tmpfs", "-o", f"size={SMALL_DISK}", "none", folder], capture_output=True).returncode:
+        raise Skipped("nothing can be mounted here")
+    machine.run("systemctl start mds_city@one")
+    machine.run(f"head -c {SMALL_DISK} /dev/zero > {folder}/copy-of-last-year")
+    for number in range(0, MOST_KEPT, AT_ONCE):
+        told = machine.ask("/vehicles", [registration(device_of(number + more)) for more in range(AT_ONCE)])
+        if b'{"error":"not_kept"}' in told:
+            return
+    raise Unwell(f"{MOST_KEPT} vehicles are kept on a full disk")
+
+
+def refused_by_a_table(machine):
+    """Another table is in force for all events, and lacks the rows by which they were accepted."""
+    machine.fill()
+    machine.write("/etc/mds_city/table.json", '{"rows":[{"from":"removed","to":"available","type":"wake"}]}')
+    machine.run("sed -i 's|^OPTIONS=.*|OPTIONS=--table /etc/mds_city/table.json|' /etc/mds_city/one.env")
+    machine.run("systemctl restart mds_city@one")
+
+
+def with_a_bad_line(machine):
+    """A bit of a line is another one."""
+    machine.fill()
+    machine.change(4, b'"device_id"', b'"devicf_id"')
+    machine.run("systemctl start mds_city@one")
+
+
+def with_a_closed_gate(machine):
+    """A gate within the journal isn't open."""
+    machine.fill()
+    machine.change(4, b" ", b"#")
+
+
+def without_its_disk(machine):
+    machine.fill()
+    machine.run("systemctl stop mds_city@one")
+    shutil.rmtree(machine.journal().parent)
+
+
+def without_its_machine(machine):
+    """Both instances have copies, and nothing else."""
+    machine.run("systemctl start mds_city@two")
+    owner = {"provider_id": PROVIDERS[1], "device_id": A}
+    if success_of(ask(machine.ports["two"], post("/vehicles", compact(owner)))) != 1:
+        raise Unwell("the other instance accepts no vehicle")
+    shutil.copy(machine.journal("two"), machine.path("/var/lib/mds_city_copies/two.journal"))
+    machine.run("systemctl stop mds_city@two")
+    shutil.rmtree(machine.journal("two").parent)
+    without_its_disk(machine)
+
+
+def with_a_time_to_come(machine):
+    """An event of a vehicle has the greatest time that there is, and others of it are late."""
+    machine.fill()
+    ahead = {**event(A, 9, ["trip_start"], "on_trip", 3), "timestamp": GREATEST}
+    if success_of(machine.ask("/events", ahead)) != 1 or b'"late"' not in machine.ask("/events", LATER):
+        raise Unwell("the vehicle isn't stuck")
+
+
+def is_accepted(machine):
+    """A later event of the vehicle is accepted."""
+    if success_of(machine.ask("/events", LATER)) != 1:
+        yield f"a later event: {machine.ask('/events', LATER)}"
+
+
+def all_sent_again(machine):
+    """All that was accepted is sent again: what is there counts once, and what the copy lacked is accepted."""
+    for target, value in REQUESTS:
+        told = machine.ask(target, value)
+        name = {"/vehicles": b"already_registered", "/events": b"repeated"}[target]
+        if value is REQUESTS[-1][1]:
+            name = b'"success":1'
+        if name not in told:
+            yield f"{value}: {told}, in place of {name}"
+
+
+def all_of_it_there(machine):
+    """What was accepted is there, to the last event."""
+    for target, value in REQUESTS:
+        told = machine.ask(target, value)
+        if not re.search(rb"already_registered|repeated", told):
+            yield f"{value}: {told}"
+
+
+def nothing_more(_):
+    return ()
+
+
+SECTIONS = {
+    "Memory runs out": (without_memory, nothing_more),
+    "The disk is full": (on_a_full_disk, nothing_more),
+    "refused": (refused_by_a_table, all_of_it_there),
+    "bad_line": (with_a_bad_line, all_of_it_there),
+    "damaged, or fewer vehicles than there were": (with_a_closed_gate, all_of_it_there),
+    "A disk is lost": (without_its_disk, all_sent_again),
+    "A machine is lost": (without_its_machine, all_sent_again),
+    "Another version of the program": (Machine.fill, all_of_it_there),
+    "Other rules": (Machine.fill, all_of_it_there),
+    "A vehicle that is stuck": (with_a_time_to_come, is_accepted),
+    "An audit of last year": (Machine.fill, nothing_more),
+}
+"""How a machine gets into the trouble of each section, and what holds behind its steps."""
+
+
+def sections():
+    """The steps of each section of the document that has some, by its heading."""
+    _, *parts = HEADING.split(RUNBOOK.read_text())
+    return {name: steps for name, text in zip(parts[::2], parts[1::2]) if (steps := steps_of(text))}
+
+
+def run_steps(steps, run):
+    for step in steps:
+        yield from unlike(step, run(step.command))
+
+
+def of_section(name):
+    """The subject that runs the steps of a section."""
+
+    def section(program):
+        prepare, check = SECTIONS[name]
+        with Machine(program) as machine:
+            prepare(machine)
+            yield from run_steps(sections()[name], machine.run)
+            yield from check(machine)
+
+    section.__name__ = f"runbook, {name}"
+    return section
+
+
+def runbook_is_whole(_):
+    """Each section of the runbook that has steps is tried."""
+    wanted = {*SECTIONS, *(subject.__name__.partition(", ")[2] for subject in OF_PROXIES)}
+    if set(sections()) != wanted:
+        yield f"sections {sorted(sections())}, and tried are {sorted(wanted)}"
+
+
+def of_proxies(name, check):
+    """The subject that runs the steps of a section over nginx, and then checks it. All tokens are put back."""
+
+    def section(city):
+        installed("jq")
+        before = (city.folder / "tokens.map").read_text()
+        here = lambda text: re.sub(r"(?<![\w/])(/etc/mds_city|/var/log/nginx)", str(city.folder), text)
+        names = {"MACHINE": city.folder, "PROXY": city.paths["nginx"], "P": P}
+        try:
+            with Shell(city.program) as shell:
+                shell.run(exported(names))
+                yield from run_steps(sections()[name], lambda command: shell.run(here(command)))
+                yield from check(city)
+        finally:
+            city.write("tokens.map", before)
+            city.reload(city.nginx())
+
+    section.__name__ = f"runbook, {name}"
+    return section
+
+
+def shut_out(city):
+    """The provider's token is nobody's any more, and the others' are as they were."""
+    yield from is_nobodys(city)
+    before, now = ((city.folder / name).read_text().count(TOKENS[1]) for name in ("tokens.before", "tokens.map"))
+    if (before, now) != (1, 0):
+        yield f"the token stands {before} times in the file of before, and {now} times in that of now"
+
+
+def renewed(city):
+    """The provider has another token, by which it reaches its own vehicles."""
+    yield from is_nobodys(city)
+    found = re.findall(rf'"Bearer ([0-9a-f]{{64}})" {P};', (city.folder / "tokens.map").read_text())
+    if len(found) != 1:
+        yield f"the provider has the tokens {found}"
+    for token in found:
+        yield from answered(city, sent("POST", "/events", token, b"[]"), 200)
+
+
+def is_nobodys(city):
+    """The token that the provider had is nobody's, and another's is as it was."""
+    yield from answered(city, sent("GET", "/table", TOKENS[1]), 401)
+    yield from answered(city, sent("GET", "/table", TOKENS[2]), 200)
+
+
+OF_PROXIES = [of_proxies("A provider floods", shut_out), of_proxies("A token is known to others", renewed)]
+RUNBOOKS = [runbook_is_whole, *map(of_section, SECTIONS)]
