@@ -13,17 +13,17 @@ use Rattle.mds_journal.specs.Stream.{HandsOut, StandsForNothing}
 use Rattle.mds_journal.specs.Opening.{IsTooLong}
 use Rattle.mds_journal.specs.declared.fault.JournalFault.TheVariants.{Form, BadLine, TooLong, Refused, Damaged}
 use Rattle.mds_retention.specs.declared.error.LinesError.{LinesError}
-use Rattle.mds_retention.specs.declared.error.LinesError.TheVariants.{Memory, Read, Fault}
-use Rattle.mds_retention.specs.Telling.{Gives, HasTold, TellsNext, AreTexts, IsTaken, IsFormFault}
+use Rattle.mds_retention.specs.declared.error.LinesError.TheVariants.{Memory, Read, Fault, Changed}
+use Rattle.mds_retention.specs.Telling.{Gives, HasTold, TellsNext, AreTexts, IsTaken, IsFormFault, IsLineFault, IsJournalFault}
 
 -- one text that is handed out
-gives_one : (known left : Option (List ℕ)) (text : List ℕ) → HandsOut known text left → Gives known (text ∷ []) left
+pub gives_one : (known left : Option (List ℕ)) (text : List ℕ) → HandsOut known text left → Gives known (text ∷ []) left
 gives_one None left text out = tt
 gives_one (Some bytes) None text out = absurd out
 gives_one (Some bytes) (Some rest) text out = out
 
 -- and one more
-gives_more : (known middle left : Option (List ℕ)) (texts : List (List ℕ)) (text : List ℕ) → Gives known texts middle → HandsOut middle text left
+pub gives_more : (known middle left : Option (List ℕ)) (texts : List (List ℕ)) (text : List ℕ) → Gives known texts middle → HandsOut middle text left
     → Gives known (texts ++ text ∷ []) left
 gives_more None middle left texts text given out = tt
 gives_more (Some bytes) None left texts text given out = absurd given
@@ -32,7 +32,7 @@ gives_more (Some bytes) (Some some) (Some rest) texts text given out =
     given ∙ ap (λ more. texts ++ more) out ∙ sym (append_assoc texts (text ∷ []) (recovered_texts rest))
 
 -- at the end they are all
-gives_all : (known left : Option (List ℕ)) (texts : List (List ℕ)) → Gives known texts left → StandsForNothing left → AreTexts known texts
+pub gives_all : (known left : Option (List ℕ)) (texts : List (List ℕ)) → Gives known texts left → StandsForNothing left → AreTexts known texts
 gives_all None left texts given none = tt
 gives_all (Some bytes) None texts given none = absurd given
 gives_all (Some bytes) (Some rest) texts given none = given ∙ ap (λ more. texts ++ more) none ∙ append-nil texts
@@ -143,6 +143,30 @@ form_kept known kept (Fault (TooLong line)) keeps why = (why.0, held_of (IsTooLo
 form_kept known kept (Fault (BadLine line)) keeps why = absurd why
 form_kept known kept (Fault (Refused line)) keeps why = absurd why
 form_kept known kept (Fault Damaged) keeps why = absurd why
+form_kept known kept Changed keeps why = absurd why
+
+-- a fault of the first line is one of the file
+pub form_fault : (known : Option (List ℕ)) (error : LinesError) → IsFormFault known error → IsJournalFault known error
+form_fault known Memory why = tt
+form_fault known Read why = tt
+form_fault known (Fault Form) why = why
+form_fault known (Fault (TooLong line)) why = inl why
+form_fault known (Fault (BadLine line)) why = absurd why
+form_fault known (Fault (Refused line)) why = absurd why
+form_fault known (Fault Damaged) why = absurd why
+form_fault known Changed why = absurd why
+
+-- a fault of the next line is one of the file
+pub line_fault : (known left : Option (List ℕ)) (history : List Request) (number : ℕ) (error : LinesError) → HasTold known history left → number ≡ length history + 1
+    → IsLineFault number left error → IsJournalFault known error
+line_fault known left history number Memory told count why = tt
+line_fault known left history number Read told count why = tt
+line_fault known left history number (Fault Form) told count why = absurd why
+line_fault known left history number (Fault (TooLong line)) told count why = inr (left, history, told, why.0 ∙ count, why.1)
+line_fault known left history number (Fault (BadLine line)) told count why = (left, history, told, why.0 ∙ count, why.1)
+line_fault known left history number (Fault (Refused line)) told count why = absurd why
+line_fault known left history number (Fault Damaged) told count why = absurd why
+line_fault known left history number Changed told count why = absurd why
 
 -- the error that was passed on is the one that came
 pub passed_on : {T E : Type 0} (r : Result T E) (e : E) (P : E → Type 0) → IsErrAnd r (λ y. y ≡ e) → P e → IfErr r P

@@ -1,5 +1,5 @@
 -- What the lines of a journal tell.
-use Rattle.std.specs.Prelude.{◌≡◌, ◌≢◌, ◌⊎◌, ◌≤◌, ℕ, List, ◌∷◌, ◌++◌, length}
+use Rattle.std.specs.Prelude.{◌≡◌, ◌≢◌, ◌⊎◌, ◌≤◌, ℕ, ◌+◌, List, ◌∷◌, ◌++◌, length}
 use Rattle.std.specs.Prelude.{Option, Some, None, IfSome}
 use Rattle.std.specs.List.{AllZip}
 use Rattle.mds_table.specs.Json.{max_bytes}
@@ -14,7 +14,7 @@ use Rattle.mds_journal.specs.declared.stream.StreamError.TheVariants as stream
 use Rattle.mds_journal.specs.declared.fault.JournalFault.TheVariants.{Form, BadLine, TooLong}
 use Rattle.mds_journal.specs.declared.fault.JournalFault.TheVariants.{Refused, Damaged}
 use Rattle.mds_retention.specs.declared.error.LinesError.{LinesError}
-use Rattle.mds_retention.specs.declared.error.LinesError.TheVariants.{Memory, Read, Fault}
+use Rattle.mds_retention.specs.declared.error.LinesError.TheVariants.{Memory, Read, Fault, Changed}
 
 -- why requests can't be read, where lines can't be read on for this
 abbrev pub stream_error : StreamError → LinesError
@@ -75,6 +75,7 @@ IsFormFault known (Fault (TooLong line)) = (line ≡ 0) × HasLongLine known
 IsFormFault known (Fault (BadLine line)) = ⊥
 IsFormFault known (Fault (Refused line)) = ⊥
 IsFormFault known (Fault Damaged) = ⊥
+IsFormFault known Changed = ⊥
 
 -- why the next line, which has this number, can't be taken
 abbrev pub IsLineFault : ℕ → Option (List ℕ) → LinesError → Type 0
@@ -85,3 +86,23 @@ IsLineFault number known (Fault (TooLong line)) = (line ≡ number) × HasLongLi
 IsLineFault number known (Fault (BadLine line)) = (line ≡ number) × TellsNone known
 IsLineFault number known (Fault (Refused line)) = ⊥
 IsLineFault number known (Fault Damaged) = ⊥
+IsLineFault number known Changed = ⊥
+
+-- all lines before that of this number tell requests, but for the first, which names the form, and
+-- this holds of what is left of them
+abbrev pub StopsAt : Option (List ℕ) → ℕ → (Option (List ℕ) → Type 0) → Type 0
+StopsAt known number Stops =
+    (left : Option (List ℕ)) × (history : List Request)
+    × HasTold known history left × (number ≡ length history + 1) × Stops left
+
+-- why known bytes are no journal
+abbrev pub IsJournalFault : Option (List ℕ) → LinesError → Type 0
+IsJournalFault known Memory = Unit {0}
+IsJournalFault known Read = Unit {0}
+IsJournalFault known (Fault Form) = HasOtherForm known
+IsJournalFault known (Fault (TooLong line)) =
+    ((line ≡ 0) × HasLongLine known) ⊎ StopsAt known line HasLongLine
+IsJournalFault known (Fault (BadLine line)) = StopsAt known line TellsNone
+IsJournalFault known (Fault (Refused line)) = ⊥
+IsJournalFault known (Fault Damaged) = ⊥
+IsJournalFault known Changed = ⊥

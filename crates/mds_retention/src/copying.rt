@@ -1,18 +1,23 @@
 //! The lines that stay, copied as they stand.
-ghost use Rattle.std.specs.Prelude.{◌≡◌, ℕ, List, Some, IfOk};
-ghost use Rattle.mds_retention.specs.Copying.{IsKeptBy, IsCompactedJournal};
+ghost use Rattle.std.specs.Prelude.{◌≡◌, ℕ, List, [], ◌∷◌, ◌++◌, length, Some, IfOk, IfErr, OnOk};
+ghost use Rattle.mds_journal.specs.Lines.{open_lines};
+ghost use Rattle.mds_retention.specs.Telling.{IsJournalFault};
+ghost use Rattle.mds_retention.specs.Copying.{IsKeptBy, IsCopyFault, IsCompactedJournal};
 
 use crate::error::LinesError;
+use crate::lines::read_form;
 use crate::passes::{marks_of, survey_of, thinning_of};
 use mds_entries::form_text;
-use mds_journal::{JournalFault, LineStream};
+use mds_journal::LineStream;
 use mds_table::MAX_BYTES;
 use std::alloc::{AllocError, Global};
 use std::hash::RandomState;
 use std::io::Read;
 
 /// Adds an open line of this text.
-fn add_line(out: &mut Vec<u8>, text: &[u8]) -> Result<(), AllocError> {
+fn add_line(out: &mut Vec<u8>, text: &[u8]) -> Result<(), AllocError>
+    ensures { OnOk result (out.new.items ≡ out.old.items ++ open_lines (text.now ∷ [])) }
+{
     out.push(b' ')?;
     out.extend_from_slice(text)?;
     out.push(b'\n')?;
@@ -24,30 +29,33 @@ fn add_line(out: &mut Vec<u8>, text: &[u8]) -> Result<(), AllocError> {
 ///
 /// # Errors
 ///
-/// `Fault` where a line is too long, or there are more lines than marks; `Read`, `Memory`.
+/// `Fault` where the first line doesn't name the form, or a line is too long; `Changed` where there isn't a mark for each line
+/// behind the first, and a line for each mark; `Read`, `Memory`.
 pub fn kept_lines<R: Read + Drop>(
     alloc: Global,
     reader: R,
     marks: &[bool],
 ) -> Result<Vec<u8>, LinesError>
-    ensures { IfOk result (λ out. IsKeptBy marks.now (R.remaining reader) out.items) }
+    ensures kept { IfOk result (λ out. IsKeptBy marks.now (R.remaining reader) out.items) }
+    ensures fault { IfErr result (IsCopyFault (length marks.now) (R.remaining reader)) }
 {
     let mut lines = LineStream::new(alloc, reader, MAX_BYTES);
     let mut line = Vec::new(alloc);
+    read_form(&mut lines, &mut line)?;
     let mut out = Vec::new(alloc);
     add_line(&mut out, form_text().as_bytes())?;
-    lines.next_line(&mut line)?;
-    'lines: loop {
-        let number = lines.number();
+    for mark in marks {
         if !lines.next_line(&mut line)? {
-            return Ok(out);
+            return Err(LinesError::Changed);
         }
-        match marks.get(number.saturating_sub(1)) {
-            Some(true) => add_line(&mut out, &line)?,
-            Some(false) => {}
-            None => return Err(LinesError::Fault(JournalFault::BadLine(number))),
+        if *mark {
+            add_line(&mut out, &line)?;
         }
     }
+    if lines.next_line(&mut line)? {
+        return Err(LinesError::Changed);
+    }
+    Ok(out)
 }
 
 /// The bytes of a shorter journal: of the requests that its readers' lines tell those are left that stay in a compaction. The four
@@ -55,7 +63,7 @@ pub fn kept_lines<R: Read + Drop>(
 ///
 /// # Errors
 ///
-/// `Fault` with the first fault of the lines, `Read`, `Memory`.
+/// `Fault` with the first fault of the lines, `Read`, `Memory`. Of readers that give other bytes `Changed` may be said.
 pub fn compacted<R: Read + Drop>(
     alloc: Global,
     first: R,
@@ -65,10 +73,14 @@ pub fn compacted<R: Read + Drop>(
     from: u64,
     hasher: RandomState,
 ) -> Result<Vec<u8>, LinesError>
-    ensures { IfOk result (λ out. (bytes : List ℕ)
+    ensures compacted { IfOk result (λ out. (bytes : List ℕ)
         → R.remaining first ≡ Some bytes → R.remaining second ≡ Some bytes
         → R.remaining third ≡ Some bytes → R.remaining fourth ≡ Some bytes
         → IsCompactedJournal from bytes out.items) }
+    ensures fault { IfErr result (λ error. (bytes : List ℕ)
+        → R.remaining first ≡ Some bytes → R.remaining second ≡ Some bytes
+        → R.remaining third ≡ Some bytes → R.remaining fourth ≡ Some bytes
+        → IsJournalFault (Some bytes) error) }
 {
     let survey = survey_of(alloc, first, hasher)?;
     let thinning = thinning_of(alloc, second, survey, from)?;

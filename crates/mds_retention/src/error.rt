@@ -13,6 +13,8 @@ pub enum LinesError {
     Read,
     /// The file is no journal.
     Fault(JournalFault),
+    /// There are other lines than those that were marked: the file was changed since.
+    Changed,
 }
 
 impl From<AllocError> for LinesError {

@@ -1,8 +1,8 @@
 //! The passes of a compaction over the lines of a journal.
-ghost use Rattle.std.specs.Prelude.{◌≡◌, ℕ, List, [], Some, IfOk};
+ghost use Rattle.std.specs.Prelude.{◌≡◌, ℕ, List, [], Some, IfOk, IfErr};
 ghost use Rattle.mds_core.specs.declared.request.Request.{Request as Requested};
 ghost use Rattle.mds_compact.specs.Passes.{IsSurveyOf, IsThinningOf};
-ghost use Rattle.mds_retention.specs.Telling.{IsTaken};
+ghost use Rattle.mds_retention.specs.Telling.{IsTaken, IsJournalFault};
 ghost use Rattle.mds_retention.specs.Copying.{IsMarkedBy};
 
 use crate::error::LinesError;
@@ -22,8 +22,9 @@ pub fn survey_of<R: Read + Drop>(
     reader: R,
     hasher: RandomState,
 ) -> Result<Survey, LinesError>
-    ensures { IfOk result (λ survey. (history : List Requested)
+    ensures survey { IfOk result (λ survey. (history : List Requested)
         × IsTaken (R.remaining reader) history × IsSurveyOf history survey) }
+    ensures fault { IfErr result (IsJournalFault (R.remaining reader)) }
 {
     let mut lines = RequestLines::open(alloc, reader)?;
     let mut survey = Survey::open(alloc, hasher);
@@ -46,9 +47,10 @@ pub fn thinning_of<R: Read + Drop>(
     survey: Survey,
     from: u64,
 ) -> Result<Thinning, LinesError>
-    ensures { IfOk result (λ thinning. (bytes : List ℕ) (history : List Requested)
+    ensures thinning { IfOk result (λ thinning. (bytes : List ℕ) (history : List Requested)
         → R.remaining reader ≡ Some bytes → IsTaken (Some bytes) history
         → IsSurveyOf history survey → IsThinningOf from history [] thinning) }
+    ensures fault { IfErr result (IsJournalFault (R.remaining reader)) }
 {
     let mut lines = RequestLines::open(alloc, reader)?;
     let mut thinning = Thinning::open(survey, from);
@@ -71,9 +73,10 @@ pub fn marks_of<R: Read + Drop>(
     reader: R,
     thinning: Thinning,
 ) -> Result<Vec<bool>, LinesError>
-    ensures { IfOk result (λ marks. (from : ℕ) (bytes : List ℕ) (history : List Requested)
+    ensures marks { IfOk result (λ marks. (from : ℕ) (bytes : List ℕ) (history : List Requested)
         → R.remaining reader ≡ Some bytes → IsTaken (Some bytes) history
         → IsThinningOf from history [] thinning → IsMarkedBy from history marks.items) }
+    ensures fault { IfErr result (IsJournalFault (R.remaining reader)) }
 {
     let mut lines = RequestLines::open(alloc, reader)?;
     let mut marking = Marking::open(thinning);
@@ -82,6 +85,7 @@ pub fn marks_of<R: Read + Drop>(
         let Some(request) = lines.next()? else {
             return Ok(marks);
         };
-        marks.push(marking.next_mark(&request))?;
+        let mark = marking.next_mark(&request);
+        marks.push(mark)?;
     }
 }
