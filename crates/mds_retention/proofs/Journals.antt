@@ -11,14 +11,14 @@ use Rattle.mds_journal.specs.declared.fault.JournalFault.TheVariants.{Form, BadL
 use Rattle.mds_journal.proofs.LineLemmas.{recovered_is, texts_have_no_feed}
 use Rattle.mds_retention.specs.declared.error.LinesError.{LinesError}
 use Rattle.mds_retention.specs.declared.error.LinesError.TheVariants.{Memory, Read, Fault, Changed}
-use Rattle.mds_retention.specs.Telling.{Gives, HasTold, IsTaken, HasLongLine, StopsAt, IsJournalFault}
+use Rattle.mds_retention.specs.Telling.{Gives, IsTaken, HasLongLine, StopsAt, IsJournalFault}
 use Rattle.mds_retention.specs.Copying.{IsMarkedBy, IsKeptBy, IsCopyFault, IsCompactedJournal}
 
 -- what holds of all texts holds of those that are kept
 all_kept : (P : List ℕ → Type 0) (marks : List Bool) (texts : List (List ℕ)) → All P texts → All P (kept_of marks texts)
-all_kept P [] texts every = All-nil
-all_kept P (mark ∷ marks) [] every = All-nil
-all_kept P (true ∷ marks) (text ∷ texts) every = All-cons text (kept_of marks texts) (All-head P text texts every) (all_kept P marks texts (All-tail P text texts every))
+all_kept P [] texts every = All-nil P
+all_kept P (mark ∷ marks) [] every = All-nil P
+all_kept P (true ∷ marks) (text ∷ texts) every = All-cons P text (kept_of marks texts) (All-head P text texts every) (all_kept P marks texts (All-tail P text texts every))
 all_kept P (false ∷ marks) (text ∷ texts) every = all_kept P marks texts (All-tail P text texts every)
 
 -- the lines that are kept tell the requests that are
@@ -34,7 +34,7 @@ told_count : (entries : List (List ℕ)) (history : List Request) → AllZip Tel
 told_count [] [] told = omega arith
 told_count [] (request ∷ history) told = absurd told
 told_count (entry ∷ entries) [] told = absurd told
-told_count (entry ∷ entries) (request ∷ history) told = ap (λ n. n + 1) (told_count entries history told.1)
+told_count (entry ∷ entries) (request ∷ history) told = omega (arith, told_count entries history told.1)
 
 -- the first of the lines tell a front of the requests
 told_up_to : (entries more : List (List ℕ)) (history : List Request) → AllZip Tells (entries ++ more) history
@@ -43,7 +43,7 @@ told_up_to [] more history told = ([], tt, refl)
 told_up_to (entry ∷ entries) more [] told = absurd told
 told_up_to (entry ∷ entries) more (request ∷ history) told =
     let behind = told_up_to entries more history told.1 in
-    (request ∷ behind.0, (told.0, behind.1), ap (λ n. n + 1) behind.2)
+    (request ∷ behind.0, (told.0, behind.1), omega (arith, behind.2))
 
 -- the copied lines tell a compaction of what the lines of the file tell
 pub journal_of : (from : ℕ) (bytes out : List ℕ) (history : List Request) (marks : List Bool) → IsTaken (Some bytes) history → IsMarkedBy from history marks → IsKeptBy marks (Some bytes) out
@@ -56,7 +56,7 @@ journal_of from bytes out history marks taken marked kept =
     let Free : List (List ℕ) → Type 0 = λ all. All HasNoFeed all in
     let none : All HasNoFeed (form_line ∷ texts) = subst Free kept.1 (texts_have_no_feed bytes) in
     let free : All HasNoFeed (form_line ∷ kept_of marks texts) =
-    All-cons form_line (kept_of marks texts) (All-head HasNoFeed form_line texts none) (all_kept HasNoFeed marks texts (All-tail HasNoFeed form_line texts none)) in
+    All-cons HasNoFeed form_line (kept_of marks texts) (All-head HasNoFeed form_line texts none) (all_kept HasNoFeed marks texts (All-tail HasNoFeed form_line texts none)) in
     record {
       old = history;
       new = kept_of marks history;

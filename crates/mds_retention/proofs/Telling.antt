@@ -1,5 +1,6 @@
 -- How the texts that were handed out add up, and what known bytes tell of them.
-use Rattle.std.proofs.Common.{◌≡◌, ◌∙◌, ℕ, ◌+◌, inl, inr, List, [], ◌∷◌, ◌++◌, length, Option, Some, None, IfSome, Result, Ok, Err, IfErr, refl, sym, ap, append_assoc, append-nil, length-append, subst, arith}
+use Rattle.std.proofs.Common.{◌≡◌, ◌∙◌, ℕ, inl, inr, List, [], ◌∷◌, ◌++◌, Option, Some, None, IfSome, Result, Ok, Err, IfErr, refl, sym, ap, append_assoc, append-nil, subst}
+use Rattle.std.proofs.lemmas.List.{append_cancel_left}
 use Rattle.std.specs.List.{AllZip}
 use Rattle.std.specs.Prelude.{IsErrAnd}
 use Rattle.std.specs.Io.KnownBytes.{Keeps}
@@ -14,10 +15,10 @@ use Rattle.mds_journal.specs.Opening.{IsTooLong}
 use Rattle.mds_journal.specs.declared.fault.JournalFault.TheVariants.{Form, BadLine, TooLong, Refused, Damaged}
 use Rattle.mds_retention.specs.declared.error.LinesError.{LinesError}
 use Rattle.mds_retention.specs.declared.error.LinesError.TheVariants.{Memory, Read, Fault, Changed}
-use Rattle.mds_retention.specs.Telling.{Gives, HasTold, TellsNext, AreTexts, IsTaken, IsFormFault, IsLineFault, IsJournalFault}
+use Rattle.mds_retention.specs.Telling.{Gives, HasTold, TellsNext, AreTexts, IsTaken, IsFormFault}
 
 -- one text that is handed out
-pub gives_one : (known left : Option (List ℕ)) (text : List ℕ) → HandsOut known text left → Gives known (text ∷ []) left
+gives_one : (known left : Option (List ℕ)) (text : List ℕ) → HandsOut known text left → Gives known (text ∷ []) left
 gives_one None left text out = tt
 gives_one (Some bytes) None text out = absurd out
 gives_one (Some bytes) (Some rest) text out = out
@@ -45,7 +46,7 @@ handed_out (Some bytes) (Some same) None text keeps out = absurd out
 handed_out (Some bytes) (Some same) (Some rest) text keeps out = ap recovered_texts (sym keeps) ∙ out
 
 -- what holds of known bytes holds of the same ones
-pub held_of : (P : List ℕ → Type 0) (known kept : Option (List ℕ)) → Keeps known kept → IfSome kept P → IfSome known P
+held_of : (P : List ℕ → Type 0) (known kept : Option (List ℕ)) → Keeps known kept → IfSome kept P → IfSome known P
 held_of P None kept keeps holds = tt
 held_of P (Some bytes) None keeps holds = absurd keeps
 held_of P (Some bytes) (Some same) keeps holds = subst P keeps holds
@@ -71,7 +72,7 @@ told_more known middle left history request told next = record {
 }
 
 -- where no more lines count, all were told
-pub told_all : (known left : Option (List ℕ)) (history : List Request) → HasTold known history left → StandsForNothing left → IsTaken known history
+told_all : (known left : Option (List ℕ)) (history : List Request) → HasTold known history left → StandsForNothing left → IsTaken known history
 told_all known left history told none = (told.entries, gives_all known left (form_line ∷ told.entries) told.given none, told.told)
 
 -- texts tell a front of what longer ones tell
@@ -87,7 +88,7 @@ zip_front (entry ∷ entries) more (first ∷ old) (other ∷ all) told every =
     (behind.0, (λ i. same i ∷ behind.1 i), behind.2)
 
 -- what was told is a front of what known bytes tell
-pub told_front : (bytes : List ℕ) (left : Option (List ℕ)) (old all : List Request) → IsTaken (Some bytes) all → HasTold (Some bytes) old left
+told_front : (bytes : List ℕ) (left : Option (List ℕ)) (old all : List Request) → IsTaken (Some bytes) all → HasTold (Some bytes) old left
     → (rest : List Request) × (all ≡ old ++ rest)
 told_front bytes None old all taken told = absurd told.given
 told_front bytes (Some behind) old all taken told =
@@ -109,29 +110,25 @@ zip_one (entry ∷ entries) (first ∷ old) (other ∷ all) told every =
     (λ i. same i ∷ behind i)
 
 -- known bytes tell one list of requests
-pub taken_one : (bytes : List ℕ) (old all : List Request) → IsTaken (Some bytes) old → IsTaken (Some bytes) all → all ≡ old
+taken_one : (bytes : List ℕ) (old all : List Request) → IsTaken (Some bytes) old → IsTaken (Some bytes) all → all ≡ old
 taken_one bytes old all one other =
     let texts : form_line ∷ other.0 ≡ form_line ∷ one.0 = sym other.1 ∙ one.1 in
     let entries : other.0 ≡ one.0 = cc in
     let P : List (List ℕ) → Type 0 = λ every. AllZip Tells every all in
     zip_one one.0 old all one.2 (subst P entries other.2)
 
-same_behind : {A : Type 0} (front one other : List A) → front ++ one ≡ front ++ other → one ≡ other
-same_behind [] one other same = same
-same_behind (first ∷ front) one other same = let behind : front ++ one ≡ front ++ other = cc in same_behind front one other behind
-
 -- what is to come begins with the next request
 pub next_first : (bytes : List ℕ) (middle left : Option (List ℕ)) (old rest all : List Request) (request : Request) → IsTaken (Some bytes) all → all ≡ old ++ rest
     → HasTold (Some bytes) old middle → TellsNext middle left request → (behind : List Request) × (rest ≡ request ∷ behind)
 next_first bytes middle left old rest all request taken is told next =
     let front = told_front bytes left (old ++ request ∷ []) all taken (told_more (Some bytes) middle left old request told next) in
-    (front.0, same_behind old rest (request ∷ front.0) (sym is ∙ front.1 ∙ append_assoc old (request ∷ []) front.0))
+    (front.0, append_cancel_left old rest (request ∷ front.0) (sym is ∙ front.1 ∙ append_assoc old (request ∷ []) front.0))
 
 -- nothing is to come where no more lines count
 pub none_left : (bytes : List ℕ) (left : Option (List ℕ)) (old rest all : List Request) → IsTaken (Some bytes) all → all ≡ old ++ rest → HasTold (Some bytes) old left → StandsForNothing left
     → rest ≡ []
 none_left bytes left old rest all taken is told none =
-    same_behind old rest [] (sym is ∙ taken_one bytes old all (told_all (Some bytes) left old told none) taken ∙ sym (append-nil old))
+    append_cancel_left old rest [] (sym is ∙ taken_one bytes old all (told_all (Some bytes) left old told none) taken ∙ sym (append-nil old))
 
 -- a fault of the first line is one of the same bytes
 pub form_kept : (known kept : Option (List ℕ)) (error : LinesError) → Keeps known kept → IsFormFault kept error → IsFormFault known error
@@ -144,29 +141,6 @@ form_kept known kept (Fault (BadLine line)) keeps why = absurd why
 form_kept known kept (Fault (Refused line)) keeps why = absurd why
 form_kept known kept (Fault Damaged) keeps why = absurd why
 form_kept known kept Changed keeps why = absurd why
-
--- a fault of the first line is one of the file
-pub form_fault : (known : Option (List ℕ)) (error : LinesError) → IsFormFault known error → IsJournalFault known error
-form_fault known Memory why = tt
-form_fault known Read why = tt
-form_fault known (Fault Form) why = why
-form_fault known (Fault (TooLong line)) why = inl why
-form_fault known (Fault (BadLine line)) why = absurd why
-form_fault known (Fault (Refused line)) why = absurd why
-form_fault known (Fault Damaged) why = absurd why
-form_fault known Changed why = absurd why
-
--- a fault of the next line is one of the file
-pub line_fault : (known left : Option (List ℕ)) (history : List Request) (number : ℕ) (error : LinesError) → HasTold known history left → number ≡ length history + 1
-    → IsLineFault number left error → IsJournalFault known error
-line_fault known left history number Memory told count why = tt
-line_fault known left history number Read told count why = tt
-line_fault known left history number (Fault Form) told count why = absurd why
-line_fault known left history number (Fault (TooLong line)) told count why = inr (left, history, told, why.0 ∙ count, why.1)
-line_fault known left history number (Fault (BadLine line)) told count why = (left, history, told, why.0 ∙ count, why.1)
-line_fault known left history number (Fault (Refused line)) told count why = absurd why
-line_fault known left history number (Fault Damaged) told count why = absurd why
-line_fault known left history number Changed told count why = absurd why
 
 -- the error that was passed on is the one that came
 pub passed_on : {T E : Type 0} (r : Result T E) (e : E) (P : E → Type 0) → IsErrAnd r (λ y. y ≡ e) → P e → IfErr r P

@@ -77,7 +77,10 @@ impl<R: Read + Drop> RequestLines<R> {
 }
 
 /// Reads the first line, which has to name the form.
-pub(crate) fn read_form<R: Read>(lines: &mut LineStream<R>, line: &mut Vec<u8>) -> Result<(), LinesError>
+pub(crate) fn read_form<R: Read>(
+    lines: &mut LineStream<R>,
+    line: &mut Vec<u8>,
+) -> Result<(), LinesError>
     requires stream { IsStream lines.old }
     requires limit { most_of lines.old ≡ max_bytes }
     requires number { lines_given lines.old ≡ 0 }

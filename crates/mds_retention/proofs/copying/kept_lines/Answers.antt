@@ -1,4 +1,4 @@
-use Rattle.std.proofs.Common.{◌≡◌, ◌∙◌, ◌+◌, ◌∷◌, ◌++◌, [], ℕ, List, Bool, true, false, Ok, length, sym, ap, subst, take, append-nil, arith}
+use Rattle.std.proofs.Common.{◌≡◌, ◌∙◌, ◌+◌, ◌∷◌, ◌++◌, [], ℕ, Bool, true, false, Ok, length, sym, ap, subst, take, append-nil, arith}
 use Rattle.std.proofs.lemmas.List.{take_all, length_push}
 use Rattle.mds_compact.specs.Compaction.{kept_of}
 use Rattle.mds_entries.specs.Form.{form_line}
@@ -33,10 +33,10 @@ loop-mark-preserved g c =
     let more : c.in_ok-next_line.field-0 ≡ true = c.if-not-branch.false in
     let out : HandsOut middle text left = c.in_ok-next_line.ensures.line more in
     let copied : c.if-mark.out.items ≡ open_lines (form_line ∷ kept_of (take (i + 1) marks) (texts ++ text ∷ [])) = elim c.if-mark.branch [
-      then-mark+in_ok-add_line-2 w ↦ 
+      | then-mark+in_ok-add_line-2 w ↦
           copied_more marks i _ true texts text c.loop-mark.out.items c.if-mark.out.items c.loop-mark-test.true w.if-mark.true at.copied.2 at.copied.3
           (rw w.out-is (w.in_ok-add_line-2.ensures ∙ ap (λ line. c.loop-mark.out.items ++ open_lines (line ∷ [])) w.deref.ensures.value))
-    | else-mark w ↦ 
+      | else-mark w ↦
           copied_more marks i _ false texts text c.loop-mark.out.items c.if-mark.out.items c.loop-mark-test.true w.if-mark.false at.copied.2 at.copied.3 (rw w.out-is (sym (append-nil c.loop-mark.out.items)))
     ] in
     let Number : Bool → Type 0 = λ b. lines_given c.next_line.new.self ≡ lines_given c.loop-mark.lines + lines_of_stream (Ok b) in

@@ -11,7 +11,7 @@ invariant-requests g l = record {
   open_lines : AreLines l.lines;
   seen : (old : List Request) × HasTold (g.R.Read.remaining l.fn.reader) old (left_of g.R.Read.remaining l.lines) × (number_of l.lines ≡ length old + 1)
       × ((from : ℕ) (bytes : List ℕ) (history : List Request) → g.R.Read.remaining l.fn.reader ≡ Some bytes → IsTaken (Some bytes) history
-          → IsThinningOf from history [] l.fn.thinning → (rest : List Request) × (history ≡ old ++ rest) × IsMarkingOf from old rest l.marks.items l.marking);
+      → IsThinningOf from history [] l.fn.thinning → (rest : List Request) × (history ≡ old ++ rest) × IsMarkingOf from old rest l.marks.items l.marking);
 }
 
 abbrev pub decreases-requests : goal.decreases-requests

@@ -11,7 +11,7 @@ invariant-requests g l = record {
   open_lines : AreLines l.lines;
   seen : (old : List Request) × HasTold (g.R.Read.remaining l.fn.reader) old (left_of g.R.Read.remaining l.lines) × (number_of l.lines ≡ length old + 1)
       × ((bytes : List ℕ) (history : List Request) → g.R.Read.remaining l.fn.reader ≡ Some bytes → IsTaken (Some bytes) history → IsSurveyOf history l.fn.survey
-          → (rest : List Request) × (history ≡ old ++ rest) × IsThinningOf l.from old rest l.thinning);
+      → (rest : List Request) × (history ≡ old ++ rest) × IsThinningOf l.from old rest l.thinning);
 }
 
 abbrev pub decreases-requests : goal.decreases-requests
