@@ -9,6 +9,8 @@ mod copying;
 mod error;
 mod lines;
 mod passes;
+#[cfg(test)]
+mod tests;
 
 pub use copying::{compacted, kept_lines};
 pub use error::LinesError;
