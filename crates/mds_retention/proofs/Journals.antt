@@ -66,6 +66,7 @@ journal_of from bytes out history marks taken marked kept =
         recovered_is out [] (form_line ∷ kept_of marks texts) free (kept.3 ∙ sym (append-nil _)) refl,
         told_kept marks texts history (subst Told entries taken.2),
       );
+      copied = (marks, refl, kept);
       compaction = marked.compaction;
       thin = marked.thin;
     }

@@ -41,11 +41,13 @@ IsCopyFault count known (Fault Damaged) = ⊥
 IsCopyFault count known Changed =
     (texts : List (List ℕ)) × AreTexts known (form_line ∷ texts) × (length texts ≢ count)
 
--- what the lines of one journal tell is a compaction of what those of the other do
+-- what the lines of one journal tell is a compaction of what those of the other do, and they stand
+-- there as they stand in the other
 pub record IsCompactedJournal (from : ℕ) (bytes out : List ℕ) : Type 0 where
   pub old : List Request
   pub new : List Request
   pub before : IsTaken (Some bytes) old
   pub after : IsTaken (Some out) new
+  pub copied : (marks : List Bool) × (new ≡ kept_of marks old) × IsKeptBy marks (Some bytes) out
   pub compaction : IsCompaction from old new
   pub thin : (tables : Tables) → IsLawful tables old → IsThin from old new
