@@ -15,7 +15,7 @@ from serving.http import done
 from serving.server import Server
 from serving.wire import ask
 
-WORKERS, EACH = 8, 100_000
+WORKERS, EACH = 4, 100_000
 OF_A_CLIENT = 8
 """The vehicles of a client, each of which it reports in turn: those of all clients lie in both halves."""
 ITEMS = 1000

@@ -32,7 +32,7 @@ MOST_BEHIND = 16 << 20
 LARGE = 2 << 30
 MANY = 2500
 """Lines of three pieces, each of which a start reads while it asks the one before it."""
-AMID = (100, 500, 900)
+AMID = (100, 900)
 """Places in the first piece, each of which is read by another thread."""
 REGISTERED = journal(registered(DEVICE))
 DROPPED = event(DEVICE, "0", "provider_drop_off", "available", 1000)

@@ -182,15 +182,15 @@ def end_amid_a_request(program, journal):
 
 def most_workers_over_a_journal(program):
     """As many workers as there may be over a journal: each answers, and a journal tells what they accepted. Each but one is a thread
-    of its own. At the start so are the three who read the one piece of the journal. It is empty, so nobody is needed to ask the
+    of its own. At the start so are the two who read the one piece of the journal. It is empty, so nobody is needed to ask the
     shards."""
     with tempfile.TemporaryDirectory() as folder, Counting() as counting:
         with Server(program, 1, workers=64, journal=Path(folder, "journal"), env=counting.env) as server:
             yield from talk_over(server, registered(A))
             yield from talk_over(server, look(A, "removed", 0, None))
             yield from server.end()
-        if counting.counts().threads != 63 + 3:
-            yield f"{counting.counts().threads} threads were asked for, in place of {63 + 3}"
+        if counting.counts().threads != 63 + 2:
+            yield f"{counting.counts().threads} threads were asked for, in place of {63 + 2}"
 
 
 def threads_that_are_wanting(program):

@@ -11,7 +11,6 @@ use Rattle.mds_entries.specs.declared.entry.EntryFault.{EntryFault}
 use Rattle.mds_entries.specs.declared.entry.EntryFault.TheVariants.{Memory, BadLine, NoLine}
 use Rattle.mds_follow.specs.Reading.{IsEndOf}
 use Rattle.mds_follow.specs.declared.piece.Piece.{Piece}
-use Rattle.mds_follow.specs.declared.piece.Rest.{Rest}
 use Rattle.mds_follow.specs.declared.start_fault.StartFault.{StartFault}
 use Rattle.mds_follow.specs.declared.start_fault.StartFault.TheVariants as start
 
@@ -46,13 +45,9 @@ fault_of_text number Memory = start.Memory
 fault_of_text number BadLine = start.Journal (bad_line number)
 fault_of_text number NoLine = start.Journal (bad_line number)
 
--- the requests of the two thirds of a piece behind its first one, in their order
-abbrev pub requests_of_rest : Rest → List Request
-requests_of_rest rest = rest.second.requests.items ++ rest.third.requests.items
-
 -- the requests of a piece, in their order
 abbrev pub requests_in : Piece → List Request
-requests_in piece = piece.first.requests.items ++ requests_of_rest piece.rest
+requests_in piece = piece.first.requests.items ++ piece.second.requests.items
 
 -- nothing was read yet, and the line of the first request comes next
 pub record IsFirstPiece (piece : Piece) : Type 0 where

@@ -1,7 +1,7 @@
 //! Requests that are read a piece at a time, by several threads, in room that is kept for the next ones.
 ghost use Rattle.std.specs.Prelude.{◌≡◌, ◌+◌, ◌^◌, ◌≤◌, [], ℕ, List, length, IfOk, OnOk, OnErr};
 ghost use Rattle.mds_follow.specs.Reading.{HandsOutAll, IsEndOf, IsEndOfTexts};
-ghost use Rattle.mds_follow.specs.Pieces.{AreRead, IsFirstPiece, first_fault, fault_of_text, requests_in, requests_of_rest, texts_in};
+ghost use Rattle.mds_follow.specs.Pieces.{AreRead, IsFirstPiece, first_fault, fault_of_text, requests_in, texts_in};
 
 use crate::StartFault;
 use mds_core::{Key, Request};
@@ -11,7 +11,7 @@ use std::alloc::{AllocError, Global};
 use std::thread::{Threads, join_mut};
 use uuid::Uuid;
 
-/// A third of a piece: its requests, and what reads them.
+/// Half of a piece: its requests, and what reads them.
 #[derive(Drop)]
 pub(crate) struct Portion {
     entries: EntryReader,
@@ -19,22 +19,15 @@ pub(crate) struct Portion {
     pub(crate) requests: Vec<Request>,
 }
 
-/// The two thirds behind the first one.
-#[derive(Drop)]
-pub(crate) struct Rest {
-    pub(crate) second: Portion,
-    pub(crate) third: Portion,
-}
-
 /// Requests that were read one after the other.
 #[derive(Drop)]
 pub(crate) struct Piece {
     /// The number of the first one's line.
     pub(crate) number: usize,
-    /// The first of them.
+    /// The first half of them.
     pub(crate) first: Portion,
-    /// Those behind them.
-    pub(crate) rest: Rest,
+    /// The half behind it.
+    pub(crate) second: Portion,
     /// Whether more may come, or why the line behind them gives none.
     pub(crate) end: Result<bool, StartFault>,
 }
@@ -47,11 +40,12 @@ fn blank_request() -> Request {
     })
 }
 
-/// Leaves so many places of requests, whatever stands there.
+/// Leaves so many places of requests, whatever stands there. A list that had no room gets room for just as many.
 fn make_places(requests: &mut Vec<Request>, count: usize) -> Result<(), AllocError>
     ensures { OnOk result (length requests.new.items ≡ count) }
 {
     requests.truncate(count);
+    requests.reserve(count - requests.len())?;
     'places: while requests.len() < count {
         requests.push(blank_request())?;
     }
@@ -121,44 +115,6 @@ impl Portion {
     }
 }
 
-impl Rest {
-    fn clear(&mut self)
-        ensures { requests_of_rest self.new ≡ [] }
-    {
-        self.second.clear();
-        self.third.clear();
-    }
-
-    /// Reads the requests of both thirds, each by a thread.
-    fn read_both<R: Threads + Sync>(
-        &mut self,
-        rt: &R,
-        front: &[Vec<u8>],
-        behind: &[Vec<u8>],
-    ) -> (Result<(), EntryFault>, Result<(), EntryFault>)
-        ensures second { AreRead (texts_in front.now) self.new.second.requests.items result.0 }
-        ensures third { AreRead (texts_in behind.now) self.new.third.requests.items result.1 }
-    {
-        let (second, third) = (&mut self.second, &mut self.third);
-        let mut read_behind = || third.read(behind);
-        let mut read_front = || second.read(front);
-        let (others, ones) = join_mut(rt, &mut read_behind, &mut read_front);
-        (ones, others)
-    }
-
-    /// As [`Portion::read`], by two threads.
-    fn read<R: Threads + Sync>(&mut self, rt: &R, lines: &[Vec<u8>]) -> Result<(), EntryFault>
-        ensures { AreRead (texts_in lines.now) (requests_of_rest self.new) result }
-    {
-        let middle = lines.len() / 2;
-        let (ones, others) = self.read_both(rt, &lines[..middle], &lines[middle..]);
-        if ones.is_err() {
-            self.third.clear();
-        }
-        first_of(ones, others)
-    }
-}
-
 impl Piece {
     /// A piece with nothing in it, as before the first request of a journal.
     pub(crate) fn new(alloc: Global) -> Piece
@@ -167,10 +123,7 @@ impl Piece {
         Piece {
             number: 1,
             first: Portion::new(alloc),
-            rest: Rest {
-                second: Portion::new(alloc),
-                third: Portion::new(alloc),
-            },
+            second: Portion::new(alloc),
             end: Ok(true),
         }
     }
@@ -179,10 +132,10 @@ impl Piece {
         requires { length (requests_in self.now) ≤ 2 ^ 62 }
         ensures { result ≡ length (requests_in self.now) }
     {
-        self.first.requests.len() + self.rest.second.requests.len() + self.rest.third.requests.len()
+        self.first.requests.len() + self.second.requests.len()
     }
 
-    /// Reads the requests of the first third, and by other threads those behind it.
+    /// Reads the requests of both halves, each by a thread.
     fn read_both<R: Threads + Sync>(
         &mut self,
         rt: &R,
@@ -190,28 +143,28 @@ impl Piece {
         behind: &[Vec<u8>],
     ) -> (Result<(), EntryFault>, Result<(), EntryFault>)
         ensures first { AreRead (texts_in front.now) self.new.first.requests.items result.0 }
-        ensures rest { AreRead (texts_in behind.now) (requests_of_rest self.new.rest) result.1 }
+        ensures second { AreRead (texts_in behind.now) self.new.second.requests.items result.1 }
     {
-        let (first, rest) = (&mut self.first, &mut self.rest);
-        let mut read_behind = || rest.read(rt, behind);
+        let (first, second) = (&mut self.first, &mut self.second);
+        let mut read_behind = || second.read(behind);
         let mut read_front = || first.read(front);
         let (others, ones) = join_mut(rt, &mut read_behind, &mut read_front);
         (ones, others)
     }
 
-    /// As [`Portion::read`], by three threads.
+    /// As [`Portion::read`], by two threads.
     fn read_texts<R: Threads + Sync>(&mut self, rt: &R, lines: &[Vec<u8>]) -> Result<(), EntryFault>
         ensures { AreRead (texts_in lines.now) (requests_in self.new) result }
     {
-        let third = lines.len() / 3;
-        let (ones, others) = self.read_both(rt, &lines[..third], &lines[third..]);
+        let middle = lines.len() / 2;
+        let (ones, others) = self.read_both(rt, &lines[..middle], &lines[middle..]);
         if ones.is_err() {
-            self.rest.clear();
+            self.second.clear();
         }
         first_of(ones, others)
     }
 
-    /// Reads the requests that these lines tell, in the place of those before them, up to the first line that tells none, by three
+    /// Reads the requests that these lines tell, in the place of those before them, up to the first line that tells none, by two
     /// threads. The first line has this number, and behind the last one comes this end.
     pub(crate) fn read<R: Threads + Sync>(
         &mut self,

@@ -9,12 +9,12 @@ ghost use Rattle.mds_follow.specs.Disk.{IsTold};
 ghost use Rattle.mds_follow.specs.Record.{recorded_at};
 ghost use Rattle.mds_follow.specs.Reading.{IsAtFirstRequest, IsAtRequest, IsJournalFault, IsReadOn, IsStartFault};
 ghost use Rattle.mds_book.specs.Refilling.{HasAll, IsFilled};
-ghost use Rattle.mds_follow.specs.Pieces.{IsFirstPiece, IsNext, requests_in, requests_of_rest};
+ghost use Rattle.mds_follow.specs.Pieces.{IsFirstPiece, IsNext, requests_in};
 ghost use Rattle.mds_follow.specs.Restart.{IsAllTaken, IsAskFault, IsHalfway, IsRefilled, IsTaken};
 
 use crate::ahead::Ahead;
 use crate::desk::note;
-use crate::piece::{Piece, Rest};
+use crate::piece::Piece;
 use crate::{Disk, Follower, RecordLog, RequestReader, StartFault};
 use mds_book::{Book, RefillFault, Seat, SharedLedger};
 use mds_core::Request;
@@ -57,33 +57,6 @@ fn ask_portion<L: SharedLedger, M: SharedLedger, R: Threads + Wait + Sync>(
     })
 }
 
-/// As [`ask_portion`], what stands behind the first third of a piece.
-fn ask_rest<L: SharedLedger, M: SharedLedger, R: Threads + Wait + Sync>(
-    rt: &R,
-    alloc: Global,
-    book: &Book<L, M>,
-    number: usize,
-    rest: &Rest,
-    seat: &mut Seat<L, M>,
-) -> Result<(), StartFault>
-    requires all { HasAll seat.old }
-    requires short { number + length (requests_of_rest rest.now) ≤ 2 ^ 62 }
-    ensures keep { seat.new.keeps_all ≡ seat.old.keeps_all }
-    ensures filled { OnOk result
-        (HasAll seat.new × IsFilled seat.old (requests_of_rest rest.now) seat.new) }
-    ensures fault { (told : List Acceptance) → IsRefilled seat.old told
-        → IfErr result (IsAskFault book.now.tables (requests_of told) number
-        (requests_of_rest rest.now)) }
-{
-    let second = rest.second.requests.as_slice();
-    match ask_portion(rt, alloc, book, number, second, seat) {
-        Ok(()) => {}
-        Err(fault) => return Err(fault),
-    }
-    let third = rest.third.requests.as_slice();
-    ask_portion(rt, alloc, book, number + second.len(), third, seat)
-}
-
 /// As [`ask_portion`], a piece.
 fn ask_piece<L: SharedLedger, M: SharedLedger, R: Threads + Wait + Sync>(
     rt: &R,
@@ -106,14 +79,8 @@ fn ask_piece<L: SharedLedger, M: SharedLedger, R: Threads + Wait + Sync>(
         Ok(()) => {}
         Err(fault) => return Err(fault),
     }
-    ask_rest(
-        rt,
-        alloc,
-        book,
-        piece.number + first.len(),
-        &piece.rest,
-        seat,
-    )
+    let second = piece.second.requests.as_slice();
+    ask_portion(rt, alloc, book, piece.number + first.len(), second, seat)
 }
 
 /// Asks a piece, as [`ask_piece`] does, while other threads read the next one.
@@ -172,8 +139,7 @@ fn note_piece<F: Tagged, J: RecordLog>(keeper: &mut Keeper<J>, file: &F, piece: 
     ensures { keeper.new ≡ keeper.old ++ recorded_at (F.tag file.now) (requests_in piece.now) }
 {
     note(keeper, file, piece.first.requests.as_slice());
-    note(keeper, file, piece.rest.second.requests.as_slice());
-    note(keeper, file, piece.rest.third.requests.as_slice());
+    note(keeper, file, piece.second.requests.as_slice());
 }
 
 /// Asks a piece of a journal of a book that nobody else asks, while the next one is read, and notes its requests as recorded. The
