@@ -12,6 +12,7 @@ ghost use Rattle.mds_city.specs.Journal.{CameToServeOver, HadJournal, IsFileProb
 ghost use Rattle.mds_city.specs.Journal.{ServedBook, ServedOver, StopsBook, StopsOver};
 
 use crate::page::{ListeningLine, print_line};
+use crate::start_room::StartRoom;
 use crate::serve::{ListenFault, Listens, ServeOptions, say_accepted};
 use mds_book::{NamedLedger, Packed};
 use mds_commands::{JournalProblem, Problem, Source, Status, tables_in, tell_journal_problem};
@@ -21,7 +22,7 @@ use mds_io::{MAX_CALLS, PrintError, write_all_of};
 use mds_journal::Device;
 use mds_log::BlankLog;
 use mds_pool::{Alarm, NewBook, RecordedBook, RecordedStop, Stop};
-use std::alloc::Global;
+use std::alloc::{AllocError, Global};
 use std::hash::RandomState;
 use std::io::{Read, Write};
 use std::marker::Brand;
@@ -51,11 +52,12 @@ pub trait OpensJournals {
     fn tell_not_kept(&self);
 }
 
-/// Tells of the first write that fails, and of no other.
+/// Tells of the first write that fails, and of no other, while a server runs.
 #[derive(Drop)]
 struct FirstFailure<'a, H: OpensJournals> {
     host: &'a H,
     is_told: AtomicBool,
+    room: StartRoom,
 }
 
 impl<H: OpensJournals> Alarm for FirstFailure<'_, H> {
@@ -253,6 +255,10 @@ fn serve_reader<
         Ok(book) => book,
         Err((fault, _file)) => return Err((BookStop::Start(fault), None)),
     };
+    let room = match StartRoom::beside(alloc, asked.workers) {
+        Ok(room) => room,
+        Err(AllocError) => return Err((BookStop::Start(StartFault::Memory), None)),
+    };
     let (listening, port) = match host.listen(alloc, asked.port) {
         Ok(had) => had,
         Err(fault) => return Err((BookStop::Listen(fault), None)),
@@ -264,6 +270,7 @@ fn serve_reader<
     let alarm = FirstFailure {
         host,
         is_told: AtomicBool::new(false),
+        room,
     };
     match book.serve(rt, alloc, &listening, asked.each, &alarm) {
         Ok(end) => Ok((end.book.settled.accepted(), listening)),

@@ -6,6 +6,7 @@ mod journal;
 mod page;
 mod program;
 mod serve;
+mod start_room;
 
 use crate::journal::OpensJournals;
 use crate::program::{Opens, run, tell_words, words_of};

@@ -12,7 +12,7 @@ use std::alloc::{AllocError, Global};
 use std::thread::Threads;
 
 /// How many lines are read at a time: enough that threads for each piece cost little, and so few that two pieces of requests take
-/// no more than 5 MB, which is less than a worker has for two batches.
+/// less than 5 MB.
 const PIECE: usize = 1024;
 
 /// Behind how many bytes no more lines are read at a time, so that long lines take no more memory than many short ones.
