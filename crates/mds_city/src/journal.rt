@@ -12,8 +12,8 @@ ghost use Rattle.mds_city.specs.Journal.{CameToServeOver, HadJournal, IsFileProb
 ghost use Rattle.mds_city.specs.Journal.{ServedBook, ServedOver, StopsBook, StopsOver};
 
 use crate::page::{ListeningLine, print_line};
-use crate::start_room::StartRoom;
 use crate::serve::{ListenFault, Listens, ServeOptions, say_accepted};
+use crate::start_room::StartRoom;
 use mds_book::{NamedLedger, Packed};
 use mds_commands::{JournalProblem, Problem, Source, Status, tables_in, tell_journal_problem};
 use mds_file::FileFault;
