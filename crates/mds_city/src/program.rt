@@ -17,8 +17,8 @@ use crate::journal::{OpensJournals, serve_over};
 use crate::serve::{Listens, ServeOptions, serve_at};
 use mds_args::{Command, WordsError, WordsErrorKind, parse_words};
 use mds_commands::{
-    Form, Named, Problem, ReplayOptions, Source, Status, debug_to, replay_to, table_to, tell,
-    vehicles_to,
+    Form, Named, Problem, ReplayOptions, Source, Status, debug_live_to, debug_to, replay_to,
+    replay_unlimited_to, table_to, tell, vehicles_to,
 };
 use mds_io::{MAX_CALLS, write_all_of};
 use mds_trace::Opening;
@@ -41,6 +41,9 @@ pub trait Opens {
     /// Opens the file of this path, or answers `None` where it can't be opened.
     fn open(&self, path: &str) -> Option<Self::File>
         ensures { opens self.now path.now result };
+
+    /// Whether standard input is a terminal.
+    fn has_terminal(&self) -> bool;
 }
 
 /// Why the words of the command line can't be read.
@@ -197,7 +200,19 @@ fn carry_out<
             file,
             table,
             any,
+            lines: _,
+            unlimited: true,
+            workers: _,
+        } => {
+            let opening = opening_if(any);
+            replay_unlimited(alloc, files, file, table, opening, input, out, faults)
+        }
+        Command::Replay {
+            file,
+            table,
+            any,
             lines,
+            unlimited: false,
             workers,
         } => {
             let options = options_of(any, lines, workers);
@@ -269,6 +284,26 @@ fn replay_file<R: Threads + Sync, O: Opens, I: Read + Drop, W: Write, E: Write>(
     replay_to(rt, alloc, table, file_of(files, path), options, out, faults)
 }
 
+/// Replays the lines of the file of this path, which is standard input for `-`, however many there are, over the tables of the
+/// file that is named.
+fn replay_unlimited<O: Opens, I: Read + Drop, W: Write, E: Write>(
+    alloc: Global,
+    files: &O,
+    path: &str,
+    table: Option<&str>,
+    opening: Opening,
+    input: I,
+    out: &mut W,
+    faults: &mut E,
+) -> Status {
+    let table = file_if_named(files, table);
+    if is_standard_input(path) {
+        let file = source_of(path, input);
+        return replay_unlimited_to(alloc, table, file, opening, out, faults);
+    }
+    replay_unlimited_to(alloc, table, file_of(files, path), opening, out, faults)
+}
+
 /// Steps through the events of a vehicle in the file of this path, over the tables of the file that is named.
 fn debug_file<O: Opens, I: Read + Drop, W: Write, E: Write>(
     alloc: Global,
@@ -292,6 +327,9 @@ fn debug_file<O: Opens, I: Read + Drop, W: Write, E: Write>(
     let table = file_if_named(files, table);
     let file = file_of(files, path);
     let mut script = input;
+    if files.has_terminal() {
+        return debug_live_to(alloc, table, file, named, &mut script, out, faults);
+    }
     debug_to(alloc, table, file, named, &mut script, out, faults)
 }
 

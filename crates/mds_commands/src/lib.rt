@@ -17,13 +17,15 @@ mod source;
 mod status;
 mod stream;
 mod torn;
+mod unlimited;
 mod vehicles;
 
 pub use commands::{ReplayOptions, replay_to, table_to};
-pub use debug::{Named, debug_to};
+pub use debug::{Named, debug_live_to, debug_to};
 pub use problem::{Problem, tell};
 pub use roster::Roster;
 pub use source::{Form, Source, tables_in};
 pub use status::Status;
 pub use torn::torn_to;
+pub use unlimited::replay_unlimited_to;
 pub use vehicles::{JournalProblem, tell_journal_problem, vehicles_to};
