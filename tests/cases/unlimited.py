@@ -81,4 +81,7 @@ def long_file():
     last, each = turns[-1][0], MANY // VEHICLES
     vehicles = [(identifier(2, number), last, each) for number in range(VEHICLES)]
     text = "\n".join(lines)
-    yield replayed("", verdicts, vehicles, words=WORDS[0], files={"lines": text}, memory=MOST_HELD, name="a long file")
+    case = replayed("", verdicts, vehicles, words=WORDS[0], files={"lines": text}, memory=MOST_HELD, name="a long file")
+    # A slow machine may tell how far it is.
+    case.faults = re.compile(r"(mds_city: read \d+ of \d+ bytes\n)*")
+    yield case

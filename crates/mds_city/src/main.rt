@@ -9,7 +9,7 @@ mod progress;
 mod serve;
 
 use crate::journal::OpensJournals;
-use crate::program::{Opens, run, tell_words, words_of};
+use crate::program::{Opens, run, run_at_terminal, tell_words, words_of};
 use crate::progress::{Teller, ToldReader};
 use crate::serve::{ListenFault, Listens};
 use mds_file::{DiskFile, FileFault, open_file};
@@ -39,10 +39,6 @@ impl Opens for Host<HostRuntime> {
         let size = size_of(file.metadata());
         let alloc = self.rt.alloc();
         Some(ToldReader::new(alloc, file, size, teller_of(self.rt)))
-    }
-
-    fn has_terminal(&self) -> bool {
-        self.rt.stdin().is_terminal()
     }
 }
 
@@ -111,15 +107,14 @@ fn main(rt: HostRuntime) -> ExitCode {
     let size = size_of(fs::metadata(&rt, "/dev/stdin"));
     let input = ToldReader::new(alloc, rt.stdin(), size, teller_of(rt));
     let status = match words_of(alloc, env::args(&rt)) {
-        Ok(words) => run(
-            &rt,
-            alloc,
-            words.as_slice(),
-            &host,
-            input,
-            &mut rt.stdout(),
-            &mut faults,
-        ),
+        Ok(words) => {
+            let (words, mut out) = (words.as_slice(), rt.stdout());
+            if rt.stdin().is_terminal() {
+                run_at_terminal(&rt, alloc, words, &host, input, &mut out, &mut faults)
+            } else {
+                run(&rt, alloc, words, &host, input, &mut out, &mut faults)
+            }
+        }
         Err(fault) => tell_words(alloc, &mut faults, fault),
     };
     ExitCode::from(status.code())

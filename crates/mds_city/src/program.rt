@@ -1,5 +1,5 @@
 //! What the program does with the words of its command line, over any files and streams.
-ghost use Rattle.std.specs.Prelude.{◌≡◌, ◌≢◌, ◌↔◌, ℕ, List, Option, ⊤, Err, codes, map, option_map, IsTrue, IfOk, IfErr};
+ghost use Rattle.std.specs.Prelude.{◌≡◌, ◌≢◌, ◌↔◌, ℕ, List, Option, ⊤, Err, codes, map, option_map, false, IsTrue, IfOk, IfErr};
 ghost use Rattle.std.specs.IoError.{error_kind};
 ghost use Rattle.mds_args.specs.Error.{words_kind};
 ghost use Rattle.mds_book.specs.Books.{IsSeatCount};
@@ -41,9 +41,6 @@ pub trait Opens {
     /// Opens the file of this path, or answers `None` where it can't be opened.
     fn open(&self, path: &str) -> Option<Self::File>
         ensures { opens self.now path.now result };
-
-    /// Whether standard input is a terminal.
-    fn has_terminal(&self) -> bool;
 }
 
 /// Why the words of the command line can't be read.
@@ -115,6 +112,33 @@ pub fn run<
         Ok(command) => carry_out(rt, alloc, files, command, input, out, faults),
         Err(error) => explain(alloc, &error, out, faults),
     }
+}
+
+/// As [`run`], with a terminal as standard input: there the debugger answers each line as it comes.
+pub fn run_at_terminal<
+    R: Threads + Wait + RandomSource + Sync,
+    S: AsStr,
+    O: Opens + Listens + OpensJournals + Sync,
+    I: Read + Drop,
+    W: Write,
+    E: Write,
+>(rt: &R, alloc: Global, words: &[S], files: &O, input: I, out: &mut W, faults: &mut E) -> Status {
+    if let Ok(
+        Command::Debug {
+            file,
+            provider,
+            device,
+            table,
+        },
+    ) = parse_words(alloc, words)
+    {
+        let named = Named { provider, device };
+        let table = file_if_named(files, table);
+        let file = file_of(files, file);
+        let mut script = input;
+        return debug_live_to(alloc, table, file, named, &mut script, out, faults);
+    }
+    run(rt, alloc, words, files, input, out, faults)
 }
 
 /// Prints the help that was asked for to `out`, or tells `faults` why the words gave no command. Where `faults` fails the
@@ -200,23 +224,14 @@ fn carry_out<
             file,
             table,
             any,
-            lines: _,
-            unlimited: true,
-            workers: _,
-        } => {
-            let opening = opening_if(any);
-            replay_unlimited(alloc, files, file, table, opening, input, out, faults)
-        }
-        Command::Replay {
-            file,
-            table,
-            any,
             lines,
-            unlimited: false,
+            unlimited,
             workers,
         } => {
             let options = options_of(any, lines, workers);
-            replay_file(rt, alloc, files, file, table, options, input, out, faults)
+            replay_asked(
+                rt, alloc, files, file, table, options, unlimited, input, out, faults,
+            )
         }
         Command::Vehicles { file, table } => {
             list_vehicles(rt, alloc, files, file, table, input, out, faults)
@@ -253,6 +268,35 @@ fn serve_named<
         Some(path) => serve_over(rt, alloc, files, table, path, asked, out, faults),
         None => serve_at(rt, alloc, files, table, asked, out, faults),
     }
+}
+
+/// Replays the file of this path, within the limits of a batch or without them.
+fn replay_asked<R: Threads + Sync, O: Opens, I: Read + Drop, W: Write, E: Write>(
+    rt: &R,
+    alloc: Global,
+    files: &O,
+    path: &str,
+    table: Option<&str>,
+    options: ReplayOptions,
+    unlimited: bool,
+    input: I,
+    out: &mut W,
+    faults: &mut E,
+) -> Status
+    requires { IsWorkerCount options.workers }
+    ensures { unlimited ≡ false → (table_file : Option (Source O.File))
+        × IsFileNamed (O.opens files.now) (option_map (λ named. named.now) table.entry) table_file
+        × CarriesReplay (record { opens = O.opens files.now; bytes = O.File.remaining })
+        (record { bytes = I.remaining; reader = input }) options path.now table_file
+        (outcome_of result
+        (change_of (W.contents out.old) (W.contents out.new))
+        (change_of (E.contents faults.old) (E.contents faults.new))) }
+{
+    if unlimited {
+        let opening = options.opening;
+        return replay_unlimited(alloc, files, path, table, opening, input, out, faults);
+    }
+    replay_file(rt, alloc, files, path, table, options, input, out, faults)
 }
 
 /// Replays the file of this path, which is standard input for `-`, over the tables of the file that is named.
@@ -327,9 +371,6 @@ fn debug_file<O: Opens, I: Read + Drop, W: Write, E: Write>(
     let table = file_if_named(files, table);
     let file = file_of(files, path);
     let mut script = input;
-    if files.has_terminal() {
-        return debug_live_to(alloc, table, file, named, &mut script, out, faults);
-    }
     debug_to(alloc, table, file, named, &mut script, out, faults)
 }
 

@@ -27,10 +27,10 @@ pub record ReplayingAll : Type 0 where
 -- these are the items that a replay took, and the verdicts that it told: it keeps what a replay of
 -- them keeps, and has counted them
 pub record TookAll (items : List EventItem) (lines : List Verdict) (replay : ReplayingAll) : Type 0
-    where
-  pub replayed : IsReplayed replay.opening replay.tables items lines replay.vehicles replay.names
-  pub accepted : replay.accepted ≡ count_by accepts lines
-  pub all : replay.accepted + replay.refused ≡ length items
+  where
+    pub replayed : IsReplayed replay.opening replay.tables items lines replay.vehicles replay.names
+    pub accepted : replay.accepted ≡ count_by accepts lines
+    pub all : replay.accepted + replay.refused ≡ length items
 
 -- what a replay of the items comes to, of which these are the verdicts: an end of each vehicle in
 -- the order of first mention, and how many items were accepted and how many were not
