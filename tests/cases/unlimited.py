@@ -4,7 +4,7 @@ import re
 
 from cases.lines import line_files
 from cases.replays import A, event, identifier, item, replayed, turn
-from harness.case import CLOSED, MAX_BYTES, MAX_ITEMS, Case, cannot_read, not_a_batch, not_a_table, padded, told
+from harness.case import CLOSED, MAX_BYTES, MAX_ITEMS, SLOW, Case, cannot_read, not_a_batch, not_a_table, padded, told
 
 WORDS = ("replay --lines --unlimited lines", "replay - --unlimited --lines")
 # What comes before the line of this number that is no JSON or too long, and what is printed of that.
@@ -82,6 +82,5 @@ def long_file():
     vehicles = [(identifier(2, number), last, each) for number in range(VEHICLES)]
     text = "\n".join(lines)
     case = replayed("", verdicts, vehicles, words=WORDS[0], files={"lines": text}, memory=MOST_HELD, name="a long file")
-    # A slow machine may tell how far it is.
-    case.faults = re.compile(r"(mds_city: read \d+ of \d+ bytes\n)*")
+    case.faults = SLOW
     yield case

@@ -181,8 +181,9 @@ fn answer_lines<'a, I: Read, W: Write>(
     script: &mut I,
     out: &mut W,
 ) -> Result<(), DebugProblem<'a>> {
+    let counts = opened.counts;
     let mut session = opened.session;
-    print_start(alloc, out, &session, opened.counts)?;
+    print_start(alloc, out, &session, counts)?;
     let mut lines = ScriptLines::new(alloc);
     for _ in 0..MAX_SCRIPT {
         let Some(command) = lines.next_command(script)? else {
