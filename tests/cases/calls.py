@@ -438,7 +438,7 @@ def come_by_bytes(program, words, on, text, out):
     """What is wrong with a run that reads the text, and as many spaces behind it as there may be, byte by byte."""
     text = padded(text, MAX_BYTES)
     given = text if on == INPUT else "x"
-    wrong, counts = counted(program, Case(words, out=out, given=given, files={"short": text}), on, moves=1)
+    wrong, counts = counted(program, Case(words, out=out, faults=SLOW, given=given, files={"short": text}), on, moves=1)
     if counts.reads != MAX_BYTES + 1:
         wrong.append(f"{counts.reads} reads, in place of {MAX_BYTES + 1}")
     return [f"{words}, byte by byte: {complaint}" for complaint in wrong]
