@@ -3,7 +3,7 @@
 //!
 //! Each answers the code of the status that the program ends with. A problem is told in one line, and has its cause: words
 //! that name no vehicle, a file's own fault, an output that failed, or memory that was wanting. Where words or a file are
-//! at fault, nothing is printed. Serving tells its problems, and has its tables, by this crate too.
+//! at fault, nothing is printed, but by a replay without limits. Serving tells its problems, and has its tables, by this crate too.
 #![tactic(auto)]
 
 mod commands;
