@@ -24,7 +24,7 @@ from cases.timed import in_table, tables_file, tables_printed
 from cases.vehicles import LONG as LONG_LINE
 from cases.vehicles import WOKEN, journal, listed, not_a_journal, registered
 from harness.building import BY_BYTES, Counting
-from harness.case import MAX_BYTES, MAX_ITEMS, NO_MEMORY, NOT_TEXT, OUTPUT
+from harness.case import MAX_BYTES, MAX_ITEMS, NO_MEMORY, NOT_TEXT, OUTPUT, SLOW
 from harness.case import Case, cannot_read, not_a_batch, not_a_table, padded, told
 from harness.running import SECONDS, differences, outcome
 
@@ -200,6 +200,7 @@ def interrupted_in_a_row(program):
     for name, on in (("journal", FILE), ("-", INPUT)):
         for text, at, asked in ((closed, 1, len(closed)), (OPEN_JOURNAL, 2, 1)):
             whole = listed(text, [(A, "removed", 0)], words=f"vehicles {name}", given=text)
+            whole.faults = SLOW
             given_up = told(whole.words, cannot_read(name), files=whole.files, given=text)
             for case, every, hindered in ((whole, IN_A_ROW, IN_A_ROW * asked), (given_up, IN_A_ROW + 1, IN_A_ROW)):
                 wrong, counts = counted(program, case, on, every, at=at)
@@ -437,7 +438,7 @@ def come_by_bytes(program, words, on, text, out):
     """What is wrong with a run that reads the text, and as many spaces behind it as there may be, byte by byte."""
     text = padded(text, MAX_BYTES)
     given = text if on == INPUT else "x"
-    wrong, counts = counted(program, Case(words, out=out, given=given, files={"short": text}), on, moves=1)
+    wrong, counts = counted(program, Case(words, out=out, faults=SLOW, given=given, files={"short": text}), on, moves=1)
     if counts.reads != MAX_BYTES + 1:
         wrong.append(f"{counts.reads} reads, in place of {MAX_BYTES + 1}")
     return [f"{words}, byte by byte: {complaint}" for complaint in wrong]

@@ -2,6 +2,7 @@
 
 import json
 import os
+import pty
 import re
 import select
 import subprocess
@@ -195,6 +196,57 @@ def read_before_printed(program, more=()):
         wanted = b"removed non_contactable\n" * CHAINS
         if (child.returncode, rest) != (0, wanted):
             yield f"status {child.returncode} and {len(rest)} bytes behind the script, in place of {len(wanted)}"
+
+
+@contextmanager
+def at_a_terminal(program, words, folder):
+    """The debugger with a terminal as standard input, and the end at which someone types."""
+    typed, terminal = pty.openpty()
+    child = subprocess.Popen([program, *words], cwd=folder, stdin=terminal, stdout=subprocess.PIPE, stderr=subprocess.PIPE, bufsize=0)
+    os.close(terminal)
+    try:
+        yield child, typed
+    finally:
+        os.close(typed)
+        child.kill()
+        child.communicate()
+
+
+TYPED = [("step\n", STEPPED), ("back\n", START), ("next\n", SECOND), ("x\n", UNKNOWN), ("chain\n", "non_contactable on_trip available\n")]
+"""Lines that someone types, and what each is answered."""
+
+
+def answers_each_line_at_a_terminal(program):
+    """At a terminal each line is answered before the next is typed, and `quit` ends it, though nothing ends the input."""
+    with tempfile.TemporaryDirectory() as folder:
+        Path(folder, "events.json").write_text(EVENTS)
+        with at_a_terminal(program, WORDS, folder) as (child, typed):
+            for line, answer in [("", "events 2 refused 0\n" + START), *TYPED]:
+                os.write(typed, line.encode())
+                found = start_of(child, len(answer))
+                if found != answer.encode():
+                    yield f"{found!r}, in place of {answer!r}, behind {line!r}"
+                    return
+            os.write(typed, b"quit\n")
+            rest, faults = child.communicate(timeout=SECONDS)
+            if (child.returncode, rest, faults) != (0, b"", b""):
+                yield f"status {child.returncode}, {rest!r} and {faults!r} behind `quit`"
+
+
+def prints_the_same_at_a_terminal(program):
+    """A script that is typed at a terminal, up to its end, prints what it prints elsewhere."""
+    with tempfile.TemporaryDirectory() as folder:
+        Path(folder, "events.json").write_text(EVENTS)
+        for script, lines in SCRIPTS:
+            if isinstance(script, bytes) or len(script) > 1000 or not script.replace("\n", "").replace("\t", "").isprintable():
+                continue
+            with at_a_terminal(program, WORDS, folder) as (child, typed):
+                # The first of them hands over a line without a line feed, if there is one, and the next one ends the input.
+                os.write(typed, script.encode() + b"\x04\x04")
+                out, faults = child.communicate(timeout=SECONDS)
+                wanted = "events 2 refused 0\n" + START + lines
+                if (child.returncode, out.decode(), faults) != (0, wanted, b""):
+                    yield f"{script!r}: status {child.returncode}, {out!r} and {faults!r}, in place of {wanted!r}"
 
 
 MOST_GROWTHS = 1000

@@ -45,6 +45,7 @@ Options:
       --table <FILE>  A table of transitions, or several with times; without it the profile's
       --any           Lets a vehicle hold any state before its first event
       --lines         Takes each line of the file as an item
+      --unlimited     Takes lines without the limits of a batch
       --workers <N>   How many workers there are [default: 1]
   -h, --help          Print help
 """

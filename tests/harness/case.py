@@ -1,5 +1,6 @@
 """What a case is, and the texts of faults."""
 
+import re
 from dataclasses import dataclass, field
 
 SOME = object()
@@ -20,6 +21,8 @@ OUTPUT = "mds_city: output\n"
 SOCKET = "mds_city: socket\n"
 RANDOM = "mds_city: random\n"
 NO_MEMORY = "mds_city: out of memory\n"
+SLOW = re.compile(r"(mds_city: read \d+ of \d+ bytes\n)*")
+"""Standard error of a run that may take long: it then tells how far it is."""
 NOT_TEXT = "error: the words of the command line aren't text\n"
 
 

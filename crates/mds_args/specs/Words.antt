@@ -71,9 +71,9 @@ serve_app =
 -- the command `replay`, with its file, the table's option, the flags and the number of workers
 abbrev pub replay_app : App
 replay_app =
-    with_rule (with_rule (with_rule (with_rule (with_rule (new_app (codes "replay"))
+    with_rule (with_rule (with_rule (with_rule (with_rule (with_rule (new_app (codes "replay"))
     (word_rule (codes "FILE"))) table_rule) (flag_rule (codes "any"))) (flag_rule (codes "lines")))
-    (workers_rule (codes "1"))
+    (flag_rule (codes "unlimited"))) (workers_rule (codes "1"))
 
 -- the command `debug`, with its file, its vehicle's provider and device, and the option
 abbrev pub debug_app : App
@@ -112,7 +112,7 @@ IsTold app form = IfOk form (λ told. app_of told ≡ app)
 -- the name of a command
 abbrev pub name_of : Command → Text
 name_of (Serve port each workers table journal) = codes "serve"
-name_of (Replay file table any lines workers) = codes "replay"
+name_of (Replay file table any lines unlimited workers) = codes "replay"
 name_of (Debug file provider device table) = codes "debug"
 name_of (Table table) = codes "table"
 name_of (Vehicles file table) = codes "vehicles"
@@ -150,11 +150,21 @@ LacksNumber values =
     ⊎ LacksEach values
     ⊎ HasNoNumber 1 max_workers (first_of (codes "workers") values)
 
--- the file is missing, or the number of workers is missing or out of its range
+-- a flag of this name is set
+abbrev pub IsSet : Text → List Row → Type 0
+IsSet name values = first_of name values ≡ Some (codes "true")
+
+-- lines without limits are asked for, and no lines
+abbrev pub LacksLines : List Row → Type 0
+LacksLines values = IsSet (codes "unlimited") values × (IsSet (codes "lines") values → ⊥)
+
+-- the file is missing, or the number of workers is missing or out of its range, or the flag for
+-- lines is missing beside the one for lines without limits
 abbrev pub LacksFileOrWorkers : List Row → Type 0
 LacksFileOrWorkers values =
     (first_of (codes "FILE") values ≡ None)
     ⊎ HasNoNumber 1 max_workers (first_of (codes "workers") values)
+    ⊎ LacksLines values
 
 -- the values that were found are those of this command; it has no table or journal where none was
 -- given, and a flag that is set is true
@@ -165,11 +175,13 @@ HasValues values (Serve port each workers table journal) =
     × IsNumber 1 max_workers (first_of (codes "workers") values) workers
     × (first_of (codes "table") values ≡ option_map (λ path. path.now) table)
     × (first_of (codes "journal") values ≡ option_map (λ path. path.now) journal)
-HasValues values (Replay file table any lines workers) =
+HasValues values (Replay file table any lines unlimited workers) =
     (first_of (codes "FILE") values ≡ Some file.now)
     × (first_of (codes "table") values ≡ option_map (λ path. path.now) table)
-    × (IsTrue any ↔ (first_of (codes "any") values ≡ Some (codes "true")))
-    × (IsTrue lines ↔ (first_of (codes "lines") values ≡ Some (codes "true")))
+    × (IsTrue any ↔ IsSet (codes "any") values)
+    × (IsTrue lines ↔ IsSet (codes "lines") values)
+    × (IsTrue unlimited ↔ IsSet (codes "unlimited") values)
+    × (IsTrue unlimited → IsTrue lines)
     × IsNumber 1 max_workers (first_of (codes "workers") values) workers
 HasValues values (Debug file provider device table) =
     (first_of (codes "FILE") values ≡ Some file.now)

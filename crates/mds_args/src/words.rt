@@ -48,6 +48,8 @@ pub enum Command<'a> {
         any: bool,
         /// Whether each line of the file is an item; else the file is one batch of them.
         lines: bool,
+        /// Whether lines are taken without the limits of a batch. It is so of lines alone.
+        unlimited: bool,
         /// How many workers share the replay of a batch, 1 to 64.
         workers: usize,
     },
@@ -141,16 +143,21 @@ fn command_or_error<'a>(
     }
 }
 
-/// What is missing where the words ask for no command: one of two options of a command that they name, or its name.
+/// What is missing where the words ask for no command: an option of a command that they name, or its name.
 fn missing<'a>(form: &mut clap::Command<'a>, matches: &ArgMatches<'a>) -> Result<Error, AllocError>
     ensures { IfOk result (λ error. kind_of error ≡ missing_kind (subcommand_rows_of matches.now)) }
 {
     match matches.subcommand() {
-        Some(_) => form.error(
-            ErrorKind::MissingRequiredArgument,
-            "one of --each <N> and --until-stopped is needed, and not both",
-        ),
+        Some((name, _)) => form.error(ErrorKind::MissingRequiredArgument, missing_option(name)),
         None => form.error(ErrorKind::MissingSubcommand, "a command is needed"),
+    }
+}
+
+/// Which option the words of a command lack that `clap` took.
+fn missing_option(name: &str) -> &'static str {
+    match name {
+        "replay" => "--unlimited is for --lines alone",
+        _ => "one of --each <N> and --until-stopped is needed, and not both",
     }
 }
 
@@ -260,11 +267,17 @@ fn replay_of<'a>(values: &ArgMatches<'a>) -> Option<Command<'a>>
 {
     let file = values.get_str("FILE")?;
     let workers = workers_of(values)?;
+    let lines = is_set(values, "lines");
+    let unlimited = is_set(values, "unlimited");
+    if unlimited && !lines {
+        return None;
+    }
     Some(Command::Replay {
         file,
         table: values.get_str("table"),
         any: is_set(values, "any"),
-        lines: is_set(values, "lines"),
+        lines,
+        unlimited,
         workers,
     })
 }
@@ -405,7 +418,13 @@ fn replay_form<'a>(alloc: Global) -> Form<'a>
         "lines",
         "Takes each line of the file as an item",
     );
-    with_workers(alloc, with_lines, "1")
+    let with_unlimited = with_flag(
+        alloc,
+        with_lines,
+        "unlimited",
+        "Takes lines without the limits of a batch",
+    );
+    with_workers(alloc, with_unlimited, "1")
 }
 
 fn debug_form<'a>(alloc: Global) -> Form<'a>

@@ -8,7 +8,7 @@ use Rattle.mds_city.specs.Program.{HasWorkers}
 -- a command has as many workers as it may have, where it has a number that may be asked for
 pub has_workers : (command : Command) → HasCount command → HasWorkers command
 has_workers (Serve port each workers table journal) few = (omega (arith, few.0), few.1)
-has_workers (Replay file table any lines workers) few = few
+has_workers (Replay file table any lines unlimited workers) few = few
 has_workers (Debug file provider device table) few = tt
 has_workers (Table table) few = tt
 has_workers (Vehicles file table) few = tt

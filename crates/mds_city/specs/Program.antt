@@ -36,7 +36,7 @@ use Rattle.mds_args.specs.Words.{IsAskedBy}
 -- workers that a replay may have
 abbrev pub HasWorkers : Command → Type 0
 HasWorkers (Serve port each workers path journal) = IsSeatCount workers
-HasWorkers (Replay file path any lines workers) = IsWorkerCount workers
+HasWorkers (Replay file path any lines unlimited workers) = IsWorkerCount workers
 HasWorkers other = Unit {0}
 
 -- the want of memory was told
@@ -136,8 +136,9 @@ module _ {F L J I : Type 0} (files : FileHost F) (host : ServerHost L J)
       (table : Option (Source F))
       × IsFileNamed files.opens (option_map (λ named. named.now) path) table
       × CameToTable files.bytes table outcome.ended outcome.out outcome.faults
-  Carries (Replay file path any lines workers) outcome =
-      (table : Option (Source F))
+  -- of a replay without limits nothing is said here
+  Carries (Replay file path any lines unlimited workers) outcome =
+      unlimited ≡ false → (table : Option (Source F))
       × IsFileNamed files.opens (option_map (λ named. named.now) path) table
       × CarriesReplay files input (options_of any lines workers) file.now table outcome
   Carries (Vehicles file path) outcome =

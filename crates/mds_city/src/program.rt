@@ -1,5 +1,5 @@
 //! What the program does with the words of its command line, over any files and streams.
-ghost use Rattle.std.specs.Prelude.{◌≡◌, ◌≢◌, ◌↔◌, ℕ, List, Option, ⊤, Err, codes, map, option_map, IsTrue, IfOk, IfErr};
+ghost use Rattle.std.specs.Prelude.{◌≡◌, ◌≢◌, ◌↔◌, ℕ, List, Option, ⊤, Err, codes, map, option_map, false, IsTrue, IfOk, IfErr};
 ghost use Rattle.std.specs.IoError.{error_kind};
 ghost use Rattle.mds_args.specs.Error.{words_kind};
 ghost use Rattle.mds_book.specs.Books.{IsSeatCount};
@@ -17,8 +17,8 @@ use crate::journal::{OpensJournals, serve_over};
 use crate::serve::{Listens, ServeOptions, serve_at};
 use mds_args::{Command, WordsError, WordsErrorKind, parse_words};
 use mds_commands::{
-    Form, Named, Problem, ReplayOptions, Source, Status, debug_to, replay_to, table_to, tell,
-    vehicles_to,
+    Form, Named, Problem, ReplayOptions, Source, Status, debug_live_to, debug_to, replay_to,
+    replay_unlimited_to, table_to, tell, vehicles_to,
 };
 use mds_io::{MAX_CALLS, write_all_of};
 use mds_trace::Opening;
@@ -114,6 +114,33 @@ pub fn run<
     }
 }
 
+/// As [`run`], with a terminal as standard input: there the debugger answers each line as it comes.
+pub fn run_at_terminal<
+    R: Threads + Wait + RandomSource + Sync,
+    S: AsStr,
+    O: Opens + Listens + OpensJournals + Sync,
+    I: Read + Drop,
+    W: Write,
+    E: Write,
+>(rt: &R, alloc: Global, words: &[S], files: &O, input: I, out: &mut W, faults: &mut E) -> Status {
+    if let Ok(
+        Command::Debug {
+            file,
+            provider,
+            device,
+            table,
+        },
+    ) = parse_words(alloc, words)
+    {
+        let named = Named { provider, device };
+        let table = file_if_named(files, table);
+        let file = file_of(files, file);
+        let mut script = input;
+        return debug_live_to(alloc, table, file, named, &mut script, out, faults);
+    }
+    run(rt, alloc, words, files, input, out, faults)
+}
+
 /// Prints the help that was asked for to `out`, or tells `faults` why the words gave no command. Where `faults` fails the
 /// status stays.
 fn explain<W: Write, E: Write>(
@@ -198,10 +225,13 @@ fn carry_out<
             table,
             any,
             lines,
+            unlimited,
             workers,
         } => {
             let options = options_of(any, lines, workers);
-            replay_file(rt, alloc, files, file, table, options, input, out, faults)
+            replay_asked(
+                rt, alloc, files, file, table, options, unlimited, input, out, faults,
+            )
         }
         Command::Vehicles { file, table } => {
             list_vehicles(rt, alloc, files, file, table, input, out, faults)
@@ -240,6 +270,35 @@ fn serve_named<
     }
 }
 
+/// Replays the file of this path, within the limits of a batch or without them.
+fn replay_asked<R: Threads + Sync, O: Opens, I: Read + Drop, W: Write, E: Write>(
+    rt: &R,
+    alloc: Global,
+    files: &O,
+    path: &str,
+    table: Option<&str>,
+    options: ReplayOptions,
+    unlimited: bool,
+    input: I,
+    out: &mut W,
+    faults: &mut E,
+) -> Status
+    requires { IsWorkerCount options.workers }
+    ensures { unlimited ≡ false → (table_file : Option (Source O.File))
+        × IsFileNamed (O.opens files.now) (option_map (λ named. named.now) table.entry) table_file
+        × CarriesReplay (record { opens = O.opens files.now; bytes = O.File.remaining })
+        (record { bytes = I.remaining; reader = input }) options path.now table_file
+        (outcome_of result
+        (change_of (W.contents out.old) (W.contents out.new))
+        (change_of (E.contents faults.old) (E.contents faults.new))) }
+{
+    if unlimited {
+        let opening = options.opening;
+        return replay_unlimited(alloc, files, path, table, opening, input, out, faults);
+    }
+    replay_file(rt, alloc, files, path, table, options, input, out, faults)
+}
+
 /// Replays the file of this path, which is standard input for `-`, over the tables of the file that is named.
 fn replay_file<R: Threads + Sync, O: Opens, I: Read + Drop, W: Write, E: Write>(
     rt: &R,
@@ -267,6 +326,26 @@ fn replay_file<R: Threads + Sync, O: Opens, I: Read + Drop, W: Write, E: Write>(
         return replay_to(rt, alloc, table, file, options, out, faults);
     }
     replay_to(rt, alloc, table, file_of(files, path), options, out, faults)
+}
+
+/// Replays the lines of the file of this path, which is standard input for `-`, however many there are, over the tables of the
+/// file that is named.
+fn replay_unlimited<O: Opens, I: Read + Drop, W: Write, E: Write>(
+    alloc: Global,
+    files: &O,
+    path: &str,
+    table: Option<&str>,
+    opening: Opening,
+    input: I,
+    out: &mut W,
+    faults: &mut E,
+) -> Status {
+    let table = file_if_named(files, table);
+    if is_standard_input(path) {
+        let file = source_of(path, input);
+        return replay_unlimited_to(alloc, table, file, opening, out, faults);
+    }
+    replay_unlimited_to(alloc, table, file_of(files, path), opening, out, faults)
 }
 
 /// Steps through the events of a vehicle in the file of this path, over the tables of the file that is named.

@@ -18,7 +18,10 @@ use crate::status::Status;
 use mds_core::Key;
 use mds_io::{MAX_CALLS, PrintError, write_all_of};
 use mds_table::Tables;
-use mds_trace::{VehicleReplay, VehicleSession, print_start, print_walk, read_script, script_of};
+use mds_trace::{
+    MAX_SCRIPT, ScriptCommand, ScriptLines, VehicleReplay, VehicleSession, print_start, print_walk,
+    read_script, script_of,
+};
 use std::alloc::{AllocError, Global};
 use std::io::{Read, Write};
 use uuid::Uuid;
@@ -139,6 +142,59 @@ fn tell_debug<E: Write>(alloc: Global, faults: &mut E, problem: DebugProblem<'_>
         }
         DebugProblem::Other(problem) => tell(alloc, faults, problem),
     }
+}
+
+/// As [`debug_to`], but each line of the script is answered as it comes, and nothing is read behind the first `quit`: as someone
+/// at a terminal wants it. What is printed is the same.
+pub fn debug_live_to<T: Read + Drop, R: Read + Drop, I: Read, W: Write, E: Write>(
+    alloc: Global,
+    table: Option<Source<'_, T>>,
+    file: Source<'_, R>,
+    named: Named<'_>,
+    script: &mut I,
+    out: &mut W,
+    faults: &mut E,
+) -> Status {
+    match debug_live(alloc, table, file, named, script, out) {
+        Ok(refused) => status_on(refused),
+        Err(problem) => tell_debug(alloc, faults, problem),
+    }
+}
+
+fn debug_live<'a, T: Read + Drop, R: Read + Drop, I: Read, W: Write>(
+    alloc: Global,
+    table: Option<Source<'a, T>>,
+    file: Source<'a, R>,
+    named: Named<'a>,
+    script: &mut I,
+    out: &mut W,
+) -> Result<usize, DebugProblem<'a>> {
+    let opened = session_on(alloc, table, file, named)?;
+    let refused = opened.counts.refused;
+    answer_lines(alloc, opened, script, out)?;
+    Ok(refused)
+}
+
+fn answer_lines<'a, I: Read, W: Write>(
+    alloc: Global,
+    opened: VehicleSession,
+    script: &mut I,
+    out: &mut W,
+) -> Result<(), DebugProblem<'a>> {
+    let counts = opened.counts;
+    let mut session = opened.session;
+    print_start(alloc, out, &session, counts)?;
+    let mut lines = ScriptLines::new(alloc);
+    for _ in 0..MAX_SCRIPT {
+        let Some(command) = lines.next_command(script)? else {
+            return Ok(());
+        };
+        if command == Some(ScriptCommand::Quit) {
+            return Ok(());
+        }
+        print_walk(alloc, out, &mut session, &[command])?;
+    }
+    Ok(())
 }
 
 fn debug_into<'a, T: Read + Drop, R: Read + Drop, I: Read, W: Write>(

@@ -3,7 +3,7 @@
 //!
 //! Each answers the code of the status that the program ends with. A problem is told in one line, and has its cause: words
 //! that name no vehicle, a file's own fault, an output that failed, or memory that was wanting. Where words or a file are
-//! at fault, nothing is printed. Serving tells its problems, and has its tables, by this crate too.
+//! at fault, nothing is printed, but by a replay without limits. Serving tells its problems, and has its tables, by this crate too.
 #![tactic(auto)]
 
 mod commands;
@@ -17,13 +17,15 @@ mod source;
 mod status;
 mod stream;
 mod torn;
+mod unlimited;
 mod vehicles;
 
 pub use commands::{ReplayOptions, replay_to, table_to};
-pub use debug::{Named, debug_to};
+pub use debug::{Named, debug_live_to, debug_to};
 pub use problem::{Problem, tell};
 pub use roster::Roster;
 pub use source::{Form, Source, tables_in};
 pub use status::Status;
 pub use torn::torn_to;
+pub use unlimited::replay_unlimited_to;
 pub use vehicles::{JournalProblem, tell_journal_problem, vehicles_to};

@@ -57,7 +57,7 @@ fn add_items<W: Write>(
     Ok(())
 }
 
-fn add_vehicles<W: Write>(
+pub(crate) fn add_vehicles<W: Write>(
     writer: &mut W,
     page: &mut String,
     ends: &[VehicleEnd],

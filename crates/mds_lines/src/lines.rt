@@ -138,7 +138,7 @@ impl Lines {
     }
 }
 
-fn is_blank(line: &[u8]) -> bool
+pub(crate) fn is_blank(line: &[u8]) -> bool
     ensures { result ≡ is_blank line.now }
 {
     line.iter()

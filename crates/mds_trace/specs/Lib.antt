@@ -7,6 +7,7 @@ pub mod Verdict
 pub mod Replay
 pub mod Followed
 pub mod Replayer
+pub mod UnlimitedReplay
 pub mod ReplayLaws
 pub mod Parts
 pub mod WithFault

@@ -16,7 +16,9 @@ returns c = (
     text_of_rows (found_of c.args.values.now) (codes "FILE") (Some c.in_ok-file.file) c.in_ok-file.ensures,
     text_of_rows (found_of c.args.values.now) (codes "table") c.get_str-2.result c.get_str-2.ensures,
     c.is_set.ensures,
-    c.is_set-2.ensures,
+    c.is_set-lines.ensures,
+    c.is_set-unlimited.ensures,
+    search rules,
     c.in_ok-workers.ensures,
   ),
 )

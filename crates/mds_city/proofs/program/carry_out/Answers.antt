@@ -13,15 +13,15 @@ returns-in-Replay g c =
     let files : FileHost _ = record { opens = g.O.Opens.opens c.args.files.now; bytes = g.O.File.Read.remaining } in
     let host : ServerHost _ _ = record { listens = g.O.Listens.listens c.args.files.now; opens_journal = g.O.OpensJournals.opens_journal c.args.files.now } in
     let input : StandardInput _ = record { bytes = g.I.Read.remaining; reader = c.args.input } in
-    let outcome : Outcome = outcome_of c.replay_file.result
-    (change_of (g.W.Write.contents c.args.out.now) (g.W.Write.contents c.replay_file.new.out))
-    (change_of (g.E.Write.contents c.args.faults.now) (g.E.Write.contents c.replay_file.new.faults)) in
-    let came = c.replay_file.ensures in
-    subst (λ (command : Command). Carries files host input command outcome) (sym c.in-Replay.is) (
+    let outcome : Outcome = outcome_of c.replay_asked.result
+    (change_of (g.W.Write.contents c.args.out.now) (g.W.Write.contents c.replay_asked.new.out))
+    (change_of (g.E.Write.contents c.args.faults.now) (g.E.Write.contents c.replay_asked.new.faults)) in
+    subst (λ (command : Command). Carries files host input command outcome) (sym c.in-Replay.is) (λ limited.
+    let came = c.replay_asked.ensures limited in (
       came.0,
       came.1,
       subst (λ (options : ReplayOptions). CarriesReplay files input options c.in-Replay.file.now came.0 outcome) c.options_of-options.ensures came.2,
-    )
+    ))
 
 pub returns-in-Debug : goal.returns-in-Debug
 returns-in-Debug g c =
