@@ -2,6 +2,7 @@
 
 import json
 from bisect import bisect_right
+from collections import Counter
 from itertools import accumulate
 
 from crashing.recording import RECEIVED, SENT, TAKEN
@@ -32,10 +33,10 @@ class Lengths:
 
 
 class Answers:
-    """The connections of one server, and what answers said of each vehicle, by whichever server."""
+    """The connections of one server, and how many lines of each vehicle answers said to be accepted, by whichever server."""
 
     def __init__(self, kept):
-        self.kept, self.told, self.lengths = kept, {}, Lengths()
+        self.kept, self.accepted_of, self.lengths = kept, Counter(), Lengths()
         self.begin()
 
     def begin(self):
@@ -72,7 +73,7 @@ class Answers:
         if key is None:
             return []
         is_list = told[2].startswith(LIST_BEGIN)
-        return [self.raised(key[1], 1 + (self.events_in(told) if is_list else json.loads(told[2])["events"]))]
+        return [(key[1], 1 + (self.events_in(told) if is_list else json.loads(told[2])["events"]))]
 
     def events_in(self, told):
         """How many events a list has, of which a part may be recorded alone."""
@@ -92,9 +93,5 @@ class Answers:
         return [self.added(identifier_in(item["device_id"]), 1) for at, item in enumerate(items) if at not in failed]
 
     def added(self, device, lines):
-        self.told[device] = self.told.get(device, 0) + lines
-        return device, self.told[device]
-
-    def raised(self, device, lines):
-        self.told[device] = max(self.told.get(device, 0), lines)
-        return device, self.told[device]
+        self.accepted_of[device] += lines
+        return device, self.accepted_of[device]

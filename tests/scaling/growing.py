@@ -30,13 +30,13 @@ BEFORE = 4
 CLIENTS, WORKERS = 4, 4
 EVENTS, LISTED = 120, 20_000
 """Events of the vehicle that is listed often, and of the one that is listed once."""
-MOST_GROWN = 192 << 10
-"""Bytes that memory may be more behind a kind, by pages that the C library keeps."""
+MOST_GROWN, MOST_OF_LONG = 64 << 10, 6 << 20
+"""Bytes that memory may be more behind a kind, and behind one of long requests, by pages that the C library keeps."""
 MOST_MAPPINGS = 8
 """Mappings that the C library may have made more."""
 BODIES, MOST_OF_BODIES = 24, 40 << 20
 """Bodies of the longest that come at once, and the bytes that may be kept behind them."""
-MOST_OF_LIST = 4
+MOST_OF_LIST = 10
 """How many times the bytes of its text a list may take of address space."""
 DEVICE, LONG, UNKNOWN = device_at(2), device_at(4), device_at(99)
 FACES = ("memory", "files", "mappings", "threads")
@@ -57,9 +57,9 @@ class Held:
         count = lambda name: len(list(Path(at, name).iterdir()))
         return cls(server.bytes_of("RssAnon"), count("fd"), len(Path(at, "maps").read_text().splitlines()), count("task"))
 
-    def more(self, before):
-        """What is more than before, in words."""
-        most = {"memory": MOST_GROWN, "files": 0, "mappings": MOST_MAPPINGS, "threads": 0}
+    def more(self, before, grown):
+        """What is more than before, in words; memory may have grown by so much."""
+        most = {"memory": grown, "files": 0, "mappings": MOST_MAPPINGS, "threads": 0}
         for name in FACES:
             grown = getattr(self, name) - getattr(before, name)
             if grown > most[name]:
@@ -202,13 +202,24 @@ def nothing_grows(program, times, told=lambda text: None):
             for name, job in jobs:
                 yield from (f"{name}, at first: {it}" for it in job(server, BEFORE))
             yield from unclosed(server, sockets)
+            long = {name for name, _ in long_kinds()}
             for name, job in jobs:
-                before = Held.by(server)
-                yield from (f"{name}: {it}" for it in job(server, 1))
-                yield from unclosed(server, sockets)
-                after = Held.by(server)
-                told(f"{name}: {after}, {after.memory - before.memory} bytes more")
-                yield from (f"{name}: {it}" for it in after.more(before))
+                most = MOST_OF_LONG if name in long else MOST_GROWN
+                yield from (f"{name}: {it}" for it in grown_by(server, job, most, sockets, lambda text: told(f"{name}: {text}")))
+
+
+def grown_by(server, job, most, sockets, told):
+    """What a kind leaves. What grew once is made again, since the C library may have come to a larger heap."""
+    for _ in range(2):
+        before = Held.by(server)
+        yield from job(server, 1)
+        yield from unclosed(server, sockets)
+        after = Held.by(server)
+        more = list(after.more(before, most))
+        told(f"{after}, {after.memory - before.memory} bytes more")
+        if not more:
+            return
+    yield from more
 
 
 def prepared(server):

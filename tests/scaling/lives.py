@@ -157,7 +157,7 @@ class City:
             for client in self.clients:
                 if isinstance(client, Bulk):
                     client.begin(life)
-            server.count(life.requests)
+            server.count(life.requests, self.figures["lines"])
             yield from server.drain()
         yield from self.checked()
         if self.figures.get("connections"):
@@ -183,7 +183,7 @@ def places_of(process):
             yield f"thread {path.name}: {state[0]}, {int(state[11]) + int(state[12])} ticks, in call {' '.join(call)}"
 
 
-def run(program, size, seed, told=lambda text: None):
+def servers_of_a_city(program, size, seed, told=lambda text: None):
     """What is wrong with a run. It stops at the first server with which anything is."""
     watch()
     with folder_of(size) as folder:
