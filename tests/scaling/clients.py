@@ -8,6 +8,7 @@ import socket
 import threading
 import time
 
+from crashing.killed import repeated
 from crashing.reports import device_at, listed, listing, looking, registering, reporting, standing
 from harness.counting import Unwell
 from harness.stalls import stalled
@@ -128,11 +129,6 @@ def expect(found, wanted, what):
         raise Unwell(f"{what}: {found[:200]!r} .. {found[-200:]!r}, in place of {wanted[:200]!r} .. {wanted[-200:]!r}")
 
 
-def repeated(size, known):
-    """The answer to a batch of so many events, of which the first ones are there."""
-    return done(size, [{"error": "repeated", "index": index} for index in range(known)])
-
-
 class Regular:
     """A client that reports vehicles of its own, whose event of each number is known."""
 
@@ -179,7 +175,7 @@ class Regular:
         """Reports so many events of a vehicle, of which the first are there, whole or in pieces."""
         count = self.counts[device]
         self.asked = {device: count - known + size}
-        expect(life.ask(request, self.cut(request)), repeated(size, known), f"{self.name} reports {size} events of {device} from {count - known} on")
+        expect(life.ask(request, self.cut(request)), repeated(known, size), f"{self.name} reports {size} events of {device} from {count - known} on")
         self.counts[device], self.asked = count - known + size, {}
         with life.lock:
             life.success += size - known

@@ -7,6 +7,7 @@ import tempfile
 from concurrent.futures import ThreadPoolExecutor
 from pathlib import Path
 
+from crashing.killed import repeated
 from crashing.recording import (
     ADVISED,
     ASKED,
@@ -69,20 +70,16 @@ OF_THE_FILE = (WRITE, SYNC)
 """Whose failures may end a server that listens, with status 3."""
 
 
-def told_twice(request, size, fault):
-    """A request, and its answers: the first time, and where it had been taken before."""
-    return request, (done(size), done(size, [{"error": fault, "index": index} for index in range(size)]))
-
-
 def script():
-    """Requests, each with the answers that it may have."""
-    yield told_twice(registering(DEVICE, OTHER), 2, "already_registered")
-    yield told_twice(reporting(DEVICE, 0, EVENTS), EVENTS, "repeated")
+    """Requests, each with the answers that it may have: the first time, and where it had been taken before."""
+    registered = [{"error": "already_registered", "index": index} for index in range(2)]
+    yield registering(DEVICE, OTHER), (done(2), done(2, registered))
+    yield reporting(DEVICE, 0, EVENTS), (done(EVENTS), repeated(EVENTS))
     yield looking(DEVICE), (answer(200, standing(DEVICE, EVENTS)),)
-    yield told_twice(reporting(OTHER, 0, 3), 3, "repeated")
+    yield reporting(OTHER, 0, 3), (done(3), repeated(3))
     yield looking(OTHER), (answer(200, standing(OTHER, 3)),)
     yield listing(DEVICE), (answer(200, {"events": [listed(DEVICE, number) for number in range(EVENTS)]}),)
-    yield told_twice(reporting(DEVICE, EVENTS, EVENTS + 1), 1, "repeated")
+    yield reporting(DEVICE, EVENTS, EVENTS + 1), (done(1), repeated(1))
 
 
 def answered(port, request):
@@ -175,7 +172,7 @@ def fuller(request):
     if request == listing(DEVICE):
         yield answer(200, {"events": [listed(DEVICE, number) for number in range(EVENTS + 1)]})
     if request == reporting(DEVICE, 0, EVENTS):
-        yield done(EVENTS, [{"error": "repeated", "index": index} for index in range(PIECE)])
+        yield repeated(PIECE, EVENTS)
 
 
 def counts_of(program):

@@ -74,8 +74,8 @@ def short_kinds():
     yield "looks at none", looking(UNKNOWN)
     yield "the table", get("/table")
     yield "lists", listing(DEVICE)
-    yield "repeated", reporting(DEVICE, 3, 4)
-    yield "many repeated", reporting(DEVICE, 0, EVENTS)
+    yield "there already", reporting(DEVICE, 3, 4)
+    yield "many that are there", reporting(DEVICE, 0, EVENTS)
     yield "late", post("/events", event(DEVICE, "fffe", "battery_low", "non_operational", 1))
     yield "no chain", post("/events", last)
     yield "unregistered", post("/events", batch(history(UNKNOWN, 0, 50)))
@@ -99,7 +99,7 @@ def long_kinds():
     yield "deep bodies", post("/events", "[" * 127 + "]" * 127 + " " * 100_000)
     yield "too many", post("/events", batch(["0"] * (MAX_ITEMS + 1)))
     yield "most faults", post("/events", batch(["0"] * MAX_ITEMS))
-    yield "most repeated", reporting(LONG, 0, MAX_ITEMS)
+    yield "most that are there", reporting(LONG, 0, MAX_ITEMS)
 
 
 def made_by_client(server, request, times):

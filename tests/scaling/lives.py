@@ -138,7 +138,7 @@ class City:
             for number in range(2 * LINGERING):
                 connection = stack.enter_context(connect(server.port))
                 if number % 2:
-                    connection.sendall(get("/table") + b"x")
+                    connection.sendall(get("/"))
                     read_all(connection)
             used = server.processor_time()
             time.sleep(QUIET)
