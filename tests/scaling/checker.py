@@ -7,10 +7,10 @@ from crashing.recording import ENDED, READ, STREAMED
 from scaling.answers import Answers
 from scaling.journal import Journal
 from scaling.record import entries_of
-from scaling.rules import ON_THE_FILE, Descriptors, Locks, Opening
+from scaling.rules import ON_THE_FILE, Descriptors, Locks, Looks, Opening
 
-MOST_OF_A_RULE = 3
-"""How many faults of one rule are told of a server."""
+MOST_OF_A_RULE, ALIKE = 3, 16
+"""How many faults of one rule that begin alike, by so many characters, are told of a server."""
 OF_THE_FILE = {kind + more for kind in ON_THE_FILE for more in (0, ENDED)} | {READ}
 LISTENING = b"listening "
 
@@ -21,6 +21,7 @@ class Life:
     def __init__(self, journal, answers, workers):
         self.journal, self.answers, self.workers = journal, answers, workers
         self.opening, self.descriptors, self.locks = Opening(journal.path), Descriptors(), Locks()
+        self.looks = Looks(journal.kept, self.locks)
         self.faults, self.kinds = Counter(), Counter()
         journal.begin()
         answers.begin()
@@ -32,10 +33,12 @@ class Life:
                 self.journal.is_serving = True
             for rule in self.rules_for(entry):
                 fault = fault_of(rule, entry)
-                if fault and self.faults[type(rule)] < MOST_OF_A_RULE:
-                    self.faults[type(rule)] += 1
+                alike = fault and (type(rule), fault[:ALIKE])
+                if fault and self.faults[alike] < MOST_OF_A_RULE:
+                    self.faults[alike] += 1
                     yield f"{type(rule).__name__.lower()}: {fault}"
         yield from self.small_groups()
+        yield from self.looks.amiss()
 
     def rules_for(self, entry):
         """Those that a record concerns."""
@@ -45,6 +48,7 @@ class Life:
             yield self.opening
         yield self.descriptors
         yield self.locks
+        yield self.looks
         yield self.answers
 
     def small_groups(self):
@@ -62,6 +66,7 @@ class Life:
             "answers": self.answers.count,
             "records": sum(self.kinds.values()),
             "connections": len(self.descriptors.connections),
+            "looks": (self.looks.count, self.looks.waited),
         }
 
 

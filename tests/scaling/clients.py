@@ -19,7 +19,7 @@ from serving.wire import connect
 
 BATCH = 10_000
 """The most items of a batch."""
-PATIENCE = 30
+PATIENCE = 120
 """Seconds for which an answer may stay away, beside those for which the machine stood still."""
 LOOK = 0.25
 """How often a client sees whether its server still is there, while it waits."""

@@ -5,7 +5,7 @@ import os
 import struct
 import subprocess
 import tempfile
-import threading
+from contextlib import ExitStack, suppress
 from dataclasses import dataclass
 from pathlib import Path
 
@@ -38,6 +38,10 @@ BODIES, MOST_OF_BODIES = 24, 40 << 20
 """Bodies of the longest that come at once, and the bytes that may be kept behind them."""
 MOST_OF_LIST = 10
 """How many times the bytes of its text a list may take of address space."""
+LINGERING, MOST_OF_LINGERING = 6, 2.5
+"""Clients that stay behind a long list, and how many times its bytes may be held then for all of them."""
+MOST_BEHIND = 40 << 20
+"""Bytes that a client may send behind its answer, with what the system takes in: the server reads 16 MiB."""
 DEVICE, LONG, UNKNOWN = device_at(2), device_at(4), device_at(99)
 FACES = ("memory", "files", "mappings", "threads")
 
@@ -180,6 +184,30 @@ def bodies_at_once(server):
         yield f"{kept} bytes are kept behind {BODIES} bodies"
 
 
+def lingering(server):
+    """What clients hold that stay behind their answers: the server has sent those, and needs them no more."""
+    before = Held.by(server)
+    with ExitStack() as stack:
+        for _ in range(LINGERING):
+            connection = stack.enter_context(connect(server.port))
+            connection.sendall(listing(LONG) + b"x")
+            size = len(read_all(connection))
+        held = Held.by(server).memory - before.memory
+    if held > MOST_OF_LINGERING * size:
+        yield f"{LINGERING} clients that stay behind {size} bytes each hold {held}"
+
+
+def endless(server):
+    """How many bytes a client may send behind its answer."""
+    sent = 0
+    with connect(server.port) as connection, suppress(ConnectionError):
+        connection.sendall(get("/"))
+        while sent < 2 * MOST_BEHIND:
+            sent += connection.send(bytes(1 << 20))
+    if sent > MOST_BEHIND:
+        yield f"{sent} bytes were taken behind an answer"
+
+
 def long_list(server):
     """How much address space a list takes."""
     before = server.bytes_of("VmPeak")
@@ -197,7 +225,9 @@ def nothing_grows(program, times, told=lambda text: None):
             sockets = server.sockets()
             yield from prepared(server)
             yield from long_list(server)
+            yield from lingering(server)
             yield from bodies_at_once(server)
+            yield from endless(server)
             jobs = list(jobs_of(times))
             for name, job in jobs:
                 yield from (f"{name}, at first: {it}" for it in job(server, BEFORE))

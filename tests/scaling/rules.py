@@ -150,3 +150,33 @@ class Locks:
         return None
 
 
+
+
+class Looks:
+    """Looks and lists of a vehicle that is kept don't wait for the file, however much others report."""
+
+    MOST_SHARE, FEW = 0.5, 20
+
+    def __init__(self, kept, locks):
+        self.kept, self.locks, self.asked = kept, locks, {}
+        self.count = self.waited = 0
+
+    def take(self, entry):
+        if entry.kind == RECEIVED and entry.data.startswith(b"GET /vehicles/"):
+            device = entry.data.split(b" ", 2)[1].split(b"/")[3:4]
+            self.asked[entry.thread] = [entry.file, device[0], self.kept[device[0]], False] if device else None
+        elif entry.kind == SENT and self.asked.get(entry.thread):
+            self.answered(entry, *self.asked.pop(entry.thread))
+        elif self.asked.get(entry.thread) and (entry.kind == WRITE or entry.kind == PARKED and entry.at == self.locks.of_file):
+            self.asked[entry.thread][3] = True
+
+    def answered(self, entry, file, device, kept, has_waited):
+        """Counts an answer about a vehicle, all of whose requests were kept before it was asked about."""
+        if file == entry.file and kept and kept == self.kept[device]:
+            self.count += 1
+            self.waited += has_waited
+
+    def amiss(self):
+        """Some wait all the same: those that come just behind the sync that had their vehicle kept."""
+        if self.waited > max(self.FEW, self.MOST_SHARE * self.count):
+            yield f"of {self.count} looks at what is kept {self.waited} waited for the file"
