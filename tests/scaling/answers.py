@@ -1,4 +1,4 @@
-"""Answers that go out, and what they rest on: of each vehicle an answer says, or implies, how many lines of the journal it has at least."""
+"""Answers that go out, and what they rest on: of each vehicle an answer says, or implies, how many lines of the journal it has."""
 
 import json
 from bisect import bisect_right

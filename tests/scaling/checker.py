@@ -54,7 +54,8 @@ class Life:
     def small_groups(self):
         """A group is a piece of 256 of either half, but for the last one that an answer waits for."""
         if self.journal.partial > self.answers.count + self.workers:
-            yield f"journal: {self.journal.partial} of {self.journal.groups} groups were smaller than what waited, for {self.answers.count} answers"
+            groups = f"{self.journal.partial} of {self.journal.groups} groups"
+            yield f"journal: {groups} were smaller than what waited, for {self.answers.count} answers"
 
     def told(self):
         """Figures of this server."""
@@ -71,7 +72,7 @@ class Life:
 
 
 def fault_of(rule, entry):
-    """What a rule says of a record. A record that it can't read is told, and the others are read on, since the server waits for that."""
+    """What a rule says of a record. One that it can't read is told, and the others are read on, since the server waits for that."""
     try:
         return rule.take(entry)
     except Exception as fault:  # whatever it is, it's told

@@ -175,7 +175,8 @@ class Regular:
         """Reports so many events of a vehicle, of which the first are there, whole or in pieces."""
         count = self.counts[device]
         self.asked = {device: count - known + size}
-        expect(life.ask(request, self.cut(request)), repeated(known, size), f"{self.name} reports {size} events of {device} from {count - known} on")
+        what = f"{self.name} reports {size} events of {device} from {count - known} on"
+        expect(life.ask(request, self.cut(request)), repeated(known, size), what)
         self.counts[device], self.asked = count - known + size, {}
         with life.lock:
             life.success += size - known

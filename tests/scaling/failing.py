@@ -1,5 +1,5 @@
-"""Servers of which one call of the system fails, does less than it was asked, or is interrupted: of some kind, at its n-th time, which a
-seed picks. What is answered, told and kept then is as the documents say."""
+"""Servers of which one call of the system fails, does less than it was asked, or is interrupted: of some kind, at its n-th time, which
+a seed picks. What is answered, told and kept then is as the documents say."""
 
 import errno
 import random

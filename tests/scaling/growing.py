@@ -10,7 +10,7 @@ from dataclasses import dataclass
 from pathlib import Path
 
 from cases.batches import FAULTY
-from cases.replays import P, batch, event, history, item
+from cases.replays import batch, event, history, item
 from crashing.clients import side_by_side
 from crashing.filling import AS_THE_UNIT
 from crashing.reports import device_at, listing, looking, registering, reporting

@@ -1,5 +1,5 @@
-"""The calls on a journal's file, after docs/disk.md: each group of lines is written behind the closed gate, synced, let count by a byte,
-and synced again; room is made only where there is none. What is kept is what such a sync has ended for."""
+"""The calls on a journal's file, after docs/disk.md: each group of lines is written behind the closed gate, synced, let count by a
+byte, and synced again; room is made only where there is none. What is kept is what such a sync has ended for."""
 
 import re
 from collections import Counter

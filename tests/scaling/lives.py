@@ -11,13 +11,12 @@ from dataclasses import dataclass
 from pathlib import Path
 
 from crashing.reports import device_at
-from harness.counting import Unwell
 from harness.stalls import stalled, watch
 from scaling.checker import Checker
 from scaling.clients import Bodies, Bulk, Life, Small
 from scaling.others import Crew, Going, Hostile, Modelled, Together
 from scaling.record import Pipe
-from serving.server import Server, is_socket
+from serving.server import Server
 from serving.wire import connect, get, read_all
 
 WORKERS = (4, 16)
@@ -123,7 +122,7 @@ class City:
                     break
                 time.sleep(self.chance.uniform(0.001, 0.04))
             time.sleep(self.chance.uniform(0, 0.1))
-            stood = places_of(server.child.pid) if crew.faults else []
+            stood = list(places_of(server.child.pid)) if crew.faults else []
             life.ended.set()
             server.child.send_signal(signal.SIGKILL)
             yield from crew.leave(LEAVING)

@@ -91,7 +91,8 @@ class Hostile:
             self.has_begun = True
             self.copies.begin()
             request = b"".join(pieces)
-            differs = difference(self.answered(life, pieces), self.model.answered(request))
+            wanted = self.model.answered(request)
+            differs = difference(self.answered(life, pieces), wanted)
             if differs:
                 raise Unwell(f"{request[:300]!r} was answered, {differs}")
             self.copies.end()

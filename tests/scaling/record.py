@@ -1,5 +1,6 @@
 """The record of a server's calls, which comes through a pipe while the server runs."""
 
+import fcntl
 import os
 from contextlib import contextmanager
 from pathlib import Path
@@ -48,8 +49,6 @@ class Pipe:
 
 def widen(pipe):
     """Lets a pipe take more, where the system allows it."""
-    import fcntl
-
     try:
         fcntl.fcntl(pipe, SET_ROOM, ROOM)
     except OSError:

@@ -21,7 +21,6 @@ from crashing.recording import (
     SETTLED,
     SHUT,
     SLEPT,
-    STREAMED,
     SYNC,
     TAKEN,
     TRIED,
