@@ -94,14 +94,14 @@ class City:
         return sum(max(count, 0) for client in self.clients if isinstance(client, Bulk) for count in client.counts.values())
 
     @contextmanager
-    def server(self, workers, each=None):
+    def server(self, workers, each=None, **more):
         """A server whose calls are read."""
         number, begun = next(self.numbers), time.monotonic()
         pipe = Pipe(self.folder, number, self.path)
         self.checker.begin(pipe.path, workers)
         with ExitStack() as stack:
             with pipe.open():
-                server = Server(self.program, each, workers, env=pipe.env, journal=self.path)
+                server = Server(self.program, each, workers, env=pipe.env, journal=self.path, **more)
                 stack.enter_context(server)
             self.starts.append(time.monotonic() - begun)
             yield server
@@ -131,8 +131,8 @@ class City:
         yield from self.checked()
 
     def at_rest(self):
-        """What is wrong with a server of which nothing is asked, but that clients stay there."""
-        with self.server(WORKERS[1]) as server, ExitStack() as stack:
+        """What is wrong with a server without standard error, of which nothing is asked, but that clients stay there."""
+        with self.server(WORKERS[1], unheard=True) as server, ExitStack() as stack:
             before = server.sockets()
             for number in range(2 * LINGERING):
                 connection = stack.enter_context(connect(server.port))

@@ -5,7 +5,6 @@ from collections import defaultdict
 
 from crashing.recording import (
     ADVISED,
-    ASKED,
     CLOSED,
     CUT,
     ENDED,
@@ -19,7 +18,6 @@ from crashing.recording import (
     RECEIVED,
     SENT,
     SETTLED,
-    SHUT,
     SLEPT,
     SYNC,
     TAKEN,
@@ -33,7 +31,8 @@ LAST_STREAM = 2
 """The highest descriptor of the standard streams."""
 LOCK = 6
 """LOCK_EX | LOCK_NB of flock(2)."""
-ON_DESCRIPTORS = {WRITE, CUT, SYNC, READ, LOCKED, ADVISED, SETTLED, ASKED, RECEIVED, SENT, LISTENED, SHUT}
+ON_DESCRIPTORS = {WRITE, CUT, SYNC, READ, LOCKED, ADVISED, RECEIVED, SENT}
+"""Calls on the file, and those that move bytes of connections."""
 ON_THE_FILE = {WRITE, CUT, SYNC}
 WAITING = {WAITED, SLEPT, LISTENED, TRIED}
 """Calls that may wait for a client, or for time."""
