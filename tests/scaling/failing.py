@@ -152,7 +152,7 @@ class Trial:
 
     def not_started(self, ended):
         status, out, faults = ended
-        is_told = (status, faults) == (4, NO_MEMORY) if self.how == errno.ENOMEM else status == 3 and faults.startswith("mds_city: ")
+        is_told = status == 3 and faults.startswith("mds_city: ") or self.how == errno.ENOMEM and (status, faults) == (4, NO_MEMORY)
         if self.kind not in OF_A_START or self.is_harmless() or out or not is_told or faults.count("\n") != 1:
             yield f"a start ended with {status}, {out[:100]!r} and {faults[:200]!r}"
 
