@@ -77,18 +77,21 @@ class Modelled(Alone):
 
 
 class Hostile:
-    """Requests whose heads, lengths and bodies are good or not, in pieces, and some that don't end."""
+    """Requests whose heads, lengths and bodies are good or not, in pieces, and some that don't end. There are no more of them than
+    leave the lists of its few vehicles short enough for the model."""
+
+    MOST = 20_000
 
     def __init__(self, seed):
         self.talks = talks_of_the_profile(seed)
         self.model = Model()
-        self.copies, self.has_begun = Copies(self.model.fleet), False
+        self.copies, self.made = Copies(self.model.fleet), 0
 
     def run(self, life):
         self.copies.settle(life)
-        while not life.ended.is_set():
-            pieces, _ = self.talks.sent(self.talks.request(not self.has_begun or self.talks.chance.often(0.12)))
-            self.has_begun = True
+        while not life.ended.is_set() and self.made < self.MOST:
+            pieces, _ = self.talks.sent(self.talks.request(not self.made or self.talks.chance.often(0.12)))
+            self.made += 1
             self.copies.begin()
             request = b"".join(pieces)
             wanted = self.model.answered(request)
