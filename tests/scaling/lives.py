@@ -23,7 +23,7 @@ WORKERS = (4, 16)
 """Those of every other server."""
 LEAST_HALF, LEAST_BYTES = 1 << 20, 256 << 20
 """Requests of one half, and bytes of the journal, that the run goes past."""
-LEAVING = 120
+LEAVING = 600
 """Seconds for clients and the checker to end behind a server."""
 QUIET = 1.0
 """Seconds in which nobody asks."""
@@ -33,6 +33,12 @@ LINGERING = 6
 """Clients that stay behind their answers, and such as send nothing."""
 CLOSING = 15
 """Seconds until all connections are closed, at most."""
+
+class Long(Server):
+    """A server that may take longer to begin, since it reads a long journal, and to end."""
+
+    seconds = 600
+
 
 @dataclass
 class Size:
@@ -101,7 +107,7 @@ class City:
         self.checker.begin(pipe.path, workers)
         with ExitStack() as stack:
             with pipe.open():
-                server = Server(self.program, each, workers, env=pipe.env, journal=self.path, **more)
+                server = Long(self.program, each, workers, env=pipe.env, journal=self.path, **more)
                 stack.enter_context(server)
             self.starts.append(time.monotonic() - begun)
             yield server

@@ -41,6 +41,8 @@ class Server:
     kilobytes of address space, it can have no more of them. Given the path of a journal, it serves over that. One that is unheard has
     no standard error."""
 
+    seconds = SECONDS
+
     def __init__(
         self,
         program,
@@ -95,7 +97,7 @@ class Server:
         """The next line that it prints, or nothing where none comes in time."""
         coming = select.poll()
         coming.register(self.child.stdout, select.POLLIN)
-        return self.child.stdout.readline().decode() if coming.poll(1000 * SECONDS) else ""
+        return self.child.stdout.readline().decode() if coming.poll(1000 * self.seconds) else ""
 
     def __exit__(self, *_):
         if self.child.poll() is None:
@@ -150,9 +152,9 @@ class Server:
     def ended(self):
         """The status, and what else came on both outputs, of the server, which ends by itself."""
         try:
-            out, _ = self.child.communicate(timeout=SECONDS)
+            out, _ = self.child.communicate(timeout=self.seconds)
         except subprocess.TimeoutExpired:
-            return f"no end after {SECONDS} seconds", "", ""
+            return f"no end after {self.seconds} seconds", "", ""
         self.faults.seek(0)
         return self.child.returncode, out.decode(), self.faults.read().decode()
 
