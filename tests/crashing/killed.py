@@ -150,9 +150,9 @@ def begun(port, fleet, devices):
     return told, complaints
 
 
-def repeated(count):
-    """The answer to a report of so many events that are there."""
-    return done(count, [{"error": "repeated", "index": index} for index in range(count)])
+def repeated(known, size=None):
+    """The answer to a report of so many events, or of as many as are there, of which the first are."""
+    return done(size or known, [{"error": "repeated", "index": index} for index in range(known)])
 
 
 def killed_in_its_start(program, path, chance):

@@ -490,11 +490,11 @@ def short_of_open_files_for_a_while(program):
         yield from server.end()
 
 
-def moved_on(waits=0, lack=0, step=0):
-    """The environment of a server for which clients and open files are lacking for so long, on a clock that is moved on; and of
-    which the time of day is set on by so many seconds each time that it is asked for."""
+def moved_on(waits=0, lack=0, step=0, seconds=1):
+    """The environment of a server for which clients and open files are lacking for so long, on a clock that is moved on, by so many
+    seconds a wait; and of which the time of day is set on by so many seconds each time that it is asked for."""
     shim = built("no-client.so", "tests/no-client.c", "-shared", "-fPIC", "-O1", "-ldl")
-    how = {"IDLE": str(waits), "WAIT": "1", "LACK": str(lack), "STEP": str(step)}
+    how = {"IDLE": str(waits), "WAIT": str(seconds), "LACK": str(lack), "STEP": str(step)}
     return {**os.environ, **how, "LD_PRELOAD": str(shim)}
 
 

@@ -37,11 +37,24 @@ class NotListening(Unwell):
 
 class Server:
     """A server on a port that was free, with so many connections for each of so many workers, or without an end where none are
-    named. As a context it is taken down where it hasn't ended. Given a port, it listens there. Given a number of open files, or of kilobytes of address space, it can
-    have no more of them. Given the path of a journal, it serves over that."""
+    named. As a context it is taken down where it hasn't ended. Given a port, it listens there. Given a number of open files, or of
+    kilobytes of address space, it can have no more of them. Given the path of a journal, it serves over that. One that is unheard has
+    no standard error."""
+
+    seconds = SECONDS
 
     def __init__(
-        self, program, each, workers=1, table=None, env=None, open_files=None, address_space=None, port=0, journal=None
+        self,
+        program,
+        each,
+        workers=1,
+        table=None,
+        env=None,
+        open_files=None,
+        address_space=None,
+        port=0,
+        journal=None,
+        unheard=False,
     ):
         self.folder = tempfile.TemporaryDirectory()
         life = ["--until-stopped"] if each is None else ["--each", str(each)]
@@ -63,6 +76,7 @@ class Server:
             stdout=subprocess.PIPE,
             stderr=self.faults,
             env=env,
+            preexec_fn=close_faults if unheard else None,
         )
         self.left = (each or 0) * workers
         """How many connections it still takes."""
@@ -83,7 +97,7 @@ class Server:
         """The next line that it prints, or nothing where none comes in time."""
         coming = select.poll()
         coming.register(self.child.stdout, select.POLLIN)
-        return self.child.stdout.readline().decode() if coming.poll(1000 * SECONDS) else ""
+        return self.child.stdout.readline().decode() if coming.poll(1000 * self.seconds) else ""
 
     def __exit__(self, *_):
         if self.child.poll() is None:
@@ -138,9 +152,9 @@ class Server:
     def ended(self):
         """The status, and what else came on both outputs, of the server, which ends by itself."""
         try:
-            out, _ = self.child.communicate(timeout=SECONDS)
+            out, _ = self.child.communicate(timeout=self.seconds)
         except subprocess.TimeoutExpired:
-            return f"no end after {SECONDS} seconds", "", ""
+            return f"no end after {self.seconds} seconds", "", ""
         self.faults.seek(0)
         return self.child.returncode, out.decode(), self.faults.read().decode()
 
@@ -173,6 +187,11 @@ class Server:
         wanted = (0, f"accepted {self.success}\n", "")
         if ended != wanted:
             yield f"ended with {ended}, in place of {wanted}"
+
+
+def close_faults():
+    """Closes standard error, in the server's process before it starts."""
+    os.close(2)
 
 
 def is_socket(path):
