@@ -1,0 +1,4 @@
+pub mod Telling
+pub mod Halfway
+pub mod Copied
+pub mod Journals
