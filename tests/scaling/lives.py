@@ -34,6 +34,8 @@ MOST_AT_REST = 0.1
 """Seconds of a processor that an idle server takes then."""
 LINGERING = 6
 """Clients that stay behind their answers, and such as send nothing."""
+MOST_OPEN = 200
+"""Connections that are open when a server is killed, at most: each of some fifteen clients has one at a time."""
 CLOSING = 15
 """Seconds until all connections are closed, at most."""
 
@@ -139,6 +141,8 @@ class City:
             yield from stood
         self.requests += life.requests
         yield from self.checked()
+        if self.figures.get("connections", 0) > MOST_OPEN:
+            yield f"{self.figures['connections']} connections were open at its end"
 
     def at_rest(self):
         """What is wrong with a server without standard error, of which nothing is asked, but that clients stay there."""
