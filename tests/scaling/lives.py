@@ -10,6 +10,7 @@ from contextlib import ExitStack, contextmanager, suppress
 from dataclasses import dataclass
 from pathlib import Path
 
+from crashing.recording import Recording
 from crashing.reports import device_at
 from harness.stalls import stalled, watch
 from scaling.checker import Checker
@@ -21,6 +22,8 @@ from serving.wire import connect, get, read_all
 
 WORKERS = (4, 16)
 """Those of every other server."""
+PAUSES = (0, 1500)
+"""Microseconds that a sync takes longer than in memory, of every other server: as many as a disk takes, so that others wait."""
 LEAST_HALF, LEAST_BYTES = 1 << 20, 256 << 20
 """Requests of one half, and bytes of the journal, that the run goes past."""
 LEAVING = 600
@@ -31,6 +34,8 @@ MOST_AT_REST = 0.1
 """Seconds of a processor that an idle server takes then."""
 LINGERING = 6
 """Clients that stay behind their answers, and such as send nothing."""
+MOST_OPEN = 200
+"""Connections that are open when a server is killed, at most: each of some fifteen clients has one at a time."""
 CLOSING = 15
 """Seconds until all connections are closed, at most."""
 
@@ -92,7 +97,7 @@ class City:
         self.program, self.folder, self.size = program, folder, size
         self.path, self.chance = Path(folder, "journal"), random.Random(seed)
         self.checker, self.clients = Checker(self.path), crew_of(size, seed)
-        self.numbers = iter(range(1 << 30))
+        self.numbers, self.slow = iter(range(1 << 30)), Recording(self.path)
         self.figures, self.requests, self.starts = {}, 0, []
 
     def events(self):
@@ -103,7 +108,7 @@ class City:
     def server(self, workers, each=None, **more):
         """A server whose calls are read."""
         number, begun = next(self.numbers), time.monotonic()
-        pipe = Pipe(self.folder, number, self.path)
+        pipe = Pipe(self.folder, number, self.path, self.slow.control)
         self.checker.begin(pipe.path, workers)
         with ExitStack() as stack:
             with pipe.open():
@@ -120,6 +125,7 @@ class City:
     def killed(self, events, requests):
         """What is wrong with a server that is killed at a moment behind so many events and requests."""
         workers = self.chance.choice(WORKERS)
+        self.slow.set(pause=self.chance.choice(PAUSES))
         with self.server(workers) as server:
             life = Life(server.port)
             crew = Crew(self.clients, life)
@@ -135,6 +141,8 @@ class City:
             yield from stood
         self.requests += life.requests
         yield from self.checked()
+        if self.figures.get("connections", 0) > MOST_OPEN:
+            yield f"{self.figures['connections']} connections were open at its end"
 
     def at_rest(self):
         """What is wrong with a server without standard error, of which nothing is asked, but that clients stay there."""
@@ -193,7 +201,7 @@ def servers_of_a_city(program, size, seed, told=lambda text: None):
     watch()
     with folder_of(size) as folder:
         city = City(program, folder, size, seed)
-        with city.checker:
+        with city.checker, city.slow:
             yield from lives_of(city, told)
 
 
