@@ -1,7 +1,7 @@
 //! Lines: that each call can succeed, and a taker without memory. Values are asked of the built program.
 use crate::batches::Few;
 use mds_batch::{BatchItem, EventItem, ItemFault, Member};
-use mds_lines::{LineFault, LineReader};
+use mds_lines::{ItemsFault, LineFault, LineReader, UnlimitedItems};
 use std::alloc::Global;
 use test_fixtures::{again, fence};
 
@@ -45,6 +45,28 @@ fn is_read(alloc: Global) -> Result<bool, LineFault> {
 #[test]
 fn a_stream_is_read_after_a_refused_growth(rt: HostRuntime) {
     assert_eq!(rt; is_read(rt.alloc()), Ok(true));
+}
+
+/// Whether the items that are had one by one of a stream have these faults, and it then ends.
+fn gives(alloc: Global, stream: &[u8], faults: &[Option<ItemFault>]) -> Result<bool, ItemsFault> {
+    let mut items = UnlimitedItems::new(alloc, stream);
+    for fault in faults {
+        match items.next_item()? {
+            Some(item) => if item.fault() != *fault {
+                return Ok(false);
+            },
+            None => return Ok(false),
+        }
+    }
+    Ok(items.next_item()?.is_none())
+}
+
+/// The items of a stream, had again from its beginning where a growth is refused (by `tests/refused-growths`).
+#[test]
+fn items_are_had_one_by_one_after_a_refused_growth(rt: HostRuntime) {
+    let faults = [None, None, NO_OBJECT, NO_PROVIDER, None];
+    let given = again!(gives(rt.alloc(), EVENTS, &faults));
+    assert_eq!(rt; given, Ok(true));
 }
 
 /// What a stream answers that is fed in two pieces and finished, where the taker finds memory for so many items of the first

@@ -3,8 +3,8 @@ ghost use Rattle.mds_trace.specs.WithFault.{IsWorkerCount};
 
 use crate::told::FIVE_EVENTS as FIVE_EVENTS_IN_LINES;
 use mds_commands::{
-    Form, Named, Problem, ReplayOptions, Source, debug_to, replay_to, table_to, tables_in, tell,
-    torn_to,
+    Form, Named, Problem, ReplayOptions, Source, debug_live_to, debug_to, replay_to,
+    replay_unlimited_to, table_to, tables_in, tell, torn_to,
 };
 use mds_trace::Opening;
 use std::alloc::Global;
@@ -83,10 +83,14 @@ enum Asked {
     Replay(Form),
     /// A replay of a batch by four workers.
     ByFour,
+    /// A replay of lines without the limits of a batch.
+    Unlimited,
     /// A print of the file's tables.
     Table,
     /// The debugger on the vehicle of this device, with this script.
     Debug(&'static str, &'static str),
+    /// The same, each line of the script being answered as it comes.
+    DebugLive(&'static str, &'static str),
 }
 
 /// A command, the text of its file, and the lines that it prints.
@@ -131,6 +135,31 @@ fn replayed<P: Threads + Sync>(
     replay_to(rt, alloc, table, file, options, out, faults).code()
 }
 
+/// The code of the status of a replay of a file's lines without limits.
+fn replayed_whole(
+    alloc: Global,
+    file: Source<'_, &[u8]>,
+    out: &mut Expects<'_>,
+    faults: &mut Expects<'_>,
+) -> u8 {
+    let table: Option<Source<'_, &[u8]>> = None;
+    replay_unlimited_to(alloc, table, file, Opening::Removed, out, faults).code()
+}
+
+/// The code of the status of the debugger that answers each line as it comes.
+fn debugged_live(
+    alloc: Global,
+    file: Source<'_, &[u8]>,
+    named: Named<'_>,
+    script: &str,
+    out: &mut Expects<'_>,
+    faults: &mut Expects<'_>,
+) -> u8 {
+    let table: Option<Source<'_, &[u8]>> = None;
+    let mut keys = script.as_bytes();
+    debug_live_to(alloc, table, file, named, &mut keys, out, faults).code()
+}
+
 /// What the command comes to, where this is expected of its faults.
 fn came<P: Threads + Sync>(rt: &P, alloc: Global, run: &Run, fault: &str) -> Came {
     let (asked, text, lines) = *run;
@@ -140,6 +169,7 @@ fn came<P: Threads + Sync>(rt: &P, alloc: Global, run: &Run, fault: &str) -> Cam
     let status = match asked {
         Asked::Replay(form) => replayed(rt, alloc, read, form, 1, &mut out, &mut faults),
         Asked::ByFour => replayed(rt, alloc, read, Form::Batch, 4, &mut out, &mut faults),
+        Asked::Unlimited => replayed_whole(alloc, read, &mut out, &mut faults),
         Asked::Table => table_to(alloc, Some(read), &mut out, &mut faults).code(),
         Asked::Debug(device, script) => {
             let provider = PROVIDER;
@@ -147,6 +177,11 @@ fn came<P: Threads + Sync>(rt: &P, alloc: Global, run: &Run, fault: &str) -> Cam
             let table: Option<Source<'_, &[u8]>> = None;
             let mut keys = script.as_bytes();
             debug_to(alloc, table, read, named, &mut keys, &mut out, &mut faults).code()
+        }
+        Asked::DebugLive(device, script) => {
+            let provider = PROVIDER;
+            let named = Named { provider, device };
+            debugged_live(alloc, read, named, script, &mut out, &mut faults)
         }
     };
     (status, out.rest.is_empty(), faults.rest.is_empty())
@@ -165,10 +200,13 @@ const RUNS: &[(u8, Run)] = rows! {
     (1, (Asked::Replay(Form::Batch), FIVE_EVENTS, FIVE_LINES)),
     (1, (Asked::ByFour, FIVE_EVENTS, FIVE_LINES)),
     (1, (Asked::Replay(Form::Lines), FIVE_EVENTS_IN_LINES, FIVE_LINES)),
+    (1, (Asked::Unlimited, FIVE_EVENTS_IN_LINES, FIVE_LINES)),
     (0, (Asked::Table, ONE_ROW, ONE_ROW_LINES)),
     (0, (Asked::Table, TWO_TABLES, TWO_TABLES_LINES)),
     (0, (Asked::Debug(DEVICE, SCRIPT), TWO_EVENTS, SCRIPT_LINES)),
     (1, (Asked::Debug(DEVICE, "run on_trip"), FIVE_EVENTS, FIVE_SHOWN)),
+    (0, (Asked::DebugLive(DEVICE, SCRIPT), TWO_EVENTS, SCRIPT_LINES)),
+    (1, (Asked::DebugLive(DEVICE, "run on_trip"), FIVE_EVENTS, FIVE_SHOWN)),
 };
 
 /// The first command that comes to something else.
@@ -189,11 +227,17 @@ fn commands_succeed_after_a_refused_growth(rt: HostRuntime) {
 /// Bad words are told without memory, before the file is looked at.
 #[test]
 fn bad_words_are_told_with_every_growth_refused(rt: HostRuntime) {
-    let run = (Asked::Debug("a", ""), "{", "");
+    let fault = "mds_city: bad identifier\n";
     let _begun = fence(rt.alloc());
-    let told = came(&rt, rt.alloc(), &run, "mds_city: bad identifier\n");
+    let whole = came(&rt, rt.alloc(), &(Asked::Debug("a", ""), "{", ""), fault);
+    let live = came(
+        &rt,
+        rt.alloc(),
+        &(Asked::DebugLive("a", ""), "{", ""),
+        fault,
+    );
     let _ended = fence(rt.alloc());
-    assert_eq!(rt; told, (2, true, true));
+    assert_eq!(rt; [whole, live], [(2, true, true); 2]);
 }
 
 /// A file of this text, if one is given.

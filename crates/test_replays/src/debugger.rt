@@ -3,8 +3,8 @@ use mds_batch::{BatchFault, each_event};
 use mds_io::PrintError;
 use mds_table::State::Removed;
 use mds_trace::{
-    Move, ScriptCommand, ScriptEnd, VehicleReplay, VehicleSession, print_start, print_walk,
-    read_script, script_of,
+    Move, ScriptCommand, ScriptEnd, ScriptLines, VehicleReplay, VehicleSession, print_start,
+    print_walk, read_script, script_of,
 };
 use std::alloc::{AllocError, Global};
 use test_fixtures::{
@@ -79,6 +79,24 @@ fn is_read(alloc: Global) -> Result<bool, AllocError> {
 #[test]
 fn a_script_is_read_after_a_refused_growth(rt: HostRuntime) {
     assert_eq!(rt; again!(is_read(rt.alloc())), Ok(true));
+}
+
+/// Whether its lines are had one by one, and no line more.
+fn is_had(alloc: Global) -> Result<bool, AllocError> {
+    let mut reader = SCRIPT;
+    let mut lines = ScriptLines::new(alloc);
+    for said in SAID {
+        if lines.next_command(&mut reader)? != Some(*said) {
+            return Ok(false);
+        }
+    }
+    Ok(lines.next_command(&mut reader)?.is_none())
+}
+
+/// The script, begun anew where a growth is refused (by `tests/refused-growths`).
+#[test]
+fn lines_are_had_after_a_refused_growth(rt: HostRuntime) {
+    assert_eq!(rt; again!(is_had(rt.alloc())), Ok(true));
 }
 
 /// Two events of A, of which the second comes too soon, between them one of B, and an item that is none.

@@ -1,7 +1,9 @@
 //! The worked cases of lines, and that each call can succeed.
 use crate::told::{Expected, FIVE_EVENTS, FIVE_REPORT, NOTHING, is_report};
 use mds_batch::ItemFault;
-use mds_trace::{LineFault, LineReplay, Opening, Report, Verdict};
+use mds_trace::{
+    ItemsFault, LineFault, LineReplay, Opening, Report, UnlimitedItems, UnlimitedReplay, Verdict,
+};
 use std::alloc::{AllocError, Global};
 use test_fixtures::{Lack, again, fence, profile};
 
@@ -112,4 +114,48 @@ const IN_PIECES: Stream = (FIVE_EVENTS, 300, Opening::Any, FIVE);
 #[test]
 fn lines_are_replayed_after_a_refused_growth(rt: HostRuntime) {
     assert_eq!(rt; again!(comes_out(rt.alloc(), &IN_PIECES)), Ok(true));
+}
+
+/// The next verdict on the items of a stream, the item being taken again where a growth is refused; or `None` at its end.
+fn next_verdict(
+    items: &mut UnlimitedItems<&[u8]>,
+    replay: &mut UnlimitedReplay,
+) -> Result<Option<Verdict>, Lack> {
+    match items.next_item() {
+        Ok(Some(item)) => Ok(Some(again!(replay.take(item))?)),
+        Ok(None) => Ok(None),
+        Err(ItemsFault::Memory) => Err(Lack::Memory),
+        Err(_) => Err(Lack::Case),
+    }
+}
+
+/// What a replay comes to that takes the items of the five events one by one.
+fn taken_one_by_one(alloc: Global) -> Result<Report, Lack> {
+    let mut items = UnlimitedItems::new(alloc, FIVE_EVENTS.as_bytes());
+    let mut replay = UnlimitedReplay::open(alloc, profile(alloc)?, Opening::Removed);
+    let mut lines = Vec::new(alloc);
+    for _ in 0..FIVE_EVENTS.len() {
+        let Some(verdict) = next_verdict(&mut items, &mut replay)? else {
+            break;
+        };
+        lines.push(verdict)?;
+    }
+    let end = replay.finish()?;
+    Ok(Report {
+        lines,
+        vehicles: end.vehicles,
+        accepted: end.accepted,
+        refused: end.refused,
+    })
+}
+
+/// Whether that is the report of the five events.
+fn is_taken_one_by_one(alloc: Global) -> Result<bool, Lack> {
+    Ok(is_report(&taken_one_by_one(alloc)?, &FIVE_REPORT))
+}
+
+/// The same, begun anew where a growth is refused (by `tests/refused-growths`).
+#[test]
+fn items_are_taken_without_limits_after_a_refused_growth(rt: HostRuntime) {
+    assert_eq!(rt; again!(is_taken_one_by_one(rt.alloc())), Ok(true));
 }
