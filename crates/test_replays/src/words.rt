@@ -19,6 +19,7 @@ const REPLAY: Command<'static> = Command::Replay {
     table: None,
     any: true,
     lines: false,
+    unlimited: false,
     workers: 64,
 };
 
