@@ -1,4 +1,0 @@
-pub mod Telling
-pub mod Halfway
-pub mod Copied
-pub mod Journals
