@@ -23,7 +23,7 @@ fn half_read(alloc: Global) -> Result<String, AllocError> {
 fn figures_are_told(alloc: Global) -> Result<bool, AllocError> {
     let text = figures(alloc).or_else(|_| figures(alloc))?;
     let half = half_read(alloc).or_else(|_| half_read(alloc))?;
-    Ok(text.contains("\nprocess_threads 3\n") && half == HALF_READ)
+    Ok(text.contains("\nprocess_threads 3\n") && half.as_str() == HALF_READ)
 }
 
 #[test]
