@@ -7,6 +7,7 @@ import subprocess
 from cases.replays import P, turn
 from cases.vehicles import FORM, not_a_journal
 from crashing.reports import listed
+from harness.case import HOW_FAR
 from harness.counting import Unwell
 
 COUNTED = re.compile(rb"(?: [^\n]*\n)*")
@@ -72,9 +73,9 @@ def vehicles_text(told):
 
 
 def listed_by(program, path, *words):
-    """What `vehicles` says of a file: its status, and both its outputs."""
+    """What `vehicles` says of a file: its status, and both its outputs, but for how far it is where it takes long."""
     ran = subprocess.run([program, "vehicles", str(path), *words], capture_output=True, text=True)
-    return ran.returncode, ran.stdout, ran.stderr
+    return ran.returncode, ran.stdout, re.sub(HOW_FAR, "", ran.stderr)
 
 
 def listed_amiss(program, path, lines=None):

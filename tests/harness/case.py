@@ -21,7 +21,8 @@ OUTPUT = "mds_city: output\n"
 SOCKET = "mds_city: socket\n"
 RANDOM = "mds_city: random\n"
 NO_MEMORY = "mds_city: out of memory\n"
-SLOW = re.compile(r"(mds_city: read \d+ of \d+ bytes\n)*")
+HOW_FAR = r"mds_city: read \d+ of \d+ bytes\n"
+SLOW = re.compile(f"({HOW_FAR})*")
 """Standard error of a run that may take long: it then tells how far it is."""
 NOT_TEXT = "error: the words of the command line aren't text\n"
 
