@@ -20,6 +20,19 @@ TESTED = {
     ("mds_past", "test_shards", "a_packed_past_takes_events_after_a_refused_growth"): ["Past::reserve"],
     ("mds_compact", "mds_compact", "a_history_is_compacted_after_a_refused_growth"): ["compaction"],
     ("mds_compact", "mds_compact", "passes_are_begun_anew_after_a_refused_growth"): ["Survey::note", "Thinning::take"],
+    ("mds_retention", "mds_retention", "a_journal_is_compacted_after_a_refused_growth"): ["compact"],
+    ("mds_retention", "mds_retention", "requests_are_read_after_a_refused_growth"): ["RequestLines::open", "RequestLines::next"],
+    ("mds_retention", "mds_retention", "passes_are_made_after_a_refused_growth"): [
+        "survey_of",
+        "thinning_of",
+        "marks_of",
+        "kept_lines",
+    ],
+    ("mds_retention", "mds_retention", "lines_are_drafted_after_a_refused_growth"): [
+        "Draft::begin",
+        "Draft::add_line",
+        "Draft::flush",
+    ],
     ("mds_shard", "test_shards", "step_succeeds_after_a_refused_growth"): ["Shard::step", "Shard::events"],
     ("mds_commands", "test_replays", "a_roster_takes_after_a_refused_growth"): ["Roster::take"],
     ("mds_book", "test_books", "calls_succeed_after_a_refused_growth"): [
@@ -101,6 +114,12 @@ TESTED = {
         "Device::cut",
     ],
     ("mds_file", "test_journal", "a_file_grows_after_a_refused_growth"): ["open_file"],
+    ("mds_file", "test_journal", "a_new_file_is_made_after_a_refused_growth"): [
+        "NewFile::at",
+        "NewName::is_free",
+        "NewName::draft",
+        "NewName::link",
+    ],
     ("mds_entries", "test_journal", "lines_are_told_after_a_refused_growth"): [
         "EntryReader::read",
         "EntryReader::read_into",

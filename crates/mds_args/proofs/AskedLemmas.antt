@@ -2,7 +2,7 @@
 use Rattle.std.proofs.Common.{ℕ, ◌≤◌, List, Option, Some, None, subst, sym}
 use Rattle.clap.specs.Words.{Row, Text, subcommand_of}
 use Rattle.mds_args.specs.declared.words.Command.{Command}
-use Rattle.mds_args.specs.declared.words.Command.TheVariants.{Serve, Replay, Debug, Table, Vehicles}
+use Rattle.mds_args.specs.declared.words.Command.TheVariants.{Serve, Replay, Debug, Table, Vehicles, Compact}
 use Rattle.mds_args.specs.Words.{Asks, IsAskedBy, IsNumber, max_workers, program_app}
 
 -- the number of workers, where there are any, is one that may be asked for
@@ -23,6 +23,7 @@ asked_count (Some found) (Replay file table any lines workers) asks = within _ w
 asked_count (Some found) (Debug file provider device table) asks = tt
 asked_count (Some found) (Table table) asks = tt
 asked_count (Some found) (Vehicles file table) asks = tt
+asked_count (Some found) (Compact old new before) asks = tt
 
 -- a command that the words ask for has such a number
 pub counted : (words : List Text) (command : Command) → IsAskedBy words command → HasCount command

@@ -9,6 +9,7 @@ use Rattle.clap.specs.Words.{App, IsUnsignedIn, Row, Rule, Text, app_of, fault_o
 use Rattle.clap.specs.Words.{new_app, new_rule, takes, with_rule, subcommand_of, with_subcommand}
 use Rattle.mds_args.specs.declared.words.Command.{Command}
 use Rattle.mds_args.specs.declared.words.Command.TheVariants.{Serve, Replay, Debug, Table, Vehicles}
+use Rattle.mds_args.specs.declared.words.Command.TheVariants.{Compact}
 
 -- a positional word of this name, which must be there
 abbrev pub word_rule : Text → Rule
@@ -90,6 +91,20 @@ abbrev pub vehicles_app : App
 vehicles_app =
     with_rule (with_rule (new_app (codes "vehicles")) (word_rule (codes "FILE"))) table_rule
 
+-- the greatest time that an event may have
+abbrev pub max_time : ℕ
+max_time = 9007199254740991
+
+-- the option `--before`, which must be there
+abbrev pub before_rule : Rule
+before_rule = needed_number_rule (codes "before") max_time
+
+-- the command `compact`, with both files and the option
+abbrev pub compact_app : App
+compact_app =
+    with_rule (with_rule (with_rule (new_app (codes "compact")) (word_rule (codes "OLD")))
+    (word_rule (codes "NEW"))) before_rule
+
 -- the program with no command yet, which must be given one, and with its version
 abbrev pub bare_app : App
 bare_app =
@@ -102,8 +117,9 @@ bare_app =
 -- the program with its commands
 abbrev pub program_app : App
 program_app =
-    with_subcommand (with_subcommand (with_subcommand (with_subcommand (with_subcommand bare_app
-    serve_app.top) replay_app.top) debug_app.top) table_app.top) vehicles_app.top
+    with_subcommand (with_subcommand (with_subcommand (with_subcommand (with_subcommand
+    (with_subcommand bare_app serve_app.top) replay_app.top) debug_app.top) table_app.top)
+    vehicles_app.top) compact_app.top
 
 -- where there was memory, `clap` is told of this app
 abbrev pub IsTold : {E : Type 0} → App → Result Form E → Type 0
@@ -116,6 +132,7 @@ name_of (Replay file table any lines workers) = codes "replay"
 name_of (Debug file provider device table) = codes "debug"
 name_of (Table table) = codes "table"
 name_of (Vehicles file table) = codes "vehicles"
+name_of (Compact old new before) = codes "compact"
 
 -- the value is a text that is this number, one of this range
 abbrev pub IsNumber : ℕ → ℕ → Option Text → ℕ → Type 0
@@ -156,6 +173,12 @@ LacksFileOrWorkers values =
     (first_of (codes "FILE") values ≡ None)
     ⊎ HasNoNumber 1 max_workers (first_of (codes "workers") values)
 
+-- one of the two files is missing, or the time is missing or out of its range
+abbrev pub LacksFilesOrTime : List Row → Type 0
+LacksFilesOrTime values =
+    (first_of (codes "OLD") values ≡ None) ⊎ (first_of (codes "NEW") values ≡ None)
+    ⊎ HasNoNumber 0 max_time (first_of (codes "before") values)
+
 -- the values that were found are those of this command; it has no table or journal where none was
 -- given, and a flag that is set is true
 abbrev pub HasValues : List Row → Command → Type 0
@@ -181,6 +204,10 @@ HasValues values (Table table) =
 HasValues values (Vehicles file table) =
     (first_of (codes "FILE") values ≡ Some file.now)
     × (first_of (codes "table") values ≡ option_map (λ path. path.now) table)
+HasValues values (Compact old new before) =
+    (first_of (codes "OLD") values ≡ Some old.now)
+    × (first_of (codes "NEW") values ≡ Some new.now)
+    × IsNumber 0 max_time (first_of (codes "before") values) before
 
 -- one of these arguments has no value
 abbrev pub LacksOneOf : List Text → List Row → Type 0

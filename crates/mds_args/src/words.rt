@@ -7,8 +7,8 @@ ghost use Rattle.clap.specs.Words.{with_subcommand};
 ghost use Rattle.mds_args.specs.Error.{HasCause, IsCause, SaysMissing, missing_kind, words_kind};
 ghost use Rattle.mds_args.specs.Words.{Asks, AsksNothing, IsAskedBy, AreTaken};
 ghost use Rattle.mds_args.specs.Words.{HasNoNumber, HasValues, IsEach, IsNumber, IsTold};
-ghost use Rattle.mds_args.specs.Words.{LacksEach, LacksFileOrWorkers, LacksNumber, LacksOneOf};
-ghost use Rattle.mds_args.specs.Words.{name_of, debug_app, each_rule, flag_rule, long_rule, max_each, max_port, max_workers};
+ghost use Rattle.mds_args.specs.Words.{LacksEach, LacksFileOrWorkers, LacksFilesOrTime, LacksNumber, LacksOneOf};
+ghost use Rattle.mds_args.specs.Words.{name_of, before_rule, compact_app, debug_app, each_rule, flag_rule, long_rule, max_each, max_port, max_time, max_workers};
 ghost use Rattle.mds_args.specs.Words.{needed_number_rule, number_rule, option_rule, program_app, replay_app};
 ghost use Rattle.mds_args.specs.Words.{journal_rule, serve_app, table_app, table_rule, vehicles_app, word_rule, workers_rule};
 
@@ -73,6 +73,15 @@ pub enum Command<'a> {
         file: &'a str,
         /// As for `Replay`.
         table: Option<&'a str>,
+    },
+    /// Make a new journal of an old one, without those of its old events that no state needs.
+    Compact {
+        /// The path of the old journal. Here `-` is a file of that name.
+        old: &'a str,
+        /// The path of the new one. Here `-` is a file of that name.
+        new: &'a str,
+        /// The time, in milliseconds since the Unix epoch, before which events are old.
+        before: u64,
     },
 }
 
@@ -181,6 +190,9 @@ fn command_named<'a>(name: &str, values: &ArgMatches<'a>) -> Option<Command<'a>>
     if name == "vehicles" {
         return vehicles_of(values);
     }
+    if name == "compact" {
+        return compact_of(values);
+    }
     None
 }
 
@@ -193,6 +205,9 @@ const MAX_EACH: u64 = 1_000_000;
 /// The most workers. Each of a server takes a seat of the book, which has at most `mds_book::MAX_SEATS` of them, and a
 /// replay has at most `mds_trace::MAX_WORKERS`. It may not be greater than these: the program's proof then fails.
 const MAX_WORKERS: u64 = 64;
+
+/// The greatest time that `--before` may name: an event has none that is greater.
+const MAX_TIME: u64 = 9_007_199_254_740_991;
 
 fn serve_of<'a>(values: &ArgMatches<'a>) -> Option<Command<'a>>
     ensures { MatchOption result (LacksNumber (rows_of (found_of values.now)))
@@ -324,6 +339,18 @@ fn vehicles_of<'a>(values: &ArgMatches<'a>) -> Option<Command<'a>>
     })
 }
 
+fn compact_of<'a>(values: &ArgMatches<'a>) -> Option<Command<'a>>
+    ensures { MatchOption result
+        (LacksFilesOrTime (rows_of (found_of values.now)))
+        (λ command. (name_of command ≡ codes "compact")
+        × HasValues (rows_of (found_of values.now)) command) }
+{
+    let old = values.get_str("OLD")?;
+    let new = values.get_str("NEW")?;
+    let before = number_of(values, "before", 0, MAX_TIME)?;
+    Some(Command::Compact { old, new, before })
+}
+
 /// What `clap` is told of a command, where there is memory for it.
 type Form<'a> = Result<clap::Command<'a>, AllocError>;
 
@@ -338,7 +365,8 @@ fn program_form<'a>(alloc: Global) -> Form<'a>
     let with_replay = with_command(with_serve, replay_form(alloc));
     let with_debug = with_command(with_replay, debug_form(alloc));
     let with_table_command = with_command(with_debug, table_form(alloc));
-    with_command(with_table_command, vehicles_form(alloc))
+    let with_vehicles = with_command(with_table_command, vehicles_form(alloc));
+    with_command(with_vehicles, compact_form(alloc))
 }
 
 fn with_command<'a>(form: Form<'a>, command: Form<'a>) -> Form<'a>
@@ -441,6 +469,19 @@ fn vehicles_form<'a>(alloc: Global) -> Form<'a>
     with_table(alloc, with_file)
 }
 
+fn compact_form<'a>(alloc: Global) -> Form<'a>
+    ensures { IsTold compact_app result }
+{
+    let bare = bare_form(
+        alloc,
+        "compact",
+        "Makes a new journal of an old one, without old events that no state needs",
+    );
+    let with_old = with_word(alloc, bare, "OLD", "The journal, which stays as it is");
+    let with_new = with_word(alloc, with_old, "NEW", "The file to make");
+    with_before(alloc, with_new)
+}
+
 fn bare_form<'a>(alloc: Global, name: &'a str, about: &'a str) -> Form<'a>
     ensures { IsTold (new_app name.entry.now) result }
 {
@@ -479,6 +520,13 @@ fn with_number<'a>(
         form,
         number_option(alloc, name, 0, most, help).required(true),
     )
+}
+
+fn with_before<'a>(alloc: Global, form: Form<'a>) -> Form<'a>
+    ensures { (app : App) → IsTold app form.entry → IsTold (with_rule app before_rule) result }
+{
+    let help = "The time from which on all events stay, in milliseconds since 1970";
+    with_arg(form, time_option(alloc, "before", help).required(true))
 }
 
 fn with_each<'a>(alloc: Global, form: Form<'a>) -> Form<'a>
@@ -527,6 +575,13 @@ fn number_option<'a>(alloc: Global, name: &'a str, least: u64, most: u64, help: 
     ensures local { result.global ≡ false }
 {
     option(alloc, name, "N", help).value_parser(ValueParser::unsigned(least, most))
+}
+
+fn time_option<'a>(alloc: Global, name: &'a str, help: &'a str) -> Arg<'a>
+    ensures rule { rule_of result ≡ number_rule name.entry.now 0 max_time }
+    ensures local { result.global ≡ false }
+{
+    option(alloc, name, "TIME", help).value_parser(ValueParser::unsigned(0, MAX_TIME))
 }
 
 /// In help the option's value is called `value`.

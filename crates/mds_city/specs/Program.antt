@@ -15,13 +15,15 @@ use Rattle.mds_commands.specs.declared.status.Status.{Status}
 use Rattle.mds_commands.specs.declared.status.Status.TheVariants as status
 use Rattle.mds_args.specs.declared.words.Command.{Command}
 use Rattle.mds_args.specs.declared.words.Command.TheVariants.{Serve, Replay, Debug, Table, Vehicles}
+use Rattle.mds_args.specs.declared.words.Command.TheVariants.{Compact}
 use Rattle.mds_commands.specs.Change.{Change, change_of}
 use Rattle.mds_commands.specs.Files.{files_of}
 use Rattle.mds_commands.specs.Command.{CameToReplay, CameToTable}
 use Rattle.mds_commands.specs.Debug.{Debugs}
 use Rattle.mds_commands.specs.Listing.{CameToListing}
 use Rattle.mds_city.specs.declared.serve.ServeOptions.{ServeOptions}
-use Rattle.mds_city.specs.Host.{FileHost, ServerHost, StandardInput, TableFile}
+use Rattle.mds_city.specs.Host.{FileHost, HostFiles, ServerHost, StandardInput, TableFile}
+use Rattle.mds_city.specs.Compact.{CameToCompact}
 use Rattle.mds_city.specs.Outcome.{Outcome}
 use Rattle.mds_city.specs.Serve.{CameToServe}
 use Rattle.mds_city.specs.Journal.{CameToServeOver}
@@ -122,36 +124,38 @@ module _ {L J T : Type 0} (host : ServerHost L J) (table : TableFile T) where
   CarriesServe (Some path) asked outcome = CameToServeOver host table path asked outcome
 
 -- of the program: the files of its host, what that gives a server, and standard input
-module _ {F L J I : Type 0} (files : FileHost F) (host : ServerHost L J)
+module _ {F N L J I : Type 0} (all : HostFiles F N) (host : ServerHost L J)
     (input : StandardInput I) where
   -- what a command did: it read the files that it names, and came to these
   abbrev pub Carries : Command → Outcome → Type 0
   Carries (Serve port each workers path journal) outcome =
       (table : Option (Source F))
-      × IsFileNamed files.opens (option_map (λ named. named.now) path) table
-      × CarriesServe host (record { bytes = files.bytes; file = table })
+      × IsFileNamed all.opener.opens (option_map (λ named. named.now) path) table
+      × CarriesServe host (record { bytes = all.opener.bytes; file = table })
       (option_map (λ named. named.now) journal)
       (record { port = port; workers = workers; each = connections_each each }) outcome
   Carries (Table path) outcome =
       (table : Option (Source F))
-      × IsFileNamed files.opens (option_map (λ named. named.now) path) table
-      × CameToTable files.bytes table outcome.ended outcome.out outcome.faults
+      × IsFileNamed all.opener.opens (option_map (λ named. named.now) path) table
+      × CameToTable all.opener.bytes table outcome.ended outcome.out outcome.faults
   Carries (Replay file path any lines workers) outcome =
       (table : Option (Source F))
-      × IsFileNamed files.opens (option_map (λ named. named.now) path) table
-      × CarriesReplay files input (options_of any lines workers) file.now table outcome
+      × IsFileNamed all.opener.opens (option_map (λ named. named.now) path) table
+      × CarriesReplay all.opener input (options_of any lines workers) file.now table outcome
   Carries (Vehicles file path) outcome =
       (table : Option (Source F))
-      × IsFileNamed files.opens (option_map (λ named. named.now) path) table
-      × CarriesVehicles files input file.now table outcome
+      × IsFileNamed all.opener.opens (option_map (λ named. named.now) path) table
+      × CarriesVehicles all.opener input file.now table outcome
   Carries (Debug file provider device path) outcome =
       (table : Option (Source F))
-      × IsFileNamed files.opens (option_map (λ named. named.now) path) table
-      × (events : Source F) × IsFileOf files.opens file.now events
+      × IsFileNamed all.opener.opens (option_map (λ named. named.now) path) table
+      × (events : Source F) × IsFileOf all.opener.opens file.now events
       × (input_new : Option (List ℕ))
-      × Debugs (files_of files.bytes table files.bytes events)
+      × Debugs (files_of all.opener.bytes table all.opener.bytes events)
       (record { provider = provider; device = device }) outcome.ended
       (change_of (input.bytes input.reader) input_new) outcome.out outcome.faults
+  Carries (Compact old new before) outcome =
+      CameToCompact all (record { old = old; new = new; before = before }) outcome
 
   -- what the program did with words: it carried out the command that they ask for, or explained
   -- why they give none

@@ -2,18 +2,20 @@
 //! events, and prints tables of transitions.
 #![tactic(auto)]
 
+mod compact;
 mod journal;
 mod page;
 mod program;
 mod serve;
 
+use crate::compact::MakesFiles;
 use crate::journal::OpensJournals;
 use crate::program::{Opens, run, tell_words, words_of};
 use crate::serve::{ListenFault, Listens};
-use mds_file::{DiskFile, FileFault, open_file};
+use mds_file::{DiskFile, FileFault, NewFile, open_file};
 use mds_io::{MAX_CALLS, write_all_of};
 use mds_socket::{SocketIn, SocketOut, SocketPort};
-use std::alloc::Global;
+use std::alloc::{AllocError, Global};
 use std::io::{self, ErrorKind};
 use std::marker::Brand;
 use std::net::Net;
@@ -71,6 +73,14 @@ impl OpensJournals for Host<HostRuntime> {
         let mut calls = MAX_CALLS;
         let line = b"mds_city: journal not kept\n";
         let _ = write_all_of(&mut self.rt.stderr(), line, &mut calls);
+    }
+}
+
+impl MakesFiles for Host<HostRuntime> {
+    type New = NewFile<Brand>;
+
+    fn new_file(&self, alloc: Global, path: &str) -> Result<NewFile<Brand>, AllocError> {
+        NewFile::at(self.rt, alloc, path)
     }
 }
 

@@ -13,6 +13,7 @@ ghost use Rattle.mds_city.specs.Outcome.{outcome_of};
 ghost use Rattle.mds_city.specs.Program.{Carries, CarriesReplay, CarriesServe, CarriesVehicles, Explains, HasWorkers, IsFileNamed, IsFileOf, Runs};
 ghost use Rattle.mds_city.specs.Program.{connections_each, form_if, opening_if, options_of};
 
+use crate::compact::{CompactAsked, MakesFiles, compact_to};
 use crate::journal::{OpensJournals, serve_over};
 use crate::serve::{Listens, ServeOptions, serve_at};
 use mds_args::{Command, WordsError, WordsErrorKind, parse_words};
@@ -96,12 +97,19 @@ pub fn tell_words<E: Write>(alloc: Global, faults: &mut E, fault: WordsFault) ->
 pub fn run<
     R: Threads + Wait + RandomSource + Sync,
     S: AsStr,
-    O: Opens + Listens + OpensJournals + Sync,
+    O: Opens + Listens + OpensJournals + MakesFiles + Sync,
     I: Read + Drop,
     W: Write,
     E: Write,
 >(rt: &R, alloc: Global, words: &[S], files: &O, input: I, out: &mut W, faults: &mut E) -> Status
-    ensures { Runs (record { opens = O.opens files.now; bytes = O.File.remaining })
+    ensures { Runs (record {
+      opener = record { opens = O.opens files.now; bytes = O.File.remaining };
+      maker = record {
+        names = O.names_file files.now;
+        may_stand = O.New.may_stand;
+        is_true = O.New.is_true;
+      };
+    })
         (record { listens = O.listens files.now; opens_journal = O.opens_journal files.now })
         (record { bytes = I.remaining; reader = input }) (map S.text words.now)
         (outcome_of result
@@ -146,7 +154,7 @@ fn explain<W: Write, E: Write>(
 /// a replay is `input`; the table file is one of its name, whatever that is.
 fn carry_out<
     R: Threads + Wait + RandomSource + Sync,
-    O: Opens + Listens + OpensJournals + Sync,
+    O: Opens + Listens + OpensJournals + MakesFiles + Sync,
     I: Read + Drop,
     W: Write,
     E: Write,
@@ -160,7 +168,14 @@ fn carry_out<
     faults: &mut E,
 ) -> Status
     requires { HasWorkers command }
-    ensures { Carries (record { opens = O.opens files.now; bytes = O.File.remaining })
+    ensures { Carries (record {
+      opener = record { opens = O.opens files.now; bytes = O.File.remaining };
+      maker = record {
+        names = O.names_file files.now;
+        may_stand = O.New.may_stand;
+        is_true = O.New.is_true;
+      };
+    })
         (record { listens = O.listens files.now; opens_journal = O.opens_journal files.now })
         (record { bytes = I.remaining; reader = input }) command.entry
         (outcome_of result
@@ -205,6 +220,10 @@ fn carry_out<
         }
         Command::Vehicles { file, table } => {
             list_vehicles(rt, alloc, files, file, table, input, out, faults)
+        }
+        Command::Compact { old, new, before } => {
+            let asked = CompactAsked { old, new, before };
+            compact_to(rt, alloc, files, asked, out, faults)
         }
     }
 }

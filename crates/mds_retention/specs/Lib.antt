@@ -1,0 +1,5 @@
+pub mod Telling
+pub mod Copying
+pub mod Lines
+pub mod Draft
+pub mod Compacting
