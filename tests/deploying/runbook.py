@@ -22,7 +22,7 @@ RUNBOOK = ROOT / "docs/runbook.md"
 HEADING = re.compile(r"^#{2,3} (.*)$", re.MULTILINE)
 P = PROVIDERS[0]
 A, B, C = (f"00000000-0000-4000-8000-00000000000{letter}" for letter in "abc")
-FOLDERS = ("/etc/mds_city", "/etc/systemd", "/var/lib/mds_city", "/var/log/nginx", "/var/tmp", "/usr/local/bin")
+FOLDERS = ("/etc/mds_city", "/etc/systemd", "/var/lib/mds_city", "/var/log/nginx", "/var/tmp", "/usr/local/bin", "/usr/local/lib")
 """What stands in the machine's folder in place of the root of a real one."""
 SMALL_DISK, MOST_KEPT, AT_ONCE = "3M", 50000, 1000
 """How large a disk is that is full soon; more vehicles than it has room for, and how many are registered by one request."""
@@ -38,7 +38,7 @@ def registration(device):
 
 def event(device, number, types, state, hour):
     """An event at an hour of 30 April 2025, from 8 in the morning on."""
-    identifier = f"00000000-0000-4000-8000-0000000000e{number}"
+    identifier = f"00000000-0000-4000-8000-{0xE0 + number:012x}"
     when = 1746000000000 + 3600000 * hour
     return {**registration(device), "event_id": identifier, "event_types": types, "timestamp": when, "vehicle_state": state}
 
@@ -55,6 +55,8 @@ REQUESTS = [
 
 LATER = event(A, 8, ["trip_start"], "on_trip", 4)
 """One more event of the first vehicle."""
+TRIPS = 10
+"""Those of the first vehicle by which its journal has grown."""
 
 
 def exported(names):
@@ -72,11 +74,15 @@ class Machine:
         self.program, self.holder = program, tempfile.TemporaryDirectory()
         self.root = Path(self.holder.name)
         self.ports = dict(zip(("one", "two"), free_ports(2)))
-        for folder in ("run", "etc/mds_city", "etc/systemd/system", "var/tmp", "usr/local/bin", "var/lib/mds_city_copies"):
+        folders = ("run", "etc/mds_city", "etc/systemd/system", "var/tmp", "usr/local/bin", "usr/local/lib/mds_city")
+        for folder in (*folders, "var/lib/mds_city_copies"):
             (self.root / folder).mkdir(parents=True)
         for name, port in self.ports.items():
             self.write(f"/etc/mds_city/{name}.env", changed("one.env", {"PORT=8001": f"PORT={port}"}))
-        self.write("/etc/systemd/system/mds_city@.service", self.here(changed("mds_city@.service", {})))
+        for unit in ("mds_city@.service", "mds_city-compact@.service"):
+            self.write(f"/etc/systemd/system/{unit}", self.here(changed(unit, {})))
+        self.write("/usr/local/lib/mds_city/compact", self.here(changed("compact", {})))
+        self.path("/usr/local/lib/mds_city/compact").chmod(0o755)
         shutil.copy(program, self.root / "usr/local/bin/mds_city")
         shutil.copy(program, self.root / "var/tmp/mds_city")
         self.shell = Shell(program)
@@ -217,6 +223,22 @@ def is_accepted(machine):
         yield f"a later event: {machine.ask('/events', LATER)}"
 
 
+def with_many_trips(machine):
+    """The first vehicle has made trips since."""
+    machine.fill()
+    for number, (kind, state) in enumerate([("trip_start", "on_trip"), ("trip_end", "available")] * TRIPS):
+        if success_of(machine.ask("/events", event(A, 10 + number, [kind], state, 4 + number))) != 1:
+            raise Unwell(f"trip {number} isn't accepted")
+
+
+def old_trips_left_out(machine):
+    """Of what was accepted all is known, or late."""
+    for target, value in REQUESTS:
+        told = machine.ask(target, value)
+        if not re.search(rb"already_registered|repeated|late", told):
+            yield f"{value}: {told}"
+
+
 def all_sent_again(machine):
     """All that was accepted is sent again: what is there counts once, and what the copy lacked is accepted."""
     for target, value in REQUESTS:
@@ -250,6 +272,7 @@ SECTIONS = {
     "A machine is lost": (without_its_machine, all_sent_again),
     "Another version of the program": (Machine.fill, all_of_it_there),
     "Other rules": (Machine.fill, all_of_it_there),
+    "The journal has grown": (with_many_trips, old_trips_left_out),
     "A vehicle that is stuck": (with_a_time_to_come, is_accepted),
     "An audit of last year": (Machine.fill, nothing_more),
 }
