@@ -32,6 +32,7 @@ Options:
       --workers <N>     How many workers there are [default: 4]
       --table <FILE>    A table of transitions, or several with times; without it the profile's
       --journal <FILE>  A journal of what is accepted; without it that ends with the process
+      --metrics <N>     A port of its own, at which figures are told, and readiness
   -h, --help            Print help
 """
 REPLAY = """Replays the events of a file

@@ -78,7 +78,14 @@ TESTED = {
     ("mds_pool", "test_edge", "a_book_is_settled_after_a_refused_growth"): ["serve_and_settle"],
     ("mds_pool", "test_edge", "a_book_is_served_over_its_journal_after_a_refused_growth"): [
         "RecordedBook::open",
+        "RecordedBook::held",
         "RecordedBook::serve",
+    ],
+    ("mds_metrics", "test_edge", "figures_are_told_after_a_refused_growth"): [
+        "Board::new",
+        "Board::reading",
+        "metrics_answer",
+        "ready_answer",
     ],
     ("mds_waiting", "test_edge", "a_key_is_found_after_a_refused_growth"): ["Waiting::vacancy"],
     ("mds_args", "test_replays", "words_are_read_after_a_refused_growth"): ["parse_words"],
@@ -123,6 +130,7 @@ WITHIN = {
     "mds_known::KnownVehicles::add_event": "mds_commands::Roster::take",
     "mds_known::KnownVehicles::put": "mds_commands::Roster::take",
     "mds_face::KeptDesk::keep": "mds_face::serve_kept",
+    "mds_metrics::add_lines": "mds_metrics::metrics_answer",
     "mds_http::Head::plan": "mds_face::serve_whole",
     "mds_http::answer_bytes": "mds_http::bytes_of",
     "mds_book::Book::refill": "mds_follow::resume",

@@ -38,8 +38,8 @@ class NotListening(Unwell):
 class Server:
     """A server on a port that was free, with so many connections for each of so many workers, or without an end where none are
     named. As a context it is taken down where it hasn't ended. Given a port, it listens there. Given a number of open files, or of
-    kilobytes of address space, it can have no more of them. Given the path of a journal, it serves over that. One that is unheard has
-    no standard error."""
+    kilobytes of address space, it can have no more of them. Given the path of a journal, it serves over that. Given a port for figures,
+    it tells them there. One that is unheard has no standard error."""
 
     seconds = SECONDS
 
@@ -54,6 +54,7 @@ class Server:
         address_space=None,
         port=0,
         journal=None,
+        metrics=None,
         unheard=False,
     ):
         self.folder = tempfile.TemporaryDirectory()
@@ -68,6 +69,8 @@ class Server:
             words += ["--table", str(path)]
         if journal is not None:
             words += ["--journal", str(journal)]
+        if metrics is not None:
+            words += ["--metrics", str(metrics)]
         self.faults = open(Path(self.folder.name, "faults"), "w+b")
         self.child = subprocess.Popen(
             words,

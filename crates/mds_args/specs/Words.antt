@@ -61,12 +61,17 @@ workers_rule number =
 abbrev pub each_rule : Rule
 each_rule = number_rule (codes "each") 0 max_each
 
+-- the option `--metrics`
+abbrev pub metrics_rule : Rule
+metrics_rule = number_rule (codes "metrics") 1 max_port
+
 -- the command `serve`, with its numbers, the flag and the options
 abbrev pub serve_app : App
 serve_app =
-    with_rule (with_rule (with_rule (with_rule (with_rule (with_rule (new_app (codes "serve"))
-    (needed_number_rule (codes "port") max_port)) each_rule) (flag_rule (codes "until-stopped")))
-    (workers_rule (codes "4"))) table_rule) journal_rule
+    with_rule (with_rule (with_rule (with_rule (with_rule (with_rule (with_rule
+    (new_app (codes "serve")) (needed_number_rule (codes "port") max_port)) each_rule)
+    (flag_rule (codes "until-stopped"))) (workers_rule (codes "4"))) table_rule) journal_rule)
+    metrics_rule
 
 -- the command `replay`, with its file, the table's option, the flags and the number of workers
 abbrev pub replay_app : App
@@ -111,7 +116,7 @@ IsTold app form = IfOk form (λ told. app_of told ≡ app)
 
 -- the name of a command
 abbrev pub name_of : Command → Text
-name_of (Serve port each workers table journal) = codes "serve"
+name_of (Serve port each workers table journal metrics) = codes "serve"
 name_of (Replay file table any lines unlimited workers) = codes "replay"
 name_of (Debug file provider device table) = codes "debug"
 name_of (Table table) = codes "table"
@@ -142,13 +147,24 @@ IsEach values None = (first_of (codes "each") values ≡ None) × GoesOn values
 abbrev pub LacksEach : List Row → Type 0
 LacksEach values = (each : Option ℕ) → IsEach values each → ⊥
 
+-- figures are told at this port: that of the number that is given, or at none where none is
+abbrev pub IsMetrics : List Row → Option ℕ → Type 0
+IsMetrics values (Some port) = IsNumber 1 max_port (first_of (codes "metrics") values) port
+IsMetrics values None = first_of (codes "metrics") values ≡ None
+
+-- the number of that port is out of its range
+abbrev pub LacksMetrics : List Row → Type 0
+LacksMetrics values = (metrics : Option ℕ) → IsMetrics values metrics → ⊥
+
 -- the port's number or the number of workers is missing or out of its range, or how many
--- connections each worker answers isn't told
+-- connections each worker answers isn't told, or the number of the port for figures is out of its
+-- range
 abbrev pub LacksNumber : List Row → Type 0
 LacksNumber values =
     HasNoNumber 0 max_port (first_of (codes "port") values)
     ⊎ LacksEach values
     ⊎ HasNoNumber 1 max_workers (first_of (codes "workers") values)
+    ⊎ LacksMetrics values
 
 -- a flag of this name is set
 abbrev pub IsSet : Text → List Row → Type 0
@@ -169,12 +185,13 @@ LacksFileOrWorkers values =
 -- the values that were found are those of this command; it has no table or journal where none was
 -- given, and a flag that is set is true
 abbrev pub HasValues : List Row → Command → Type 0
-HasValues values (Serve port each workers table journal) =
+HasValues values (Serve port each workers table journal metrics) =
     IsNumber 0 max_port (first_of (codes "port") values) port
     × IsEach values each
     × IsNumber 1 max_workers (first_of (codes "workers") values) workers
     × (first_of (codes "table") values ≡ option_map (λ path. path.now) table)
     × (first_of (codes "journal") values ≡ option_map (λ path. path.now) journal)
+    × IsMetrics values metrics
 HasValues values (Replay file table any lines unlimited workers) =
     (first_of (codes "FILE") values ≡ Some file.now)
     × (first_of (codes "table") values ≡ option_map (λ path. path.now) table)

@@ -6,11 +6,11 @@ ghost use Rattle.clap.specs.Words.{rule_of, subcommand_of, subcommand_rows_of, t
 ghost use Rattle.clap.specs.Words.{with_subcommand};
 ghost use Rattle.mds_args.specs.Error.{HasCause, IsCause, SaysMissing, missing_kind, words_kind};
 ghost use Rattle.mds_args.specs.Words.{Asks, AsksNothing, IsAskedBy, AreTaken};
-ghost use Rattle.mds_args.specs.Words.{HasNoNumber, HasValues, IsEach, IsNumber, IsTold};
-ghost use Rattle.mds_args.specs.Words.{LacksEach, LacksFileOrWorkers, LacksNumber, LacksOneOf};
+ghost use Rattle.mds_args.specs.Words.{HasNoNumber, HasValues, IsEach, IsMetrics, IsNumber, IsTold};
+ghost use Rattle.mds_args.specs.Words.{LacksEach, LacksFileOrWorkers, LacksMetrics, LacksNumber, LacksOneOf};
 ghost use Rattle.mds_args.specs.Words.{name_of, debug_app, each_rule, flag_rule, long_rule, max_each, max_port, max_workers};
 ghost use Rattle.mds_args.specs.Words.{needed_number_rule, number_rule, option_rule, program_app, replay_app};
-ghost use Rattle.mds_args.specs.Words.{journal_rule, serve_app, table_app, table_rule, vehicles_app, word_rule, workers_rule};
+ghost use Rattle.mds_args.specs.Words.{journal_rule, metrics_rule, serve_app, table_app, table_rule, vehicles_app, word_rule, workers_rule};
 
 use crate::VERSION;
 use crate::error::{WordsError, WordsErrorKind};
@@ -36,6 +36,8 @@ pub enum Command<'a> {
         /// The path of the journal in which what is accepted is recorded, or `None`: then all that is known ends with the
         /// process. Here `-` is a file of that name.
         journal: Option<&'a str>,
+        /// The number of the port at which figures are told, or `None`: then none are.
+        metrics: Option<u16>,
     },
     /// Replay the events of a file.
     Replay {
@@ -209,13 +211,26 @@ fn serve_of<'a>(values: &ArgMatches<'a>) -> Option<Command<'a>>
     let port = number_of(values, "port", 0, MAX_PORT)?;
     let each = each_of(values)?;
     let workers = workers_of(values)?;
+    let metrics = metrics_of(values)?;
     Some(Command::Serve {
         port: port as u16,
         each,
         workers,
         table: values.get_str("table"),
         journal: values.get_str("journal"),
+        metrics,
     })
+}
+
+/// The port at which figures are told, if one is named.
+fn metrics_of(values: &ArgMatches<'_>) -> Option<Option<u16>>
+    ensures { MatchOption result (LacksMetrics (rows_of (found_of values.now)))
+        (IsMetrics (rows_of (found_of values.now))) }
+{
+    match values.get_str("metrics") {
+        Some(_) => Some(Some(number_of(values, "metrics", 1, MAX_PORT)? as u16)),
+        None => Some(None),
+    }
 }
 
 /// How many connections each worker answers, where that is told by one of the two options.
@@ -393,7 +408,7 @@ fn serve_form<'a>(alloc: Global) -> Form<'a>
         "Goes on until the process is stopped, in place of --each",
     );
     let with_tables = with_table(alloc, with_workers(alloc, with_until_stopped, "4"));
-    with_journal(alloc, with_tables)
+    with_metrics(alloc, with_journal(alloc, with_tables))
 }
 
 fn replay_form<'a>(alloc: Global) -> Form<'a>
@@ -528,6 +543,13 @@ fn with_journal<'a>(alloc: Global, form: Form<'a>) -> Form<'a>
 {
     let help = "A journal of what is accepted; without it that ends with the process";
     with_arg(form, option(alloc, "journal", "FILE", help))
+}
+
+fn with_metrics<'a>(alloc: Global, form: Form<'a>) -> Form<'a>
+    ensures { (app : App) → IsTold app form.entry → IsTold (with_rule app metrics_rule) result }
+{
+    let help = "A port of its own, at which figures are told, and readiness";
+    with_arg(form, number_option(alloc, "metrics", 1, MAX_PORT, help))
 }
 
 fn with_arg<'a>(form: Form<'a>, arg: Arg<'a>) -> Form<'a>

@@ -35,7 +35,7 @@ use Rattle.mds_args.specs.Words.{IsAskedBy}
 -- the number of workers, where there are any, is one of seats that a book may have, or one of
 -- workers that a replay may have
 abbrev pub HasWorkers : Command → Type 0
-HasWorkers (Serve port each workers path journal) = IsSeatCount workers
+HasWorkers (Serve port each workers path journal metrics) = IsSeatCount workers
 HasWorkers (Replay file path any lines unlimited workers) = IsWorkerCount workers
 HasWorkers other = Unit {0}
 
@@ -126,12 +126,17 @@ module _ {F L J I : Type 0} (files : FileHost F) (host : ServerHost L J)
     (input : StandardInput I) where
   -- what a command did: it read the files that it names, and came to these
   abbrev pub Carries : Command → Outcome → Type 0
-  Carries (Serve port each workers path journal) outcome =
+  Carries (Serve port each workers path journal metrics) outcome =
       (table : Option (Source F))
       × IsFileNamed files.opens (option_map (λ named. named.now) path) table
       × CarriesServe host (record { bytes = files.bytes; file = table })
       (option_map (λ named. named.now) journal)
-      (record { port = port; workers = workers; each = connections_each each }) outcome
+      (record {
+        port = port;
+        workers = workers;
+        each = connections_each each;
+        metrics = metrics;
+      }) outcome
   Carries (Table path) outcome =
       (table : Option (Source F))
       × IsFileNamed files.opens (option_map (λ named. named.now) path) table

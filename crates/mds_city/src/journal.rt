@@ -21,7 +21,7 @@ use mds_follow::{Disk, RecordLog, RequestReader, StartFault};
 use mds_io::{MAX_CALLS, PrintError, write_all_of};
 use mds_journal::Device;
 use mds_log::BlankLog;
-use mds_pool::{Alarm, NewBook, RecordedBook, RecordedStop, Stop};
+use mds_pool::{Alarm, Held, NewBook, RecordedBook, RecordedStop, Stop};
 use std::alloc::{AllocError, Global};
 use std::hash::RandomState;
 use std::io::{Read, Write};
@@ -50,6 +50,9 @@ pub trait OpensJournals {
 
     /// Tells whoever runs the server, in one line, that what was accepted can't be written to the journal.
     fn tell_not_kept(&self);
+
+    /// Hears what the journal told at the start, if figures are told.
+    fn tell_held(&self, _held: Held) {}
 }
 
 /// Tells of the first write that fails, and of no other, while a server runs.
@@ -174,6 +177,10 @@ fn serve_to_end<
     let (Ok(first), Ok(second)) = (RandomState::new(rt), RandomState::new(rt)) else {
         return Err((ServeProblem::from(Problem::Random), None));
     };
+    match host.tell_figures(alloc, asked) {
+        Ok(()) => {}
+        Err(fault) => return Err((problem_of_listening(fault), None)),
+    }
     let reader = match open_reader(alloc, host, path) {
         Ok(reader) => reader,
         Err(problem) => return Err((problem, None)),
@@ -255,6 +262,12 @@ fn serve_reader<
         Ok(book) => book,
         Err((fault, _file)) => return Err((BookStop::Start(fault), None)),
     };
+    if asked.metrics.is_some() {
+        match book.held(rt, alloc) {
+            Ok(held) => host.tell_held(held),
+            Err(AllocError) => return Err((BookStop::Start(StartFault::Memory), None)),
+        }
+    }
     let room = match StartRoom::beside(alloc, asked.workers) {
         Ok(room) => room,
         Err(AllocError) => return Err((BookStop::Start(StartFault::Memory), None)),

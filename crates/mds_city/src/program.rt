@@ -201,12 +201,14 @@ fn carry_out<
             workers,
             table,
             journal,
+            metrics,
         } => {
             let table = file_if_named(files, table);
             let asked = ServeOptions {
                 port,
                 workers,
                 each: connections_each(each),
+                metrics,
             };
             serve_named(rt, alloc, files, table, journal, asked, out, faults)
         }

@@ -39,6 +39,16 @@ pub trait Listens {
     /// [`ListenFault`] says when each comes.
     fn listen(&self, alloc: Global, number: u16) -> Result<(Self::Listening, u16), ListenFault>
         ensures { IfOk result (λ had. listens self.now number had.0 had.1) };
+
+    /// Begins to tell figures at a port of its own, if that is asked for, by a thread of its own. What is answered doesn't depend
+    /// on it. A host that tells none needs to do nothing.
+    ///
+    /// # Errors
+    ///
+    /// [`ListenFault`] says when each comes; and `Memory` where there is none for the figures or their thread.
+    fn tell_figures(&self, _alloc: Global, _asked: ServeOptions) -> Result<(), ListenFault> {
+        Ok(())
+    }
 }
 
 /// Why nothing listens at a port.
@@ -59,6 +69,8 @@ pub struct ServeOptions {
     pub workers: usize,
     /// How many connections each answers.
     pub each: usize,
+    /// The number of the port at which figures are told, if they are.
+    pub metrics: Option<u16>,
 }
 
 /// Serves vehicles over the tables of a table file, or where none is given over the profile's, at a port of the host: prints
@@ -86,7 +98,7 @@ pub fn serve_at<
         (change_of (W.contents out.old) (W.contents out.new))
         (change_of (E.contents faults.old) (E.contents faults.new))) }
 {
-    let (tables, hashers, listening) = match begin(rt, alloc, host, table, asked.port, out) {
+    let (tables, hashers, listening) = match begin(rt, alloc, host, table, asked, out) {
         Ok(had) => had,
         Err(problem) => return tell(alloc, faults, problem),
     };
@@ -109,13 +121,13 @@ fn begin<'a, R: RandomSource, H: Listens, T: Read + Drop, W: Write>(
     alloc: Global,
     host: &H,
     table: Option<Source<'a, T>>,
-    number: u16,
+    asked: ServeOptions,
     out: &mut W,
 ) -> Result<(Tables, [RandomState; 2], H::Listening), Problem<'a>>
-    ensures ok { IfOk result (λ had. Listened (H.listens host.now number)
+    ensures ok { IfOk result (λ had. Listened (H.listens host.now asked.port)
         (record { bytes = T.remaining; file = table.entry }) had.0 had.2
         (change_of (W.contents out.old) (W.contents out.new))) }
-    ensures err { IfErr result (λ problem. StopsBefore (H.listens host.now number)
+    ensures err { IfErr result (λ problem. StopsBefore (H.listens host.now asked.port)
         (record { bytes = T.remaining; file = table.entry }) problem
         (change_of (W.contents out.old) (W.contents out.new))) }
 {
@@ -123,7 +135,12 @@ fn begin<'a, R: RandomSource, H: Listens, T: Read + Drop, W: Write>(
     let (Ok(first), Ok(second)) = (RandomState::new(rt), RandomState::new(rt)) else {
         return Err(Problem::Random);
     };
-    let (listening, port) = match host.listen(alloc, number) {
+    match host.tell_figures(alloc, asked) {
+        Ok(()) => {}
+        Err(ListenFault::Refused) => return Err(Problem::Socket),
+        Err(ListenFault::Memory) => return Err(Problem::Memory),
+    }
+    let (listening, port) = match host.listen(alloc, asked.port) {
         Ok(begun) => begun,
         Err(ListenFault::Refused) => return Err(Problem::Socket),
         Err(ListenFault::Memory) => return Err(Problem::Memory),

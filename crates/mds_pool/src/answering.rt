@@ -5,7 +5,8 @@ ghost use Rattle.mds_face.specs.Reading.{ReadsNoFurther};
 ghost use Rattle.mds_face.specs.Kept.{IsServedKept, StopsKept};
 
 use crate::{Ending, Port, PortFault};
-use mds_face::{Face, KeptDesk, KeptFault, Room, Served, serve_kept, serve_whole};
+use mds_face::{Face, KeptDesk, KeptFault, Room, ServeFault, Served, serve_kept, serve_whole};
+use mds_metrics::{Count, Tally};
 use std::alloc::Global;
 use std::marker::Model;
 
@@ -88,6 +89,19 @@ impl<P: Port> Answer<P> {
         match &self.served {
             Ok(Served { status: OK, .. }) => Ending::AtOnce,
             Ok(_) | Err(_) => Ending::InStages,
+        }
+    }
+
+    /// Counts the fixed answer that went out in place of one, if one did.
+    pub(crate) fn count_instead(&self, tally: Option<&Tally>) {
+        let (Some(tally), Err(fault)) = (tally, &self.served) else {
+            return;
+        };
+        match fault {
+            KeptFault::Serve(ServeFault::Memory { .. }) | KeptFault::NotKept { .. } => {
+                tally.add(Count::Status503, 1)
+            }
+            KeptFault::Serve(_) | KeptFault::Lost => {}
         }
     }
 

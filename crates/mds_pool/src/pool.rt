@@ -11,6 +11,7 @@ use crate::worker::{Round, Shift, ShiftFault, Worker, workers_at};
 use crate::{AnswerCount, NoRecord, Port, Recorder};
 use mds_book::{Book, Gate, Seat, ShardLedger, SharedLedger};
 use mds_face::{Face, Room, SeatDesk};
+use mds_metrics::Tally;
 use std::alloc::Global;
 use std::fmt;
 use std::sync::Wait;
@@ -269,6 +270,7 @@ impl<R: Wait, P: Port, L: ShardLedger, M: ShardLedger, G: Gate, K: Recorder<L, M
         let mut answered = AnswerCount::new();
         let mut receipt = self.recorder.receipt(self.rt);
         let mut room = Room::new(self.alloc);
+        let tally = self.port.tally(number);
         for nth in 0..each {
             let Ok(connection) = Connection::take(self.port) else {
                 return Shift {
@@ -277,7 +279,8 @@ impl<R: Wait, P: Port, L: ShardLedger, M: ShardLedger, G: Gate, K: Recorder<L, M
                 };
             };
             self.gate.enter(number, nth);
-            let answer = self.answer(face, seat, &mut receipt, &mut room, connection);
+            let answer = self.answer(face, seat, &mut receipt, &mut room, tally, connection);
+            answer.count_instead(tally);
             let is_lost = answer.is_lost();
             answered.add(self.port, answer);
             self.gate.leave(number, nth);
@@ -301,6 +304,7 @@ impl<R: Wait, P: Port, L: ShardLedger, M: ShardLedger, G: Gate, K: Recorder<L, M
         seat: &mut Seat<L, M>,
         receipt: &mut K::Receipt,
         room: &mut Room,
+        tally: Option<&Tally>,
         connection: Connection<P>,
     ) -> Answer<P>
         ensures { HasGrown seat.old seat.new }
@@ -314,6 +318,7 @@ impl<R: Wait, P: Port, L: ShardLedger, M: ShardLedger, G: Gate, K: Recorder<L, M
             },
             recorder: self.recorder,
             receipt,
+            tally,
         };
         let answer = answer_at_seat(self.alloc, face, self.port, connection, room, &mut desk);
         let RecordedDesk {
@@ -325,6 +330,7 @@ impl<R: Wait, P: Port, L: ShardLedger, M: ShardLedger, G: Gate, K: Recorder<L, M
             },
             recorder: _,
             receipt: _,
+            tally: _,
         } = desk;
         answer
     }

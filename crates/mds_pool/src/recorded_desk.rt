@@ -2,9 +2,11 @@
 ghost use Rattle.std.specs.Prelude.{◌≡◌, OnOk};
 
 use crate::Recorder;
+use crate::counting::{count_accepted, count_answer, count_fault};
 use mds_book::{Book, RecordFault, Seat, ShardLedger};
 use mds_core::{Event, EventList, Key, Reply, Request};
-use mds_face::{Desk, KeptDesk, SeatDesk};
+use mds_face::{Desk, Found, KeptDesk, Plan, SeatDesk};
+use mds_metrics::Tally;
 use mds_table::Row;
 use std::alloc::AllocError;
 use std::sync::Wait;
@@ -15,6 +17,8 @@ pub(crate) struct RecordedDesk<'a, R: Wait, L: ShardLedger, M: ShardLedger, K: R
     pub(crate) desk: SeatDesk<'a, R, L, M>,
     pub(crate) recorder: &'a K,
     pub(crate) receipt: &'a mut K::Receipt,
+    /// Where the worker counts, if that is counted.
+    pub(crate) tally: Option<&'a Tally>,
 }
 
 impl<R: Wait, L: ShardLedger, M: ShardLedger, K: Recorder<L, M>> Desk
@@ -40,7 +44,11 @@ impl<R: Wait, L: ShardLedger, M: ShardLedger, K: Recorder<L, M>> Desk
         reply.outcome (called.answer).outcome };
 
     fn call(&mut self, request: &Request) -> Result<Reply, AllocError> {
-        self.desk.call(request)
+        let replied = self.desk.call(request);
+        if let (Some(tally), Ok(reply)) = (self.tally, &replied) {
+            count_accepted(tally, request, reply.outcome);
+        }
+        replied
     }
 
     fn events(&mut self, key: &Key) -> Result<Option<Vec<Event>>, AllocError> {
@@ -73,6 +81,18 @@ impl<R: Wait, L: ShardLedger, M: ShardLedger, K: Recorder<L, M>> KeptDesk
             about,
             self.receipt,
         )
+    }
+
+    fn count_answer(&self, plan: &Plan, found: &Found, status: u16) {
+        if let Some(tally) = self.tally {
+            count_answer(tally, plan, found, status);
+        }
+    }
+
+    fn count_fault(&self, plan: &Plan, fault: RecordFault) {
+        if let Some(tally) = self.tally {
+            count_fault(tally, plan, fault);
+        }
     }
 }
 

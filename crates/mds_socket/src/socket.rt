@@ -127,8 +127,10 @@ impl<R: Clock + Copy> System for Sockets<R> {
         let _ = self.socket.shutdown(Shutdown::Both);
     }
 
+    /// So the system refuses who comes then, in place of letting them wait for nobody.
     fn end(&self) {
         self.watch.end(&self.listener);
+        self.stop();
     }
 }
 

@@ -1,6 +1,8 @@
-//! Tests of workers that serve a port side by side, of what comes of their connections, and of connections that wait.
+//! Tests of workers that serve a port side by side, of what comes of their connections, of connections that wait, and of figures.
 #![tactic(auto)]
 
+#[cfg(test)]
+mod figures;
 #[cfg(test)]
 mod peers;
 #[cfg(test)]
