@@ -3,18 +3,20 @@
 import json
 import re
 import subprocess
+import zlib
 
 from cases.replays import P, turn
-from cases.vehicles import FORM, not_a_journal
+from cases.vehicles import CHECKED, FORM, checked, not_a_journal
 from crashing.reports import listed
 from harness.counting import Unwell
 
 COUNTED = re.compile(rb"(?: [^\n]*\n)*")
-FORM_LINE = b" " + FORM.encode()
+FORM_LINES = {b" " + FORM.encode(): False, b" " + CHECKED.encode(): True}
+"""The first lines of journals, and whether their groups are checked."""
 GROUP_END = b"\n#"
 """How a group ends that is written, and so a file at rest, but for the room behind it: with its last line, and a closed gate."""
-AT_REST = FORM_LINE + GROUP_END
-"""A file at rest without any request."""
+AT_REST = checked().encode()
+"""A new file at rest without any request."""
 
 
 def counted(content):
@@ -48,11 +50,28 @@ class Lines:
             self.fronts[front] = self.read(front.split(b"\n")[:-1])
         return self.fronts[front]
 
+    def entries(self, lines):
+        """The lines of requests with their numbers, once the checks of all groups were found right."""
+        if not lines or not FORM_LINES[lines[0]]:
+            return list(enumerate(lines))[1:]
+        entries, state, first = [], 0, 0
+        for number, line in enumerate(lines):
+            if not line.startswith(b' {"crc32":'):
+                entries.append((number, line))
+                state = zlib.crc32(line + b"\n", state)
+            elif line == b' {"crc32":"%08x"}' % state:
+                state, first = 0, number + 1
+            else:
+                raise Unwell(f"the group from line {first} on has the check {line!r}, in place of {state:08x}")
+        if first != len(lines):
+            raise Unwell(f"the group from line {first} on has no check")
+        return entries[1:]
+
     def read(self, lines):
-        if lines and lines[0] != FORM_LINE:
+        if lines and lines[0] not in FORM_LINES:
             raise Unwell(f"the first line is {lines[0][:200]!r}")
         vehicles = {}
-        for number, line in enumerate(lines[1:], 1):
+        for number, line in self.entries(lines):
             try:
                 device, event = self.value(line)
             except (ValueError, KeyError, TypeError) as fault:

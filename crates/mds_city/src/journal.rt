@@ -194,7 +194,7 @@ fn open_reader<'a, H: OpensJournals>(
 ) -> Result<RequestReader<H::Journal>, ServeProblem<'a>>
     ensures ok { IfOk result (λ reader.
         IsAtFirstRequest H.Journal.seen H.Journal.may_leave H.Journal.may_be_used H.Journal.is_true
-        reader.opening) }
+        reader) }
     ensures had { IfOk result (λ _. HadJournal (H.opens_journal host.now) path.now) }
     ensures err { IfErr result (IsJournalStop (H.opens_journal host.now) path.now) }
 {
@@ -236,7 +236,7 @@ fn serve_reader<
     requires tables { (opening.tables ≡ L.tables) × (opening.tables ≡ M.tables) }
     requires seats { IsSeatCount opening.seats }
     requires at_first { IsAtFirstRequest H.Journal.seen H.Journal.may_leave H.Journal.may_be_used
-        H.Journal.is_true reader.opening }
+        H.Journal.is_true reader }
     requires log { log ≡ J.log }
     requires start { J.start ≡ H.Journal.moment reader.opening.device }
     requires held { (told : List Requested)

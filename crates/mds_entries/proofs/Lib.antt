@@ -1,5 +1,7 @@
 -- Lemmas of this crate.
 pub mod EntryLemmas
+pub mod FormLemmas
+pub mod GroupLemmas
 pub mod Printing
 pub mod PlainTexts
 pub mod LineData

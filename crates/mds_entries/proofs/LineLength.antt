@@ -1,5 +1,5 @@
 -- The line of a request is short.
-use Rattle.std.proofs.Common.{◌≡◌, ℕ, ◌+◌, ◌*◌, ◌≤◌, ℤ, pos, negsuc, ◌-ℤ◌, ◌≤ℤ◌, codes, decimal, length, List, [], ◌∷◌, ◌++◌, Option, Some, None, arith, length-append}
+use Rattle.std.proofs.Common.{◌≡◌, ℕ, ◌+◌, ◌*◌, ◌≤◌, ℤ, pos, negsuc, ◌-ℤ◌, ◌≤ℤ◌, codes, decimal, length, List, [], ◌∷◌, ◌++◌, Option, Some, None, ap, arith, length-append}
 use Rattle.std.proofs.lemmas.Fmt.{length-decimal-le, length_signed_le}
 use Rattle.std.proofs.lemmas.Int.{ints}
 use Rattle.std.specs.Fmt.{signed_decimal}
@@ -17,6 +17,10 @@ use Rattle.mds_core.specs.declared.position.Position.{Position}
 use Rattle.mds_core.specs.Position.{max_latitude, max_longitude}
 use Rattle.mds_core.specs.Reported.{Reported}
 use Rattle.mds_batch.specs.Texts.{with_commas, quoted_text, position_text, registration_text, event_text}
+use Rattle.mds_core.specs.declared.request.Request.{Request}
+use Rattle.mds_core.specs.declared.request.Request.TheVariants.{Register, Report, Look}
+use Rattle.mds_entries.specs.Entry.{line_of}
+use Rattle.mds_entries.specs.Laws.{TextsAreNoChecks}
 use Rattle.mds_entries.specs.Whole.{IsWholeEvent, IsPlace}
 
 length-uuid : (bytes : List ℕ) → length (hyphenated_text lower bytes) ≡ 36
@@ -68,3 +72,20 @@ length-event event is =
     let time : length (decimal event.time) ≤ 16 = length-decimal-le 16 event.time (omega arith) (omega (arith, is.reported.in_range)) (omega (arith, is.reported.in_range)) in
     simp length-append
     (omega (arith, time, length-uuid event.key.device, length-uuid event.key.provider, length-uuid event.id, length-state event.state, length-names event.types (recursion_from_All IsTypeName event.types is.types), is.reported.few, length-position event.position is.place))
+
+-- ---- and no line of one is as short as a check
+
+long-registration : (key : Key) → 36 ≤ length (registration_text key)
+long-registration key = simp length-append (omega (arith, length-uuid key.device, length-uuid key.provider))
+
+long-event : (event : Reported) → 36 ≤ length (event_text event)
+long-event event = simp length-append (omega (arith, length-uuid event.key.device))
+
+pub texts_are_no_checks : TextsAreNoChecks
+texts_are_no_checks (Register key) text is short =
+    let same : registration_text key ≡ text = cc is in
+    omega (arith, ap (λ (w : List ℕ). length w) same, long-registration key, short)
+texts_are_no_checks (Report reported) text is short =
+    let same : event_text reported ≡ text = cc is in
+    omega (arith, ap (λ (w : List ℕ). length w) same, long-event reported, short)
+texts_are_no_checks (Look key) text is short = absurd (cc is)

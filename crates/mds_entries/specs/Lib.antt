@@ -2,4 +2,5 @@
 pub mod Whole
 pub mod Entry
 pub mod Form
+pub mod Group
 pub mod Laws

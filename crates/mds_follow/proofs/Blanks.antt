@@ -4,27 +4,18 @@ use Rattle.mds_table.specs.Json.{max_bytes}
 use Rattle.mds_journal.specs.Lines.{HasNoFeed, recovered_texts, open_lines}
 use Rattle.mds_journal.specs.Device.{LeavesOnly, Only, Untouched}
 use Rattle.mds_journal.specs.Opening.{IsTooLong, KeepsLines}
-use Rattle.mds_journal.specs.declared.fault.JournalFault.TheVariants.{Form, BadLine, TooLong, Refused, Damaged}
+use Rattle.mds_journal.specs.declared.fault.JournalFault.TheVariants.{Form, BadLine, TooLong, Refused, Damaged, DamagedGroup}
 use Rattle.mds_journal.proofs.LineLemmas.{parts}
 use Rattle.mds_journal.proofs.MomentLemmas.{started, weaker, and_then, after_none}
 use Rattle.mds_journal.proofs.RepairLemmas.{keeps_itself}
-use Rattle.mds_entries.specs.Entry.{Tells}
-use Rattle.mds_entries.specs.Form.{form_line}
-use Rattle.std.specs.List.{AllZip}
-use Rattle.mds_follow.specs.Disk.{MayBeBegun, Stands}
-use Rattle.mds_follow.specs.Reading.{IsBlank, IsFormFault, IsOpenFault, IsJournalFault, KeepsOrBegins, StaysOrBegins}
+use Rattle.mds_check.specs.Crc.{crc32}
+use Rattle.mds_check.proofs.FormLemmas.{check_text-length}
+use Rattle.mds_entries.specs.Form.{form_check, form_line, header}
+use Rattle.mds_entries.specs.declared.form.JournalForm.TheVariants.{Checked}
+use Rattle.mds_follow.specs.Disk.{MayBeBegun}
+use Rattle.mds_follow.specs.Reading.{HasNoForm, IsBlank, IsFirstLineFault, IsFormCheckFault, IsFormFault, IsOpenFault, IsJournalFault, KeepsOrBegins, StaysOrBegins}
 use Rattle.mds_follow.specs.declared.start_fault.StartFault.{StartFault}
 use Rattle.mds_follow.specs.declared.start_fault.StartFault.TheVariants.{Memory, Device, Journal, Shared}
-
--- no requests are told by the form's line alone
-no_entries : (entries : List (List ℕ)) → AllZip Tells entries [] → entries ≡ []
-no_entries [] tells = refl
-no_entries (entry ∷ entries) tells = absurd tells
-
--- what stands where nothing is recorded
-pub form_alone : {D : Type 0} (seen : D → List ℕ) (may_leave : D → List ℕ → Type 0) (device : D) → Stands seen may_leave device [] → recovered_texts (seen device) ≡ form_line ∷ []
-form_alone seen may_leave device stands =
-    stands.stands.now ∙ stands.is_told.split ∙ ap (λ w. form_line ∷ w) (no_entries stands.is_told.entries stands.is_told.tells)
 
 -- how a file is made a journal
 module _ {D : Type 0} (seen : D → List ℕ) (may_leave : D → List ℕ → Type 0) (moment : D → ℕ) (left_since : D → ℕ → List ℕ → Type 0) where
@@ -139,31 +130,65 @@ not_too_long limit bytes text texts is short long =
     no_feed_within text long.0 long.1 (open_lines texts ++ of.end) long.3 split (omega (arith, short, long.4))
 
 -- the fault of a first line that was made is none
-none_of_made : (made : List ℕ) (fault : StartFault) → recovered_texts made ≡ form_line ∷ [] → IsFormFault made fault → IsJournalFault fault → ⊥
-none_of_made made Memory is why journal = journal
-none_of_made made Device is why journal = journal
-none_of_made made Shared is why journal = journal
-none_of_made made (Journal Form) is why journal = why [] is
-none_of_made made (Journal (TooLong line)) is why journal = not_too_long max_bytes made form_line [] is (omega arith) why.1
-none_of_made made (Journal (BadLine line)) is why journal = why
-none_of_made made (Journal (Refused line)) is why journal = why
-none_of_made made (Journal Damaged) is why journal = why
+none_of_first : (made : List ℕ) (fault : StartFault) → recovered_texts made ≡ header Checked → IsFirstLineFault made fault → IsJournalFault fault → ⊥
+none_of_first made Memory is why journal = journal
+none_of_first made Device is why journal = journal
+none_of_first made Shared is why journal = journal
+none_of_first made (Journal Form) is why journal = why Checked (form_check ∷ []) is
+none_of_first made (Journal (TooLong line)) is why journal = not_too_long max_bytes made (form_line Checked) (form_check ∷ []) is (omega arith) why.1
+none_of_first made (Journal (BadLine line)) is why journal = why
+none_of_first made (Journal (Refused line)) is why journal = why
+none_of_first made (Journal Damaged) is why journal = why
+none_of_first made (Journal (DamagedGroup line)) is why journal = why
+
+-- nor is that of its check
+none_of_check : (left : List ℕ) (fault : StartFault) → recovered_texts left ≡ form_check ∷ [] → IsFormCheckFault left fault → IsJournalFault fault → ⊥
+none_of_check left Memory is why journal = journal
+none_of_check left Device is why journal = journal
+none_of_check left Shared is why journal = journal
+none_of_check left (Journal Form) is why journal = why
+none_of_check left (Journal (TooLong line)) is why journal =
+    let short : length form_check ≡ 20 = check_text-length (crc32 (open_lines (form_line Checked ∷ []))) in
+    not_too_long max_bytes left form_check [] is (omega (arith, short)) why.1
+none_of_check left (Journal (BadLine line)) is why journal = why
+none_of_check left (Journal (Refused line)) is why journal = why
+none_of_check left (Journal Damaged) is why journal = why
+none_of_check left (Journal (DamagedGroup line)) is why journal = why.1 [] is
+
+none_of_made : (made : List ℕ) (fault : StartFault) → recovered_texts made ≡ header Checked → IsFormFault made fault → IsJournalFault fault → ⊥
+none_of_made made fault is (inl why) journal = none_of_first made fault is why journal
+none_of_made made fault is (inr why) journal =
+    let both : form_line Checked ∷ recovered_texts why.0 ≡ form_line Checked ∷ form_check ∷ [] = sym why.1 ∙ is in
+    let left : recovered_texts why.0 ≡ form_check ∷ [] = cc both in
+    none_of_check why.0 fault left why.2 journal
 
 -- where the file is no journal, it is as it was
 pub stays : (file made : List ℕ) (fault : StartFault) → StaysOrBegins file made → IsFormFault made fault → IsJournalFault fault → made ≡ file
 stays file made fault (inl same) why journal = same
 stays file made fault (inr begins) why journal = absurd (none_of_made made fault begins.1 why journal)
 
+-- no form of the first line
+no_form : (made : List ℕ) → IsFormFault made (Journal Form) → HasNoForm made
+no_form made (inl why) = why
+no_form made (inr why) = absurd why.2
+
 -- and its fault is that of the file as it was
-pub open_fault : (file made : List ℕ) (fault : StartFault) → StaysOrBegins file made → (file ≡ [] → recovered_texts made ≡ form_line ∷ []) → IsFormFault made fault → IsOpenFault file fault
-open_fault file made Memory kept empty why = tt
-open_fault file made Device kept empty why = tt
-open_fault file made Shared kept empty why = absurd why
+pub open_fault : (file made : List ℕ) (fault : StartFault) → StaysOrBegins file made → (file ≡ [] → recovered_texts made ≡ header Checked) → IsFormFault made fault → IsOpenFault file fault
+open_fault file made Memory kept empty why = inl tt
+open_fault file made Device kept empty why = inl tt
+open_fault file made Shared kept empty (inl why) = absurd why
+open_fault file made Shared kept empty (inr why) = absurd why.2
 open_fault file made (Journal Form) kept empty why =
     let same = stays file made (Journal Form) kept why tt in
-    (λ none. why [] (empty none), λ texts is. why texts (ap recovered_texts same ∙ is))
+    let none = no_form made why in
+    (λ nothing. none Checked (form_check ∷ []) (empty nothing), λ form texts is. none form texts (ap recovered_texts same ∙ is))
 open_fault file made (Journal (TooLong line)) kept empty why =
     subst (λ (w : List ℕ). IsFormFault w (Journal (TooLong line))) (stays file made (Journal (TooLong line)) kept why tt) why
-open_fault file made (Journal (BadLine line)) kept empty why = absurd why
-open_fault file made (Journal (Refused line)) kept empty why = absurd why
-open_fault file made (Journal Damaged) kept empty why = absurd why
+open_fault file made (Journal (BadLine line)) kept empty why =
+    subst (λ (w : List ℕ). IsFormFault w (Journal (BadLine line))) (stays file made (Journal (BadLine line)) kept why tt) why
+open_fault file made (Journal (Refused line)) kept empty why =
+    subst (λ (w : List ℕ). IsFormFault w (Journal (Refused line))) (stays file made (Journal (Refused line)) kept why tt) why
+open_fault file made (Journal Damaged) kept empty why =
+    subst (λ (w : List ℕ). IsFormFault w (Journal Damaged)) (stays file made (Journal Damaged) kept why tt) why
+open_fault file made (Journal (DamagedGroup line)) kept empty why =
+    subst (λ (w : List ℕ). IsFormFault w (Journal (DamagedGroup line))) (stays file made (Journal (DamagedGroup line)) kept why tt) why

@@ -1,5 +1,5 @@
 -- What a journal tells after a group was appended.
-use Rattle.std.proofs.Common.{◌≡◌, ◌⊎◌, inl, inr, ℕ, ◌+◌, ◌<◌, List, length, take, get_or, arith, [], ◌∷◌, ◌++◌, Bool, true, false, Result, Ok, Err, refl, sym, ap, ◌∙◌, subst}
+use Rattle.std.proofs.Common.{◌≡◌, ◌⊎◌, inl, inr, ℕ, ◌+◌, ◌<◌, List, length, take, get_or, arith, append_assoc, [], ◌∷◌, ◌++◌, Bool, true, false, Result, Ok, Err, refl, sym, ap, ◌∙◌, subst}
 use Rattle.std.specs.List.{AllZip}
 use Rattle.std.proofs.lemmas.List.{take_more}
 use Rattle.mds_core.specs.declared.request.Request.{Request}
@@ -10,18 +10,16 @@ use Rattle.mds_journal.specs.declared.journal.Journal.{Journal}
 use Rattle.mds_journal.specs.Journal.{IsBeforeOrAfter as IsFileBeforeOrAfter}
 use Rattle.mds_journal.specs.declared.journal.AppendError.{AppendError}
 use Rattle.mds_journal.specs.declared.journal.AppendError.TheVariants.{NotWritten, Full, Unknown, Lost}
+use Rattle.std.proofs.lemmas.List.{append_cancel_left}
 use Rattle.mds_entries.specs.Entry.{Tells}
+use Rattle.mds_entries.specs.Form.{entries_in, form_line, header, HoldsRequests, IsToldIn}
+use Rattle.mds_entries.specs.declared.form.JournalForm.{JournalForm}
+use Rattle.mds_entries.specs.declared.form.JournalForm.TheVariants.{Plain, Checked}
+use Rattle.mds_entries.proofs.FormLemmas.{holds_both, zip_append}
 use Rattle.mds_follow.specs.declared.disk.Disk.{Disk}
 use Rattle.mds_follow.specs.Record.{IsBeforeOrAfter, Passes}
 use Rattle.mds_entries.proofs.EntryLemmas.{lines_tell_one_request}
 use Rattle.mds_follow.specs.Disk.{IsTold, Stands, MayRead, TextsTellOneList}
-
--- two pairs of lists that fit
-pub zip_append : {X Y : Type 0} (R : X → Y → Type 0) (xs us : List X) (ys vs : List Y) → AllZip R xs ys → AllZip R us vs → AllZip R (xs ++ us) (ys ++ vs)
-zip_append R [] us [] vs first second = second
-zip_append R [] us (y ∷ ys) vs first second = absurd first
-zip_append R (x ∷ xs) us [] vs first second = absurd first
-zip_append R (x ∷ xs) us (y ∷ ys) vs first second = (first.0, zip_append R xs us ys vs first.1 second)
 
 -- lines tell one list of requests
 entries_tell_one : (entries : List (List ℕ)) (told other : List Request) → AllZip Tells entries told → AllZip Tells entries other → told ≡ other
@@ -35,28 +33,49 @@ entries_tell_one (line ∷ entries) (request ∷ told) (one ∷ other) tells tel
     let rest : told ≡ other = entries_tell_one entries told other tells.1 tells_other.1 in
     cc (first, rest)
 
--- and so do texts behind the form
+-- the lines before the first request tell the form
+forms_apart : (lines others : List (List ℕ)) → header Plain ++ lines ≡ header Checked ++ others → ⊥
+forms_apart lines others same =
+    let first : form_line Plain ≡ form_line Checked = cc same in
+    let digit : 49 ≡ 50 = ap (λ (w : List ℕ). get_or w 29 0) first in
+    omega (arith, digit)
+
+-- and so do texts of one form
+told_one : (form : JournalForm) (texts : List (List ℕ)) (told other : List Request) → IsToldIn form texts told → IsToldIn form texts other → told ≡ other
+told_one form texts told other is are =
+    let same : are.lines ≡ is.lines = append_cancel_left (header form) are.lines is.lines (sym are.split ∙ is.split) in
+    entries_tell_one (entries_in form is.lines) told other is.holds.tells
+    (subst (λ (w : List (List ℕ)). AllZip Tells (entries_in form w) other) same are.holds.tells)
+
+by_forms : (form another : JournalForm) (texts : List (List ℕ)) (told other : List Request) → IsToldIn form texts told → IsToldIn another texts other → told ≡ other
+by_forms Plain Plain texts told other is are = told_one Plain texts told other is are
+by_forms Checked Checked texts told other is are = told_one Checked texts told other is are
+by_forms Plain Checked texts told other is are = absurd (forms_apart is.lines are.lines (sym is.split ∙ are.split))
+by_forms Checked Plain texts told other is are = absurd (forms_apart are.lines is.lines (sym are.split ∙ is.split))
+
+-- and so do texts
 pub texts_tell_one_list : TextsTellOneList
-texts_tell_one_list texts told other is are =
-    let same : are.entries ≡ is.entries = cc (is.split, are.split) in
-    entries_tell_one is.entries told other is.tells (subst (λ (w : List (List ℕ)). AllZip Tells w other) same are.tells)
+texts_tell_one_list texts told other is are = by_forms is.0 are.0 texts told other is.1 are.1
 
 -- lines behind others tell requests behind others
-pub told_more : (texts group : List (List ℕ)) (told requests : List Request) → IsTold texts told → AllZip Tells group requests → IsTold (texts ++ group) (told ++ requests)
-told_more texts group told requests is tells = record {
-  entries = is.entries ++ group;
-  split = ap (λ w. w ++ group) is.split;
-  tells = zip_append Tells is.entries group told requests is.tells tells;
+pub told_more : (form : JournalForm) (texts group : List (List ℕ)) (told requests : List Request) → IsToldIn form texts told → HoldsRequests form group requests
+    → IsToldIn form (texts ++ group) (told ++ requests)
+told_more form texts group told requests is holds = record {
+  lines = is.lines ++ group;
+  split = ap (λ w. w ++ group) is.split ∙ append_assoc (header form) is.lines group;
+  holds = holds_both form is.lines group told requests is.holds holds;
 }
 
 -- the file stands for the requests of a group that was acknowledged
-pub stands_more : {D : Type 0} (seen : D → List ℕ) (may_leave : D → List ℕ → Type 0) (old new : D) (group : List (List ℕ)) (told requests : List Request)
-    → Stands seen may_leave old told → AllZip Tells group requests → StandsFor seen may_leave (recovered_texts (seen old) ++ group) new → Stands seen may_leave new (told ++ requests)
-stands_more seen may_leave old new group told requests stands tells now =
-    let Told : List (List ℕ) → Type 0 = λ w. IsTold w told in
+pub stands_more : {D : Type 0} (seen : D → List ℕ) (may_leave : D → List ℕ → Type 0) (old new : Disk D) (group : List (List ℕ)) (told requests : List Request)
+    → new.form ≡ old.form → Stands seen may_leave old told → HoldsRequests old.form group requests
+    → StandsFor seen may_leave (recovered_texts (seen old.journal.device) ++ group) new.journal.device → Stands seen may_leave new (told ++ requests)
+stands_more seen may_leave old new group told requests same stands holds now =
+    let Told : List (List ℕ) → Type 0 = λ w. IsToldIn old.form w told in
+    let In : JournalForm → Type 0 = λ w. IsToldIn w (recovered_texts (seen old.journal.device) ++ group) (told ++ requests) in
     record {
-      texts = recovered_texts (seen old) ++ group;
-      is_told = told_more (recovered_texts (seen old)) group told requests (subst Told (sym stands.stands.now) stands.is_told) tells;
+      texts = recovered_texts (seen old.journal.device) ++ group;
+      is_told = subst In (sym same) (told_more old.form (recovered_texts (seen old.journal.device)) group told requests (subst Told (sym stands.stands.now) stands.is_told) holds);
       stands = now;
     }
 
@@ -85,22 +104,28 @@ was_usable old result other lost = not_lost old.is_lost (λ is. subst IsOther (l
 pub disk_passes : {D : Type 0} (seen : D → List ℕ) (may_leave : D → List ℕ → Type 0) (moment : D → ℕ) (left_since : D → ℕ → List ℕ → Type 0) (old new : Disk D) (group : List (List ℕ))
     (told requests : List Request) → MayGoOn old.journal
     → LeavesOnly moment left_since old.journal.device new.journal.device (IsFileBeforeOrAfter (recovered_texts (seen old.journal.device)) group)
-    → Stands seen may_leave old.journal.device told → AllZip Tells group requests
+    → Stands seen may_leave old told → HoldsRequests old.form group requests
     → Passes (λ (disk : Disk D). moment disk.journal.device) (λ disk t c. MayRead (left_since disk.journal.device) t c) old new (λ c. MayGoOn old.journal × IsBeforeOrAfter told requests c)
-disk_passes {D = D} seen may_leave moment left_since old new group told requests go leaves stands tells = record {
+disk_passes {D = D} seen may_leave moment left_since old new group told requests go leaves stands holds = record {
   later = leaves.later;
   before = λ t c earlier read. by_time t c read (leaves.before t read.file earlier read.left);
 } where
   Told : List Request → List (List ℕ) → Type 0
   Told c w = IsTold w c
 
+  was : IsTold stands.texts told
+  was = (old.form, stands.is_told)
+
+  with_group : IsTold (stands.texts ++ group) (told ++ requests)
+  with_group = (old.form, told_more old.form stands.texts group told requests stands.is_told holds)
+
   by_lines : (file : List ℕ) (c : List Request) → ((other : List Request) → IsTold (recovered_texts file) other → other ≡ c)
       → (recovered_texts file ≡ recovered_texts (seen old.journal.device)) ⊎ (recovered_texts file ≡ recovered_texts (seen old.journal.device) ++ group) → IsBeforeOrAfter told requests c
   by_lines file c is (inl same) =
-      inl (sym (is told (subst (Told told) (sym (same ∙ stands.stands.now)) stands.is_told)))
+      inl (sym (is told (subst (Told told) (sym (same ∙ stands.stands.now)) was)))
   by_lines file c is (inr same) =
       inr (sym (is (told ++ requests) (subst (Told (told ++ requests)) (sym (same ∙ ap (λ w. w ++ group) stands.stands.now))
-      (told_more stands.texts group told requests stands.is_told tells))))
+      with_group)))
 
   by_time : (t : ℕ) (c : List Request) → (read : MayRead (left_since new.journal.device) t c)
       → left_since old.journal.device t read.file ⊎ IsFileBeforeOrAfter (recovered_texts (seen old.journal.device)) group read.file
@@ -121,7 +146,7 @@ pub failed_passes : {D : Type 0} (seen : D → List ℕ) (may_leave : D → List
     (group : List (List ℕ)) (told requests : List Request) (error : AppendError) → (IsRefusal error → new.journal ≡ old.journal)
     → (IsLost old.journal → failed error ≡ failed Lost)
     → (MayGoOn old.journal → LeavesOnly moment left_since old.journal.device new.journal.device (IsFileBeforeOrAfter (recovered_texts (seen old.journal.device)) group))
-    → (MayGoOn old.journal → Stands seen may_leave old.journal.device told) → AllZip Tells group requests
+    → (MayGoOn old.journal → Stands seen may_leave old told) → HoldsRequests old.form group requests
     → Passes (λ (disk : Disk D). moment disk.journal.device) (λ disk t c. MayRead (left_since disk.journal.device) t c) old new (λ c. MayGoOn old.journal × IsBeforeOrAfter told requests c)
 failed_passes seen may_leave moment left_since old new group told requests (NotWritten error) refused lost leaves stands tells =
     let go = was_usable old.journal (Err (NotWritten error)) tt lost in

@@ -10,4 +10,5 @@ pub mod Blanks
 pub mod ReadBack
 pub mod Begins
 pub mod PieceLemmas
+pub mod Groups
 pub mod Asking

@@ -1,5 +1,5 @@
 -- Pieces of a journal: their lines, and the requests that these tell.
-use Rattle.std.proofs.Common.{◌≡◌, ℕ, ◌+◌, ◌<◌, ◌≤◌, Vec, take, drop, get_or, List, [], ◌∷◌, ◌++◌, Bool, true, false, Result, Ok, Err, IfOk, IfErr, length, refl, sym, ap, ◌∙◌, subst, arith, append_assoc, append-nil, length-append, ◌-◌}
+use Rattle.std.proofs.Common.{◌≡◌, ◌≢◌, ◌⊎◌, inl, inr, ℕ, suc, ◌+◌, ◌<◌, ◌≤◌, Vec, Some, slice_get, take, drop, get_or, List, [], ◌∷◌, ◌++◌, Bool, true, false, Result, Ok, Err, IfOk, IfErr, length, refl, sym, ap, ◌∙◌, subst, arith, append_assoc, append-nil, length-append, ◌-◌}
 use Rattle.std.specs.List.{AllZip}
 use Rattle.std.proofs.lemmas.List.{take_more, drop_more, take_all, take-append-drop, map-append, length-map, length-drop}
 use Rattle.std.specs.Result.{is_err}
@@ -9,25 +9,15 @@ use Rattle.mds_core.specs.declared.request.Request.{Request}
 use Rattle.mds_entries.specs.Entry.{Tells, IsFaultOfLine}
 use Rattle.mds_entries.specs.declared.entry.EntryFault.{EntryFault}
 use Rattle.mds_entries.specs.declared.entry.EntryFault.TheVariants.{Memory, BadLine, NoLine}
-use Rattle.mds_follow.specs.Reading.{HandsOut, HandsOutAll, IsEndOf, IsEndOfTexts, IsLineFault, IsNextText, TellsAll}
-use Rattle.mds_follow.specs.Pieces.{AreRead, IsTextFault, fault_of_text, first_fault, texts_in}
+use Rattle.mds_journal.specs.Lines.{recovered_texts}
+use Rattle.mds_entries.specs.Form.{entries_in}
+use Rattle.mds_entries.specs.Group.{AreGroups}
+use Rattle.mds_follow.specs.Reading.{Gives, HandsOut}
+use Rattle.mds_follow.specs.Pieces.{AreRead, IsEnd, IsPiece, IsReadFrom, IsSaid, IsStop, IsTextFault, IsTextStop, first_fault, requests_in, texts_in}
+use Rattle.mds_follow.specs.declared.piece.Piece.{Piece}
+use Rattle.mds_follow.specs.declared.reader.RequestReader.{RequestReader}
 use Rattle.mds_follow.specs.declared.start_fault.StartFault.{StartFault}
-use Rattle.mds_follow.proofs.Disks.{zip_append}
-
--- one text more is handed out
-pub hands_more : (bytes : List ℕ) (texts : List (List ℕ)) (mid text left : List ℕ) → HandsOutAll bytes texts mid → HandsOut mid text left → HandsOutAll bytes (texts ++ text ∷ []) left
-hands_more bytes [] mid text left none next = (left, subst (λ (w : List ℕ). HandsOut w text left) none next, refl)
-hands_more bytes (one ∷ texts) mid text left all next = (all.0, all.1, hands_more all.0 texts mid text left all.2 next)
-
--- the first of the texts that were handed out tell requests, and the others come behind them
-tells_front : (bytes left : List ℕ) (front rest : List (List ℕ)) (requests : List Request) → HandsOutAll bytes (front ++ rest) left → AllZip Tells front requests
-    → (behind : List ℕ) × TellsAll bytes requests behind × HandsOutAll behind rest left
-tells_front bytes left [] rest [] hands told = (bytes, refl, hands)
-tells_front bytes left [] rest (request ∷ requests) hands told = absurd told
-tells_front bytes left (text ∷ front) rest [] hands told = absurd told
-tells_front bytes left (text ∷ front) rest (request ∷ requests) hands told =
-    let later = tells_front hands.0 left front rest requests hands.2 told.1 in
-    (later.0, (hands.0, (text, hands.1, told.0), later.1), later.2)
+use Rattle.mds_entries.proofs.FormLemmas.{zip_append}
 
 -- the texts of lines, split at one of them
 module _ {A : Type 0} (lines : List (Vec ℕ A)) (at : ℕ) (line : Vec ℕ A) (within : at < length lines) (is : line ≡ get_or lines at line) where
@@ -55,42 +45,46 @@ fault_of_line text texts Memory why = tt
 fault_of_line text texts BadLine why = why
 fault_of_line text texts NoLine why = why
 
--- a text that gives no request is that of a line at fault
-text_fault : (behind left : List ℕ) (rest : List (List ℕ)) (number : ℕ) (fault : EntryFault) → HandsOutAll behind rest left → IsTextFault rest fault → IsLineFault number behind (fault_of_text number fault)
-text_fault behind left rest number Memory hands why = tt
-text_fault behind left [] number BadLine hands why = absurd why
-text_fault behind left [] number NoLine hands why = absurd why
-text_fault behind left (text ∷ rest) number BadLine hands why = (refl, (text, hands.0, hands.1, why))
-text_fault behind left (text ∷ rest) number NoLine hands why = absurd why
+-- some texts tell requests, and what is said of the one behind them
+pub text_stop : (texts : List (List ℕ)) (numbers : List ℕ) (requests : List Request) (fault : EntryFault) (said : StartFault) → AreRead texts requests (Err fault)
+    → IsSaid numbers (length requests) fault said → IsTextStop texts numbers requests said
+text_stop texts numbers requests Memory said read is =
+    let Stop : StartFault → Type 0 = λ w. IsTextStop texts numbers requests w in
+    subst Stop (sym is) (read.0, read.1, read.2, read.3)
+text_stop texts numbers requests BadLine said read is = by_rest read.1 read.2 read.4 where
+  by_rest : (rest : List (List ℕ)) → texts ≡ read.0 ++ rest → IsTextFault rest BadLine → IsTextStop texts numbers requests said
+  by_rest [] split why = absurd why
+  by_rest (text ∷ rest) split why =
+      let Stop : StartFault → Type 0 = λ w. IsTextStop texts numbers requests w in
+      let size : length requests ≡ length read.0 = sym (AllZip-long Tells read.0 requests read.3) in
+      let At : ℕ → Type 0 = λ w. slice_get numbers w ≡ Some is.0 in
+      subst Stop (sym is.2) (read.0, text, rest, split, read.3, why, subst At size is.1)
+text_stop texts numbers requests NoLine said read is = by_rest read.1 read.4 where
+  by_rest : (rest : List (List ℕ)) → IsTextFault rest NoLine → IsTextStop texts numbers requests said
+  by_rest [] why = absurd why
+  by_rest (text ∷ rest) why = absurd why
 
--- what the answer of a piece says of its end, where this number is that of the line behind its requests
-abbrev pub end_behind : ℕ → Result (Unit {0}) EntryFault → Result Bool StartFault → Result Bool StartFault
-end_behind number (Ok done) end = end
-end_behind number (Err fault) end = Err (fault_of_text number fault)
+-- what a piece has of texts that were read
+pub read_from : (texts : List (List ℕ)) (numbers : List ℕ) (requests : List Request) (told : Result (Unit {0}) EntryFault) (end new : Result Bool StartFault) → AreRead texts requests told
+    → IfOk told (λ _. new ≡ end) → IfErr told (λ fault. (said : StartFault) × (new ≡ Err said) × IsSaid numbers (length requests) fault said)
+    → (AllZip Tells texts requests × (new ≡ end)) ⊎ IsStop new (IsTextStop texts numbers requests)
+read_from texts numbers requests (Ok done) end new read same other = inl (read, same)
+read_from texts numbers requests (Err fault) end new read same other =
+    let Stop : Result Bool StartFault → Type 0 = λ w. IsStop w (IsTextStop texts numbers requests) in
+    inr (subst Stop (sym other.1) (text_stop texts numbers requests fault other.0 read other.2))
 
--- where all texts tell requests, what comes behind the texts comes behind the requests
-all_read : (bytes left : List ℕ) (number : ℕ) (texts : List (List ℕ)) (requests : List Request) (end : Result Bool StartFault) → HandsOutAll bytes texts left
-    → IsEndOfTexts left (number + length requests) end → AllZip Tells texts requests → IsEndOf bytes left number requests end
-all_read bytes left number texts requests end hands ends told =
-    let Texts : List (List ℕ) → Type 0 = λ w. HandsOutAll bytes w left in
-    let front = tells_front bytes left texts [] requests (subst Texts (sym (append-nil texts)) hands) told in
-    let tells : TellsAll bytes requests left = subst (λ (w : List ℕ). TellsAll bytes requests w) (sym front.2) front.1 in
-    by_end end ends tells where
-      by_end : (end : Result Bool StartFault) → IsEndOfTexts left (number + length requests) end → TellsAll bytes requests left → IsEndOf bytes left number requests end
-      by_end (Ok true) ends tells = tells
-      by_end (Ok false) ends tells = (tells, ends)
-      by_end (Err fault) ends tells = (left, tells, ends)
-
--- what comes behind the requests of a piece
-pub piece_ends : (bytes left : List ℕ) (number : ℕ) (texts : List (List ℕ)) (requests : List Request) (told : Result (Unit {0}) EntryFault) (end : Result Bool StartFault) → HandsOutAll bytes texts left
-    → IsEndOfTexts left (number + length texts) end → AreRead texts requests told → IsEndOf bytes left number requests (end_behind (number + length requests) told end)
-piece_ends bytes left number texts requests (Ok done) end hands ends read =
-    let Ends : ℕ → Type 0 = λ w. IsEndOfTexts left (number + w) end in
-    all_read bytes left number texts requests end hands (subst Ends (sym (AllZip-long Tells texts requests read)) ends) read
-piece_ends bytes left number texts requests (Err fault) end hands ends read =
-    let Texts : List (List ℕ) → Type 0 = λ w. HandsOutAll bytes w left in
-    let front = tells_front bytes left read.0 read.1 requests (subst Texts read.2 hands) read.3 in
-    (front.0, front.1, text_fault front.0 left read.1 (number + length requests) fault front.2 read.4)
+-- where a text tells none there is one behind those that do
+pub text_behind : (texts : List (List ℕ)) (requests : List Request) (fault : EntryFault) → AreRead texts requests (Err fault) → fault ≢ Memory → length requests < length texts
+text_behind texts requests Memory read other = absurd (other refl)
+text_behind texts requests BadLine read other = by_rest read.1 read.2 read.4 where
+  by_rest : (rest : List (List ℕ)) → texts ≡ read.0 ++ rest → IsTextFault rest BadLine → length requests < length texts
+  by_rest [] split why = absurd why
+  by_rest (text ∷ rest) split why =
+      omega (arith, AllZip-long Tells read.0 requests read.3, ap (λ (w : List (List ℕ)). length w) split, length-append read.0 (text ∷ rest))
+text_behind texts requests NoLine read other = by_rest read.1 read.4 where
+  by_rest : (rest : List (List ℕ)) → IsTextFault rest NoLine → length requests < length texts
+  by_rest [] why = absurd why
+  by_rest (text ∷ rest) why = absurd why
 
 -- no more requests are read than there are texts
 pub few_read : (texts : List (List ℕ)) (requests : List Request) (told : Result (Unit {0}) EntryFault) → AreRead texts requests told → length requests ≤ length texts
@@ -101,13 +95,6 @@ few_read texts requests (Err fault) read =
 -- nor lines
 pub few_lines : {A : Type 0} → (lines : List (Vec ℕ A)) (requests : List Request) (told : Result (Unit {0}) EntryFault) → AreRead (texts_in lines) requests told → length requests ≤ length lines
 few_lines {A} lines requests told read = omega (arith, few_read (texts_in lines) requests told read, length-map lines (λ (line : Vec ℕ A). line.items))
-
--- where the end is that of the lines, all are read
-pub end_told : {A : Type 0} → (lines : List (Vec ℕ A)) (requests : List Request) (number : ℕ) (told : Result (Unit {0}) EntryFault) (end : Result Bool StartFault) → AreRead (texts_in lines) requests told
-    → IfOk (end_behind number told end) (λ _. (end_behind number told end ≡ end) × (length requests ≡ length lines))
-end_told {A} lines requests number (Ok done) (Ok more) read = (refl, AllZip-long Tells (texts_in lines) requests read ∙ length-map lines (λ (line : Vec ℕ A). line.items))
-end_told lines requests number (Ok done) (Err fault) read = tt
-end_told lines requests number (Err fault) end read = tt
 
 -- a fault of some texts is one of them with others behind
 fault_stays : (texts more : List (List ℕ)) (fault : EntryFault) → IsTextFault texts fault → IsTextFault (texts ++ more) fault
@@ -153,9 +140,45 @@ module _ (kept others : List Request) where
   left_in (Ok done) isnt all = (all, tt)
   left_in (Err fault) isnt all = absurd (true≢false isnt)
 
--- behind texts that were handed out the next one is, or what comes behind them is known
-pub next_text : (bytes : List ℕ) (texts : List (List ℕ)) (mid text left : List ℕ) (number : ℕ) (end : Result Bool StartFault) → HandsOutAll bytes texts mid → IsNextText mid text left number end
-    → (end ≡ Ok true → ⊥) → HandsOutAll bytes texts left × IsEndOfTexts left number end
-next_text bytes texts mid text left number (Ok true) hands next ends = absurd (ends refl)
-next_text bytes texts mid text left number (Ok false) hands next ends = (subst (λ (w : List ℕ). HandsOutAll bytes texts w) (sym next.0) hands, next.1)
-next_text bytes texts mid text left number (Err fault) hands next ends = (subst (λ (w : List ℕ). HandsOutAll bytes texts w) (sym next.0) hands, next.1)
+-- an end that isn't a stop is the one that was given
+pub goes_further : (new end : Result Bool StartFault) (A : Type 0) (Why : StartFault → Type 0) (P : Bool → Type 0) → (A × (new ≡ end)) ⊎ IsStop new Why → IfOk end P → IfOk new P
+goes_further new end A Why P (inl same) further =
+    let Further : Result Bool StartFault → Type 0 = λ w. IfOk w P in
+    subst Further (sym same.1) further
+goes_further (Ok more) end A Why P (inr stop) further = absurd stop
+goes_further (Err fault) end A Why P (inr stop) further = tt
+
+-- what was read is a piece
+pub is_piece : {D : Type 0} (seen : D → List ℕ) (reader : RequestReader D) (number : ℕ) (bytes : List ℕ) (piece : Piece) (lines texts : List (List ℕ)) (behind : List ℕ) (end : Result Bool StartFault)
+    → Gives bytes lines behind → AreGroups reader.form number lines texts piece.numbers.items → IsEnd seen reader (number + length lines) behind end → IsReadFrom texts end piece
+    → IsPiece seen reader number bytes piece
+is_piece seen reader number bytes piece lines texts behind end given groups ends read = record {
+  lines = lines;
+  behind = behind;
+  given = given;
+  checks = groups.checks;
+  numbers = groups.numbers_is;
+  told = by_read read;
+} where
+  entries : List (List ℕ)
+  entries = entries_in reader.form lines
+
+  by_read : IsReadFrom texts end piece
+      → (AllZip Tells (entries_in reader.form lines) (requests_in piece) × IsEnd seen reader (number + length lines) behind piece.end)
+      ⊎ IsStop piece.end (IsTextStop (entries_in reader.form lines) piece.numbers.items (requests_in piece))
+  by_read (inl all) = inl (
+    subst (λ (w : List (List ℕ)). AllZip Tells w (requests_in piece)) groups.texts_is all.0,
+    subst (λ (w : Result Bool StartFault). IsEnd seen reader (number + length lines) behind w) (sym all.1) ends,
+  )
+  by_read (inr stop) = inr (subst (λ (w : List (List ℕ)). IsStop piece.end (IsTextStop w piece.numbers.items (requests_in piece))) groups.texts_is stop)
+
+-- ---- groups of lines, one behind the other
+
+-- bytes that give lines, and then others
+pub gives_both : (bytes : List ℕ) (lines : List (List ℕ)) (mid : List ℕ) (more : List (List ℕ)) (left : List ℕ) → Gives bytes lines mid → Gives mid more left → Gives bytes (lines ++ more) left
+gives_both bytes lines mid more left one other =
+    one ∙ ap (λ (w : List (List ℕ)). lines ++ w) other ∙ sym (append_assoc lines more (recovered_texts left))
+
+-- and one line more
+pub gives_more : (bytes : List ℕ) (lines : List (List ℕ)) (mid text left : List ℕ) → Gives bytes lines mid → HandsOut mid text left → Gives bytes (lines ++ text ∷ []) left
+gives_more bytes lines mid text left one next = gives_both bytes lines mid (text ∷ []) left one next

@@ -2,13 +2,14 @@
 ghost use Rattle.std.specs.Prelude.{◌≡◌, ◌⊎◌, [], ◌∷◌, true, IfOk, IfErr};
 ghost use Rattle.mds_journal.specs.Device.{LeavesOnly, Untouched};
 ghost use Rattle.mds_journal.specs.Lines.{recovered_texts};
-ghost use Rattle.mds_entries.specs.Form.{form_line};
+ghost use Rattle.mds_entries.specs.Form.{header};
+ghost use Rattle.mds_entries.specs.declared.form.JournalForm.TheVariants.{Checked};
 ghost use Rattle.mds_follow.specs.Disk.{MayBeBegun};
 ghost use Rattle.mds_follow.specs.Reading.{IsBlank, IsNoJournalFault, KeepsOrBegins, StaysOrBegins};
 
 use crate::start_fault::call_fault;
 use crate::{Disk, StartFault};
-use mds_entries::form_text;
+use mds_entries::{JournalForm, form_check};
 use mds_journal::{Device, DeviceError, Journal, Opening};
 use mds_table::MAX_BYTES;
 use std::alloc::Global;
@@ -46,7 +47,8 @@ fn is_blank<D: Device>(device: &mut D) -> Result<bool, DeviceError>
     }
 }
 
-/// Whether bytes are a closed gate and the line that names the form, or less of them: a byte that isn't on the disk yet is 0.
+/// Whether bytes are a closed gate and the lines before the first request, of either form, or less of them: a byte that isn't on
+/// the disk yet is 0.
 fn is_begun(bytes: &[u8]) -> bool
     ensures { result ≡ true → recovered_texts bytes.now ≡ [] }
 {
@@ -56,9 +58,22 @@ fn is_begun(bytes: &[u8]) -> bool
     if *gate != CLOSED_GATE && *gate != 0 {
         return false;
     }
-    let form = form_text().as_bytes();
-    let (line, end) = rest.split_at(rest.len().min(form.len()));
-    is_part(line, form) && is_part(end, b"\n#")
+    let (plain, checked) = (JournalForm::Plain.text(), JournalForm::Checked.text());
+    are_parts(rest, &[plain.as_bytes(), b"\n#"])
+        || are_parts(rest, &[checked.as_bytes(), b"\n ", &form_check(), b"\n#"])
+}
+
+/// Whether bytes are these texts, one behind the other, or less of them, or 0.
+fn are_parts(bytes: &[u8], texts: &[&[u8]]) -> bool {
+    let mut rest = bytes;
+    for text in texts {
+        let (part, behind) = rest.split_at(rest.len().min(text.len()));
+        if !is_part(part, text) {
+            return false;
+        }
+        rest = behind;
+    }
+    rest.is_empty()
 }
 
 /// Whether each of these bytes is that of a text at its place, or 0.
@@ -113,7 +128,7 @@ fn make_form<D: Device>(alloc: Global, device: D) -> Result<D, (StartFault, D)>
     requires blank { D.is_true device → IsBlank (D.seen device) }
     ensures usable { IfOk result D.may_be_used }
     ensures made { IfOk result (λ made. D.is_true made
-        → recovered_texts (D.seen made) ≡ form_line ∷ []) }
+        → recovered_texts (D.seen made) ≡ header Checked) }
     ensures any_moment { IfOk result (λ made. D.is_true made
         → LeavesOnly D.moment D.left_since device made
         (λ c. D.may_leave device c ⊎ MayBeBegun c)) }

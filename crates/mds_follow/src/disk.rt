@@ -1,32 +1,38 @@
 //! A journal of lines in which requests are recorded.
-ghost use Rattle.std.specs.Prelude.{◌≡◌, ◌++◌, ◌∷◌, [], ℕ, List, OnOk, IfOk, IfErr};
+ghost use Rattle.std.specs.Prelude.{◌≡◌, ◌++◌, ◌∷◌, [], ℕ, List, All, OnOk, IfOk, IfErr};
 ghost use Rattle.std.specs.List.{AllZip};
+ghost use Rattle.mds_check.specs.Form.{IsText};
 ghost use Rattle.mds_entries.specs.Entry.{Tells};
+ghost use Rattle.mds_entries.specs.Form.{EndsGroup, header};
 ghost use Rattle.mds_journal.specs.Device.{LeavesOnly};
 ghost use Rattle.mds_journal.specs.Lines.{recovered_texts};
-ghost use Rattle.mds_journal.specs.Journal.{IsSound, MayGoOn};
-ghost use Rattle.mds_follow.specs.Disk.{MayBeBegun, Stands, fault_of};
+ghost use Rattle.mds_entries.specs.declared.form.JournalForm.TheVariants.{Checked};
+ghost use Rattle.mds_journal.specs.Journal.{IsSound, MayGoOn, StandsFor};
+ghost use Rattle.mds_follow.specs.Disk.{MayBeBegun, fault_of};
 ghost use Rattle.mds_follow.specs.Record.{HasSame};
 
 use crate::Record;
 use mds_book::RecordFault;
 use mds_core::Request;
-use mds_entries::{EntryFault, EntryReader, form_text};
+use mds_check::checksum;
+use mds_check::form::check_text;
+use mds_entries::{EntryFault, EntryReader, JournalForm};
 use mds_journal::{AppendError, Device, Group, Journal, PushError};
 use mds_log::Tagged;
 use std::alloc::{AllocError, Global};
 
-/// A journal of lines, of which the first names the form and each other tells a request. It has room to lay a group out.
+/// A journal of lines in which requests are recorded. It has room to lay a group out.
 #[derive(Drop)]
 pub struct Disk<D: Device> {
     /// The journal.
     pub journal: Journal<D>,
+    pub(crate) form: JournalForm,
     pub(crate) reader: EntryReader,
     pub(crate) group: Group,
 }
 
 impl<D: Device> Disk<D> {
-    /// A disk over a journal with no line yet, to which it adds the line that names the form.
+    /// A disk over a journal with no line yet, to which it adds the line that names the form, and its check.
     ///
     /// # Errors
     ///
@@ -40,8 +46,8 @@ impl<D: Device> Disk<D> {
         requires none { D.is_true journal.device → recovered_texts (D.seen journal.device) ≡ [] }
         ensures sound { IfOk result (λ disk.
             IsSound D.seen D.may_leave D.may_be_used D.is_true disk.journal) }
-        ensures stands { IfOk result (λ disk. MayGoOn disk.journal × (D.is_true disk.journal.device
-            → Stands D.seen D.may_leave disk.journal.device [])) }
+        ensures made { IfOk result (λ disk. MayGoOn disk.journal × (D.is_true disk.journal.device
+            → StandsFor D.seen D.may_leave (header Checked) disk.journal.device)) }
         ensures any_moment { IfOk result (λ disk. D.is_true disk.journal.device
             → LeavesOnly D.moment D.left_since journal.device disk.journal.device MayBeBegun) }
         ensures was_true { IfOk result (λ disk. D.is_true disk.journal.device
@@ -55,14 +61,15 @@ impl<D: Device> Disk<D> {
             Ok(group) => group,
             Err(AllocError) => return Err((RecordFault::Memory, journal)),
         };
-        match group.push(form_text().as_bytes()) {
+        let form = JournalForm::Checked;
+        match lay_out_form(&mut group, form) {
             Ok(()) => {}
-            Err(PushError::Memory) => return Err((RecordFault::Memory, journal)),
-            Err(_) => return Err((RecordFault::NotKept, journal)),
+            Err(fault) => return Err((fault, journal)),
         }
         match journal.append(&group) {
             Ok(()) => Ok(Disk {
                 journal,
+                form,
                 reader: EntryReader::new(alloc),
                 group,
             }),
@@ -84,6 +91,42 @@ impl<D: Device> Tagged for Disk<D> {
     ghost tag = { λ disk. D.moment disk.journal.device };
 }
 
+/// `NotKept` comes for a line that has no room.
+fn add_line(group: &mut Group, text: &[u8]) -> Result<(), RecordFault>
+    ensures added { OnOk result (group.new ≡ group.old ++ text.now ∷ []) }
+    ensures same { IfErr result HasSame }
+{
+    match group.push(text) {
+        Ok(()) => Ok(()),
+        Err(PushError::Memory) => Err(RecordFault::Memory),
+        Err(_) => Err(RecordFault::NotKept),
+    }
+}
+
+/// Ends a group with the check of its lines, where groups are checked. A group with no lines needs none.
+fn end_group(group: &mut Group, form: JournalForm) -> Result<(), RecordFault>
+    ensures ended { OnOk result (EndsGroup form group.old group.new) }
+    ensures same { IfErr result HasSame }
+{
+    match form {
+        JournalForm::Checked if !group.is_empty() => {
+            let check = checksum(group.open_lines());
+            add_line(group, &check_text(check))
+        }
+        _ => Ok(()),
+    }
+}
+
+/// Lays out the lines before the first request, in a group with no lines.
+fn lay_out_form(group: &mut Group, form: JournalForm) -> Result<(), RecordFault>
+    requires { group.old ≡ [] }
+    ensures laid_out { OnOk result (group.new ≡ header form) }
+    ensures same { IfErr result HasSame }
+{
+    add_line(group, form.text().as_bytes())?;
+    end_group(group, form)
+}
+
 /// `NotKept` comes for a request that has no line, or whose line has no room.
 fn lay_out_one(
     reader: &mut EntryReader,
@@ -91,7 +134,7 @@ fn lay_out_one(
     request: &Request,
 ) -> Result<(), RecordFault>
     ensures told { OnOk result ((text : List ℕ) × (group.new ≡ group.old ++ text ∷ [])
-        × Tells text request.now) }
+        × Tells text request.now × IsText text) }
     ensures same { IfErr result HasSame }
 {
     let text = match reader.text_of(request) {
@@ -99,11 +142,7 @@ fn lay_out_one(
         Err(EntryFault::Memory) => return Err(RecordFault::Memory),
         Err(_) => return Err(RecordFault::NotKept),
     };
-    match group.push(text.as_bytes()) {
-        Ok(()) => Ok(()),
-        Err(PushError::Memory) => Err(RecordFault::Memory),
-        Err(_) => Err(RecordFault::NotKept),
-    }
+    add_line(group, text.as_bytes())
 }
 
 /// Where it fails the group may have some of the requests.
@@ -113,6 +152,7 @@ fn lay_out(
     requests: &[Request],
 ) -> Result<(), RecordFault>
     ensures told { OnOk result (AllZip Tells group.new requests.now) }
+    ensures texts { OnOk result (All IsText group.new) }
     ensures same { IfErr result HasSame }
 {
     group.clear();
@@ -126,7 +166,7 @@ impl<D: Device> Record for Disk<D> {
     ghost use Rattle.mds_journal.specs.Journal.{IsSound, MayGoOn};
     ghost use Rattle.mds_follow.specs.Disk.{MayRead, Stands, reads_now};
 
-    ghost stands = { λ disk told. Stands D.seen D.may_leave disk.journal.device told };
+    ghost stands = { λ disk told. Stands D.seen D.may_leave disk told };
 
     ghost left_since = { λ disk t c. MayRead (D.left_since disk.journal.device) t c };
 
@@ -137,11 +177,12 @@ impl<D: Device> Record for Disk<D> {
     ghost is_sound = { λ disk. IsSound D.seen D.may_leave D.may_be_used D.is_true disk.journal };
 
     ghost only_now = { λ disk told c stands read.
-        reads_now D.seen D.may_leave D.left_since D.moment disk.journal.device told c
+        reads_now D.seen D.may_leave D.left_since D.moment disk told c
         (D.only_now disk.journal.device) stands read };
 
     fn append(&mut self, group: &[Request]) -> Result<(), RecordFault> {
         lay_out(&mut self.reader, &mut self.group, group)?;
+        end_group(&mut self.group, self.form)?;
         match self.journal.append(&self.group) {
             Ok(()) => Ok(()),
             Err(error) => Err(fault_of(error)),

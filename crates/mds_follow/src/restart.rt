@@ -25,7 +25,7 @@ use std::mem::swap;
 use std::sync::Wait;
 use std::thread::{Threads, join_mut};
 
-/// Asks requests of a book that nobody else asks, of which the line of the first one has this number. Each has to be accepted.
+/// Asks requests of a book that nobody else asks. Their lines have these numbers, and maybe more. Each has to be accepted.
 ///
 /// # Errors
 ///
@@ -35,21 +35,21 @@ fn ask_portion<L: SharedLedger, M: SharedLedger, R: Threads + Wait + Sync>(
     rt: &R,
     alloc: Global,
     book: &Book<L, M>,
-    number: usize,
+    numbers: &[usize],
     requests: &[Request],
     seat: &mut Seat<L, M>,
 ) -> Result<(), StartFault>
     requires all { HasAll seat.old }
-    requires short { number + length requests.now ≤ 2 ^ 62 }
+    requires numbered { length requests.now ≤ length numbers.now }
     ensures keep { seat.new.keeps_all ≡ seat.old.keeps_all }
     ensures filled { OnOk result (HasAll seat.new × IsFilled seat.old requests.now seat.new) }
     ensures fault { (told : List Acceptance) → IsRefilled seat.old told
-        → IfErr result (IsAskFault book.now.tables (requests_of told) number requests.now) }
+        → IfErr result (IsAskFault book.now.tables (requests_of told) numbers.now requests.now) }
 {
     let Err(stop) = book.refill(rt, alloc, seat, requests) else {
         return Ok(());
     };
-    let line = number + stop.at;
+    let line = numbers[stop.at];
     Err(match stop.fault {
         RefillFault::Memory => StartFault::Memory,
         RefillFault::Refused => StartFault::Journal(JournalFault::Refused(line)),
@@ -62,26 +62,26 @@ fn ask_rest<L: SharedLedger, M: SharedLedger, R: Threads + Wait + Sync>(
     rt: &R,
     alloc: Global,
     book: &Book<L, M>,
-    number: usize,
+    numbers: &[usize],
     rest: &Rest,
     seat: &mut Seat<L, M>,
 ) -> Result<(), StartFault>
     requires all { HasAll seat.old }
-    requires short { number + length (requests_of_rest rest.now) ≤ 2 ^ 62 }
+    requires numbered { length (requests_of_rest rest.now) ≤ length numbers.now }
     ensures keep { seat.new.keeps_all ≡ seat.old.keeps_all }
     ensures filled { OnOk result
         (HasAll seat.new × IsFilled seat.old (requests_of_rest rest.now) seat.new) }
     ensures fault { (told : List Acceptance) → IsRefilled seat.old told
-        → IfErr result (IsAskFault book.now.tables (requests_of told) number
+        → IfErr result (IsAskFault book.now.tables (requests_of told) numbers.now
         (requests_of_rest rest.now)) }
 {
     let second = rest.second.requests.as_slice();
-    match ask_portion(rt, alloc, book, number, second, seat) {
+    match ask_portion(rt, alloc, book, numbers, second, seat) {
         Ok(()) => {}
         Err(fault) => return Err(fault),
     }
     let third = rest.third.requests.as_slice();
-    ask_portion(rt, alloc, book, number + second.len(), third, seat)
+    ask_portion(rt, alloc, book, &numbers[second.len()..], third, seat)
 }
 
 /// As [`ask_portion`], a piece.
@@ -93,16 +93,16 @@ fn ask_piece<L: SharedLedger, M: SharedLedger, R: Threads + Wait + Sync>(
     seat: &mut Seat<L, M>,
 ) -> Result<(), StartFault>
     requires all { HasAll seat.old }
-    requires short { piece.now.number + length (requests_in piece.now) ≤ 2 ^ 62 }
+    requires numbered { length (requests_in piece.now) ≤ length piece.now.numbers.items }
     ensures keep { seat.new.keeps_all ≡ seat.old.keeps_all }
     ensures filled { OnOk result
         (HasAll seat.new × IsFilled seat.old (requests_in piece.now) seat.new) }
     ensures fault { (told : List Acceptance) → IsRefilled seat.old told
-        → IfErr result (IsAskFault book.now.tables (requests_of told) piece.now.number
-        (requests_in piece.now)) }
+        → IfErr result (IsAskFault book.now.tables (requests_of told)
+        piece.now.numbers.items (requests_in piece.now)) }
 {
     let first = piece.first.requests.as_slice();
-    match ask_portion(rt, alloc, book, piece.number, first, seat) {
+    match ask_portion(rt, alloc, book, &piece.numbers, first, seat) {
         Ok(()) => {}
         Err(fault) => return Err(fault),
     }
@@ -110,7 +110,7 @@ fn ask_piece<L: SharedLedger, M: SharedLedger, R: Threads + Wait + Sync>(
         rt,
         alloc,
         book,
-        piece.number + first.len(),
+        &piece.numbers[first.len()..],
         &piece.rest,
         seat,
     )
@@ -127,19 +127,18 @@ fn ask_and_read<'a, D: Device + Send, L: SharedLedger, M: SharedLedger, R: Threa
     requires reading { IsAtRequest D.seen D.may_leave D.may_be_used D.is_true
         ahead.old.reader.opening }
     requires all { HasAll seat.old }
-    requires short { piece.now.number + length (requests_in piece.now) ≤ 2 ^ 62 }
+    requires numbered { length (requests_in piece.now) ≤ length piece.now.numbers.items }
     ensures keep { seat.new.keeps_all ≡ seat.old.keeps_all }
     ensures filled { OnOk result
         (HasAll seat.new × IsFilled seat.old (requests_in piece.now) seat.new) }
     ensures fault { (told : List Acceptance) → IsRefilled seat.old told
-        → IfErr result (IsAskFault book.now.tables (requests_of told) piece.now.number
-        (requests_in piece.now)) }
+        → IfErr result (IsAskFault book.now.tables (requests_of told)
+        piece.now.numbers.items (requests_in piece.now)) }
     ensures reading { IsAtRequest D.seen D.may_leave D.may_be_used D.is_true
         ahead.new.reader.opening }
     ensures read_on { IsReadOn D.seen D.may_leave D.is_true D.moment D.left_since
         ahead.old.reader.opening ahead.new.reader.opening }
-    ensures next { IsNext D.seen D.is_true ahead.old.reader.opening ahead.new.reader.opening
-        ahead.new.next }
+    ensures next { IsNext D.seen D.is_true ahead.old.reader ahead.new.reader ahead.new.next }
 {
     let alloc = ahead.reader.alloc;
     let mut read = ||
@@ -149,18 +148,18 @@ fn ask_and_read<'a, D: Device + Send, L: SharedLedger, M: SharedLedger, R: Threa
             ahead.exit.now.reader.opening }
         ensures read_on { IsReadOn D.seen D.may_leave D.is_true D.moment D.left_since
             ahead.entry.now.reader.opening ahead.exit.now.reader.opening }
-        ensures next { IsNext D.seen D.is_true ahead.entry.now.reader.opening
-            ahead.exit.now.reader.opening ahead.exit.now.next }
+        ensures next { IsNext D.seen D.is_true ahead.entry.now.reader
+            ahead.exit.now.reader ahead.exit.now.next }
     { ahead.read(rt) };
     let mut ask = || -> Result<(), StartFault>
         requires all { HasAll seat.now }
-        requires short { piece.now.number + length (requests_in piece.now) ≤ 2 ^ 62 }
+        requires numbered { length (requests_in piece.now) ≤ length piece.now.numbers.items }
         ensures keep { seat.exit.now.keeps_all ≡ seat.entry.now.keeps_all }
         ensures filled { OnOk result (HasAll seat.exit.now
             × IsFilled seat.entry.now (requests_in piece.entry.now) seat.exit.now) }
         ensures fault { (told : List Acceptance) → IsRefilled seat.entry.now told
             → IfErr result (IsAskFault book.entry.now.tables (requests_of told)
-            piece.entry.now.number (requests_in piece.entry.now)) }
+            piece.entry.now.numbers.items (requests_in piece.entry.now)) }
     { ask_piece(rt, alloc, book, piece, seat) };
     let ((), asked) = join_mut(rt, &mut read, &mut ask);
     asked
@@ -198,16 +197,15 @@ fn take_piece<
 ) -> Result<(), StartFault>
     requires reading { IsAtRequest D.seen D.may_leave D.may_be_used D.is_true
         ahead.old.reader.opening }
-    requires halfway { IsHalfway D.seen D.is_true ahead.old.reader.opening seat.old keeper.old
-        piece.old }
+    requires halfway { IsHalfway D.seen D.is_true ahead.old.reader seat.old keeper.old piece.old }
     requires more { piece.old.end ≡ Ok true }
     ensures keep { seat.new.keeps_all ≡ seat.old.keeps_all }
     ensures reading { IsAtRequest D.seen D.may_leave D.may_be_used D.is_true
         ahead.new.reader.opening }
     ensures read_on { IsReadOn D.seen D.may_leave D.is_true D.moment D.left_since
         ahead.old.reader.opening ahead.new.reader.opening }
-    ensures taken { OnOk result (IsTaken D.seen D.is_true D.moment ahead.old.reader.opening
-        ahead.new.reader.opening seat.new keeper.old keeper.new piece.old piece.new) }
+    ensures taken { OnOk result (IsTaken D.seen D.is_true D.moment ahead.old.reader
+        ahead.new.reader seat.new keeper.old keeper.new piece.old piece.new) }
     ensures fault { IfErr result (λ fault. D.is_true ahead.new.reader.opening.device
         → IsStartFault book.now.tables (D.seen ahead.new.reader.opening.device) fault) }
 {
@@ -233,13 +231,14 @@ fn take_last<D: Device, L: SharedLedger, M: SharedLedger, J: RecordLog, R: Threa
     keeper: &mut Keeper<J>,
     last: &Piece,
 ) -> Result<(), StartFault>
-    requires halfway { IsHalfway D.seen D.is_true ahead.now.reader.opening seat.old keeper.old
-        last.now }
+    requires reading { IsAtRequest D.seen D.may_leave D.may_be_used D.is_true
+        ahead.now.reader.opening }
+    requires halfway { IsHalfway D.seen D.is_true ahead.now.reader seat.old keeper.old last.now }
     requires end { last.now.end ≢ Ok true }
     ensures keep { seat.new.keeps_all ≡ seat.old.keeps_all }
     ensures noted { OnOk result (keeper.new ≡ keeper.old
         ++ recorded_at (D.moment ahead.now.reader.opening.device) (requests_in last.now)) }
-    ensures all { OnOk result (IsAllTaken D.seen D.is_true ahead.now.reader.opening seat.new
+    ensures all { OnOk result (IsAllTaken D.seen D.is_true ahead.now.reader seat.new
         keeper.new) }
     ensures fault { IfErr result (λ fault. D.is_true ahead.now.reader.opening.device
         → IsStartFault book.now.tables (D.seen ahead.now.reader.opening.device) fault) }
@@ -276,14 +275,14 @@ fn read_back<
     mut piece: Piece,
 ) -> Result<(), StartFault>
     requires at_first { IsAtFirstRequest D.seen D.may_leave D.may_be_used D.is_true
-        ahead.old.reader.opening }
+        ahead.old.reader }
     requires none { (keeper.old ≡ []) × IsRefilled seat.old [] × IsFirstPiece piece }
     ensures keep { seat.new.keeps_all ≡ seat.old.keeps_all }
     ensures reading { IsAtRequest D.seen D.may_leave D.may_be_used D.is_true
         ahead.new.reader.opening }
     ensures read_on { IsReadOn D.seen D.may_leave D.is_true D.moment D.left_since
         ahead.old.reader.opening ahead.new.reader.opening }
-    ensures all { OnOk result (IsAllTaken D.seen D.is_true ahead.new.reader.opening seat.new
+    ensures all { OnOk result (IsAllTaken D.seen D.is_true ahead.new.reader seat.new
         keeper.new) }
     ensures at_start { OnOk result (D.is_true ahead.new.reader.opening.device
         → keeper.new
@@ -323,7 +322,7 @@ pub fn resume<
     log: BlankLog,
 ) -> Result<Follower<Disk<D>, L, M, J>, (StartFault, D)>
     requires at_first { IsAtFirstRequest D.seen D.may_leave D.may_be_used D.is_true
-        reader.opening }
+        reader }
     requires log { log ≡ J.log }
     requires start { J.start ≡ D.moment reader.opening.device }
     requires held { (told : List Requested)
@@ -346,11 +345,7 @@ pub fn resume<
         return Err((StartFault::Shared, reader.into_device()));
     };
     let alloc = reader.alloc;
-    let mut ahead = Ahead {
-        reader,
-        lines: Vec::new(alloc),
-        next: Piece::new(alloc),
-    };
+    let mut ahead = Ahead::new(alloc, reader);
     match read_back(rt, book, seat, &mut ahead, &mut keeper, Piece::new(alloc)) {
         Ok(()) => {}
         Err(fault) => return Err((fault, ahead.into_device())),
@@ -358,6 +353,7 @@ pub fn resume<
     let Ahead {
         reader,
         lines: _lines,
+        numbers: _numbers,
         next: _next,
     } = ahead;
     match reader.into_disk() {

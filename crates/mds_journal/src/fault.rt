@@ -17,6 +17,8 @@ pub enum JournalFault {
     Refused(usize),
     /// More stands behind the lines that count than a group that was cut off.
     Damaged,
+    /// The group of lines that begins with this one isn't as it was written.
+    DamagedGroup(usize),
 }
 
 impl fmt::Display for JournalFault {
@@ -29,6 +31,7 @@ impl fmt::Display for JournalFault {
             JournalFault::TooLong(line) => write!(f, "too_long {line}"),
             JournalFault::Refused(line) => write!(f, "refused {line}"),
             JournalFault::Damaged => f.write_str("damaged"),
+            JournalFault::DamagedGroup(line) => write!(f, "damaged {line}"),
         }
     }
 }

@@ -105,7 +105,7 @@ impl<D: Device + Send, L: SharedLedger, M: SharedLedger, J: RecordLog> RecordedB
         requires tables { (opening.tables ≡ L.tables) × (opening.tables ≡ M.tables) }
         requires seats { IsSeatCount opening.seats }
         requires at_first { IsAtFirstRequest D.seen D.may_leave D.may_be_used D.is_true
-            reader.opening }
+            reader }
         requires log { log ≡ J.log }
         requires start { J.start ≡ D.moment reader.opening.device }
         requires held { (told : List Requested)

@@ -26,8 +26,12 @@ use test_fixtures::Ask::{Look, Register, Report};
 use test_fixtures::{A, Ask, B, C, DROP_OFF, E0, Lack, profile_again, requests_of, room_behind};
 use test_steps::hasher;
 
-/// The line that names the form.
+/// The line that names the form whose groups aren't checked.
 const FORM: &str = " {\"form\":\"mds_city\",\"version\":1}\n";
+
+/// The line that names the form whose groups are checked, and its check.
+const CHECKED: &str =
+    " {\"form\":\"mds_city\",\"version\":2}\n {\"crc32\":\"033c3350\"}\n";
 
 /// The line of the registration of A.
 const A_LINE: &str =
@@ -40,6 +44,12 @@ const EVENT_LINE: &str =
 /// The line of the registration of B.
 const B_LINE: &str =
     " {\"device_id\":\"00000000-0000-4000-8000-00000000000b\",\"provider_id\":\"00000000-0000-4000-8000-000000000001\"}\n";
+
+/// The checks of a group of the line of A, of that of the event, of that of B, and of the first two together.
+const A_CHECK: &str = " {\"crc32\":\"3b29ed11\"}\n";
+const EVENT_CHECK: &str = " {\"crc32\":\"48efb932\"}\n";
+const B_CHECK: &str = " {\"crc32\":\"12d69bbd\"}\n";
+const BOTH_CHECK: &str = " {\"crc32\":\"f6ef3b73\"}\n";
 
 /// A book that is opened over a journal, and asked.
 struct Case {
@@ -68,13 +78,28 @@ const CASES: &[Case] = &[
         parts: &[],
         other: &[],
         asked: FIRST_ASKED,
-        end: Ok(&[FORM, A_LINE, EVENT_LINE, B_LINE, "#"]),
+        end: Ok(&[
+            CHECKED,
+            A_LINE,
+            A_CHECK,
+            EVENT_LINE,
+            EVENT_CHECK,
+            B_LINE,
+            B_CHECK,
+            "#",
+        ]),
     },
     Case {
         parts: &["#{\"form\":\0\0\0\0_city"],
         other: &[],
         asked: &[Register(A)],
-        end: Ok(&[FORM, A_LINE, "#"]),
+        end: Ok(&[CHECKED, A_LINE, A_CHECK, "#"]),
+    },
+    Case {
+        parts: &["#{\"form\":\"mds_city\",\"version\":1}\n#"],
+        other: &[],
+        asked: &[],
+        end: Ok(&[CHECKED, "#"]),
     },
     // What is recorded is asked again, what was torn is cut off, and the next request stands behind.
     Case {
@@ -82,6 +107,12 @@ const CASES: &[Case] = &[
         other: &[],
         asked: &[Register(A), Register(B)],
         end: Ok(&[FORM, A_LINE, EVENT_LINE, B_LINE, "#"]),
+    },
+    Case {
+        parts: &[CHECKED, A_LINE, EVENT_LINE, BOTH_CHECK, "#{\"device_id\":\"00000000-0000"],
+        other: &[],
+        asked: &[Register(A), Register(B)],
+        end: Ok(&[CHECKED, A_LINE, EVENT_LINE, BOTH_CHECK, B_LINE, B_CHECK, "#"]),
     },
     // Another's file, another's form, a line that tells nothing, and one that the tables refuse.
     Case {
@@ -91,7 +122,7 @@ const CASES: &[Case] = &[
         end: Err(StartFault::Journal(JournalFault::Form)),
     },
     Case {
-        parts: &[" {\"form\":\"mds_city\",\"version\":2}\n#"],
+        parts: &[" {\"form\":\"mds_city\",\"version\":3}\n#"],
         other: &[],
         asked: &[],
         end: Err(StartFault::Journal(JournalFault::Form)),
@@ -107,6 +138,37 @@ const CASES: &[Case] = &[
         other: &[],
         asked: &[],
         end: Err(StartFault::Journal(JournalFault::Refused(2))),
+    },
+    // Groups whose check is missing, is another's, or stands where there are none; and faults behind checks.
+    Case {
+        parts: &[" {\"form\":\"mds_city\",\"version\":2}\n#"],
+        other: &[],
+        asked: &[],
+        end: Err(StartFault::Journal(JournalFault::DamagedGroup(0))),
+    },
+    Case {
+        parts: &[CHECKED, A_LINE, A_CHECK, EVENT_LINE, "#"],
+        other: &[],
+        asked: &[],
+        end: Err(StartFault::Journal(JournalFault::DamagedGroup(4))),
+    },
+    Case {
+        parts: &[CHECKED, A_LINE, A_CHECK, " {}\n", B_LINE, B_CHECK, "#"],
+        other: &[],
+        asked: &[],
+        end: Err(StartFault::Journal(JournalFault::DamagedGroup(4))),
+    },
+    Case {
+        parts: &[FORM, A_LINE, A_CHECK, "#"],
+        other: &[],
+        asked: &[],
+        end: Err(StartFault::Journal(JournalFault::DamagedGroup(0))),
+    },
+    Case {
+        parts: &[CHECKED, A_LINE, A_CHECK, B_LINE, B_CHECK, A_LINE, A_CHECK, "#"],
+        other: &[],
+        asked: &[],
+        end: Err(StartFault::Journal(JournalFault::Refused(6))),
     },
     // Another seat asks meanwhile.
     Case {
@@ -200,7 +262,7 @@ fn end_at<
 ) -> Result<Result<Disk<D>, (StartFault, D)>, Lack>
     requires seats { seats.items ≡ replicate 2 (new_seat false) }
     requires at_first { IsAtFirstRequest D.seen D.may_leave D.may_be_used D.is_true
-        reader.opening }
+        reader }
     requires log { log ≡ J.log }
     requires start { J.start ≡ D.moment reader.opening.device }
     requires held { (told : List Requested)
@@ -239,7 +301,7 @@ fn end_in<
     requires second_log { (second.log ≡ M.log) × (second.marks ≡ M.marks) }
     requires tables { (tables ≡ L.tables) × (tables ≡ M.tables) }
     requires at_first { IsAtFirstRequest D.seen D.may_leave D.may_be_used D.is_true
-        reader.opening }
+        reader }
     requires log { log ≡ J.log }
     requires start { J.start ≡ D.moment reader.opening.device }
     requires held { (told : List Requested)

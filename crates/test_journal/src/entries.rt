@@ -1,6 +1,6 @@
 //! The lines of requests.
 use mds_core::Request;
-use mds_entries::{EntryFault, EntryReader, form_text, is_form};
+use mds_entries::{EntryFault, EntryReader, JournalForm};
 use mds_table::State;
 use std::alloc::Global;
 use test_fixtures::{A, Ask, DROP_OFF, E0, request_of};
@@ -83,5 +83,7 @@ fn lines_are_told_after_a_refused_growth(rt: HostRuntime) {
 
 #[test]
 fn the_first_line_is_known(rt: HostRuntime) {
-    assert!(rt; is_form(form_text().as_bytes()) && !is_form(b"{}"));
+    assert_eq!(rt; JournalForm::of_line(b"{\"form\":\"mds_city\",\"version\":1}"), Some(JournalForm::Plain));
+    assert_eq!(rt; JournalForm::of_line(b"{\"form\":\"mds_city\",\"version\":2}"), Some(JournalForm::Checked));
+    assert_eq!(rt; JournalForm::of_line(b"{}"), None);
 }

@@ -65,7 +65,7 @@ where
     requires tables { (opening.tables ≡ L.tables) × (opening.tables ≡ M.tables) }
     requires seats { IsSeatCount opening.seats }
     requires at_first { IsAtFirstRequest D.seen D.may_leave
-        D.may_be_used D.is_true reader.opening }
+        D.may_be_used D.is_true reader }
     requires log { log ≡ J.log }
     requires start { J.start ≡ D.moment reader.opening.device }
     requires held { (told : List Requested)

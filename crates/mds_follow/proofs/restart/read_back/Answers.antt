@@ -20,7 +20,6 @@ pieces-init g c =
     let opening = c.args.ahead.now.reader.opening in
     let Refilled : List Acceptance → Type 0 = λ w. IsRefilled c.args.seat.now w in
     let At : List Acceptance → Type 0 = λ w. w ≡ recorded_at (g.D.Device.moment opening.device) (requests w) in
-    let Counted : Result Bool StartFault → Type 0 = λ w. IfOk w (λ _. number_of opening ≡ piece.number + length (requests_in piece)) in
     let size : length (requests_in piece) ≡ 0 = ap (λ (w : List Request). length w) empty.empty in
     record {
       reading = record { reading = first.reading; limit = first.limit };
@@ -30,12 +29,9 @@ pieces-init g c =
       };
       halfway = record {
         refilled = subst Refilled (sym none) c.requires.none.1;
-        number = omega (arith, empty.number, ap (λ (w : List Acceptance). length w) none);
-        counted = subst Counted (sym empty.more) (omega (arith, first.number, empty.number, size));
-        short = omega (arith, empty.number, size);
-        ahead = λ truth.
-            read_none (g.D.Device.seen opening.device) (unread_bytes g.D.Device.seen opening) c.args.keeper.now piece.number (requests_in piece) piece.end none empty.empty empty.more
-            (first.form truth);
+        numbered = omega (arith, size);
+        few = omega (arith, size, ap (λ (w : List Acceptance). length w) none);
+        ahead = λ truth. read_none g.D.Device.seen c.args.ahead.now.reader c.args.keeper.now piece none empty first.number (first.form truth);
       };
       keep = refl;
       at_start = λ truth. subst At (sym none) refl;

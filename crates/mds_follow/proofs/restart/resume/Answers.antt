@@ -1,4 +1,7 @@
-use Rattle.std.proofs.Common.{◌≡◌, ◌∙◌, ℕ, refl, sym, subst}
+use Rattle.std.proofs.Common.{◌≡◌, ◌∙◌, ℕ, List, refl, sym, subst}
+use Rattle.mds_journal.specs.Lines.{recovered_texts}
+use Rattle.mds_entries.specs.Form.{IsToldIn}
+use Rattle.mds_entries.specs.declared.form.JournalForm.{JournalForm}
 use Rattle.mds_log.specs.Log.{requests}
 use Rattle.mds_follow.specs.Record.{recorded_at}
 use Rattle.mds_follow.proofs.Blanks.{keeps_all}
@@ -14,7 +17,7 @@ begin-requires-clause-read g c truth =
     let opened = c.read_back.new.ahead.reader.opening.device in
     let At : ℕ → Type 0 = λ t. told ≡ recorded_at t (requests told) in
     read_only g.D.Device.seen g.D.Device.moment g.D.Device.left_since opened c.in-Ok-into_disk.disk.journal.device told g.J.RecordLog.start (c.requires.start ∙ sym none.time)
-    (c.in-Ok.ensures.all.told then) (subst At (sym none.time) (c.in-Ok.ensures.at_start then)) (c.in-Ok-into_disk.ensures.any_moment truth)
+    (c.read_back.new.ahead.reader.form, c.in-Ok.ensures.all.told then) (subst At (sym none.time) (c.in-Ok.ensures.at_start then)) (c.in-Ok-into_disk.ensures.any_moment truth)
 
 -- the file was read, and nothing else was done to it
 pub returns-in-Err-clause-any_moment_err : goal.returns-in-Err-clause-any_moment_err
@@ -33,3 +36,21 @@ returns-in_default-clause-any_moment_err g c =
     rw c.into_device.ensures (λ truth.
     keeps_all g.D.Device.seen g.D.Device.may_leave g.D.Device.moment g.D.Device.left_since opened opened (c.requires.at_first.reading.read truth).durable ((g.met.D.Device g.world.𝓛 g.world.𝓜 g.world.𝓡 ((λ s x. x), (λ x. x), (λ x. x), λ x. x)).only_now opened)
     (record { file = refl; outcomes = λ outcome may. may; time = refl; past = λ t outcome was. was }))
+
+-- the file stands for what is recorded
+pub begin-requires-clause-stands : goal.begin-requires-clause-stands
+begin-requires-clause-stands g c truth go =
+    let then = c.in-Ok-into_disk.ensures.was_true truth in
+    let reader = c.read_back.new.ahead.reader in
+    let texts = recovered_texts (g.D.Device.seen reader.opening.device) in
+    let In : JournalForm → Type 0 = λ w. IsToldIn w texts (requests c.read_back.new.keeper) in
+    record { texts = texts; is_told = subst In (sym c.in-Ok-into_disk.ensures.ready.1) (c.in-Ok.ensures.all.told then); stands = c.in-Ok-into_disk.ensures.stands truth }
+
+-- and at the start it told this
+pub begin-requires-clause-held : goal.begin-requires-clause-held
+begin-requires-clause-held g c truth =
+    let then = c.in-Ok-into_disk.ensures.was_true truth in
+    let reader = c.read_back.new.ahead.reader in
+    let told = requests c.read_back.new.keeper in
+    let At : List ℕ → Type 0 = λ w. IsToldIn reader.form (recovered_texts w) told in
+    c.requires.held told (reader.form, subst At (c.read_back.ensures.read_on.untouched then).file (c.in-Ok.ensures.all.told then))

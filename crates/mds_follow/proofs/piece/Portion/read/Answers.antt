@@ -4,7 +4,7 @@ use Rattle.std.proofs.lemmas.List.{length-set, take-set, take_more_set}
 use Rattle.mds_core.specs.declared.request.Request.{Request}
 use Rattle.mds_entries.specs.Entry.{Tells, IsFaultOfLine}
 use Rattle.mds_follow.specs.Pieces.{texts_in}
-use Rattle.mds_follow.proofs.Disks.{zip_append}
+use Rattle.mds_entries.proofs.FormLemmas.{zip_append}
 use Rattle.mds_follow.proofs.PieceLemmas.{fault_of_line, texts_more, texts_split}
 use Rattle.mds_follow.proofs.piece.Portion.read.Goals as goal
 
