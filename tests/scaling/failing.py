@@ -64,8 +64,9 @@ HARMLESS = (errno.EINTR, SHORT)
 """Nobody sees such a call, since it's made again, or goes on."""
 OF_A_CLIENT = (RECEIVED, SENT, ASKED)
 """Whose failures a client may see, who then has no answer."""
-OF_A_START = (READ, CUT, OPENED, FOUND, LOCKED, ADVISED, SETTLED, SYNC, WRITE)
-"""Whose failures end a start, with status 3, or 4 where there is no memory."""
+OF_A_START = (READ, CUT, OPENED, FOUND, LOCKED, ADVISED, SETTLED, SYNC, WRITE, ASKED)
+"""Whose failures end a start, with status 3, or 4 where there is no memory. The first that is asked of the system's queue is the
+port itself."""
 OF_THE_FILE = (WRITE, SYNC)
 """Whose failures may end a server that listens, with status 3."""
 
