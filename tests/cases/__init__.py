@@ -7,13 +7,14 @@ from cases.debugging import answers_each_line_at_a_terminal, prints_the_same_at_
 from cases.debugging import faults, holds_little, long_sessions, reads_its_script_before_it_prints
 from cases.debugging import reads_no_script_before_its_start, scripts, starts_before_its_script
 from cases.depot import depots
+from cases.events import events_of_a_vehicle, no_events_of_it
 from cases.helps import help_asked_for, version_asked_for
 from cases.inputs import input_that_stays_open, input_that_tells_enough
 from cases.largest import largest
 from cases.lines import line_files
 from cases.opened import files_opened, pipes_and_devices, table_beside_a_journal
 from cases.pictures import PICTURED
-from cases.progress import tells_how_far_it_is, tells_it_in_place
+from cases.progress import tells_how_far_a_start_is, tells_how_far_it_is, tells_it_in_place
 from cases.replays import replays
 from cases.serve import journals_by_name, outputs_of_serve, ports, tables_of_serve, words_of_serve
 from cases.streams import memory, output_that_ends_midway, streams
@@ -47,6 +48,8 @@ SUBJECTS = [
     journals,
     journal_faults,
     without_random_numbers,
+    events_of_a_vehicle,
+    no_events_of_it,
     scripts,
     long_sessions,
     largest,
@@ -74,6 +77,7 @@ INTERPLAYS = [
     table_beside_a_journal,
     output_that_ends_midway,
     tells_how_far_it_is,
+    tells_how_far_a_start_is,
     tells_it_in_place,
     *CALLS,
     *PICTURED,

@@ -25,7 +25,7 @@ from cases.vehicles import LONG as LONG_LINE
 from cases.vehicles import WOKEN, journal, listed, not_a_journal, registered
 from harness.building import BY_BYTES, Counting
 from harness.case import MAX_BYTES, MAX_ITEMS, NO_MEMORY, NOT_TEXT, OUTPUT, SLOW
-from harness.case import Case, cannot_read, not_a_batch, not_a_table, padded, told
+from harness.case import Case, cannot_read, not_a_batch, not_a_table, padded, told, told_slowly
 from harness.running import SECONDS, differences, outcome
 
 MOST_CALLS = 5000000
@@ -168,7 +168,7 @@ def calls_behind(counts):
 def interrupted(program, words, on, end, wanted, at=1):
     """What is wrong with a run where calls on a descriptor are interrupted, from one on, and one in so many isn't."""
     status, out, faults = end
-    case = Case(words, status=status, out=out, faults=faults, given="next\n" * MOVED, files=files_of(words))
+    case = Case(words, status=status, out=out, faults=told_slowly(faults), given="next\n" * MOVED, files=files_of(words))
     wrong, counts = counted(program, case, on, EVERY, at=at)
     most = at - 1 + MOST_CALLS
     wrong += [f"{counts}, in place of {most} {name}" for name in wanted if getattr(counts, name) != most]
@@ -489,14 +489,14 @@ def replays_by_workers(vehicles):
     for opening, opened in (("", ""), ("--any ", " from removed")):
         ends = "".join(f"vehicle {P} {identifier(2, number)} available 1{opened}\n" for number in range(vehicles))
         out = f"{verdicts}{ends}accepted {vehicles} refused 0\n"
-        yield from ((f"replay {opening}--workers {count} -", out, batch(events), count - 1) for count in WORKERS)
+        yield from ((f"replay {opening}--workers {count} -", out, batch(events), 2 * (count - 1)) for count in WORKERS)
         yield f"replay {opening}-", out, batch(events), 0
         yield f"replay {opening}--lines --workers 64 -", out, "\n".join(events), 0
 
 
 def threads_of_workers(program):
-    """Each worker of a replay, or of a server, but one is a thread that is made; a replay of lines, and one without the option,
-    makes none. So it is over several tables."""
+    """Each worker of a replay, or of a server, but one is a thread that is made. Those of a replay are made twice: they read, and
+    then they judge. A replay of lines, and one without the option, makes none. So it is over several tables."""
     runs = [(f"{NO_CONNECTION} --workers {count}", SERVED, "", count - 1) for count in WORKERS]
     runs += [*replays_by_workers(67), *replays_by_workers(MAX_ITEMS)]
     runs += [(f"{words} --table tables", *more) for words, *more in runs]

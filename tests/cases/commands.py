@@ -147,6 +147,7 @@ MISTAKES = [
     ("replay events.json --workers 65", "invalid value '65' for '--workers <N>'"),
     ("serve --port 65536 --each 1", "invalid value '65536' for '--port <N>'"),
     ("serve --port 0 --each 1000001", "invalid value '1000001' for '--each <N>'"),
+    ("serve --port 0 --each 1 --metrics 0", "invalid value '0' for '--metrics <N>'"),
     ("", "'mds_city' requires a subcommand but one was not provided"),
     ("replay events.json --any=yes", "unexpected value 'yes' for '--any' found"),
 ]

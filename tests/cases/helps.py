@@ -15,6 +15,8 @@ Commands:
   debug     Steps through the accepted events of a vehicle, as standard input says
   table     Prints the table of transitions, or each of several
   vehicles  Lists the vehicles of a journal
+  compact   Makes a new journal of an old one, without old events that no state needs
+  events    Prints the lines of a journal that tell an event of a vehicle
   help      Print this message or the help of the given subcommand(s)
 
 Options:
@@ -32,6 +34,7 @@ Options:
       --workers <N>     How many workers there are [default: 4]
       --table <FILE>    A table of transitions, or several with times; without it the profile's
       --journal <FILE>  A journal of what is accepted; without it that ends with the process
+      --metrics <N>     A port of its own, at which figures are told, and readiness
   -h, --help            Print help
 """
 REPLAY = """Replays the events of a file
@@ -81,6 +84,31 @@ Options:
       --table <FILE>  A table of transitions, or several with times; without it the profile's
   -h, --help          Print help
 """
+COMPACT = """Makes a new journal of an old one, without old events that no state needs
+
+Usage: mds_city compact [OPTIONS] --before <TIME> <OLD> <NEW>
+
+Arguments:
+  <OLD>  The journal, which stays as it is
+  <NEW>  The file to make
+
+Options:
+      --before <TIME>  The time from which on all events stay, in milliseconds since 1970
+      --table <FILE>   A table of transitions, or several with times, by which OLD is judged first
+  -h, --help           Print help
+"""
+EVENTS = """Prints the lines of a journal that tell an event of a vehicle
+
+Usage: mds_city events <FILE> <PROVIDER> <DEVICE>
+
+Arguments:
+  <FILE>      The journal; - is standard input
+  <PROVIDER>  The provider's identifier
+  <DEVICE>    The vehicle's identifier
+
+Options:
+  -h, --help  Print help
+"""
 HELP = """Print this message or the help of the given subcommand(s)
 
 Usage: mds_city help [COMMAND]...
@@ -88,7 +116,7 @@ Usage: mds_city help [COMMAND]...
 Arguments:
   [COMMAND]...  Print help for the subcommand(s)
 """
-COMMANDS = {"serve": SERVE, "replay": REPLAY, "debug": DEBUG, "table": TABLE, "vehicles": VEHICLES}
+COMMANDS = {"serve": SERVE, "replay": REPLAY, "debug": DEBUG, "table": TABLE, "vehicles": VEHICLES, "compact": COMPACT, "events": EVENTS}
 
 
 def help_asked_for():

@@ -17,7 +17,7 @@ PICTURE = ROOT / "tools/picture"
 PICTURES = ROOT / "docs/pictures"
 NAMESPACE = "{http://www.w3.org/2000/svg}"
 SHOWN_IN = {"request.svg": "docs/contracts.md", "shards.svg": "docs/model.md"}
-SHOWN_IN |= {"profile.svg": "docs/model.md", "life.svg": "README.md", "crash.svg": "docs/disk.md"}
+SHOWN_IN |= {"profile.svg": "docs/model.md", "life.svg": "README.md docs/model.md", "crash.svg": "docs/disk.md"}
 """The pictures, and the documents that show them."""
 SOURCES = {"life.dot", "crash.dot"}
 """What pictures are made of."""

@@ -8,6 +8,8 @@ COUNTS = ("1", "2", "4", "64", "+3", "007")
 """How many workers share a replay."""
 STEPS = 40
 """How many events each of many vehicles has."""
+PIECES = 1000
+"""How many events a batch of several pieces has: some 230 kB."""
 
 
 def runs():
@@ -59,10 +61,47 @@ def shares():
         yield replayed(text, ["ok available"] * MAX_ITEMS, vehicles, **more)
 
 
+def pieces():
+    """Batches of several pieces that are cut at another place than a comma between items, or whose commas have spaces, or at
+    whose end something is wrong: each is read as one thread reads it."""
+    events = [event(identifier(1, number), "e1", "provider_drop_off", "available", 1000) for number in range(PIECES)]
+    ends = [(identifier(1, number), "available", 1) for number in range(PIECES)]
+    cut = ['{"a":"},{},"}', '{"a":[{},{}]}', '{"a":"\\"},"}', '{"a":{"b":[{},{"c":"]},["}]}}', '["},{"]']
+    for between in (",", ", ", " ,", "\n,\t"):
+        yield from read_by_all(f"commas as {between!r}", f"[{between.join(events)}]", ["ok available"] * PIECES, ends)
+    yield from read_by_all("a line feed at the end", batch(events) + "\n", ["ok available"] * PIECES, ends)
+    for inner in cut:
+        mixed = [text for event in events for text in (event, inner)]
+        fault = "fault not_object" if inner.startswith("[") else "fault missing_param provider_id"
+        yield from read_by_all(f"{inner} between", batch(mixed), ["ok available", fault] * PIECES, ends)
+    whole = batch(events)
+    for text, fault in (
+        (whole[:-1], "not_json"),
+        (whole[:-1] + ",]", "not_json"),
+        (whole + "]", "not_json"),
+        (whole[:-1] + ',{"a":"]', "not_json"),
+        (whole.replace("}, {", "},, {", 1), "not_json"),
+        (batch(["{}"] * (MAX_ITEMS + 1)), "too_many"),
+        (batch(["{}"] * (2 * MAX_ITEMS)) + "x", "not_json"),
+        (batch([*events, 127 * '{"a":' + "0" + 127 * "}", *events]), "not_json"),
+    ):
+        yield from (told(f"replay --workers {count} -", not_a_batch(fault), given=text) for count in COUNTS)
+    deep = 126 * '{"a":' + "0" + 126 * "}"
+    verdicts = [*["ok available"] * PIECES, "fault missing_param provider_id"]
+    yield from read_by_all("as deep as may be", batch([*events, deep]), verdicts, ends)
+
+
+def read_by_all(name, text, verdicts, ends):
+    """The replay of a batch by each number of workers."""
+    for count in COUNTS:
+        yield replayed(text, verdicts, ends, words=f"replay --workers {count} -", name=f"{name}, {count} workers")
+
+
 def workers():
     """Replays by several workers. A file's faults are those that a single one finds; of lines the number changes nothing."""
     yield from runs()
     yield from shares()
+    yield from pieces()
     for text, fault in (("", "not_json"), ("7", "not_list"), ("[{]", "not_json")):
         yield told("replay --workers 4 -", not_a_batch(fault), given=text)
     wakes = "\n".join(event(A, number, "wake", "available", 1000) for number in ("e1", "e2"))

@@ -15,7 +15,7 @@ from serving.http import done
 from serving.server import Server
 from serving.wire import ask
 
-WORKERS, EACH = 4, 100_000
+CLIENTS, EACH = 4, 100_000
 OF_A_CLIENT = 8
 """The vehicles of a client, each of which it reports in turn: those of all clients lie in both halves."""
 ITEMS = 1000
@@ -23,6 +23,8 @@ ITEMS = 1000
 LIMITS = [120_000, 135_000, 150_000, 165_000, 180_000]
 """Kilobytes of address space. What is had of them for events doubles from the first to the last, so each list and each index of the
 server is doubled somewhere between."""
+FEWER = [(120_000, 1), (135_000, 2), (150_000, 1), (165_000, 2)]
+"""Limits with fewer workers than clients. A server of these has fewer threads than its start."""
 FEWEST = 50_000
 """Events that a server takes in the least of them."""
 AS_THE_UNIT = {"MALLOC_MMAP_THRESHOLD_": "1048576", "MALLOC_TRIM_THRESHOLD_": "8388608", "MALLOC_ARENA_MAX": "1"}
@@ -54,8 +56,12 @@ def reports_until_full(port, client, bodies, known, full):
         for device in devices:
             if full.is_set():
                 return
-            answered = ask(port, bodies.reporting(device, front))
-            if status_of(answered) == 503:
+            try:
+                answered = ask(port, bodies.reporting(device, front))
+            except ConnectionResetError:
+                # without memory for its room a connection is lost
+                answered = b""
+            if not answered or status_of(answered) == 503:
                 full.set()
                 return
             if answered != done(ITEMS):
@@ -64,18 +70,18 @@ def reports_until_full(port, client, bodies, known, full):
         front += ITEMS
 
 
-def fill(program, path, limit, bodies):
+def fill(program, path, limit, workers, bodies):
     """How many events of each vehicle a server had answered when there was no memory for more, and it was ended."""
     known, full = {}, threading.Event()
     env = {**os.environ, **AS_THE_UNIT}
-    with Server(program, EACH, workers=WORKERS, env=env, address_space=limit, journal=path) as server:
-        for client in range(WORKERS):
+    with Server(program, EACH, workers=workers, env=env, address_space=limit, journal=path) as server:
+        for client in range(CLIENTS):
             devices = devices_of(client)
             if ask(server.port, registering(*devices)) != done(len(devices)):
                 raise Unwell(f"the vehicles of client {client} aren't registered")
             known.update(dict.fromkeys(devices, 0))
         jobs = [
-            lambda client=client: reports_until_full(server.port, client, bodies, known, full) for client in range(WORKERS)
+            lambda client=client: reports_until_full(server.port, client, bodies, known, full) for client in range(CLIENTS)
         ]
         side_by_side(jobs)
         os.kill(server.child.pid, signal.SIGKILL)
@@ -83,11 +89,11 @@ def fill(program, path, limit, bodies):
     return known
 
 
-def started_amiss(program, path, limit, known):
+def started_amiss(program, path, limit, workers, known):
     """What is wrong with a server that starts over the file in as much address space: each vehicle has all that was answered, and
     at most the one batch behind it that was asked last."""
     env = {**os.environ, **AS_THE_UNIT}
-    with Server(program, EACH, workers=WORKERS, env=env, address_space=limit, journal=path) as server:
+    with Server(program, EACH, workers=workers, env=env, address_space=limit, journal=path) as server:
         for device, count in known.items():
             answered = ask(server.port, looking(device))
             if all(answered != answer(200, standing(device, count + more)) for more in range(ITEMS + 1)):
@@ -97,13 +103,14 @@ def started_amiss(program, path, limit, known):
 def filled_and_started_again(program):
     """Servers in address spaces around a doubling of what events take."""
     bodies = Bodies()
-    for limit in LIMITS:
+    for limit, workers in [*((limit, CLIENTS) for limit in LIMITS), *FEWER]:
         with tempfile.TemporaryDirectory() as folder:
             path = Path(folder, "journal")
-            known = fill(program, path, limit, bodies)
+            known = fill(program, path, limit, workers, bodies)
+            where = f"in {limit} kB with {workers} workers"
             if sum(known.values()) < FEWEST:
-                yield f"in {limit} kB it took {sum(known.values())} events"
-            yield from (f"in {limit} kB: {it}" for it in started_amiss(program, path, limit, known))
+                yield f"{where} it took {sum(known.values())} events"
+            yield from (f"{where}: {it}" for it in started_amiss(program, path, limit, workers, known))
 
 
 FILLING = [filled_and_started_again]

@@ -60,6 +60,11 @@ def told(words, faults, **more):
     return Case(words, status=3, faults=faults, **more)
 
 
+def told_slowly(faults):
+    """These faults, of a run that may take long."""
+    return re.compile(f"({HOW_FAR})*{re.escape(faults)}")
+
+
 def cannot_read(path):
     return f"mds_city: cannot read {path}\n"
 

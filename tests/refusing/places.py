@@ -16,11 +16,13 @@ MADE = re.compile(
 """A want of memory: the error of a refused growth, a variant that tells of one, or a call that gives or writes one."""
 MAKER = re.compile(r"\bfn (?:out_of_memory|memory_bytes)\b")
 """Functions that do nothing else. Their calls are places themselves."""
+CONVERTS = re.compile(r"\bFrom<(?:AllocError|AllocFailed<\w+>)> for\b")
+"""An `impl` that makes a want of the error of a refused growth."""
 NAMED, BEFORE = re.compile(r"\w+\s*>"), re.compile(r"\blet\b[^=;{}]*\Z")
 """A type among parameters of one; and what stands before a pattern of a `let`."""
-WANT = r"(?:Err\()?(?:\w+::)*(?:AllocError|Memory|OutOfMemory)(?: \{[^}]*\})?\)?"
+WANT = r"(?:(?:\w+::)*\w+\()*(?:\w+::)*(?:AllocError|Memory|OutOfMemory)(?: \{[^}]*\})?\)*"
 CONVERTED = re.compile(rf"{WANT}(?: \| {WANT})*")
-"""The pattern of an arm that takes a want, and nothing else."""
+"""The pattern of an arm that takes a want, or an error that holds one, and nothing else."""
 BOUND = r"(?:Ok|Some)\((?:\w+|\(\)|\(\w+(?:, \w+)*\))\)"
 LET = re.compile(rf"\blet ((?:{BOUND})|\({BOUND}(?:, {BOUND})*\)) = (.*?) else$", re.S)
 """A `let` that goes on with what a call gives, whatever that is."""
@@ -176,7 +178,7 @@ def passing_at(text, place, opened):
         return NO_VALUE
     for at, opener in reversed(list(enumerate(opened))):
         found = guarded(text, opener, place)
-        if found and found.bare == "fn from" and "From<AllocError> for" in heads[at - 1]:
+        if found and found.bare == "fn from" and CONVERTS.search(heads[at - 1]):
             return Passing(place)
         if found:
             return found

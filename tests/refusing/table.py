@@ -20,6 +20,20 @@ TESTED = {
     ("mds_past", "test_shards", "a_packed_past_takes_events_after_a_refused_growth"): ["Past::reserve"],
     ("mds_compact", "mds_compact", "a_history_is_compacted_after_a_refused_growth"): ["compaction"],
     ("mds_compact", "mds_compact", "passes_are_begun_anew_after_a_refused_growth"): ["Survey::note", "Thinning::take"],
+    ("mds_retention", "mds_retention", "a_journal_is_compacted_after_a_refused_growth"): ["compact"],
+    ("mds_retention", "mds_retention", "requests_are_read_after_a_refused_growth"): ["RequestLines::open", "RequestLines::next"],
+    ("mds_retention", "mds_retention", "events_are_read_after_a_refused_growth"): ["events_of"],
+    ("mds_retention", "mds_retention", "passes_are_made_after_a_refused_growth"): [
+        "survey_of",
+        "thinning_of",
+        "marks_of",
+        "kept_lines",
+    ],
+    ("mds_retention", "mds_retention", "lines_are_drafted_after_a_refused_growth"): [
+        "Draft::begin",
+        "Draft::add_line",
+        "Draft::flush",
+    ],
     ("mds_shard", "test_shards", "step_succeeds_after_a_refused_growth"): ["Shard::step", "Shard::events"],
     ("mds_commands", "test_replays", "a_roster_takes_after_a_refused_growth"): ["Roster::take"],
     ("mds_book", "test_books", "calls_succeed_after_a_refused_growth"): [
@@ -53,6 +67,7 @@ TESTED = {
     ("mds_batch", "test_batches", "events_are_handed_on_after_a_refused_growth"): ["each_event"],
     ("mds_batch", "test_batches", "an_item_is_taken_after_a_refused_growth"): ["TakesItems::take"],
     ("mds_batch", "test_batches", "an_item_is_read_after_a_refused_growth"): ["read_item", "ItemReader::read"],
+    ("mds_pieces", "test_batches", "call_succeeds_after_a_refused_growth"): ["read_event_items_by"],
     ("mds_lines", "test_batches", "a_stream_is_read_after_a_refused_growth"): ["LineReader::feed", "LineReader::finish"],
     ("mds_lines", "test_batches", "items_are_had_one_by_one_after_a_refused_growth"): ["UnlimitedItems::next_item"],
     ("mds_trace", "test_replays", "replay_succeeds_after_a_refused_growth"): ["replay"],
@@ -69,6 +84,7 @@ TESTED = {
     ("mds_trace", "test_replays", "a_start_is_printed_after_a_refused_growth"): ["print_start"],
     ("mds_trace", "test_replays", "a_walk_is_printed_after_a_refused_growth"): ["print_walk"],
     ("mds_commands", "test_replays", "tables_are_had_after_a_refused_growth"): ["tables_in"],
+    ("mds_commands", "test_replays", "a_journal_is_judged_after_a_refused_growth"): ["judge_journal"],
     ("mds_http", "test_faces", "call_succeeds_after_a_refused_growth"): ["Face::open", "plan_of", "HeadStatus::plan"],
     ("mds_http", "test_faces", "answer_is_whole_after_a_refused_growth"): ["bytes_of"],
     ("mds_face", "test_faces", "calls_stand_after_a_refused_growth"): ["serve_one"],
@@ -84,6 +100,7 @@ TESTED = {
     ("mds_pool", "test_edge", "a_book_is_settled_after_a_refused_growth"): ["serve_and_settle"],
     ("mds_pool", "test_edge", "a_book_is_served_over_its_journal_after_a_refused_growth"): [
         "RecordedBook::open",
+        "RecordedBook::held",
         "RecordedBook::serve",
     ],
     ("mds_metrics", "mds_metrics", "figures_are_told_after_a_refused_growth"): [
@@ -113,6 +130,12 @@ TESTED = {
         "Device::cut",
     ],
     ("mds_file", "test_journal", "a_file_grows_after_a_refused_growth"): ["open_file"],
+    ("mds_file", "test_journal", "a_new_file_is_made_after_a_refused_growth"): [
+        "NewFile::at",
+        "NewName::is_free",
+        "NewName::draft",
+        "NewName::link",
+    ],
     ("mds_entries", "test_journal", "lines_are_told_after_a_refused_growth"): [
         "EntryReader::read",
         "EntryReader::read_into",
@@ -130,6 +153,7 @@ WITHIN = {
     "mds_core::EventList::push_ref": "mds_core::EventList::push",
     "mds_past::Pieces::reserve": "mds_past::Past::reserve",
     "mds_shard::TakesEvents::with_room": "mds_shard::Shard::events",
+    "mds_retention::Draft::add_line_if": "mds_retention::kept_lines",
     "mds_trace::replay_items_with": "mds_trace::replay_with",
     "mds_known::KnownVehicles::reserve_event": "mds_commands::Roster::take",
     "mds_known::KnownVehicles::add_event": "mds_commands::Roster::take",

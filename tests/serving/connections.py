@@ -10,7 +10,8 @@ from concurrent.futures import ThreadPoolExecutor
 from cases.replays import A, B, P, batch, history, identifier, item
 from harness.case import MAX_BYTES, MAX_ITEMS
 from harness.texts import differing
-from model.http import error
+from model.http import answer, error
+from model.tables import Table
 from serving.http import BAD_HEADS, EMPTY, HEAD_BYTES, MANY, Exchange, changed, done, head, look, registered, vehicle
 from serving.server import Server
 from serving.talking import sent, talk_over
@@ -51,6 +52,7 @@ BEHIND = [
     (changed(lengths=["+1000"], body=""), error(400, "bad_length"), BODY),
     (changed(lengths=[str(len(TOO_LONG))], body=""), error(413, "too_long"), TOO_LONG),
     (changed(method="GET", target=f"/vehicles/{P}/{A}", **ANNOUNCED), error(404, "unregistered"), BODY),
+    (changed(method="GET", target="/table", **ANNOUNCED), answer(200, {"rows": Table().listed()}), BODY),
     (changed(body="[1,2"), error(400, "not_json"), BODY),
     (changed(body="7"), error(400, "not_list"), BODY),
     (changed(body=MANY), error(400, "too_many"), BODY),

@@ -42,6 +42,10 @@ PAUSES, OFTEN = 400, 100_000
 """More pauses than a lack of open files is waited for, and more than 16 bits count."""
 STOPPED = 1.5
 """For how many seconds a server is stopped: longer than one wait."""
+LONGER = 12
+"""For how many seconds it stands still: longer than a head may take to come."""
+SEVERAL = 3
+"""Clients whose requests are whole then: more than the worker that waits is told of at once."""
 MOST_BESIDE = 30
 """Within how many seconds the last line comes, while an answer leaves that nobody reads."""
 COMING = 0.2
@@ -151,6 +155,7 @@ def last_line_amid_an_answer(program, journal):
             seconds = time.monotonic() - start
             if line != wanted or seconds > MOST_BESIDE:
                 yield f"the last line was {line!r} after {seconds:.1f} s, in place of {wanted!r} at once"
+            yield from refused(server.port)
             yield from resting(server, LEAVING, "the last answer left")
             head, _, body = read_all(slow).partition(b"\r\n\r\n")
             if f"content-length: {len(body)}\r\n".encode() not in head + b"\r\n":
@@ -158,6 +163,37 @@ def last_line_amid_an_answer(program, journal):
         status = server.child.wait(timeout=120)
         if status != 0:
             yield f"ended with {status}"
+
+
+def refused(port):
+    """What is wrong with how a client is met of whom nobody takes a request any more."""
+    try:
+        connect(port).close()
+        yield "a client was connected behind the last line"
+    except ConnectionRefusedError:
+        pass
+
+
+def come_while_it_stood_still(program):
+    """What came while the process stood still for longer than a client may take is looked at before its client is let go: a request
+    that was whole then is answered, and one that wasn't isn't."""
+    with Server(program, None) as server, contextlib.ExitStack() as kept:
+        *wholes, front = [kept.enter_context(connect(server.port)) for _ in range(SEVERAL + 1)]
+        request = get("/table")
+        for client in (*wholes, front):
+            client.sendall(request[:5])
+        time.sleep(COMING)
+        server.child.send_signal(signal.SIGSTOP)
+        for whole in wholes:
+            whole.sendall(request[5:])
+        front.sendall(request[5:-1])
+        time.sleep(LONGER)
+        server.child.send_signal(signal.SIGCONT)
+        for whole in wholes:
+            if not read_all(whole).startswith(b"HTTP/1.1 200 OK\r\n"):
+                yield "a request that was whole while it stood still isn't answered"
+        if not is_over(front):
+            yield "something was answered to a request that wasn't whole"
 
 
 def end_beside_a_request_that_comes(program):
@@ -213,6 +249,7 @@ FAILING = [
     sockets_at_fault,
     others_beside_one_at_fault,
     stopped_for_a_while,
+    come_while_it_stood_still,
     last_line_before_the_last_answer,
     end_beside_a_request_that_comes,
     most_workers_over_a_journal,

@@ -9,6 +9,7 @@ import tempfile
 import time
 from pathlib import Path
 
+from harness.case import HOW_FAR
 from harness.counting import Unwell
 from harness.texts import as_bytes
 from model.http import error
@@ -38,8 +39,8 @@ class NotListening(Unwell):
 class Server:
     """A server on a port that was free, with so many connections for each of so many workers, or without an end where none are
     named. As a context it is taken down where it hasn't ended. Given a port, it listens there. Given a number of open files, or of
-    kilobytes of address space, it can have no more of them. Given the path of a journal, it serves over that. One that is unheard has
-    no standard error."""
+    kilobytes of address space, it can have no more of them. Given the path of a journal, it serves over that. Given a port for figures,
+    it tells them there. One that is unheard has no standard error."""
 
     seconds = SECONDS
 
@@ -54,6 +55,7 @@ class Server:
         address_space=None,
         port=0,
         journal=None,
+        metrics=None,
         unheard=False,
     ):
         self.folder = tempfile.TemporaryDirectory()
@@ -68,6 +70,8 @@ class Server:
             words += ["--table", str(path)]
         if journal is not None:
             words += ["--journal", str(journal)]
+        if metrics is not None:
+            words += ["--metrics", str(metrics)]
         self.faults = open(Path(self.folder.name, "faults"), "w+b")
         self.child = subprocess.Popen(
             words,
@@ -168,8 +172,12 @@ class Server:
                 break
             if answered != error(404, "not_found"):
                 yield f"a connection at the end, {answered[:200]!r}"
-        ended = self.ended()
-        wanted = (0, f"accepted {self.success}\n", "")
+        yield from self.amiss_at_end()
+
+    def amiss_at_end(self):
+        """What is wrong with how it ends by itself. Where its start took long it told how far it was."""
+        status, out, faults = self.ended()
+        ended, wanted = (status, out, re.sub(HOW_FAR, "", faults)), (0, f"accepted {self.success}\n", "")
         if ended != wanted:
             yield f"ended with {ended}, in place of {wanted}"
 
@@ -183,10 +191,7 @@ class Server:
                 break
             if answered not in (b"", error(404, "not_found")):
                 yield f"a connection at the end, {answered[:200]!r}"
-        ended = self.ended()
-        wanted = (0, f"accepted {self.success}\n", "")
-        if ended != wanted:
-            yield f"ended with {ended}, in place of {wanted}"
+        yield from self.amiss_at_end()
 
 
 def close_faults():

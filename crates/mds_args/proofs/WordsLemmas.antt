@@ -12,7 +12,7 @@ use Rattle.clap.specs.declared.parser.matches.Found.{Found}
 use Rattle.clap.proofs.SimpleLemmas.{is_false}
 use Rattle.clap.proofs.WalkLemmas.{both, first_value-rows}
 use Rattle.mds_args.specs.Error.{IsCause, SaysMissing}
-use Rattle.mds_args.specs.Words.{AsksNothing, GoesOn, IsTold, LacksEach, program_app}
+use Rattle.mds_args.specs.Words.{AsksNothing, GoesOn, HasNoNumber, IsTold, LacksEach, LacksMetrics, max_port, program_app}
 
 -- the text that was read of an argument is the first of its values
 pub text_of_rows : (found : Found) (id : Text) (read : Option (Bor (List ℕ)))
@@ -57,3 +57,9 @@ is_memory A (Err error) found (inr (none, missing)) = λ _ asked. absurd (asked 
 pub both_told : (values : List Row) (text : Text) → GoesOn values → first_of (codes "each") values ≡ Some text → LacksEach values
 both_told values text goes_on given (Some each) is = is.1 goes_on
 both_told values text goes_on given None is = let none = is.0 in cc
+
+-- where a number is given for the port of figures, and it is none of its range, no port is meant
+pub no_metrics : (values : List Row) (text : Text) → first_of (codes "metrics") values ≡ Some text
+    → HasNoNumber 1 max_port (first_of (codes "metrics") values) → LacksMetrics values
+no_metrics values text given none (Some port) is = none port is
+no_metrics values text given none None is = let absent = is in cc

@@ -9,6 +9,7 @@ use Rattle.clap.specs.Words.{App, IsUnsignedIn, Row, Rule, Text, app_of, fault_o
 use Rattle.clap.specs.Words.{new_app, new_rule, takes, with_rule, subcommand_of, with_subcommand}
 use Rattle.mds_args.specs.declared.words.Command.{Command}
 use Rattle.mds_args.specs.declared.words.Command.TheVariants.{Serve, Replay, Debug, Table, Vehicles}
+use Rattle.mds_args.specs.declared.words.Command.TheVariants.{Compact, Events}
 
 -- a positional word of this name, which must be there
 abbrev pub word_rule : Text → Rule
@@ -61,12 +62,17 @@ workers_rule number =
 abbrev pub each_rule : Rule
 each_rule = number_rule (codes "each") 0 max_each
 
+-- the option `--metrics`
+abbrev pub metrics_rule : Rule
+metrics_rule = number_rule (codes "metrics") 1 max_port
+
 -- the command `serve`, with its numbers, the flag and the options
 abbrev pub serve_app : App
 serve_app =
-    with_rule (with_rule (with_rule (with_rule (with_rule (with_rule (new_app (codes "serve"))
-    (needed_number_rule (codes "port") max_port)) each_rule) (flag_rule (codes "until-stopped")))
-    (workers_rule (codes "4"))) table_rule) journal_rule
+    with_rule (with_rule (with_rule (with_rule (with_rule (with_rule (with_rule
+    (new_app (codes "serve")) (needed_number_rule (codes "port") max_port)) each_rule)
+    (flag_rule (codes "until-stopped"))) (workers_rule (codes "4"))) table_rule) journal_rule)
+    metrics_rule
 
 -- the command `replay`, with its file, the table's option, the flags and the number of workers
 abbrev pub replay_app : App
@@ -90,6 +96,26 @@ abbrev pub vehicles_app : App
 vehicles_app =
     with_rule (with_rule (new_app (codes "vehicles")) (word_rule (codes "FILE"))) table_rule
 
+-- the greatest time that an event may have
+abbrev pub max_time : ℕ
+max_time = 9007199254740991
+
+-- the option `--before`, which must be there
+abbrev pub before_rule : Rule
+before_rule = needed_number_rule (codes "before") max_time
+
+-- the command `compact`, with both files and the options
+abbrev pub compact_app : App
+compact_app =
+    with_rule (with_rule (with_rule (with_rule (new_app (codes "compact"))
+    (word_rule (codes "OLD"))) (word_rule (codes "NEW"))) before_rule) table_rule
+
+-- the command `events`, with its file, and its vehicle's provider and device
+abbrev pub events_app : App
+events_app =
+    with_rule (with_rule (with_rule (new_app (codes "events")) (word_rule (codes "FILE")))
+    (word_rule (codes "PROVIDER"))) (word_rule (codes "DEVICE"))
+
 -- the program with no command yet, which must be given one, and with its version
 abbrev pub bare_app : App
 bare_app =
@@ -102,8 +128,9 @@ bare_app =
 -- the program with its commands
 abbrev pub program_app : App
 program_app =
-    with_subcommand (with_subcommand (with_subcommand (with_subcommand (with_subcommand bare_app
-    serve_app.top) replay_app.top) debug_app.top) table_app.top) vehicles_app.top
+    with_subcommand (with_subcommand (with_subcommand (with_subcommand (with_subcommand
+    (with_subcommand (with_subcommand bare_app serve_app.top) replay_app.top) debug_app.top)
+    table_app.top) vehicles_app.top) compact_app.top) events_app.top
 
 -- where there was memory, `clap` is told of this app
 abbrev pub IsTold : {E : Type 0} → App → Result Form E → Type 0
@@ -111,11 +138,13 @@ IsTold app form = IfOk form (λ told. app_of told ≡ app)
 
 -- the name of a command
 abbrev pub name_of : Command → Text
-name_of (Serve port each workers table journal) = codes "serve"
+name_of (Serve port each workers table journal metrics) = codes "serve"
 name_of (Replay file table any lines unlimited workers) = codes "replay"
 name_of (Debug file provider device table) = codes "debug"
 name_of (Table table) = codes "table"
 name_of (Vehicles file table) = codes "vehicles"
+name_of (Compact old new before table) = codes "compact"
+name_of (Events file provider device) = codes "events"
 
 -- the value is a text that is this number, one of this range
 abbrev pub IsNumber : ℕ → ℕ → Option Text → ℕ → Type 0
@@ -142,13 +171,24 @@ IsEach values None = (first_of (codes "each") values ≡ None) × GoesOn values
 abbrev pub LacksEach : List Row → Type 0
 LacksEach values = (each : Option ℕ) → IsEach values each → ⊥
 
+-- figures are told at this port: that of the number that is given, or at none where none is
+abbrev pub IsMetrics : List Row → Option ℕ → Type 0
+IsMetrics values (Some port) = IsNumber 1 max_port (first_of (codes "metrics") values) port
+IsMetrics values None = first_of (codes "metrics") values ≡ None
+
+-- the number of that port is out of its range
+abbrev pub LacksMetrics : List Row → Type 0
+LacksMetrics values = (metrics : Option ℕ) → IsMetrics values metrics → ⊥
+
 -- the port's number or the number of workers is missing or out of its range, or how many
--- connections each worker answers isn't told
+-- connections each worker answers isn't told, or the number of the port for figures is out of its
+-- range
 abbrev pub LacksNumber : List Row → Type 0
 LacksNumber values =
     HasNoNumber 0 max_port (first_of (codes "port") values)
     ⊎ LacksEach values
     ⊎ HasNoNumber 1 max_workers (first_of (codes "workers") values)
+    ⊎ LacksMetrics values
 
 -- a flag of this name is set
 abbrev pub IsSet : Text → List Row → Type 0
@@ -166,15 +206,22 @@ LacksFileOrWorkers values =
     ⊎ HasNoNumber 1 max_workers (first_of (codes "workers") values)
     ⊎ LacksLines values
 
+-- one of the two files is missing, or the time is missing or out of its range
+abbrev pub LacksFilesOrTime : List Row → Type 0
+LacksFilesOrTime values =
+    (first_of (codes "OLD") values ≡ None) ⊎ (first_of (codes "NEW") values ≡ None)
+    ⊎ HasNoNumber 0 max_time (first_of (codes "before") values)
+
 -- the values that were found are those of this command; it has no table or journal where none was
 -- given, and a flag that is set is true
 abbrev pub HasValues : List Row → Command → Type 0
-HasValues values (Serve port each workers table journal) =
+HasValues values (Serve port each workers table journal metrics) =
     IsNumber 0 max_port (first_of (codes "port") values) port
     × IsEach values each
     × IsNumber 1 max_workers (first_of (codes "workers") values) workers
     × (first_of (codes "table") values ≡ option_map (λ path. path.now) table)
     × (first_of (codes "journal") values ≡ option_map (λ path. path.now) journal)
+    × IsMetrics values metrics
 HasValues values (Replay file table any lines unlimited workers) =
     (first_of (codes "FILE") values ≡ Some file.now)
     × (first_of (codes "table") values ≡ option_map (λ path. path.now) table)
@@ -193,6 +240,15 @@ HasValues values (Table table) =
 HasValues values (Vehicles file table) =
     (first_of (codes "FILE") values ≡ Some file.now)
     × (first_of (codes "table") values ≡ option_map (λ path. path.now) table)
+HasValues values (Compact old new before table) =
+    (first_of (codes "OLD") values ≡ Some old.now)
+    × (first_of (codes "NEW") values ≡ Some new.now)
+    × IsNumber 0 max_time (first_of (codes "before") values) before
+    × (first_of (codes "table") values ≡ option_map (λ path. path.now) table)
+HasValues values (Events file provider device) =
+    (first_of (codes "FILE") values ≡ Some file.now)
+    × (first_of (codes "PROVIDER") values ≡ Some provider.now)
+    × (first_of (codes "DEVICE") values ≡ Some device.now)
 
 -- one of these arguments has no value
 abbrev pub LacksOneOf : List Text → List Row → Type 0

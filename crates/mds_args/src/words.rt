@@ -6,11 +6,11 @@ ghost use Rattle.clap.specs.Words.{rule_of, subcommand_of, subcommand_rows_of, t
 ghost use Rattle.clap.specs.Words.{with_subcommand};
 ghost use Rattle.mds_args.specs.Error.{HasCause, IsCause, SaysMissing, missing_kind, words_kind};
 ghost use Rattle.mds_args.specs.Words.{Asks, AsksNothing, IsAskedBy, AreTaken};
-ghost use Rattle.mds_args.specs.Words.{HasNoNumber, HasValues, IsEach, IsNumber, IsTold};
-ghost use Rattle.mds_args.specs.Words.{LacksEach, LacksFileOrWorkers, LacksNumber, LacksOneOf};
-ghost use Rattle.mds_args.specs.Words.{name_of, debug_app, each_rule, flag_rule, long_rule, max_each, max_port, max_workers};
+ghost use Rattle.mds_args.specs.Words.{HasNoNumber, HasValues, IsEach, IsMetrics, IsNumber, IsTold};
+ghost use Rattle.mds_args.specs.Words.{LacksEach, LacksFileOrWorkers, LacksFilesOrTime, LacksMetrics, LacksNumber, LacksOneOf};
+ghost use Rattle.mds_args.specs.Words.{name_of, before_rule, compact_app, debug_app, each_rule, events_app, flag_rule, long_rule, max_each, max_port, max_time, max_workers};
 ghost use Rattle.mds_args.specs.Words.{needed_number_rule, number_rule, option_rule, program_app, replay_app};
-ghost use Rattle.mds_args.specs.Words.{journal_rule, serve_app, table_app, table_rule, vehicles_app, word_rule, workers_rule};
+ghost use Rattle.mds_args.specs.Words.{journal_rule, metrics_rule, serve_app, table_app, table_rule, vehicles_app, word_rule, workers_rule};
 
 use crate::VERSION;
 use crate::error::{WordsError, WordsErrorKind};
@@ -36,6 +36,8 @@ pub enum Command<'a> {
         /// The path of the journal in which what is accepted is recorded, or `None`: then all that is known ends with the
         /// process. Here `-` is a file of that name.
         journal: Option<&'a str>,
+        /// The number of the port at which figures are told, or `None`: then none are.
+        metrics: Option<u16>,
     },
     /// Replay the events of a file.
     Replay {
@@ -75,6 +77,27 @@ pub enum Command<'a> {
         file: &'a str,
         /// As for `Replay`.
         table: Option<&'a str>,
+    },
+    /// Make a new journal of an old one, without those of its old events that no state needs.
+    Compact {
+        /// The path of the old journal. Here `-` is a file of that name.
+        old: &'a str,
+        /// The path of the new one. Here `-` is a file of that name.
+        new: &'a str,
+        /// The time, in milliseconds since the Unix epoch, before which events are old.
+        before: u64,
+        /// The path of a table file by which the old one is judged first, or `None`: then it isn't judged. Here `-` is a file of
+        /// that name.
+        table: Option<&'a str>,
+    },
+    /// Print the lines of a journal that tell an event of a vehicle.
+    Events {
+        /// The journal's path, or `-` for standard input.
+        file: &'a str,
+        /// As for `Debug`.
+        provider: &'a str,
+        /// As for `Debug`.
+        device: &'a str,
     },
 }
 
@@ -188,6 +211,12 @@ fn command_named<'a>(name: &str, values: &ArgMatches<'a>) -> Option<Command<'a>>
     if name == "vehicles" {
         return vehicles_of(values);
     }
+    if name == "compact" {
+        return compact_of(values);
+    }
+    if name == "events" {
+        return events_of(values);
+    }
     None
 }
 
@@ -201,6 +230,9 @@ const MAX_EACH: u64 = 1_000_000;
 /// replay has at most `mds_trace::MAX_WORKERS`. It may not be greater than these: the program's proof then fails.
 const MAX_WORKERS: u64 = 64;
 
+/// The greatest time that `--before` may name: an event has none that is greater.
+const MAX_TIME: u64 = 9_007_199_254_740_991;
+
 fn serve_of<'a>(values: &ArgMatches<'a>) -> Option<Command<'a>>
     ensures { MatchOption result (LacksNumber (rows_of (found_of values.now)))
         (λ command. (name_of command ≡ codes "serve")
@@ -209,13 +241,26 @@ fn serve_of<'a>(values: &ArgMatches<'a>) -> Option<Command<'a>>
     let port = number_of(values, "port", 0, MAX_PORT)?;
     let each = each_of(values)?;
     let workers = workers_of(values)?;
+    let metrics = metrics_of(values)?;
     Some(Command::Serve {
         port: port as u16,
         each,
         workers,
         table: values.get_str("table"),
         journal: values.get_str("journal"),
+        metrics,
     })
+}
+
+/// The port at which figures are told, if one is named.
+fn metrics_of(values: &ArgMatches<'_>) -> Option<Option<u16>>
+    ensures { MatchOption result (LacksMetrics (rows_of (found_of values.now)))
+        (IsMetrics (rows_of (found_of values.now))) }
+{
+    match values.get_str("metrics") {
+        Some(_) => Some(Some(number_of(values, "metrics", 1, MAX_PORT)? as u16)),
+        None => Some(None),
+    }
 }
 
 /// How many connections each worker answers, where that is told by one of the two options.
@@ -337,6 +382,37 @@ fn vehicles_of<'a>(values: &ArgMatches<'a>) -> Option<Command<'a>>
     })
 }
 
+fn compact_of<'a>(values: &ArgMatches<'a>) -> Option<Command<'a>>
+    ensures { MatchOption result
+        (LacksFilesOrTime (rows_of (found_of values.now)))
+        (λ command. (name_of command ≡ codes "compact")
+        × HasValues (rows_of (found_of values.now)) command) }
+{
+    let old = values.get_str("OLD")?;
+    let new = values.get_str("NEW")?;
+    let before = number_of(values, "before", 0, MAX_TIME)?;
+    Some(Command::Compact {
+        old,
+        new,
+        before,
+        table: values.get_str("table"),
+    })
+}
+
+fn events_of<'a>(values: &ArgMatches<'a>) -> Option<Command<'a>>
+    ensures { MatchOption result
+        (LacksOneOf (codes "FILE" ∷ codes "PROVIDER" ∷ codes "DEVICE" ∷ [])
+        (rows_of (found_of values.now)))
+        (λ command. (name_of command ≡ codes "events")
+        × HasValues (rows_of (found_of values.now)) command) }
+{
+    Some(Command::Events {
+        file: values.get_str("FILE")?,
+        provider: values.get_str("PROVIDER")?,
+        device: values.get_str("DEVICE")?,
+    })
+}
+
 /// What `clap` is told of a command, where there is memory for it.
 type Form<'a> = Result<clap::Command<'a>, AllocError>;
 
@@ -351,7 +427,9 @@ fn program_form<'a>(alloc: Global) -> Form<'a>
     let with_replay = with_command(with_serve, replay_form(alloc));
     let with_debug = with_command(with_replay, debug_form(alloc));
     let with_table_command = with_command(with_debug, table_form(alloc));
-    with_command(with_table_command, vehicles_form(alloc))
+    let with_vehicles = with_command(with_table_command, vehicles_form(alloc));
+    let with_compact = with_command(with_vehicles, compact_form(alloc));
+    with_command(with_compact, events_form(alloc))
 }
 
 fn with_command<'a>(form: Form<'a>, command: Form<'a>) -> Form<'a>
@@ -393,7 +471,7 @@ fn serve_form<'a>(alloc: Global) -> Form<'a>
         "Goes on until the process is stopped, in place of --each",
     );
     let with_tables = with_table(alloc, with_workers(alloc, with_until_stopped, "4"));
-    with_journal(alloc, with_tables)
+    with_metrics(alloc, with_journal(alloc, with_tables))
 }
 
 fn replay_form<'a>(alloc: Global) -> Form<'a>
@@ -460,6 +538,32 @@ fn vehicles_form<'a>(alloc: Global) -> Form<'a>
     with_table(alloc, with_file)
 }
 
+fn compact_form<'a>(alloc: Global) -> Form<'a>
+    ensures { IsTold compact_app result }
+{
+    let bare = bare_form(
+        alloc,
+        "compact",
+        "Makes a new journal of an old one, without old events that no state needs",
+    );
+    let with_old = with_word(alloc, bare, "OLD", "The journal, which stays as it is");
+    let with_new = with_word(alloc, with_old, "NEW", "The file to make");
+    with_judge(alloc, with_before(alloc, with_new))
+}
+
+fn events_form<'a>(alloc: Global) -> Form<'a>
+    ensures { IsTold events_app result }
+{
+    let bare = bare_form(
+        alloc,
+        "events",
+        "Prints the lines of a journal that tell an event of a vehicle",
+    );
+    let with_file = with_word(alloc, bare, "FILE", "The journal; - is standard input");
+    let with_provider = with_word(alloc, with_file, "PROVIDER", "The provider's identifier");
+    with_word(alloc, with_provider, "DEVICE", "The vehicle's identifier")
+}
+
 fn bare_form<'a>(alloc: Global, name: &'a str, about: &'a str) -> Form<'a>
     ensures { IsTold (new_app name.entry.now) result }
 {
@@ -500,6 +604,13 @@ fn with_number<'a>(
     )
 }
 
+fn with_before<'a>(alloc: Global, form: Form<'a>) -> Form<'a>
+    ensures { (app : App) → IsTold app form.entry → IsTold (with_rule app before_rule) result }
+{
+    let help = "The time from which on all events stay, in milliseconds since 1970";
+    with_arg(form, time_option(alloc, "before", help).required(true))
+}
+
 fn with_each<'a>(alloc: Global, form: Form<'a>) -> Form<'a>
     ensures { (app : App) → IsTold app form.entry → IsTold (with_rule app each_rule) result }
 {
@@ -523,11 +634,26 @@ fn with_table<'a>(alloc: Global, form: Form<'a>) -> Form<'a>
     with_arg(form, option(alloc, "table", "FILE", help))
 }
 
+/// The option `--table` of a command that judges a journal only where it is given.
+fn with_judge<'a>(alloc: Global, form: Form<'a>) -> Form<'a>
+    ensures { (app : App) → IsTold app form.entry → IsTold (with_rule app table_rule) result }
+{
+    let help = "A table of transitions, or several with times, by which OLD is judged first";
+    with_arg(form, option(alloc, "table", "FILE", help))
+}
+
 fn with_journal<'a>(alloc: Global, form: Form<'a>) -> Form<'a>
     ensures { (app : App) → IsTold app form.entry → IsTold (with_rule app journal_rule) result }
 {
     let help = "A journal of what is accepted; without it that ends with the process";
     with_arg(form, option(alloc, "journal", "FILE", help))
+}
+
+fn with_metrics<'a>(alloc: Global, form: Form<'a>) -> Form<'a>
+    ensures { (app : App) → IsTold app form.entry → IsTold (with_rule app metrics_rule) result }
+{
+    let help = "A port of its own, at which figures are told, and readiness";
+    with_arg(form, number_option(alloc, "metrics", 1, MAX_PORT, help))
 }
 
 fn with_arg<'a>(form: Form<'a>, arg: Arg<'a>) -> Form<'a>
@@ -546,6 +672,13 @@ fn number_option<'a>(alloc: Global, name: &'a str, least: u64, most: u64, help: 
     ensures local { result.global ≡ false }
 {
     option(alloc, name, "N", help).value_parser(ValueParser::unsigned(least, most))
+}
+
+fn time_option<'a>(alloc: Global, name: &'a str, help: &'a str) -> Arg<'a>
+    ensures rule { rule_of result ≡ number_rule name.entry.now 0 max_time }
+    ensures local { result.global ≡ false }
+{
+    option(alloc, name, "TIME", help).value_parser(ValueParser::unsigned(0, MAX_TIME))
 }
 
 /// In help the option's value is called `value`.

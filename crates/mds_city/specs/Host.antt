@@ -24,6 +24,20 @@ pub record FileHost (F : Type 0) : Type 1 where
   -- the known bytes of a file's reader
   pub bytes : F → Option (List ℕ)
 
+-- what a host gives that makes new files
+pub record FileMaker (N : Type 0) : Type 1 where
+  -- the relation of a path to the name that it is
+  pub names : List ℕ → N → Type 0
+  -- what may stand under a name where a crash comes
+  pub may_stand : N → Option (List ℕ) → Type 0
+  -- all answers of the file that was given the name were those of a disk that keeps what it is given
+  pub is_true : N → Type 0
+
+-- what a host gives of its files
+pub record HostFiles (F N : Type 0) : Type 1 where
+  pub opener : FileHost F
+  pub maker : FileMaker N
+
 -- standard input
 pub record StandardInput (I : Type 0) : Type 0 where
   -- the known bytes of its reader

@@ -139,13 +139,15 @@ HadTables table = (tables : Tables) × HasTablesIn table.bytes table.file tables
 -- of the command: its host, and the table file
 module _ {L J T : Type 0} (host : ServerHost L J) (table : TableFile T) where
   -- why nothing was served to its end, over the journal of this path and as was asked: a fault of
-  -- the table file, no random numbers, or then the journal, the port or what came of serving; and
-  -- what went out
+  -- the table file, no random numbers, no port for figures, or then the journal, the port or what
+  -- came of serving; and what went out
   abbrev pub StopsOver : List ℕ → ServeOptions → Change → ServeProblem → Type 0
   StopsOver path asked out problem =
       ((told : Problem) × (problem ≡ Journal (Other told))
       × ExplainsTable table.bytes table.file told × Keeps out.before out.after)
       ⊎ (HadTables table × (problem ≡ Journal (Other Random)) × Keeps out.before out.after)
+      ⊎ (HadTables table × ((fault : ListenFault) × IsListenProblem fault problem)
+      × Keeps out.before out.after)
       ⊎ (HadTables table
       × IsJournalStop host.opens_journal path problem × Keeps out.before out.after)
       ⊎ (HadTables table × HadJournal host.opens_journal path

@@ -4,3 +4,4 @@ pub mod Journal
 pub mod Outcome
 pub mod Program
 pub mod Serve
+pub mod Compact

@@ -15,13 +15,21 @@ use Rattle.mds_commands.specs.declared.status.Status.{Status}
 use Rattle.mds_commands.specs.declared.status.Status.TheVariants as status
 use Rattle.mds_args.specs.declared.words.Command.{Command}
 use Rattle.mds_args.specs.declared.words.Command.TheVariants.{Serve, Replay, Debug, Table, Vehicles}
+use Rattle.mds_args.specs.declared.words.Command.TheVariants.{Compact, Events}
 use Rattle.mds_commands.specs.Change.{Change, change_of}
 use Rattle.mds_commands.specs.Files.{files_of}
 use Rattle.mds_commands.specs.Command.{CameToReplay, CameToTable}
 use Rattle.mds_commands.specs.Debug.{Debugs}
-use Rattle.mds_commands.specs.Listing.{CameToListing}
+use Rattle.mds_commands.specs.Events.{CameToEvents}
+use Rattle.mds_commands.specs.JournalProblem.{TellsJournal, journal_status_of}
+use Rattle.mds_commands.specs.Listing.{CameToListing, ExplainsJudging, HasHistory}
+use Rattle.mds_commands.specs.declared.debug.Named.{Named}
+use Rattle.mds_commands.specs.declared.vehicles.problem.JournalProblem.{JournalProblem}
+use Rattle.mds_core.specs.declared.request.Request.{Request}
+use Rattle.mds_city.specs.declared.compact.CompactAsked.{CompactAsked}
 use Rattle.mds_city.specs.declared.serve.ServeOptions.{ServeOptions}
-use Rattle.mds_city.specs.Host.{FileHost, ServerHost, StandardInput, TableFile}
+use Rattle.mds_city.specs.Host.{FileHost, HostFiles, ServerHost, StandardInput, TableFile}
+use Rattle.mds_city.specs.Compact.{CameToCompact}
 use Rattle.mds_city.specs.Outcome.{Outcome}
 use Rattle.mds_city.specs.Serve.{CameToServe}
 use Rattle.mds_city.specs.Journal.{CameToServeOver}
@@ -35,7 +43,7 @@ use Rattle.mds_args.specs.Words.{IsAskedBy}
 -- the number of workers, where there are any, is one of seats that a book may have, or one of
 -- workers that a replay may have
 abbrev pub HasWorkers : Command → Type 0
-HasWorkers (Serve port each workers path journal) = IsSeatCount workers
+HasWorkers (Serve port each workers path journal metrics) = IsSeatCount workers
 HasWorkers (Replay file path any lines unlimited workers) = IsWorkerCount workers
 HasWorkers other = Unit {0}
 
@@ -103,6 +111,16 @@ module _ {F I : Type 0} (files : FileHost F) (input : StandardInput I) where
       × CameToListing (files_of files.bytes table files.bytes file)
       outcome.ended outcome.out outcome.faults)
 
+  -- a print of the lines of a vehicle's events in the journal of this path, which is standard input
+  -- for `-` alone, came to these
+  abbrev pub CarriesEvents : List ℕ → Named → Outcome → Type 0
+  CarriesEvents path named outcome =
+      ((path ≡ codes "-") × (file : Source I)
+      × (file.path.now ≡ path) × (file.reader ≡ Some input.reader)
+      × CameToEvents input.bytes file named outcome.ended outcome.out outcome.faults)
+      ⊎ ((path ≢ codes "-") × (file : Source F) × IsFileOf files.opens path file
+      × CameToEvents files.bytes file named outcome.ended outcome.out outcome.faults)
+
   -- a replay of the file of this path, which is standard input for `-` alone, came to these
   abbrev pub CarriesReplay : ReplayOptions → List ℕ → Option (Source F) → Outcome → Type 0
   CarriesReplay options path table outcome =
@@ -121,38 +139,82 @@ module _ {L J T : Type 0} (host : ServerHost L J) (table : TableFile T) where
   CarriesServe None asked outcome = CameToServe host.listens table asked outcome
   CarriesServe (Some path) asked outcome = CameToServeOver host table path asked outcome
 
+-- of a compaction: what opens files
+module _ {F : Type 0} (files : FileHost F) where
+  -- the table file and the journal of these paths, opened if they can be
+  abbrev pub AreJudged : List ℕ → List ℕ → Source F → Source F → Type 0
+  AreJudged path old table file = IsFileOf files.opens path table × IsFileOf files.opens old file
+
+  -- each request of the journal of this path is accepted over the tables of the file that is named;
+  -- where none is named nothing is said of them
+  abbrev pub IsJudged : Option (List ℕ) → List ℕ → Type 0
+  IsJudged None old = Unit {0}
+  IsJudged (Some path) old =
+      (table : Source F) × (file : Source F) × AreJudged path old table file
+      × (history : List Request)
+      × HasHistory (files_of files.bytes (Some table) files.bytes file) history
+
+  -- why that isn't so: what hinders a list of the vehicles, too
+  abbrev pub ExplainsJudged : Option (List ℕ) → List ℕ → JournalProblem → Type 0
+  ExplainsJudged None old problem = ⊥
+  ExplainsJudged (Some path) old problem =
+      (table : Source F) × (file : Source F) × AreJudged path old table file
+      × ExplainsJudging (files_of files.bytes (Some table) files.bytes file) problem
+
+-- the files of a host, of which it also makes new ones
+module _ {F N : Type 0} (all : HostFiles F N) where
+  -- a compaction came to these, where the old journal was judged by the table file that is named, if
+  -- one is; or there is none, and why was told
+  abbrev pub CarriesCompact : Option (List ℕ) → CompactAsked → Outcome → Type 0
+  CarriesCompact table asked outcome =
+      (IsJudged all.opener table asked.old.now × CameToCompact all asked outcome)
+      ⊎ ((problem : JournalProblem) × ExplainsJudged all.opener table asked.old.now problem
+      × Keeps outcome.out.before outcome.out.after × (outcome.ended ≡ journal_status_of problem)
+      × TellsJournal outcome.faults.before outcome.faults.after problem)
+
 -- of the program: the files of its host, what that gives a server, and standard input
-module _ {F L J I : Type 0} (files : FileHost F) (host : ServerHost L J)
+module _ {F N L J I : Type 0} (all : HostFiles F N) (host : ServerHost L J)
     (input : StandardInput I) where
   -- what a command did: it read the files that it names, and came to these
   abbrev pub Carries : Command → Outcome → Type 0
-  Carries (Serve port each workers path journal) outcome =
+  Carries (Serve port each workers path journal metrics) outcome =
       (table : Option (Source F))
-      × IsFileNamed files.opens (option_map (λ named. named.now) path) table
-      × CarriesServe host (record { bytes = files.bytes; file = table })
+      × IsFileNamed all.opener.opens (option_map (λ named. named.now) path) table
+      × CarriesServe host (record { bytes = all.opener.bytes; file = table })
       (option_map (λ named. named.now) journal)
-      (record { port = port; workers = workers; each = connections_each each }) outcome
+      (record {
+        port = port;
+        workers = workers;
+        each = connections_each each;
+        metrics = metrics;
+      }) outcome
   Carries (Table path) outcome =
       (table : Option (Source F))
-      × IsFileNamed files.opens (option_map (λ named. named.now) path) table
-      × CameToTable files.bytes table outcome.ended outcome.out outcome.faults
+      × IsFileNamed all.opener.opens (option_map (λ named. named.now) path) table
+      × CameToTable all.opener.bytes table outcome.ended outcome.out outcome.faults
   -- of a replay without limits nothing is said here
   Carries (Replay file path any lines unlimited workers) outcome =
       unlimited ≡ false → (table : Option (Source F))
-      × IsFileNamed files.opens (option_map (λ named. named.now) path) table
-      × CarriesReplay files input (options_of any lines workers) file.now table outcome
+      × IsFileNamed all.opener.opens (option_map (λ named. named.now) path) table
+      × CarriesReplay all.opener input (options_of any lines workers) file.now table outcome
   Carries (Vehicles file path) outcome =
       (table : Option (Source F))
-      × IsFileNamed files.opens (option_map (λ named. named.now) path) table
-      × CarriesVehicles files input file.now table outcome
+      × IsFileNamed all.opener.opens (option_map (λ named. named.now) path) table
+      × CarriesVehicles all.opener input file.now table outcome
   Carries (Debug file provider device path) outcome =
       (table : Option (Source F))
-      × IsFileNamed files.opens (option_map (λ named. named.now) path) table
-      × (events : Source F) × IsFileOf files.opens file.now events
+      × IsFileNamed all.opener.opens (option_map (λ named. named.now) path) table
+      × (events : Source F) × IsFileOf all.opener.opens file.now events
       × (input_new : Option (List ℕ))
-      × Debugs (files_of files.bytes table files.bytes events)
+      × Debugs (files_of all.opener.bytes table all.opener.bytes events)
       (record { provider = provider; device = device }) outcome.ended
       (change_of (input.bytes input.reader) input_new) outcome.out outcome.faults
+  Carries (Compact old new before path) outcome =
+      CarriesCompact all (option_map (λ named. named.now) path)
+      (record { old = old; new = new; before = before }) outcome
+  Carries (Events file provider device) outcome =
+      CarriesEvents all.opener input file.now (record { provider = provider; device = device })
+      outcome
 
   -- what the program did with words: it carried out the command that they ask for, or explained
   -- why they give none

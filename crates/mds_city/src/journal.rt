@@ -11,6 +11,7 @@ ghost use Rattle.mds_city.specs.Outcome.{outcome_of};
 ghost use Rattle.mds_city.specs.Journal.{CameToServeOver, HadJournal, IsFileProblem, IsJournalStop, IsListenProblem, IsServeTold, IsServingProblem, IsStartProblem, IsStopProblem};
 ghost use Rattle.mds_city.specs.Journal.{ServedBook, ServedOver, StopsBook, StopsOver};
 
+use crate::figures::tell_figures;
 use crate::page::{ListeningLine, print_line};
 use crate::serve::{ListenFault, Listens, ServeOptions, say_accepted};
 use crate::start_room::StartRoom;
@@ -21,7 +22,7 @@ use mds_follow::{Disk, RecordLog, RequestReader, StartFault};
 use mds_io::{MAX_CALLS, PrintError, write_all_of};
 use mds_journal::Device;
 use mds_log::BlankLog;
-use mds_pool::{Alarm, NewBook, RecordedBook, RecordedStop, Stop};
+use mds_pool::{Alarm, Held, NewBook, RecordedBook, RecordedStop, Stop};
 use std::alloc::{AllocError, Global};
 use std::hash::RandomState;
 use std::io::{Read, Write};
@@ -50,6 +51,9 @@ pub trait OpensJournals {
 
     /// Tells whoever runs the server, in one line, that what was accepted can't be written to the journal.
     fn tell_not_kept(&self);
+
+    /// Hears what the journal told at the start, if figures are told.
+    fn tell_held(&self, _held: Held) {}
 }
 
 /// Tells of the first write that fails, and of no other, while a server runs.
@@ -109,7 +113,7 @@ pub(crate) enum BookStop {
 /// the journal that it rests on. At the end it prints how many requests the book holds. It answers the status that the program
 /// ends with; a problem is told to `faults` in one line.
 pub fn serve_over<
-    R: Threads + Wait + RandomSource + Sync,
+    R: Threads + Wait + RandomSource + Copy + Send + Sync + 'static,
     H: Listens + OpensJournals + Sync,
     T: Read + Drop,
     W: Write,
@@ -144,7 +148,7 @@ pub fn serve_over<
 /// that, by which answers leave still.
 fn serve_to_end<
     'a,
-    R: Threads + Wait + RandomSource + Sync,
+    R: Threads + Wait + RandomSource + Copy + Send + Sync + 'static,
     H: Listens + OpensJournals + Sync,
     T: Read + Drop,
     W: Write,
@@ -174,6 +178,10 @@ fn serve_to_end<
     let (Ok(first), Ok(second)) = (RandomState::new(rt), RandomState::new(rt)) else {
         return Err((ServeProblem::from(Problem::Random), None));
     };
+    match tell_figures(rt, alloc, host, asked) {
+        Ok(()) => {}
+        Err(fault) => return Err((problem_of_listening(fault), None)),
+    }
     let reader = match open_reader(alloc, host, path) {
         Ok(reader) => reader,
         Err(problem) => return Err((problem, None)),
@@ -255,6 +263,12 @@ fn serve_reader<
         Ok(book) => book,
         Err((fault, _file)) => return Err((BookStop::Start(fault), None)),
     };
+    if asked.metrics.is_some() {
+        match book.held(rt, alloc) {
+            Ok(held) => host.tell_held(held),
+            Err(AllocError) => return Err((BookStop::Start(StartFault::Memory), None)),
+        }
+    }
     let room = match StartRoom::beside(alloc, asked.workers) {
         Ok(room) => room,
         Err(AllocError) => return Err((BookStop::Start(StartFault::Memory), None)),

@@ -2,34 +2,65 @@
 //! events, and prints tables of transitions.
 #![tactic(auto)]
 
+mod compact;
+mod figures;
 mod journal;
 mod page;
 mod program;
 mod progress;
 mod serve;
 mod start_room;
+mod watched_file;
 
+use crate::compact::MakesFiles;
+use crate::figures::FiguresPort;
 use crate::journal::OpensJournals;
 use crate::program::{Opens, run, run_at_terminal, tell_words, words_of};
 use crate::progress::{Teller, ToldReader};
-use crate::serve::{ListenFault, Listens};
-use mds_file::{DiskFile, FileFault, open_file};
+use crate::serve::{ListenFault, Listens, ServeOptions};
+use crate::watched_file::WatchedFile;
+use mds_args::VERSION;
+use mds_file::{DiskFile, FileFault, NewFile, open_file};
 use mds_io::{MAX_CALLS, write_all_of};
-use mds_socket::{SocketIn, SocketOut, SocketPort};
-use std::alloc::Global;
+use mds_metrics::{Board, Gauge};
+use mds_pool::Held;
+use mds_socket::{Listening, SocketIn, SocketOut, SocketPort};
+use std::alloc::{AllocError, Global};
 use std::io::{self, ErrorKind, IsTerminal, Stderr};
 use std::marker::Brand;
 use std::net::Net;
 use std::process::ExitCode;
-use std::sync::Wait;
+use std::sync::{Arc, OnceLock, Wait};
+use std::thread::Threads;
 use std::time::Clock;
 use std::{env, fs};
 
 /// What the program runs on: its files, its sockets and its standard streams. `main` alone has a runtime that may wait, so
 /// what listens is written for any that may.
-#[derive(Clone, Copy)]
+#[derive(Drop)]
 struct Host<R> {
     rt: R,
+    /// The same, for what the thread that tells figures does besides waiting: what it may do rests on no bound.
+    own: HostRuntime,
+    /// Where figures are kept, once they are.
+    board: OnceLock<Arc<Board>>,
+}
+
+impl<R> Host<R> {
+    /// The board, where there is one.
+    fn board(&self) -> Option<Arc<Board>> {
+        self.board.get()?.clone().ok()
+    }
+
+    /// A new board with a tally for each of so many workers, which is the host's from now on, unless it has one.
+    fn open_board(&self, alloc: Global, workers: usize) -> Result<Arc<Board>, AllocError> {
+        if let Some(board) = self.board() {
+            return Ok(board);
+        }
+        let board = Arc::new(alloc, Board::new(alloc, VERSION, workers)?)?;
+        let _ = self.board.try_set(board.clone()?);
+        Ok(board)
+    }
 }
 
 impl Opens for Host<HostRuntime> {
@@ -64,7 +95,7 @@ fn size_of(metadata: io::Result<fs::Metadata>) -> Option<u64> {
     }
 }
 
-impl<R: Net + Wait + Clock + Copy + Send + Sync> Listens for Host<R> {
+impl<R: Net + Wait + Clock + Threads + Copy + Send + Sync + Drop + 'static> Listens for Host<R> {
     type In = SocketIn;
 
     type Out = SocketOut;
@@ -72,9 +103,42 @@ impl<R: Net + Wait + Clock + Copy + Send + Sync> Listens for Host<R> {
     type Listening = SocketPort<R>;
 
     fn listen(&self, alloc: Global, number: u16) -> Result<(SocketPort<R>, u16), ListenFault> {
-        let port = SocketPort::bind(&self.rt, alloc, self.rt, number)?;
+        let mut port = SocketPort::bind(&self.rt, alloc, self.rt, number)?;
         let number = port.number()?;
+        if let Some(board) = self.board() {
+            board.set(Gauge::Listens, 1);
+            if board.tally(0).is_some() {
+                port.set_board(board);
+            }
+        }
         Ok((port, number))
+    }
+
+    fn figures_port(
+        &self,
+        alloc: Global,
+        asked: ServeOptions,
+    ) -> Result<Option<FiguresPort>, ListenFault> {
+        let Some(number) = asked.metrics else {
+            return Ok(None);
+        };
+        let listening = Listening::bind(&self.rt, alloc, self.own, number)?;
+        let board = self.open_board(alloc, asked.workers)?;
+        if let Ok(now) = self.rt.since_1970() {
+            let micros = u64::try_from(now.as_micros()).unwrap_or(u64::MAX);
+            board.set(Gauge::StartMicros, micros);
+        }
+        Ok(Some(FiguresPort {
+            own: self.own,
+            listening,
+            board,
+        }))
+    }
+}
+
+impl From<AllocError> for ListenFault {
+    fn from(_lacks: AllocError) -> ListenFault {
+        ListenFault::Memory
     }
 }
 
@@ -88,22 +152,57 @@ impl From<io::Error> for ListenFault {
 }
 
 impl OpensJournals for Host<HostRuntime> {
-    type Journal = DiskFile<Brand>;
+    type Journal = WatchedFile<DiskFile<Brand>, HostRuntime, Stderr>;
 
-    fn open_journal(&self, path: &str) -> Result<DiskFile<Brand>, FileFault> {
-        open_file(&self.rt, path)
+    fn open_journal(&self, path: &str) -> Result<Self::Journal, FileFault> {
+        let alloc = self.rt.alloc();
+        let Ok(board) = self.open_board(alloc, 0) else {
+            return Err(FileFault::Memory);
+        };
+        let file = open_file(&self.rt, path)?;
+        board.set(Gauge::HasJournal, 1);
+        let teller = teller_of(self.rt);
+        Ok(WatchedFile::new(alloc, file, board, teller))
     }
 
+    fn tell_held(&self, held: Held) {
+        if let Some(board) = self.board() {
+            board.set(Gauge::FirstVehicles, held.vehicles);
+            board.set(Gauge::FirstRequests, held.requests);
+            board.set(Gauge::FirstNewest, held.newest.saturating_mul(1_000));
+            board.set(Gauge::JournalLines, held.requests.saturating_add(1));
+        }
+    }
+
+    /// Where a group of lines couldn't be written, the file of the journal said so already.
     fn tell_not_kept(&self) {
+        if self
+            .board()
+            .is_some_and(|board| board.get(Gauge::FailedGroups) > 0)
+        {
+            return;
+        }
         let mut calls = MAX_CALLS;
         let line = b"mds_city: journal not kept\n";
         let _ = write_all_of(&mut self.rt.stderr(), line, &mut calls);
     }
 }
 
+impl MakesFiles for Host<HostRuntime> {
+    type New = NewFile<Brand>;
+
+    fn new_file(&self, alloc: Global, path: &str) -> Result<NewFile<Brand>, AllocError> {
+        NewFile::at(self.rt, alloc, path)
+    }
+}
+
 fn main(rt: HostRuntime) -> ExitCode {
     let alloc = rt.alloc();
-    let host = Host { rt };
+    let host = Host {
+        rt,
+        own: rt,
+        board: OnceLock::new(),
+    };
     let mut faults = rt.stderr();
     let size = size_of(fs::metadata(&rt, "/dev/stdin"));
     let input = ToldReader::new(alloc, rt.stdin(), size, teller_of(rt));

@@ -1,5 +1,5 @@
 //! What the program does with the words of its command line, over any files and streams.
-ghost use Rattle.std.specs.Prelude.{◌≡◌, ◌≢◌, ◌↔◌, ℕ, List, Option, ⊤, Err, codes, map, option_map, false, IsTrue, IfOk, IfErr};
+ghost use Rattle.std.specs.Prelude.{◌≡◌, ◌≢◌, ◌↔◌, ℕ, List, Option, ⊤, Err, codes, map, option_map, false, IsTrue, IfOk, IfErr, OnOk};
 ghost use Rattle.std.specs.IoError.{error_kind};
 ghost use Rattle.mds_args.specs.Error.{words_kind};
 ghost use Rattle.mds_book.specs.Books.{IsSeatCount};
@@ -10,15 +10,17 @@ ghost use Rattle.mds_commands.specs.Problem.{Tells};
 ghost use Rattle.mds_io.specs.Page.{AppendsUpTo, with_newline};
 ghost use Rattle.mds_trace.specs.WithFault.{IsWorkerCount};
 ghost use Rattle.mds_city.specs.Outcome.{outcome_of};
-ghost use Rattle.mds_city.specs.Program.{Carries, CarriesReplay, CarriesServe, CarriesVehicles, Explains, HasWorkers, IsFileNamed, IsFileOf, Runs};
+ghost use Rattle.mds_city.specs.Program.{Carries, CarriesCompact, CarriesEvents, CarriesReplay, CarriesServe, CarriesVehicles, Explains, ExplainsJudged, HasWorkers, IsFileNamed, IsFileOf, IsJudged, Runs};
 ghost use Rattle.mds_city.specs.Program.{connections_each, form_if, opening_if, options_of};
 
+use crate::compact::{CompactAsked, MakesFiles, compact_to};
 use crate::journal::{OpensJournals, serve_over};
 use crate::serve::{Listens, ServeOptions, serve_at};
 use mds_args::{Command, WordsError, WordsErrorKind, parse_words};
 use mds_commands::{
-    Form, Named, Problem, ReplayOptions, Source, Status, debug_live_to, debug_to, replay_to,
-    replay_unlimited_to, table_to, tell, vehicles_to,
+    Form, JournalProblem, Named, Problem, ReplayOptions, Source, Status, debug_live_to, debug_to,
+    events_to, judge_journal, replay_to, replay_unlimited_to, table_to, tell, tell_journal_problem,
+    vehicles_to,
 };
 use mds_io::{MAX_CALLS, write_all_of};
 use mds_trace::Opening;
@@ -94,14 +96,21 @@ pub fn tell_words<E: Write>(alloc: Global, faults: &mut E, fault: WordsFault) ->
 /// Carries out what the words of the command line ask for, of which the first is the program's name, over these files and
 /// streams, or says why they ask for nothing. It answers the status that the program ends with.
 pub fn run<
-    R: Threads + Wait + RandomSource + Sync,
+    R: Threads + Wait + RandomSource + Copy + Send + Sync + 'static,
     S: AsStr,
-    O: Opens + Listens + OpensJournals + Sync,
+    O: Opens + Listens + OpensJournals + MakesFiles + Sync,
     I: Read + Drop,
     W: Write,
     E: Write,
 >(rt: &R, alloc: Global, words: &[S], files: &O, input: I, out: &mut W, faults: &mut E) -> Status
-    ensures { Runs (record { opens = O.opens files.now; bytes = O.File.remaining })
+    ensures { Runs (record {
+      opener = record { opens = O.opens files.now; bytes = O.File.remaining };
+      maker = record {
+        names = O.names_file files.now;
+        may_stand = O.New.may_stand;
+        is_true = O.New.is_true;
+      };
+    })
         (record { listens = O.listens files.now; opens_journal = O.opens_journal files.now })
         (record { bytes = I.remaining; reader = input }) (map S.text words.now)
         (outcome_of result
@@ -116,9 +125,9 @@ pub fn run<
 
 /// As [`run`], with a terminal as standard input: there the debugger answers each line as it comes.
 pub fn run_at_terminal<
-    R: Threads + Wait + RandomSource + Sync,
+    R: Threads + Wait + RandomSource + Copy + Send + Sync + 'static,
     S: AsStr,
-    O: Opens + Listens + OpensJournals + Sync,
+    O: Opens + Listens + OpensJournals + MakesFiles + Sync,
     I: Read + Drop,
     W: Write,
     E: Write,
@@ -172,8 +181,8 @@ fn explain<W: Write, E: Write>(
 /// Carries out a command over these files and streams, and answers the status that the program ends with. The file `-` of
 /// a replay is `input`; the table file is one of its name, whatever that is.
 fn carry_out<
-    R: Threads + Wait + RandomSource + Sync,
-    O: Opens + Listens + OpensJournals + Sync,
+    R: Threads + Wait + RandomSource + Copy + Send + Sync + 'static,
+    O: Opens + Listens + OpensJournals + MakesFiles + Sync,
     I: Read + Drop,
     W: Write,
     E: Write,
@@ -187,7 +196,14 @@ fn carry_out<
     faults: &mut E,
 ) -> Status
     requires { HasWorkers command }
-    ensures { Carries (record { opens = O.opens files.now; bytes = O.File.remaining })
+    ensures { Carries (record {
+      opener = record { opens = O.opens files.now; bytes = O.File.remaining };
+      maker = record {
+        names = O.names_file files.now;
+        may_stand = O.New.may_stand;
+        is_true = O.New.is_true;
+      };
+    })
         (record { listens = O.listens files.now; opens_journal = O.opens_journal files.now })
         (record { bytes = I.remaining; reader = input }) command.entry
         (outcome_of result
@@ -201,12 +217,14 @@ fn carry_out<
             workers,
             table,
             journal,
+            metrics,
         } => {
             let table = file_if_named(files, table);
             let asked = ServeOptions {
                 port,
                 workers,
                 each: connections_each(each),
+                metrics,
             };
             serve_named(rt, alloc, files, table, journal, asked, out, faults)
         }
@@ -236,12 +254,29 @@ fn carry_out<
         Command::Vehicles { file, table } => {
             list_vehicles(rt, alloc, files, file, table, input, out, faults)
         }
+        Command::Compact {
+            old,
+            new,
+            before,
+            table,
+        } => {
+            let asked = CompactAsked { old, new, before };
+            compact_judged(rt, alloc, files, asked, table, out, faults)
+        }
+        Command::Events {
+            file,
+            provider,
+            device,
+        } => {
+            let named = Named { provider, device };
+            print_events(alloc, files, file, named, input, out, faults)
+        }
     }
 }
 
 /// Serves over the journal of this path, or over none.
 fn serve_named<
-    R: Threads + Wait + RandomSource + Sync,
+    R: Threads + Wait + RandomSource + Copy + Send + Sync + 'static,
     O: Opens + Listens + OpensJournals + Sync,
     W: Write,
     E: Write,
@@ -399,6 +434,80 @@ fn list_vehicles<R: RandomSource, O: Opens, I: Read + Drop, W: Write, E: Write>(
         return vehicles_to(rt, alloc, table, file, out, faults);
     }
     vehicles_to(rt, alloc, table, file_of(files, path), out, faults)
+}
+
+/// Makes a new journal of an old one. Where a table file is named, the old one is judged by its tables first.
+fn compact_judged<R: RandomSource, O: Opens + MakesFiles, W: Write, E: Write>(
+    rt: &R,
+    alloc: Global,
+    files: &O,
+    asked: CompactAsked<'_>,
+    table: Option<&str>,
+    out: &mut W,
+    faults: &mut E,
+) -> Status
+    ensures { CarriesCompact (record {
+      opener = record { opens = O.opens files.now; bytes = O.File.remaining };
+      maker = record {
+        names = O.names_file files.now;
+        may_stand = O.New.may_stand;
+        is_true = O.New.is_true;
+      };
+    })
+        (option_map (λ named. named.now) table.entry) asked.entry
+        (outcome_of result
+        (change_of (W.contents out.old) (W.contents out.new))
+        (change_of (E.contents faults.old) (E.contents faults.new))) }
+{
+    match judge_if_named(rt, alloc, files, table, asked.old) {
+        Ok(()) => compact_to(rt, alloc, files, asked, out, faults),
+        Err(problem) => tell_journal_problem(alloc, faults, problem),
+    }
+}
+
+/// Judges the journal of this path by the tables of the file that is named, if one is.
+fn judge_if_named<'a, R: RandomSource, O: Opens>(
+    rt: &R,
+    alloc: Global,
+    files: &O,
+    table: Option<&'a str>,
+    old: &'a str,
+) -> Result<(), JournalProblem<'a>>
+    ensures ok { OnOk result
+        (IsJudged (record { opens = O.opens files.now; bytes = O.File.remaining })
+        (option_map (λ named. named.now) table.entry) old.now) }
+    ensures err { IfErr result
+        (ExplainsJudged (record { opens = O.opens files.now; bytes = O.File.remaining })
+        (option_map (λ named. named.now) table.entry) old.now) }
+{
+    let table = file_if_named(files, table);
+    if table.is_none() {
+        return Ok(());
+    }
+    judge_journal(rt, alloc, table, file_of(files, old))
+}
+
+/// Prints the lines of a vehicle's events in the journal of this path, which is standard input for `-`.
+fn print_events<O: Opens, I: Read + Drop, W: Write, E: Write>(
+    alloc: Global,
+    files: &O,
+    path: &str,
+    named: Named<'_>,
+    input: I,
+    out: &mut W,
+    faults: &mut E,
+) -> Status
+    ensures { CarriesEvents (record { opens = O.opens files.now; bytes = O.File.remaining })
+        (record { bytes = I.remaining; reader = input }) path.now named.entry
+        (outcome_of result
+        (change_of (W.contents out.old) (W.contents out.new))
+        (change_of (E.contents faults.old) (E.contents faults.new))) }
+{
+    if is_standard_input(path) {
+        let file = source_of(path, input);
+        return events_to(alloc, file, named, out, faults);
+    }
+    events_to(alloc, file_of(files, path), named, out, faults)
 }
 
 fn options_of(any: bool, lines: bool, workers: usize) -> ReplayOptions

@@ -5,6 +5,7 @@ ghost use Rattle.mds_commands.specs.Change.{change_of};
 ghost use Rattle.mds_city.specs.Outcome.{outcome_of};
 ghost use Rattle.mds_city.specs.Serve.{CameToServe, IsSaid, Listened, SaysAccepted, Serves, StopsBefore};
 
+use crate::figures::{FiguresPort, tell_figures};
 use crate::page::{AcceptedLine, ListeningLine, print_line};
 use mds_book::{NamedLedger, Packed, ShardLedger};
 use mds_commands::{Problem, Source, Status, tables_in, tell};
@@ -39,6 +40,19 @@ pub trait Listens {
     /// [`ListenFault`] says when each comes.
     fn listen(&self, alloc: Global, number: u16) -> Result<(Self::Listening, u16), ListenFault>
         ensures { IfOk result (λ had. listens self.now number had.0 had.1) };
+
+    /// A port of its own at which figures are to be told, if that is asked for. A host that tells none needs to do nothing.
+    ///
+    /// # Errors
+    ///
+    /// [`ListenFault`] says when each comes; and `Memory` where there is none for the figures.
+    fn figures_port(
+        &self,
+        _alloc: Global,
+        _asked: ServeOptions,
+    ) -> Result<Option<FiguresPort>, ListenFault> {
+        Ok(None)
+    }
 }
 
 /// Why nothing listens at a port.
@@ -59,13 +73,15 @@ pub struct ServeOptions {
     pub workers: usize,
     /// How many connections each answers.
     pub each: usize,
+    /// The number of the port at which figures are told, if they are.
+    pub metrics: Option<u16>,
 }
 
 /// Serves vehicles over the tables of a table file, or where none is given over the profile's, at a port of the host: prints
 /// where it listens, and goes on as [`serve_on`]. It answers the status that the program ends with; a problem is told to
 /// `faults` in one line.
 pub fn serve_at<
-    R: Threads + Wait + RandomSource + Sync,
+    R: Threads + Wait + RandomSource + Copy + Send + Sync + 'static,
     H: Listens,
     T: Read + Drop,
     W: Write,
@@ -86,7 +102,7 @@ pub fn serve_at<
         (change_of (W.contents out.old) (W.contents out.new))
         (change_of (E.contents faults.old) (E.contents faults.new))) }
 {
-    let (tables, hashers, listening) = match begin(rt, alloc, host, table, asked.port, out) {
+    let (tables, hashers, listening) = match begin(rt, alloc, host, table, asked, out) {
         Ok(had) => had,
         Err(problem) => return tell(alloc, faults, problem),
     };
@@ -104,18 +120,24 @@ pub fn serve_at<
 }
 
 /// Begins to serve: has the tables, a hasher for each shard, and what listens at the port, and prints where that is.
-fn begin<'a, R: RandomSource, H: Listens, T: Read + Drop, W: Write>(
+fn begin<
+    'a,
+    R: Threads + Wait + RandomSource + Copy + Send + 'static,
+    H: Listens,
+    T: Read + Drop,
+    W: Write,
+>(
     rt: &R,
     alloc: Global,
     host: &H,
     table: Option<Source<'a, T>>,
-    number: u16,
+    asked: ServeOptions,
     out: &mut W,
 ) -> Result<(Tables, [RandomState; 2], H::Listening), Problem<'a>>
-    ensures ok { IfOk result (λ had. Listened (H.listens host.now number)
+    ensures ok { IfOk result (λ had. Listened (H.listens host.now asked.port)
         (record { bytes = T.remaining; file = table.entry }) had.0 had.2
         (change_of (W.contents out.old) (W.contents out.new))) }
-    ensures err { IfErr result (λ problem. StopsBefore (H.listens host.now number)
+    ensures err { IfErr result (λ problem. StopsBefore (H.listens host.now asked.port)
         (record { bytes = T.remaining; file = table.entry }) problem
         (change_of (W.contents out.old) (W.contents out.new))) }
 {
@@ -123,7 +145,12 @@ fn begin<'a, R: RandomSource, H: Listens, T: Read + Drop, W: Write>(
     let (Ok(first), Ok(second)) = (RandomState::new(rt), RandomState::new(rt)) else {
         return Err(Problem::Random);
     };
-    let (listening, port) = match host.listen(alloc, number) {
+    match tell_figures(rt, alloc, host, asked) {
+        Ok(()) => {}
+        Err(ListenFault::Refused) => return Err(Problem::Socket),
+        Err(ListenFault::Memory) => return Err(Problem::Memory),
+    }
+    let (listening, port) = match host.listen(alloc, asked.port) {
         Ok(begun) => begun,
         Err(ListenFault::Refused) => return Err(Problem::Socket),
         Err(ListenFault::Memory) => return Err(Problem::Memory),

@@ -18,16 +18,19 @@ pub(crate) struct StartRoom {
 }
 
 impl StartRoom {
-    /// What a start takes more than so many workers do. Each of these but the first is a thread, too.
+    /// What a start takes more than so many workers do. Each of these but the first is a thread, too. Where there is less, only what
+    /// it takes beside its threads: this start has had as many, and the C library keeps their stacks for those that come.
     ///
     /// # Errors
     ///
-    /// There is no such room.
+    /// There isn't even that room.
     pub(crate) fn beside(alloc: Global, workers: usize) -> Result<StartRoom, AllocError> {
         let others = workers.saturating_sub(1);
         let threads = START_THREADS.saturating_sub(others);
         let mut bytes = Vec::new(alloc);
-        bytes.reserve(PIECES + threads * STACK)?;
+        if bytes.reserve(PIECES + threads * STACK).is_err() {
+            bytes.reserve(PIECES)?;
+        }
         Ok(StartRoom { bytes })
     }
 }

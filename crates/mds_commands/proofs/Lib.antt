@@ -1,5 +1,6 @@
 -- Lemmas of this crate.
 pub mod ErrorLemmas
+pub mod BatchProblems
 pub mod OpenedLemmas
 pub mod PrintLemmas
 pub mod FedLemmas

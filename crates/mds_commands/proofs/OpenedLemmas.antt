@@ -1,5 +1,5 @@
 -- The session over what a replay kept of a vehicle's events.
-use Rattle.std.proofs.Common.{◌≡◌, ◌≢◌, ◌+◌, ℕ, List, length, ap, subst, ◌∙◌, arith}
+use Rattle.std.proofs.Common.{◌≡◌, ◌≢◌, ◌+◌, List, length, ap, subst, ◌∙◌, arith}
 use Rattle.mds_table.specs.declared.state.State.TheVariants as state
 use Rattle.mds_table.specs.Tables.{Tables}
 use Rattle.mds_core.specs.declared.key.Key.{Key}

@@ -7,6 +7,7 @@ pub mod Files
 pub mod Change
 pub mod Command
 pub mod Debug
+pub mod Events
 pub mod Stream
 pub mod Torn
 -- Of the list of a journal's vehicles.

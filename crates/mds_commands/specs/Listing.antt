@@ -1,5 +1,5 @@
 -- What the command does.
-use Rattle.std.specs.Prelude.{◌≡◌, ◌⊎◌, ℕ, List, Option, Some}
+use Rattle.std.specs.Prelude.{◌≡◌, ◌≢◌, ◌⊎◌, ℕ, List, Option, Some}
 use Rattle.std.specs.Io.KnownBytes.{Appends, Keeps}
 use Rattle.mds_table.specs.Tables.{Tables}
 use Rattle.mds_core.specs.declared.request.Request.{Request}
@@ -82,6 +82,10 @@ module _ {T R : Type 0} (files : Files T R) where
       (tables : Tables) × HasTablesIn files.table_bytes files.table tables
   ExplainsListing (Other Output) = Unit {0}
   ExplainsListing (Other Memory) = Unit {0}
+
+  -- the same where nothing is printed
+  abbrev pub ExplainsJudging : JournalProblem → Type 0
+  ExplainsJudging problem = ExplainsListing problem × (problem ≢ Other Output)
 
   -- what went out before a problem: nothing where a file was at fault, a front of the listing where
   -- the output was

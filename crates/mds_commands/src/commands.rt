@@ -14,7 +14,7 @@ ghost use Rattle.mds_commands.specs.Command.{CameToReplay, CameToTable, HasRepor
 
 use crate::print::{print_report, print_tables};
 use crate::problem::{Problem, tell};
-use crate::source::{Form, Source, each_item_in, items_in, tables_in};
+use crate::source::{Form, Source, each_item_in, items_by, tables_in};
 use crate::status::Status;
 use crate::stream::report_of_lines;
 use mds_batch::EventItems;
@@ -115,7 +115,7 @@ fn report_on<'a, P: Threads + Sync, T: Read + Drop, R: Read + Drop>(
         Form::Lines => report_of_lines(alloc, tables, file, opening),
         Form::Batch if options.workers == 1 => report_of_batch(alloc, tables, file, opening),
         Form::Batch => {
-            let items = items_in(alloc, file)?;
+            let items = items_by(rt, alloc, file, options.workers)?;
             report_of_items(rt, alloc, tables, &items, options)
         }
     }

@@ -36,7 +36,8 @@ pub struct Named<'a> {
 }
 
 impl Named<'_> {
-    fn key(&self) -> Option<Key>
+    /// The vehicle, if both are identifiers.
+    pub(crate) fn key(&self) -> Option<Key>
         ensures { MatchOption result ((key : Vehicle) → IsNamed self.now key
             → ⊥) (IsNamed self.now) }
     {
@@ -123,7 +124,11 @@ pub fn debug_to<T: Read + Drop, R: Read + Drop, I: Read, W: Write, E: Write>(
 
 /// Tells the problem in one line, and answers its status. Where there is no memory to lay the line out, the problem that
 /// is told is that. Where the writer fails the status stays.
-fn tell_debug<E: Write>(alloc: Global, faults: &mut E, problem: DebugProblem<'_>) -> Status
+pub(crate) fn tell_debug<E: Write>(
+    alloc: Global,
+    faults: &mut E,
+    problem: DebugProblem<'_>,
+) -> Status
     ensures { ((result ≡ debug_status_of problem.entry)
         × TellsDebug (E.contents faults.old) (E.contents faults.new) problem.entry)
         ⊎ (IsOther problem.entry × (result ≡ Status.NoMemory)

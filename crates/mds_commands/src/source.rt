@@ -10,9 +10,11 @@ ghost use Rattle.mds_commands.specs.Source.{HasBytes, IsReadProblem, IsTableProb
 use crate::problem::{Problem, read_problem};
 use mds_batch::{EventItem, EventItems, TakesItems, each_event};
 use mds_io::{MAX_CALLS, ReadError, read_front};
+use mds_pieces::read_event_items_by;
 use mds_table::{MAX_BYTES, Table, Tables};
 use std::alloc::Global;
 use std::io::Read;
+use std::thread::Threads;
 
 /// How many bytes of a file are read at most: one more than are taken, so that a longer file is seen to be too long.
 pub(crate) const MAX_READ: usize = MAX_BYTES + 1;
@@ -110,17 +112,31 @@ fn tables_of_bytes<'a>(alloc: Global, bytes: &[u8]) -> Result<Tables, Problem<'a
     Ok(Tables::from_json(alloc, bytes)?)
 }
 
-/// The items of a batch in a file, close together.
-pub fn items_in<'a, R: Read + Drop>(
+/// The items of a batch in a file, close together, read by so many threads.
+pub fn items_by<'a, P: Threads + Sync, R: Read + Drop>(
+    rt: &P,
     alloc: Global,
     source: Source<'a, R>,
+    readers: usize,
 ) -> Result<EventItems, Problem<'a>>
     ensures ok { IfOk result (HasItemsIn Form.Batch R.remaining source.entry) }
     ensures err { IfErr result (ExplainsFile Form.Batch R.remaining source.entry) }
 {
-    let mut items = EventItems::new(alloc);
-    each_item_in(alloc, source, &mut items)?;
-    Ok(items)
+    let bytes = bytes_in(alloc, source)?;
+    items_of_bytes(rt, alloc, &bytes, readers)
+}
+
+/// What is wrong with the bytes is never told as a fault of what gave them.
+fn items_of_bytes<'a, P: Threads + Sync>(
+    rt: &P,
+    alloc: Global,
+    bytes: &[u8],
+    readers: usize,
+) -> Result<EventItems, Problem<'a>>
+    ensures items { IfOk result (HasItems IsEventItem bytes.now) }
+    ensures fault { IfErr result (IsBatchProblem bytes.now) }
+{
+    Ok(read_event_items_by(rt, alloc, bytes, readers)?)
 }
 
 /// Where the file has a fault, the taker has taken some of the items before it.

@@ -10,5 +10,5 @@ mod print;
 mod problem;
 mod taking;
 
-pub use command::vehicles_to;
+pub use command::{judge_journal, vehicles_to};
 pub use problem::{JournalProblem, tell_journal_problem};

@@ -14,7 +14,7 @@ use crate::{Desk, ServeFault, Served, read_plan};
 use mds_batch::BatchReader;
 use mds_book::RecordFault;
 use mds_core::{Key, Request};
-use mds_http::{Face, Head, Plan, answer_bytes, not_kept_bytes};
+use mds_http::{Face, Found, Head, Plan, answer_bytes, not_kept_bytes};
 use mds_io::{MAX_CALLS, ReadError, write_all_of};
 use std::alloc::{AllocError, Global};
 use std::io::{Read, Write};
@@ -40,6 +40,14 @@ pub trait KeptDesk: Desk {
     fn keep(&mut self, about: Option<Key>) -> Result<(), RecordFault>
         ensures kept { OnOk result (is_kept self.new about) }
         ensures keeps { keeps self.old result self.new };
+
+    /// Counts an answer that is about to be written: what was asked, what was found of it, and its status. It is called before
+    /// the first byte goes out, so that an answer counts whatever becomes of its client. A desk that counts nothing needs to do
+    /// nothing: no answer depends on it.
+    fn count_answer(&self, _plan: &Plan, _found: &Found, _status: u16) {}
+
+    /// Counts what was asked where no answer to it can be given, and why.
+    fn count_fault(&self, _plan: &Plan, _fault: RecordFault) {}
 }
 
 /// Why a connection at such a desk wasn't answered whole.
@@ -164,25 +172,43 @@ fn answer_kept<W: Write, D: KeptDesk>(
         (exchange_of desk.old desk.new (W.contents writer.old) (W.contents writer.new))) }
 {
     let Ok(found) = find(alloc, desk, &plan, request) else {
+        desk.count_fault(&plan, RecordFault::Memory);
         return Err(KeptFault::Serve(out_of_memory(writer)));
     };
     let Ok(answer) = answer_bytes(alloc, &plan, &found) else {
+        desk.count_fault(&plan, RecordFault::Memory);
         return Err(KeptFault::Serve(out_of_memory(writer)));
     };
     let served = served_of(&answer, &found);
     let of_history = is_of_history(&plan);
     let about = vehicle_of(&plan);
-    drop(found);
-    drop(plan);
     // Each of the two calls takes one.
     let vehicle = about;
-    match keep_if(desk, of_history, vehicle) {
+    let kept = keep_if(desk, of_history, vehicle);
+    count(desk, &plan, &found, served.status, &kept);
+    drop(found);
+    drop(plan);
+    match kept {
         Ok(()) => {}
         Err(fault) => return Err(not_kept(writer, fault)),
     }
     match write_kept(writer, desk, of_history, about, &answer.bytes) {
         Ok(()) => Ok(served),
         Err(fault) => Err(KeptFault::Serve(fault)),
+    }
+}
+
+/// Counts an answer that is recorded, or why it isn't.
+fn count<D: KeptDesk>(
+    desk: &D,
+    plan: &Plan,
+    found: &Found,
+    status: u16,
+    kept: &Result<(), RecordFault>,
+) {
+    match kept {
+        Ok(()) => desk.count_answer(plan, found, status),
+        Err(fault) => desk.count_fault(plan, *fault),
     }
 }
 

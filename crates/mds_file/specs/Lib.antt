@@ -1,3 +1,4 @@
 pub mod Calls
 pub mod DiskFile
 pub mod Fault
+pub mod NewFile

@@ -12,8 +12,10 @@
 mod disk_file;
 mod fault;
 mod lock;
+mod new_file;
 mod record;
 
 pub use disk_file::{DiskFile, Origin};
 pub use fault::FileFault;
 pub use lock::open_file;
+pub use new_file::{NewFile, NewFileFault, NewName};

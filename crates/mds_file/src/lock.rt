@@ -47,7 +47,7 @@ fn locked_file(rt: &HostRuntime, path: &str) -> Result<File, FileFault> {
 }
 
 /// Whether a regular file stands at a path, or nothing. To open a device can do something, and to open a pipe can wait.
-fn may_be_opened(rt: &HostRuntime, path: &str) -> io::Result<bool> {
+pub(crate) fn may_be_opened(rt: &HostRuntime, path: &str) -> io::Result<bool> {
     match fs::metadata(rt, path) {
         Ok(found) => Ok(found.is_file()),
         Err(error) if error.kind() == ErrorKind::NotFound => Ok(true),
@@ -56,14 +56,14 @@ fn may_be_opened(rt: &HostRuntime, path: &str) -> io::Result<bool> {
 }
 
 /// Whether a file is a regular one, and the one that stands at a path: another may have come there since it was opened.
-fn stands_at(rt: &HostRuntime, path: &str, file: &File) -> io::Result<bool> {
+pub(crate) fn stands_at(rt: &HostRuntime, path: &str, file: &File) -> io::Result<bool> {
     let (found, named) = (file.metadata()?, fs::metadata(rt, path)?);
     Ok(found.is_file() && found.dev() == named.dev() && found.ino() == named.ino())
 }
 
 /// The same file under a descriptor of its own. Where a standard stream was closed the system gives a file its number, and
 /// what is printed would go into the file.
-fn above_streams(file: File) -> io::Result<File> {
+pub(crate) fn above_streams(file: File) -> io::Result<File> {
     if file.as_raw_fd() > LAST_STREAM {
         return Ok(file);
     }
@@ -78,6 +78,11 @@ fn settle(rt: &HostRuntime, path: &str, file: &File) -> io::Result<()> {
     if advised != 0 {
         return Err(io::Error::from_raw_os_error(advised));
     }
+    sync_folder(rt, path)
+}
+
+/// Puts the name of a file on the disk, in its folder.
+pub(crate) fn sync_folder(rt: &HostRuntime, path: &str) -> io::Result<()> {
     let mut folder = fs::canonicalize(rt, path)?;
     folder.pop();
     File::open(rt, folder.as_str())?.sync_all()

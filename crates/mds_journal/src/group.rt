@@ -1,7 +1,7 @@
 //! Lines that are to be added to a journal together.
 ghost use Rattle.std.specs.Prelude.{◌≡◌, ◌+◌, ◌<◌, ◌≤◌, ◌↔◌, [], ◌∷◌, ◌++◌, length, take};
 ghost use Rattle.std.specs.Prelude.{IsErrOf, IsTrue, IfOk, OnOk, OnErr, IfNone, IfSome, slice_index};
-ghost use Rattle.mds_journal.specs.Lines.{HasNoFeed, at_rest, recovered_texts};
+ghost use Rattle.mds_journal.specs.Lines.{HasNoFeed, at_rest, open_lines, recovered_texts};
 
 use memchr::memchr;
 use std::alloc::{AllocError, Global};
@@ -112,6 +112,13 @@ impl Group {
         }
         self.bytes[used - 1] = OPEN_GATE;
         Ok(())
+    }
+
+    /// Its lines as they stand in a file once they count: with open gates.
+    pub fn open_lines(&self) -> &[u8]
+        ensures { result.now ≡ open_lines self.now }
+    {
+        &self.bytes[..self.bytes.len() - 1]
     }
 
     pub(crate) fn bytes(&self) -> &[u8]

@@ -4,8 +4,9 @@ ghost use Rattle.mds_face.specs.Exchange.{exchange_of, record_rules_of, rules_of
 ghost use Rattle.mds_face.specs.Reading.{ReadsNoFurther};
 ghost use Rattle.mds_face.specs.Kept.{IsServedKept, StopsKept};
 
+use crate::counting::Counter;
 use crate::{Ending, Port, PortFault};
-use mds_face::{Face, KeptDesk, KeptFault, Room, Served, serve_kept, serve_whole};
+use mds_face::{Face, KeptDesk, KeptFault, Room, ServeFault, Served, serve_kept, serve_whole};
 use std::alloc::Global;
 use std::marker::Model;
 
@@ -88,6 +89,16 @@ impl<P: Port> Answer<P> {
         match &self.served {
             Ok(Served { status: OK, .. }) => Ending::AtOnce,
             Ok(_) | Err(_) => Ending::InStages,
+        }
+    }
+
+    /// Counts the fixed answer that went out in place of one, if one did.
+    pub(crate) fn count_instead(&self, counter: &Counter<'_>) {
+        match &self.served {
+            Err(KeptFault::Serve(ServeFault::Memory { .. }) | KeptFault::NotKept { .. }) => {
+                counter.count_unavailable();
+            }
+            Ok(_) | Err(KeptFault::Serve(_) | KeptFault::Lost) => {}
         }
     }
 

@@ -3,6 +3,8 @@
 #![tactic(auto)]
 
 mod answering;
+mod counting;
+mod held;
 mod pool;
 mod port;
 mod recorded_book;
@@ -12,6 +14,7 @@ mod serving;
 mod worker;
 
 pub use answering::AnswerCount;
+pub use held::Held;
 pub use pool::{PoolCause, PoolFault, serve};
 pub use port::{Ending, Port, PortFault};
 pub use recorded_book::{RecordedBook, RecordedEnd, RecordedStop};

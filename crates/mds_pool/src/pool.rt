@@ -6,6 +6,7 @@ ghost use Rattle.mds_pool.specs.Pool.{pool_cause_text};
 ghost use Rattle.mds_pool.specs.Workers.{HasWorked};
 
 use crate::answering::{Answer, Connection};
+use crate::counting::Counter;
 use crate::recorded_desk::RecordedDesk;
 use crate::worker::{Round, Shift, ShiftFault, Worker, workers_at};
 use crate::{AnswerCount, NoRecord, Port, Recorder};
@@ -192,6 +193,7 @@ impl<R: Wait, P: Port, L: ShardLedger, M: ShardLedger, G: Gate, K: Recorder<L, M
         number: usize,
         each: usize,
     ) {
+        let counter = Counter::of(self.port.tally(number));
         let station = Station {
             rt: self.rt,
             alloc: self.alloc,
@@ -199,6 +201,7 @@ impl<R: Wait, P: Port, L: ShardLedger, M: ShardLedger, G: Gate, K: Recorder<L, M
             book,
             gate: self.gate,
             recorder: self.recorder,
+            counter: &counter,
         };
         worker.shift = station.work(face, &mut worker.seat, number, each);
     }
@@ -249,6 +252,7 @@ struct Station<'a, R: Wait, P: Port, L: ShardLedger, M: ShardLedger, G: Gate, K:
     book: &'a Book<L, M>,
     gate: &'a G,
     recorder: &'a K,
+    counter: &'a Counter<'a>,
 }
 
 impl<R: Wait, P: Port, L: ShardLedger, M: ShardLedger, G: Gate, K: Recorder<L, M>> Station<
@@ -278,6 +282,7 @@ impl<R: Wait, P: Port, L: ShardLedger, M: ShardLedger, G: Gate, K: Recorder<L, M
             };
             self.gate.enter(number, nth);
             let answer = self.answer(face, seat, &mut receipt, &mut room, connection);
+            answer.count_instead(self.counter);
             let is_lost = answer.is_lost();
             answered.add(self.port, answer);
             self.gate.leave(number, nth);
@@ -314,6 +319,7 @@ impl<R: Wait, P: Port, L: ShardLedger, M: ShardLedger, G: Gate, K: Recorder<L, M
             },
             recorder: self.recorder,
             receipt,
+            counter: self.counter,
         };
         let answer = answer_at_seat(self.alloc, face, self.port, connection, room, &mut desk);
         let RecordedDesk {
@@ -325,6 +331,7 @@ impl<R: Wait, P: Port, L: ShardLedger, M: ShardLedger, G: Gate, K: Recorder<L, M
             },
             recorder: _,
             receipt: _,
+            counter: _,
         } = desk;
         answer
     }

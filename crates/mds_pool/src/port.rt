@@ -3,6 +3,7 @@ ghost use Rattle.std.specs.Prelude.{◌≡◌, Some, IfSome};
 ghost use Rattle.mds_http.specs.HeadStatus.{IsHead};
 
 use mds_face::Head;
+use mds_metrics::Tally;
 use std::error::Error;
 use std::fmt;
 use std::io::{Read, Write};
@@ -54,6 +55,11 @@ pub trait Port {
         ensures bytes { IfSome result (λ found. Self.In.remaining _input.now ≡ Some found.0.now) }
         ensures head { IfSome result (λ found. IsHead found.0.now found.1) }
     {
+        None
+    }
+
+    /// Where the worker of this number counts what it answers, if that is counted. A port that counts nothing needs to do nothing.
+    fn tally(&self, _worker: usize) -> Option<&Tally> {
         None
     }
 

@@ -14,8 +14,8 @@ ghost use Rattle.mds_pool.specs.Serving.{AreWorkers, IsEnded, IsSettledEnd};
 use crate::pool::serve_round;
 use crate::recorder::Journal;
 use crate::serving::{open_book, settle};
-use crate::{Alarm, FinalBook, NewBook, Port, Stop};
-use mds_book::{Book, OpenGate, RecordFault, Seat, Settled, ShardLedger, SharedLedger};
+use crate::{Alarm, FinalBook, Held, NewBook, Port, Stop};
+use mds_book::{Book, Copies, OpenGate, RecordFault, Seat, Settled, ShardLedger, SharedLedger};
 use mds_face::Face;
 use mds_follow::{
     Disk, Follower, Record, RecordLog, RequestReader, SharedFollower, StartFault, resume,
@@ -138,6 +138,31 @@ impl<D: Device + Send, L: SharedLedger, M: SharedLedger, J: RecordLog> RecordedB
 }
 
 impl<F: Record + Drop, L: SharedLedger, M: SharedLedger, J: RecordLog> RecordedBook<F, L, M, J> {
+    /// What the book holds. All of it is looked at.
+    ///
+    /// # Errors
+    ///
+    /// `AllocError` where there is no memory to look at it.
+    pub fn held<R: Wait>(&self, rt: &R, alloc: Global) -> Result<Held, AllocError> {
+        let mut held = Held::nothing();
+        let Some(seat) = self.seats.first() else {
+            return Ok(held);
+        };
+        let (first, second) = seat.progress();
+        let (mut first, mut second) = (first.with_count(0), second.with_count(0));
+        let mut copies = Copies::new(alloc);
+        for _ in 0..u64::MAX {
+            copies.clear();
+            self.book.copy_first(rt, &mut first, &mut copies)?;
+            self.book.copy_second(rt, &mut second, &mut copies)?;
+            if copies.as_slice().is_empty() {
+                break;
+            }
+            held.add_all(copies.as_slice());
+        }
+        Ok(held)
+    }
+
     /// Serves a port over the book, by as many workers as the book has seats. Each worker answers `each` connections, and notes
     /// the calls that were accepted. No answer goes out before all is recorded that it rests on; where a write fails in place of
     /// it, the alarm is told. At the end all is recorded that was accepted, and the book is settled and handed out.
@@ -180,6 +205,8 @@ impl<F: Record + Drop, L: SharedLedger, M: SharedLedger, J: RecordLog> RecordedB
         ) else {
             return Err(RecordedStop::Serve(Stop::Memory));
         };
+        // Nobody answers who comes now.
+        port.stop();
         if round.is_lost {
             return Err(RecordedStop::Journal);
         }

@@ -2,9 +2,10 @@
 ghost use Rattle.std.specs.Prelude.{◌≡◌, OnOk};
 
 use crate::Recorder;
+use crate::counting::Counter;
 use mds_book::{Book, RecordFault, Seat, ShardLedger};
 use mds_core::{Event, EventList, Key, Reply, Request};
-use mds_face::{Desk, KeptDesk, SeatDesk};
+use mds_face::{Desk, Found, KeptDesk, Plan, SeatDesk};
 use mds_table::Row;
 use std::alloc::AllocError;
 use std::sync::Wait;
@@ -15,6 +16,7 @@ pub(crate) struct RecordedDesk<'a, R: Wait, L: ShardLedger, M: ShardLedger, K: R
     pub(crate) desk: SeatDesk<'a, R, L, M>,
     pub(crate) recorder: &'a K,
     pub(crate) receipt: &'a mut K::Receipt,
+    pub(crate) counter: &'a Counter<'a>,
 }
 
 impl<R: Wait, L: ShardLedger, M: ShardLedger, K: Recorder<L, M>> Desk
@@ -40,7 +42,11 @@ impl<R: Wait, L: ShardLedger, M: ShardLedger, K: Recorder<L, M>> Desk
         reply.outcome (called.answer).outcome };
 
     fn call(&mut self, request: &Request) -> Result<Reply, AllocError> {
-        self.desk.call(request)
+        let replied = self.desk.call(request);
+        if let Ok(reply) = &replied {
+            self.counter.count_accepted(request, reply.outcome);
+        }
+        replied
     }
 
     fn events(&mut self, key: &Key) -> Result<Option<Vec<Event>>, AllocError> {
@@ -73,6 +79,14 @@ impl<R: Wait, L: ShardLedger, M: ShardLedger, K: Recorder<L, M>> KeptDesk
             about,
             self.receipt,
         )
+    }
+
+    fn count_answer(&self, plan: &Plan, found: &Found, status: u16) {
+        self.counter.count_answer(plan, found, status);
+    }
+
+    fn count_fault(&self, plan: &Plan, fault: RecordFault) {
+        self.counter.count_fault(plan, fault);
     }
 }
 

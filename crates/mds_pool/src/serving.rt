@@ -157,6 +157,8 @@ where
     let gate = OpenGate;
     match serve_round(rt, alloc, &face, port, &book, list, each, &gate, &NoRecord) {
         Ok(round) => {
+            // Nobody answers who comes now.
+            port.stop();
             if round.failed {
                 return Err(Stop::Accept);
             }

@@ -12,5 +12,5 @@ mod watch;
 
 pub use mds_waiting::Given as SocketIn;
 pub use port::WaitingPort;
-pub use socket::{SocketOut, SocketPort, Sockets};
+pub use socket::{Listening, SocketOut, SocketPort, Sockets};
 pub use system::{Ready, System};

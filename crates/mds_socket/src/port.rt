@@ -10,14 +10,15 @@ ghost use Rattle.mds_waiting.specs.Requests.{BeginsWith};
 use crate::retry::{Retry, retry_of};
 use crate::spare::{LIST_BYTES, Spare, is_worth_keeping};
 use crate::system::{Ready, System};
-use crate::tables::Tables;
+use crate::tables::{Late, Tables};
 use mds_http::{Face, Head};
+use mds_metrics::{Board, Tally};
 use mds_pool::{Ending, Port, PortFault};
 use mds_waiting::{Coming, Given, Leaving, Look, MAX_WAIT, Outgoing, Peer, ROOM_BYTES, Waiter};
 use std::alloc::Global;
 use std::io;
 use std::sync::atomic::{AtomicU32, Ordering};
-use std::sync::{Mutex, Wait};
+use std::sync::{Arc, Mutex, Wait};
 
 /// How many new connections are taken before those that wait are looked at, how many looks are made then, and how often a worker
 /// waits first, once there was none to take.
@@ -25,6 +26,9 @@ const TURNS: u32 = 16;
 
 /// How many pauses are made at most for want of open files: 30 seconds of them.
 const MAX_PAUSES: u32 = 300;
+
+/// How long an answer is overdue, in milliseconds, where the process stood still: else it is let go sooner.
+const STALL_MILLIS: u64 = 5_000;
 
 /// A port from which any number of workers take connections.
 pub struct WaitingPort<S: System, R: Wait + Copy> {
@@ -36,6 +40,35 @@ pub struct WaitingPort<S: System, R: Wait + Copy> {
     /// Room that nobody uses. It is kept, so that a request which comes whole is answered, if only with 503, where no memory is left.
     spare: Mutex<Spare>,
     turn: AtomicU32,
+    /// Where figures are kept, if they are.
+    board: Option<Arc<Board>>,
+}
+
+/// How a connection waited that is looked at.
+#[derive(Clone, Copy)]
+struct Waited {
+    /// Since when.
+    begun: u64,
+    /// Whether its time is over, unless its client did something meanwhile.
+    is_late: bool,
+}
+
+impl Waited {
+    /// One that is looked at since it is ready.
+    fn ready(begun: u64) -> Waited {
+        Waited {
+            begun,
+            is_late: false,
+        }
+    }
+
+    /// One that is looked at for the last time.
+    fn late(begun: u64) -> Waited {
+        Waited {
+            begun,
+            is_late: true,
+        }
+    }
 }
 
 /// Both ends of a connection.
@@ -65,6 +98,19 @@ impl<S: System, R: Wait + Copy> WaitingPort<S, R> {
             tables: Mutex::new(Tables::new(alloc)),
             spare: Mutex::new(Spare::new(alloc)),
             turn: AtomicU32::new(0),
+            board: None,
+        }
+    }
+
+    /// From now on who waits is told to this board, and workers count in its tallies.
+    pub fn set_board(&mut self, board: Arc<Board>) {
+        self.board = Some(board);
+    }
+
+    /// Tells who waits now, if figures are kept.
+    fn tell(&self, tables: &mut Tables<S::Peer>) {
+        if let Some(board) = &self.board {
+            tables.tell(board);
         }
     }
 
@@ -166,55 +212,98 @@ impl<S: System, R: Wait + Copy> WaitingPort<S, R> {
         Ok(None)
     }
 
-    /// Lets go of one that is late, or else waits until something is ready, so many milliseconds at most, and looks at it.
+    /// Looks at one that is late, or else waits until something is ready, so many milliseconds at most, and looks at it.
     fn look_after(&self, longest: u64) -> Looked<S::Peer> {
-        let Some(patience) = self.patience() else {
-            return Looked::Other;
+        let patience = match self.patience() {
+            Ok(patience) => patience,
+            Err(late) => return self.look_at_late(late),
         };
         match self.system.wait(longest.min(patience)) {
             None => Looked::Nothing,
             Some(Ready::Listener) => Looked::New,
             Some(Ready::Coming(key)) => match self.take_coming(key) {
                 Some(waiter) => {
-                    self.look_at_coming(waiter.state, waiter.bytes, Some(waiter.begun))
+                    let waited = Waited::ready(waiter.begun);
+                    self.look_at_coming(waiter.state, waiter.bytes, Some(waited))
                 }
                 None => Looked::Other,
             },
             Some(Ready::Leaving(key)) => {
                 if let Some(waiter) = self.take_leaving(key) {
-                    self.look_at_leaving(waiter.state, waiter.bytes, Some(waiter.begun));
+                    let waited = Waited::ready(waiter.begun);
+                    self.look_at_leaving(waiter.state, waiter.bytes, Some(waited));
                 }
                 Looked::Other
             }
         }
     }
 
-    /// How long may be waited, in milliseconds. `None` where one was late, and was let go.
-    fn patience(&self) -> Option<u64> {
+    /// How long may be waited, in milliseconds; or one that is late, and waits no more.
+    fn patience(&self) -> Result<u64, Late<S::Peer>> {
         let now = self.system.now();
         let mut guard = self.tables.lock(&self.rt);
         let tables = &mut *guard;
         let _ = tables.set_taking(&self.system);
+        self.tell(tables);
         tables.patience(now)
+    }
+
+    /// Looks at a connection that is late for the last time: the process may have stood still, and what came meanwhile came in
+    /// time. It is let go unless its request is whole, or its client did something and has time left.
+    fn look_at_late(&self, late: Late<S::Peer>) -> Looked<S::Peer> {
+        match late {
+            Late::Coming(waiter) => {
+                let waited = Waited::late(waiter.begun);
+                self.look_at_coming(waiter.state, waiter.bytes, Some(waited))
+            }
+            Late::Leaving(waiter) => {
+                // The system may have room for a few bytes at any time, so that it takes some says nothing of the client.
+                let now = self.system.now().unwrap_or(0);
+                if now.saturating_sub(waiter.until) < STALL_MILLIS {
+                    self.count_late();
+                    return Looked::Other;
+                }
+                let waited = Waited::late(waiter.begun);
+                self.look_at_leaving(waiter.state, waiter.bytes, Some(waited));
+                Looked::Other
+            }
+        }
+    }
+
+    /// Counts a connection that is let go since it was late.
+    fn count_late(&self) {
+        let mut guard = self.tables.lock(&self.rt);
+        let tables = &mut *guard;
+        tables.late = tables.late.saturating_add(1);
+        self.tell(tables);
     }
 
     /// Lets go of the eldest connection whose request isn't whole, if it waited before this time: whether it did.
     fn let_eldest_go(&self, before: u64) -> bool {
         let mut guard = self.tables.lock(&self.rt);
         let tables = &mut *guard;
-        tables.coming.let_eldest_go(before)
+        let is_gone = tables.coming.let_eldest_go(before);
+        if is_gone {
+            tables.crowded = tables.crowded.saturating_add(1);
+        }
+        self.tell(tables);
+        is_gone
     }
 
     fn take_coming(&self, key: usize) -> Option<Waiter<Coming<S::Peer>>> {
         let mut guard = self.tables.lock(&self.rt);
         let tables = &mut *guard;
-        tables.coming.take(key)
+        let waiter = tables.coming.take(key);
+        self.tell(tables);
+        waiter
     }
 
     fn take_leaving(&self, key: usize) -> Option<Waiter<Leaving<S::Peer>>> {
         let mut guard = self.tables.lock(&self.rt);
         let tables = &mut *guard;
-        tables.leaving.take(key)
+        let waiter = tables.leaving.take(key);
+        self.tell(tables);
+        waiter
     }
 
     /// Looks at a connection that was just taken: it, if its request is whole.
@@ -225,14 +314,14 @@ impl<S: System, R: Wait + Copy> WaitingPort<S, R> {
         }
     }
 
-    /// Looks at a connection whose request comes; `begun`: since when, where it waited before. Without memory for room, it is lost.
+    /// Looks at a connection whose request comes; `waited`: how, where it waited before. Without memory for room, it is lost.
     fn look_at_coming(
         &self,
         mut state: Coming<S::Peer>,
         bytes: Vec<u8>,
-        begun: Option<u64>,
+        waited: Option<Waited>,
     ) -> Looked<S::Peer> {
-        let was_empty = bytes.is_empty();
+        let before = bytes.len();
         let Some((room, mut bytes)) = self.lend(bytes) else {
             return Looked::Other;
         };
@@ -243,11 +332,16 @@ impl<S: System, R: Wait + Copy> WaitingPort<S, R> {
             }
             Look::Waits => {
                 let now = self.system.now().unwrap_or(0);
-                if was_empty {
+                let waited = waited.unwrap_or(Waited::ready(now));
+                let begun = waited.begun;
+                let until = state.part.until(begun, now);
+                if waited.is_late && (bytes.len() == before || until <= now) {
+                    self.count_late();
+                    return Looked::Other;
+                }
+                if before == 0 {
                     bytes = self.in_own_room(bytes);
                 }
-                let begun = begun.unwrap_or(now);
-                let until = state.part.until(begun, now);
                 self.let_come(Waiter {
                     state,
                     bytes,
@@ -268,6 +362,7 @@ impl<S: System, R: Wait + Copy> WaitingPort<S, R> {
         let tables = &mut *guard;
         tables.let_come(&self.system, waiter);
         let _ = tables.set_taking(&self.system);
+        self.tell(tables);
     }
 
     /// Takes in what came of a request, by way of the room, which is kept.
@@ -340,19 +435,30 @@ impl<S: System, R: Wait + Copy> WaitingPort<S, R> {
         own
     }
 
-    /// Looks at a connection whose answer leaves; `begun`: since when, where it waited before.
-    fn look_at_leaving(&self, mut state: Leaving<S::Peer>, mut bytes: Vec<u8>, begun: Option<u64>) {
-        let before = state.part;
+    /// Looks at a connection whose answer leaves; `waited`: how, where it waited before.
+    fn look_at_leaving(
+        &self,
+        mut state: Leaving<S::Peer>,
+        mut bytes: Vec<u8>,
+        waited: Option<Waited>,
+    ) {
+        let (before, progress) = (state.part, state.progress());
         if state.look(&bytes) != Look::Waits {
             return;
         }
         let now = self.system.now().unwrap_or(0);
-        let mut begun = begun.unwrap_or(now);
+        let waited = waited.unwrap_or(Waited::ready(now));
+        let mut begun = waited.begun;
         if state.part != before {
             begun = now;
             bytes = Vec::new(self.alloc);
         }
         let until = state.part.until(begun, now);
+        let stood_still = state.part == before && state.progress() == progress;
+        if waited.is_late && (stood_still || until <= now) {
+            self.count_late();
+            return;
+        }
         self.let_leave(Waiter {
             state,
             bytes,
@@ -366,6 +472,7 @@ impl<S: System, R: Wait + Copy> WaitingPort<S, R> {
         let tables = &mut *guard;
         tables.let_leave(&self.system, waiter);
         let _ = tables.set_taking(&self.system);
+        self.tell(tables);
     }
 
     /// Whether an answer still leaves.
@@ -398,6 +505,7 @@ impl<S: System, R: Wait + Copy> Drop for WaitingPort<S, R> {
             tables: _,
             spare: _,
             turn: _,
+            board: _,
         } = self;
     }
 }
@@ -421,9 +529,17 @@ impl<S: System, R: Wait + Copy> Port for WaitingPort<S, R> {
         input.bytes_with_head()
     }
 
+    fn tally(&self, worker: usize) -> Option<&Tally> {
+        match &self.board {
+            Some(board) => board.tally(worker),
+            None => None,
+        }
+    }
+
     fn end(&self, input: Given, output: Outgoing<S::Peer>, ending: Ending) {
-        // A client that sent more than its request goes on sending, maybe: let go at once, it would lose its answer.
-        let is_over = ending == Ending::AtOnce && input.is_over();
+        // A client that sent more than its request goes on sending, maybe, and so does one that announced a body which isn't
+        // read: let go at once, it would lose its answer.
+        let is_over = ending == Ending::AtOnce && input.is_over() && !input.announces_body();
         let Outgoing {
             peer,
             rest,

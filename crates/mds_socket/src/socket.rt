@@ -127,8 +127,39 @@ impl<R: Clock + Copy> System for Sockets<R> {
         let _ = self.socket.shutdown(Shutdown::Both);
     }
 
+    /// So the system refuses who comes then, in place of letting them wait for nobody.
     fn end(&self) {
         self.watch.end(&self.listener);
+        self.stop();
+    }
+}
+
+/// A socket that listens, and of which no connection is taken yet. It rests on no runtime that may wait, so a thread can have it
+/// before it has a port.
+#[derive(Drop)]
+pub struct Listening<C: Clock + Copy> {
+    sockets: Sockets<C>,
+    face: Face,
+}
+
+impl<C: Clock + Copy> Listening<C> {
+    /// A socket that listens at 127.0.0.1 and the port of this number, or a free one for 0.
+    ///
+    /// # Errors
+    ///
+    /// What the system answers where the port can't be had; `OutOfMemory` where there is no memory for it.
+    pub fn bind<N: Net>(net: &N, alloc: Global, clock: C, number: u16) -> io::Result<Listening<C>> {
+        let Ok(face) = Face::open(alloc) else {
+            return Err(io::Error::from(ErrorKind::OutOfMemory));
+        };
+        let sockets = Sockets::bind(net, clock, number)?;
+        Ok(Listening { sockets, face })
+    }
+
+    /// The port from which workers take its connections.
+    pub fn into_port<R: Wait + Copy>(self, alloc: Global, rt: R) -> WaitingPort<Sockets<C>, R> {
+        let Listening { sockets, face } = self;
+        WaitingPort::new(alloc, rt, sockets, face)
     }
 }
 
@@ -139,11 +170,8 @@ impl<R: Wait + Clock + Copy> SocketPort<R> {
     ///
     /// What the system answers where the port can't be had; `OutOfMemory` where there is no memory for it.
     pub fn bind<N: Net>(net: &N, alloc: Global, rt: R, number: u16) -> io::Result<SocketPort<R>> {
-        let Ok(face) = Face::open(alloc) else {
-            return Err(io::Error::from(ErrorKind::OutOfMemory));
-        };
-        let sockets = Sockets::bind(net, rt, number)?;
-        Ok(WaitingPort::new(alloc, rt, sockets, face))
+        let listening = Listening::bind(net, alloc, rt, number)?;
+        Ok(listening.into_port(alloc, rt))
     }
 
     /// The number of the port at which it listens.

@@ -48,6 +48,6 @@ pub trait System: Drop {
     /// From now on a new connection is told, and none can be taken.
     fn stop(&self);
 
-    /// From now on no new connection is told.
+    /// From now on no new connection is told, and who comes is refused.
     fn end(&self);
 }

@@ -1,9 +1,10 @@
 //! The connections that wait: those whose requests come, and those whose answers leave.
-ghost use Rattle.std.specs.Prelude.{◌≡◌, ◌↔◌, ◌⊎◌, All, count_by, is_some, IfNone, IfSome, Some, true, false, slice_set, vec_len};
+ghost use Rattle.std.specs.Prelude.{◌≡◌, ◌↔◌, ◌⊎◌, All, count_by, is_some, IfNone, IfSome, OnErr, OnOk, Some, true, false, slice_set, vec_len};
 ghost use Rattle.mds_waiting.specs.Waiting.{HasRoom, IsInTime, IsVacant, Joins};
 ghost use Rattle.mds_socket.specs.Tables.{LeavesLate};
 
 use crate::system::{Ready, System};
+use mds_metrics::{Board, Gauge};
 use mds_waiting::{Coming, Leaving, Part, Peer, Waiter, Waiting};
 use std::alloc::Global;
 
@@ -14,6 +15,55 @@ pub(crate) struct Tables<P> {
     pub(crate) leaving: Waiting<Leaving<P>>,
     /// Whether a worker that takes a new connection may wait for it.
     may_wait: bool,
+    /// How many were let go since they were late.
+    pub(crate) late: u64,
+    /// How many were let go to make room for others.
+    pub(crate) crowded: u64,
+    /// What was told last.
+    told: Levels,
+}
+
+/// Who waits, and who was let go.
+#[derive(Clone, Copy, PartialEq, Eq)]
+struct Levels {
+    coming: usize,
+    coming_bytes: usize,
+    leaving: usize,
+    leaving_bytes: usize,
+    late: u64,
+    crowded: u64,
+}
+
+impl Levels {
+    /// Nobody.
+    fn none() -> Levels {
+        Levels {
+            coming: 0,
+            coming_bytes: 0,
+            leaving: 0,
+            leaving_bytes: 0,
+            late: 0,
+            crowded: 0,
+        }
+    }
+
+    fn tell(&self, board: &Board) {
+        board.set(Gauge::Coming, self.coming as u64);
+        board.set(Gauge::ComingBytes, self.coming_bytes as u64);
+        board.set(Gauge::Leaving, self.leaving as u64);
+        board.set(Gauge::LeavingBytes, self.leaving_bytes as u64);
+        board.set(Gauge::DroppedLate, self.late);
+        board.set(Gauge::DroppedForRoom, self.crowded);
+    }
+}
+
+/// A connection that was late, and waits no more.
+#[derive(Drop)]
+pub(crate) enum Late<P> {
+    /// Its request wasn't whole.
+    Coming(Waiter<Coming<P>>),
+    /// Its answer hadn't left, or its client hadn't ended.
+    Leaving(Waiter<Leaving<P>>),
 }
 
 impl<P: Peer> Tables<P> {
@@ -23,6 +73,28 @@ impl<P: Peer> Tables<P> {
             coming: Waiting::new(alloc),
             leaving: Waiting::new(alloc),
             may_wait: false,
+            late: 0,
+            crowded: 0,
+            told: Levels::none(),
+        }
+    }
+
+    /// Tells who waits now, and who was let go, where that isn't what was told last.
+    pub(crate) fn tell(&mut self, board: &Board)
+        ensures coming { self.new.coming ≡ self.old.coming }
+        ensures leaving { self.new.leaving ≡ self.old.leaving }
+    {
+        let levels = Levels {
+            coming: self.coming.len(),
+            coming_bytes: self.coming.held_bytes(),
+            leaving: self.leaving.len(),
+            leaving_bytes: self.leaving.held_bytes(),
+            late: self.late,
+            crowded: self.crowded,
+        };
+        if levels != self.told {
+            levels.tell(board);
+            self.told = levels;
         }
     }
 
@@ -43,25 +115,28 @@ impl<P: Peer> Tables<P> {
         may_wait
     }
 
-    /// How long may be waited from this time on, if the clock tells one, in milliseconds. `None` where one was late, and was
-    /// let go: a late request goes before a late answer.
-    pub(crate) fn patience(&mut self, now: Option<u64>) -> Option<u64>
-        ensures late { IfNone result
+    /// How long may be waited from this time on, if the clock tells one, in milliseconds.
+    ///
+    /// # Errors
+    ///
+    /// One that was late, and waits no more: a late request goes before a late answer.
+    pub(crate) fn patience(&mut self, now: Option<u64>) -> Result<u64, Late<P>>
+        ensures late { OnErr result
             ((LeavesLate now self.old.coming self.new.coming × (self.new.leaving ≡ self.old.leaving))
             ⊎ ((self.new.coming ≡ self.old.coming) × All (IsInTime now) self.old.coming
             × LeavesLate now self.old.leaving self.new.leaving)) }
-        ensures coming { IfSome result (λ _. self.new.coming ≡ self.old.coming) }
-        ensures leaving { IfSome result (λ _. self.new.leaving ≡ self.old.leaving) }
-        ensures none { IfSome result (λ _. All (IsInTime now) self.old.coming
+        ensures coming { OnOk result (self.new.coming ≡ self.old.coming) }
+        ensures leaving { OnOk result (self.new.leaving ≡ self.old.leaving) }
+        ensures none { OnOk result (All (IsInTime now) self.old.coming
             × All (IsInTime now) self.old.leaving) }
     {
-        if let_late_go(&mut self.coming, now) {
-            return None;
+        if let Some(waiter) = take_late(&mut self.coming, now) {
+            return Err(Late::Coming(waiter));
         }
-        if let_late_go(&mut self.leaving, now) {
-            return None;
+        if let Some(waiter) = take_late(&mut self.leaving, now) {
+            return Err(Late::Leaving(waiter));
         }
-        Some(self.coming.patience(now).min(self.leaving.patience(now)))
+        Ok(self.coming.patience(now).min(self.leaving.patience(now)))
     }
 
     /// Lets a connection wait until more of its request comes. Where the system can't be asked when, it is let go.
@@ -73,7 +148,11 @@ impl<P: Peer> Tables<P> {
         ensures joins { Joins (vec_len waiter.bytes) self.old.coming self.new.coming }
         ensures leaving { self.new.leaving ≡ self.old.leaving }
     {
-        let Some(key) = self.coming.key_for(waiter.bytes.len()) else {
+        let before = self.coming.len();
+        let key = self.coming.key_for(waiter.bytes.len());
+        let gone = before.saturating_sub(self.coming.len());
+        self.crowded = self.crowded.saturating_add(gone as u64);
+        let Some(key) = key else {
             return;
         };
         let is_asked = system.ask(&mut waiter.state.peer, Ready::Coming(key), false);
@@ -90,7 +169,11 @@ impl<P: Peer> Tables<P> {
         ensures coming { self.new.coming ≡ self.old.coming }
     {
         let for_sending = waiter.state.part == Part::Answer;
-        let Some(key) = self.leaving.key_for(waiter.bytes.len()) else {
+        let before = self.leaving.len();
+        let key = self.leaving.key_for(waiter.bytes.len());
+        let gone = before.saturating_sub(self.leaving.len());
+        self.crowded = self.crowded.saturating_add(gone as u64);
+        let Some(key) = key else {
             return;
         };
         let is_asked = system.ask(&mut waiter.state.peer, Ready::Leaving(key), for_sending);
@@ -98,19 +181,14 @@ impl<P: Peer> Tables<P> {
     }
 }
 
-/// Lets go of the connection whose time is over first, if it is over now: whether it is.
-fn let_late_go<S: Drop>(waiting: &mut Waiting<S>, now: Option<u64>) -> bool
-    ensures late { result ≡ true → LeavesLate now waiting.old waiting.new }
-    ensures none { result ≡ false → All (IsInTime now) waiting.old }
-    ensures same { result ≡ false → waiting.new ≡ waiting.old }
+/// Takes the connection whose time is over first, if it is over now.
+fn take_late<S: Drop>(waiting: &mut Waiting<S>, now: Option<u64>) -> Option<Waiter<S>>
+    ensures late { IfSome result (λ _. LeavesLate now waiting.old waiting.new) }
+    ensures none { IfNone result (All (IsInTime now) waiting.old) }
+    ensures same { IfNone result (waiting.new ≡ waiting.old) }
 {
-    match waiting.find_late(now) {
-        Some(key) => {
-            let _ = waiting.take(key);
-            true
-        }
-        None => false,
-    }
+    let key = waiting.find_late(now)?;
+    waiting.take(key)
 }
 
 /// Lets a connection wait under this key if the system could be asked about it. Else it is let go.

@@ -4,6 +4,7 @@ ghost use Rattle.mds_http.specs.HeadStatus.{IsHead};
 ghost use Rattle.mds_waiting.specs.Requests.{BeginsWith, IsRequestAlone};
 
 use mds_http::Head;
+use memchr::memchr;
 use std::io::{self, Read};
 use std::marker::Model;
 
@@ -63,6 +64,18 @@ impl Given {
         }
     }
 
+    /// Whether the head announces a body, and the request has none: a GET may come with one (RFC 9110, section 9.3.1), which isn't
+    /// waited for.
+    pub fn announces_body(&self) -> bool {
+        match self.head {
+            Some(head) if head.len == 0 => match self.bytes.get(..head.start) {
+                Some(lines) => announces_body(lines),
+                None => false,
+            },
+            _ => false,
+        }
+    }
+
     /// The list of all bytes, given or not: its room can be used again.
     pub fn into_bytes(self) -> Vec<u8> {
         let Given { bytes, .. } = self;
@@ -90,5 +103,36 @@ impl Read for Given {
 
     fn read(&mut self, buf: &mut [u8]) -> io::Result<usize> {
         Ok(self.give(buf))
+    }
+}
+
+/// The field that says how many bytes a body has (RFC 9110, section 8.6).
+const LENGTH_FIELD: &[u8] = b"content-length";
+
+/// Whether one of the lines says that a body has some bytes.
+fn announces_body(lines: &[u8]) -> bool {
+    let mut rest = lines;
+    while let Some(at) = memchr(b'\n', rest) {
+        if is_length_of_some(&rest[..at]) {
+            return true;
+        }
+        rest = match rest[at..].split_first() {
+            Some((_, later)) => later,
+            None => return false,
+        };
+    }
+    false
+}
+
+fn is_length_of_some(line: &[u8]) -> bool {
+    match (
+        line.get(..LENGTH_FIELD.len()),
+        line.get(LENGTH_FIELD.len()..),
+    ) {
+        (Some(name), Some(value)) => {
+            name.eq_ignore_ascii_case(LENGTH_FIELD)
+                && value.iter().any(|byte| matches!(*byte, b'1'..=b'9'))
+        }
+        _ => false,
     }
 }

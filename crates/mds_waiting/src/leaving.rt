@@ -47,6 +47,12 @@ impl<S: Peer> Leaving<S> {
         }
     }
 
+    /// How many bytes were sent, and thrown away behind the answer: more, where the client did something.
+    pub fn progress(&self) -> usize {
+        self.sent
+            .saturating_add(MAX_LAST_BYTES.saturating_sub(self.left))
+    }
+
     /// Sends what the client takes of the answer, which has these bytes, and ends the connection behind that.
     pub fn look(&mut self, bytes: &[u8]) -> Look
         ensures sent { SendsPart (S.sent self.old.peer) (S.sent self.new.peer) bytes.now

@@ -9,6 +9,7 @@ use mds_batch::{
     VehicleItem, read_event_items, read_events, read_vehicles,
 };
 use mds_core::Position;
+use mds_pieces::read_event_items_by;
 use mds_table::State;
 use std::alloc::{AllocError, Global};
 pub use takers::Few;
@@ -97,6 +98,7 @@ fn call_succeeds_after_a_refused_growth(rt: HostRuntime) {
     let kept = first_kept(again!(read_event_items(rt.alloc(), TWO_ITEMS)));
     let mut reader = BatchReader::new(rt.alloc());
     let read = first_kept(again!(reader.read(rt.alloc(), TWO_ITEMS)));
+    let shared = first_kept(again!(read_event_items_by(&rt, rt.alloc(), TWO_ITEMS, 2)));
     let expected = Ok((2, Some(ItemFault::Missing(Member::DeviceId))));
-    assert_eq!(rt; [vehicles, events, kept, read], [expected; 4]);
+    assert_eq!(rt; [vehicles, events, kept, read, shared], [expected; 5]);
 }

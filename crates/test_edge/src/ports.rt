@@ -246,10 +246,13 @@ const CASES: &[Case] = rows! {
     ], Some(1), 9, [23, 18], [4, 0]),
     // One is reset in the answer, of which it took two bytes.
     (&[Turn::Comes(IN_ANSWER), Turn::Tells(Ready::Leaving(0)), Turn::Comes(WHOLE)], Some(1), 9, [18, 18], [1, 0]),
-    // The clock fails: who waits is let go, and a request that is there is handed out.
-    (&[Turn::Comes(PART), Turn::Tells(Ready::Coming(0)), Turn::Comes(WHOLE)], None, 9, [18, 0], [1, 0]),
+    // The clock fails: who waits is let go, but where the rest is there by then, and a request that is there is handed out.
+    (&[Turn::Comes(LATE), Turn::Tells(Ready::Coming(0)), Turn::Comes(WHOLE)], None, 9, [18, 0], [1, 0]),
+    (&[Turn::Comes(PART), Turn::Tells(Ready::Coming(0)), Turn::Comes(WHOLE)], None, 9, [23, 18], [1, 0]),
     // A head isn't there after 10 seconds, and a request, whose head came late, after 60: its connection is let go.
-    (&[Turn::Comes(PART), Turn::After(10_000), Turn::Tells(Ready::Coming(0)), Turn::Comes(WHOLE)], Some(0), 9, [18, 0], [1, 0]),
+    (&[Turn::Comes(LATE), Turn::After(10_000), Turn::Tells(Ready::Coming(0)), Turn::Comes(WHOLE)], Some(0), 9, [18, 0], [1, 0]),
+    // What came while the process stood still is looked at first.
+    (&[Turn::Comes(PART), Turn::After(10_000), Turn::Tells(Ready::Coming(0)), Turn::Comes(WHOLE)], Some(0), 9, [23, 18], [1, 0]),
     (&[
         Turn::Comes(PIECES), Turn::After(9_000), Turn::Tells(Ready::Coming(0)), Turn::After(25_000), Turn::Tells(Ready::Coming(0)),
         Turn::After(26_000), Turn::Tells(Ready::Coming(0)), Turn::Comes(WHOLE),

@@ -1,6 +1,6 @@
 //! Journals in files of the system. A test runs in a folder of its own.
 use crate::ahead::ROOM;
-use mds_file::{FileFault, open_file};
+use mds_file::{FileFault, NewFile, NewFileFault, NewName, open_file};
 use mds_journal::{Device, Group, read_all};
 use std::alloc::Global;
 use std::fs;
@@ -80,4 +80,78 @@ fn told(rt: &HostRuntime) -> Option<(bool, bool)> {
 #[test]
 fn faults_are_told_after_a_refused_growth(rt: HostRuntime) {
     assert_eq!(rt; told(&rt).or_else(|| told(&rt)), Some((true, true)));
+}
+
+/// Makes a file with these bytes under a name, over what an earlier process left.
+fn make(rt: &HostRuntime, path: &str, bytes: &[u8]) -> Result<(), NewFileFault> {
+    let mut name = NewFile::<Brand>::at(*rt, rt.alloc(), path)?;
+    name.is_free()?;
+    let mut file = name.draft()?;
+    file.write_at(0, bytes)?;
+    file.sync()?;
+    name.link(file)
+}
+
+/// Whether a new file is made with its bytes and loses its other name, and whether none is made over it.
+fn made(rt: &HostRuntime) -> Option<(bool, bool)> {
+    let _ = fs::remove_file(rt, "new");
+    fs::write(rt, "new.part", b"what was left there").ok()?;
+    make(rt, "new", b"all").ok()?;
+    let is_alone = !fs::exists(rt, "new.part").ok()?;
+    let again = make(rt, "new", b"other").err();
+    if again == Some(NewFileFault::Memory) {
+        return None;
+    }
+    let bytes = fs::read(rt, "new").ok()?;
+    let is_whole = bytes.as_slice() == b"all".as_slice();
+    Some((is_alone && is_whole, again == Some(NewFileFault::IsThere)))
+}
+
+#[test]
+fn a_new_file_is_made_after_a_refused_growth(rt: HostRuntime) {
+    assert_eq!(rt; made(&rt).or_else(|| made(&rt)), Some((true, true)));
+}
+
+/// What is told where a file comes under the name while the new one is written, and whether that stays and the other one goes.
+fn overtaken(rt: &HostRuntime) -> Option<(Option<NewFileFault>, bool)> {
+    let _ = fs::remove_file(rt, "late");
+    let mut name = NewFile::<Brand>::at(*rt, rt.alloc(), "late").ok()?;
+    let mut file = name.draft().ok()?;
+    file.write_at(0, b"new").ok()?;
+    file.sync().ok()?;
+    fs::write(rt, "late", b"other").ok()?;
+    let told = name.link(file).err();
+    if told == Some(NewFileFault::Memory) {
+        return None;
+    }
+    let is_other = fs::read(rt, "late").ok()?.as_slice() == b"other".as_slice();
+    Some((told, is_other && !fs::exists(rt, "late.part").ok()?))
+}
+
+#[test]
+fn a_file_that_came_stays_after_a_refused_growth(rt: HostRuntime) {
+    assert_eq!(rt;
+        overtaken(&rt).or_else(|| overtaken(&rt)),
+        Some((Some(NewFileFault::IsThere), true))
+    );
+}
+
+/// What is told of a file that another one makes, and whether it goes where it's let go.
+fn held(rt: &HostRuntime) -> Option<(Option<NewFileFault>, bool)> {
+    let mut name = NewFile::<Brand>::at(*rt, rt.alloc(), "shared").ok()?;
+    let file = name.draft().ok()?;
+    let told = name.draft().err();
+    if told == Some(NewFileFault::Memory) {
+        return None;
+    }
+    name.discard(file);
+    Some((told, !fs::exists(rt, "shared.part").ok()?))
+}
+
+#[test]
+fn a_file_in_work_is_left_after_a_refused_growth(rt: HostRuntime) {
+    assert_eq!(rt;
+        held(&rt).or_else(|| held(&rt)),
+        Some((Some(NewFileFault::CannotWrite), true))
+    );
 }

@@ -3,11 +3,12 @@ ghost use Rattle.mds_trace.specs.WithFault.{IsWorkerCount};
 
 use crate::told::FIVE_EVENTS as FIVE_EVENTS_IN_LINES;
 use mds_commands::{
-    Form, Named, Problem, ReplayOptions, Source, debug_live_to, debug_to, replay_to,
+    Form, Named, Problem, ReplayOptions, Source, debug_live_to, debug_to, judge_journal, replay_to,
     replay_unlimited_to, table_to, tables_in, tell, torn_to,
 };
 use mds_trace::Opening;
 use std::alloc::Global;
+use std::random::RandomSource;
 use std::thread::Threads;
 use test_fixtures::{Expects, PAUSES, Stream, again, fence, rows};
 
@@ -259,6 +260,24 @@ fn tables_are_had_after_a_refused_growth(rt: HostRuntime) {
     let profile = table_count(rt.alloc(), None);
     let two = table_count(rt.alloc(), Some(TWO_TABLES));
     assert_eq!(rt; (profile, two), (1, 2));
+}
+
+/// A journal of one registration.
+const JOURNAL: &str = " {\"form\":\"mds_city\",\"version\":1}
+ {\"device_id\":\"00000000-0000-4000-8000-00000000000a\",\"provider_id\":\"00000000-0000-4000-8000-000000000001\"}
+";
+
+/// Whether the requests of a journal are accepted over two tables, judged again where a growth is refused.
+fn is_accepted<R: RandomSource>(rt: &R, alloc: Global, text: &str) -> bool {
+    let judged = again!(judge_journal(rt, alloc, source_of(Some(TWO_TABLES)), file("J", text)));
+    judged.is_ok()
+}
+
+#[test]
+fn a_journal_is_judged_after_a_refused_growth(rt: HostRuntime) {
+    let whole = is_accepted(&rt, rt.alloc(), JOURNAL);
+    let none = is_accepted(&rt, rt.alloc(), "");
+    assert_eq!(rt; (whole, none), (true, false));
 }
 
 /// What is answered to the want of memory, whether it was told, and the status of a table file that was not opened.

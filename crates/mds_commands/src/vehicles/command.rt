@@ -1,10 +1,12 @@
 //! The command, over any reader, writers and table file.
 ghost use Rattle.std.specs.Prelude.{List, IfOk, IfErr, OnOk};
+ghost use Rattle.mds_table.specs.Tables.{Tables as TableList};
 ghost use Rattle.mds_core.specs.declared.request.Request.{Request};
 ghost use Rattle.mds_commands.specs.Roster.{IsRosterOf};
 ghost use Rattle.mds_commands.specs.Files.{files_of};
 ghost use Rattle.mds_commands.specs.Change.{change_of};
-ghost use Rattle.mds_commands.specs.Listing.{CameToListing, ExplainsJournal, ExplainsListing, IsTakenIn, Listed, ListingWentOut};
+ghost use Rattle.mds_commands.specs.Listing.{CameToListing, ExplainsJournal, ExplainsJudging, ExplainsListing, HasHistory, IsTakenIn, Listed, ListingWentOut};
+ghost use Rattle.mds_commands.specs.Source.{HasTablesIn};
 
 use crate::problem::Problem;
 use crate::roster::Roster;
@@ -56,13 +58,50 @@ fn vehicles_into<'a, P: RandomSource, T: Read + Drop, R: Read + Drop, W: Write>(
         × ListingWentOut (files_of T.remaining table.entry R.remaining file.entry) problem
         (W.contents out.old) (W.contents out.new)) }
 {
+    let roster = roster_over(rt, alloc, table, file)?;
+    print_roster(alloc, out, &roster)?;
+    Ok(())
+}
+
+/// Judges the requests of a journal over the tables of a table file, or where none is given over the profile's: each has to be
+/// accepted.
+///
+/// # Errors
+///
+/// Those of [`vehicles_to`], but for an output that fails.
+pub fn judge_journal<'a, P: RandomSource, T: Read + Drop, R: Read + Drop>(
+    rt: &P,
+    alloc: Global,
+    table: Option<Source<'a, T>>,
+    file: Source<'a, R>,
+) -> Result<(), JournalProblem<'a>>
+    ensures ok { OnOk result ((history : List Request)
+        × HasHistory (files_of T.remaining table.entry R.remaining file.entry) history) }
+    ensures err { IfErr result (ExplainsJudging
+        (files_of T.remaining table.entry R.remaining file.entry)) }
+{
+    roster_over(rt, alloc, table, file)?;
+    Ok(())
+}
+
+/// The roster of a journal over the tables of a table file.
+fn roster_over<'a, P: RandomSource, T: Read + Drop, R: Read + Drop>(
+    rt: &P,
+    alloc: Global,
+    table: Option<Source<'a, T>>,
+    file: Source<'a, R>,
+) -> Result<Roster, JournalProblem<'a>>
+    ensures ok { IfOk result (λ roster. (tables : TableList) × (history : List Request)
+        × HasTablesIn T.remaining table.entry tables × IsTakenIn R.remaining file.entry history
+        × IsRosterOf tables history roster) }
+    ensures err { IfErr result (ExplainsJudging
+        (files_of T.remaining table.entry R.remaining file.entry)) }
+{
     let tables = tables_in(alloc, table)?;
     let Ok(hasher) = RandomState::new(rt) else {
         return Err(JournalProblem::Other(Problem::Random));
     };
-    let roster = roster_in(alloc, tables, hasher, file)?;
-    print_roster(alloc, out, &roster)?;
-    Ok(())
+    roster_in(alloc, tables, hasher, file)
 }
 
 fn roster_in<'a, R: Read + Drop>(

@@ -11,7 +11,7 @@ use mds_book::{NamedLedger, Packed};
 use mds_follow::{Disk, RecordLog, RequestReader};
 use mds_journal::{Device, Memory};
 use mds_log::BlankLog;
-use mds_pool::{Alarm, NewBook, Port, RecordedBook};
+use mds_pool::{Alarm, Held, NewBook, Port, RecordedBook};
 use std::alloc::Global;
 use std::marker::Brand;
 use std::random::RandomSource;
@@ -36,8 +36,8 @@ impl Alarm for Silence {
     fn tell_not_kept(&self) {}
 }
 
-/// How many requests a book accepted that was opened over a journal and served the port, with those of the journal; and the
-/// journal in the end.
+/// What a book held that was opened over a journal; how many requests it accepted once it served the port, with those of the
+/// journal; and the journal in the end.
 fn ended<
     D: Device + Drop + Send,
     R: Threads + Wait + Sync,
@@ -52,7 +52,7 @@ fn ended<
     opening: NewBook,
     reader: RequestReader<D>,
     log: BlankLog,
-) -> Result<(u128, Disk<D>), Lack>
+) -> Result<(Held, u128, Disk<D>), Lack>
 where
     P::In: Send,
     P::Out: Send,
@@ -77,25 +77,35 @@ where
     let Ok(book) = opened else {
         return Err(Lack::Memory);
     };
+    let held = book.held(rt, alloc)?;
     match book.serve(rt, alloc, port, 2, &Silence) {
-        Ok(end) => Ok((end.book.settled.accepted(), end.file)),
+        Ok(end) => Ok((held, end.book.settled.accepted(), end.file)),
         Err(_) => Err(Lack::Memory),
     }
 }
 
-/// How many requests a new book of two seats accepted over the journal, where A and B are each to be registered twice; the bytes of
-/// the journal in the end; and how many answers of status 200 were begun.
-fn ended_over<R: Threads + Wait + RandomSource + Sync>(
-    rt: &R,
-    alloc: Global,
-) -> Result<(u128, Vec<u8>, usize), Lack> {
+/// What came of a book.
+#[derive(Drop)]
+struct End {
+    /// What it held when it was opened.
+    held: Held,
+    /// How many requests it accepted, with those of the journal.
+    accepted: u128,
+    /// The bytes of the journal.
+    bytes: Vec<u8>,
+    /// How many answers of status 200 were begun.
+    good: usize,
+}
+
+/// What came of a new book of two seats over the journal, where A and B are each to be registered twice.
+fn ended_over<R: Threads + Wait + RandomSource + Sync>(rt: &R, alloc: Global) -> Result<End, Lack> {
     let counts = Counts::new();
     let port = Listed::new(TWICE, &counts);
     let opening = opening(rt, alloc, 2)?;
     let Ok(reader) = RequestReader::open(alloc, Memory::new(alloc, BEFORE)?) else {
         return Err(Lack::Memory);
     };
-    let (accepted, disk) = ended::<Memory, R, Listed<'_>, Brand, Brand, Brand>(
+    let (held, accepted, disk) = ended::<Memory, R, Listed<'_>, Brand, Brand, Brand>(
         rt,
         alloc,
         &port,
@@ -104,16 +114,29 @@ fn ended_over<R: Threads + Wait + RandomSource + Sync>(
         BlankLog::new(),
     )?;
     let bytes = Vec::from_slice(alloc, disk.journal.device.bytes())?;
-    Ok((accepted, bytes, counts.good.load(Ordering::SeqCst)))
+    Ok(End {
+        held,
+        accepted,
+        bytes,
+        good: counts.good.load(Ordering::SeqCst),
+    })
 }
+
+/// A registration, and no event.
+const ONE_VEHICLE: Held = Held {
+    vehicles: 1,
+    requests: 1,
+    newest: 0,
+};
 
 /// Whether the book comes to its end, begun again where there was no memory: with A of the journal and B, both in the journal.
 fn comes_to_its_end<R: Threads + Wait + RandomSource + Sync>(
     rt: &R,
     alloc: Global,
 ) -> Result<bool, Lack> {
-    let (accepted, bytes, good) = again!(ended_over(rt, alloc))?;
-    Ok(accepted == 2 && room_behind(&bytes, AFTER).is_some() && good >= 3)
+    let end = again!(ended_over(rt, alloc))?;
+    let is_kept = room_behind(&end.bytes, AFTER).is_some();
+    Ok(end.held == ONE_VEHICLE && end.accepted == 2 && is_kept && end.good >= 3)
 }
 
 #[test]

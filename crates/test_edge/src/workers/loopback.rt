@@ -2,6 +2,7 @@
 use super::{A, Came, served};
 use mds_book::OpenGate;
 use mds_io::{MAX_CALLS, read_front, write_all_of};
+use mds_pool::Port;
 use mds_socket::SocketPort;
 use std::alloc::Global;
 use std::net::{Ipv4Addr, Net, TcpListener, TcpStream};
@@ -55,8 +56,8 @@ fn other_answers<R: Net>(rt: &R, alloc: Global, number: u16, talk: &[(&[u8], &[u
     others
 }
 
-/// What serving three connections of a socket by one worker comes to, and how many of them were answered otherwise.
-fn served_over_loopback<
+/// What serving three connections of a port by one worker comes to, and how many of them were answered otherwise.
+fn served_beside_clients<
     R: Threads
         + Wait
         + RandomSource
@@ -65,25 +66,67 @@ fn served_over_loopback<
         + Copy
         + Send
         + Sync,
->(rt: &R, alloc: Global) -> Result<(Came, usize), Lack> {
-    let Ok(port) = SocketPort::bind(rt, alloc, *rt, 0) else {
-        return Err(Lack::Case);
-    };
-    let Ok(number) = port.number() else {
-        return Err(Lack::Case);
-    };
+    P: Port + Sync,
+>(rt: &R, alloc: Global, port: &P, number: u16) -> Result<(Came, usize), Lack>
+where
+    P::In: Send,
+    P::Out: Send,
+{
     let (came, others) = thread::join(
         rt,
-        || served(rt, alloc, &port, &OpenGate, (1, 3, 1)),
+        || served(rt, alloc, port, &OpenGate, (1, 3, 1)),
         || other_answers(rt, alloc, number, TALK),
     );
     Ok((came?, others))
 }
 
+/// What listens on this machine.
+trait Listens {
+    /// What connections come from.
+    type Listening: Port<In: Send, Out: Send> + Sync + Drop;
+
+    /// A port, with its number.
+    fn listen(&self, alloc: Global) -> Option<(Self::Listening, u16)>;
+}
+
+#[derive(Drop)]
+struct Loopback<R> {
+    rt: R,
+}
+
+impl<R: Net + Wait + Clock + Threads + Copy + Send + Sync + Drop + 'static> Listens
+    for Loopback<R> {
+    type Listening = SocketPort<R>;
+
+    fn listen(&self, alloc: Global) -> Option<(SocketPort<R>, u16)> {
+        let port = SocketPort::bind(&self.rt, alloc, self.rt, 0).ok()?;
+        let number = port.number().ok()?;
+        Some((port, number))
+    }
+}
+
+/// As [`served_beside_clients`], of what listens.
+fn served_by<
+    R: Threads
+        + Wait
+        + RandomSource
+        + Clock
+        + Net<Listener = TcpListener, Stream = TcpStream>
+        + Copy
+        + Send
+        + Sync,
+    L: Listens,
+>(rt: &R, alloc: Global, listens: &L) -> Result<(Came, usize), Lack> {
+    match listens.listen(alloc) {
+        Some((port, number)) => served_beside_clients(rt, alloc, &port, number),
+        None => Err(Lack::Case),
+    }
+}
+
 #[test]
 fn three_connections_over_loopback(rt: HostRuntime) {
     assert_eq!(rt;
-        served_over_loopback(&rt, rt.alloc()),
+        served_by(&rt, rt.alloc(), &Loopback { rt }),
         Ok(((None, 1, Some(2)), 0))
     );
 }

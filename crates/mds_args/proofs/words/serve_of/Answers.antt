@@ -12,5 +12,6 @@ returns c = (
     c.in_ok-workers.ensures,
     text_of_rows (found_of c.args.values.now) (codes "table") c.get_str.result c.get_str.ensures,
     text_of_rows (found_of c.args.values.now) (codes "journal") c.get_str-2.result c.get_str-2.ensures,
+    c.in_ok-metrics.ensures,
   ),
 )

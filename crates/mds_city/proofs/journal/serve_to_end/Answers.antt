@@ -5,4 +5,9 @@ use Rattle.mds_city.proofs.journal.serve_to_end.Goals as goal
 -- the tables were had, and nothing went out before the journal
 pub returns-in-Err-open_reader-clause-err : goal.returns-in-Err-open_reader-clause-err
 returns-in-Err-open_reader-clause-err g c =
-    inr (inr (inl ((c.in-Ok.tables, c.in-Ok.ensures.ok), c.in-Err-open_reader.ensures.err, Keeps-refl _)))
+    inr (inr (inr (inl ((c.in-Ok.tables, c.in-Ok.ensures.ok), c.in-Err-open_reader.ensures.err, Keeps-refl _))))
+
+-- nor before the port for figures
+pub returns-in-Err-tell_figures-clause-err : goal.returns-in-Err-tell_figures-clause-err
+returns-in-Err-tell_figures-clause-err g c =
+    inr (inr (inl ((c.in-Ok.tables, c.in-Ok.ensures.ok), (c.in-Err-tell_figures.fault, c.problem_of_listening.ensures), Keeps-refl _)))

@@ -1,4 +1,4 @@
-use Rattle.std.proofs.Common.{◌≡◌, ℕ, List, refl}
+use Rattle.std.proofs.Common.{ℕ, List, refl}
 use Rattle.mds_commands.specs.Source.{IsLineProblem}
 use Rattle.mds_commands.specs.Stream.{IsFed}
 use Rattle.mds_commands.proofs.ErrorLemmas.{passed_on}

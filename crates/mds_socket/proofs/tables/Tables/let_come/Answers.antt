@@ -7,7 +7,7 @@ returns-clause-joins g c =
     let found = c.in-Some.ensures in
     let put = c.put_if.ensures in
     rw (← c.len.ensures) (
-      c.key_for.new.self,
+      c.key_for-key.new.self,
       found.left,
       found.room,
       inr (c.in-Some.key, found.vacant, waits-or_gone _ _ _ _ _ put.waits put.gone),

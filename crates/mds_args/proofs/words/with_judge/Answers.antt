@@ -1,0 +1,5 @@
+use Rattle.mds_args.proofs.WordsLemmas.{told_rule}
+use Rattle.mds_args.proofs.words.with_judge.Goals as goal
+
+pub returns : goal.returns
+returns c = λ app told. told_rule c.with_arg.result app _ _ c.option.ensures.rule (c.with_arg.ensures app told)

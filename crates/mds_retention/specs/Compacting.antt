@@ -1,0 +1,56 @@
+-- What a command that compacts makes of a journal, and what a crash leaves of that.
+use Rattle.std.specs.Prelude.{◌≡◌, ◌⊎◌, ℕ, List, length, Option, Some}
+use Rattle.mds_core.specs.declared.request.Request.{Request}
+use Rattle.mds_journal.specs.Lines.{recovered_texts}
+use Rattle.mds_retention.specs.declared.compacting.Readings.{Readings}
+use Rattle.mds_retention.specs.declared.error.LinesError.{LinesError}
+use Rattle.mds_retention.specs.declared.error.CompactError.{CompactError}
+use Rattle.mds_retention.specs.declared.error.CompactError.TheVariants.{Old, New}
+use Rattle.mds_retention.specs.declared.passes.Totals.{Totals}
+use Rattle.mds_retention.specs.Telling.{HasFront, IsTaken, IsJournalFault, IsAgainFault}
+use Rattle.mds_retention.specs.Copying.{AreTotalsOf, IsCopyFault, IsCompactedJournal}
+
+-- it's known what a reading gives, and the lines that count in these bytes come first in it
+abbrev pub IsReadAgain : List ℕ → Option (List ℕ) → Type 0
+IsReadAgain first known =
+    (again : List ℕ) × (known ≡ Some again) × HasFront (Some again) (recovered_texts first)
+
+-- the first reading of a journal gives these bytes, and since then lines were added at most
+pub record AreReadings {R : Type 0} (remaining : R → Option (List ℕ)) (bytes : List ℕ)
+    (old : Readings R) : Type 0 where
+  pub first : remaining old.first ≡ Some bytes
+  pub second : IsReadAgain bytes (remaining old.second)
+  pub third : IsReadAgain bytes (remaining old.third)
+  pub fourth : IsReadAgain bytes (remaining old.fourth)
+
+-- a file stands under a name, and this holds of its bytes
+abbrev pub StandsWhole : (List ℕ → Type 0) → Option (List ℕ) → Type 0
+StandsWhole Is found = (out : List ℕ) × (found ≡ Some out) × Is out
+
+-- the new journal is a compaction of the old one, and these are their totals
+abbrev pub IsCompactedTo : ℕ → List ℕ → Totals → List ℕ → Type 0
+IsCompactedTo from bytes totals out =
+    (made : IsCompactedJournal from bytes out) × AreTotalsOf made.old made.new totals
+
+-- why so many marked lines can't be written: what tells them has this fault, or the new file
+abbrev pub IsWriteFault : Option (List ℕ) → ℕ → CompactError → Type 0
+IsWriteFault known count (Old error) = IsCopyFault count known error
+IsWriteFault known count (New fault) = Unit {0}
+
+-- so many requests can't be read a second, a third or a fourth time for this
+abbrev pub IsFaultAgain : {R : Type 0} → (R → Option (List ℕ)) → Readings R → ℕ → LinesError
+    → Type 0
+IsFaultAgain remaining old count error =
+    IsAgainFault (remaining old.second) count error
+    ⊎ (IsAgainFault (remaining old.third) count error
+    ⊎ IsCopyFault count (remaining old.fourth) error)
+
+-- why a journal isn't compacted: one of its readings has this fault, of those behind the first one
+-- up to the last request that the first one told
+abbrev pub IsCompactFault : {R : Type 0} → (R → Option (List ℕ)) → Readings R → CompactError
+    → Type 0
+IsCompactFault remaining old (Old error) =
+    IsJournalFault (remaining old.first) error
+    ⊎ ((history : List Request) × IsTaken (remaining old.first) history
+    × IsFaultAgain remaining old (length history) error)
+IsCompactFault remaining old (New fault) = Unit {0}

@@ -1,0 +1,6 @@
+pub mod Telling
+pub mod Copying
+pub mod Lines
+pub mod Draft
+pub mod Compacting
+pub mod Events

@@ -1,0 +1,93 @@
+//! Why a journal isn't compacted.
+ghost use Rattle.std.specs.Prelude.{◌≡◌};
+
+use mds_file::NewFileFault;
+use mds_journal::{JournalFault, StreamError};
+use std::alloc::{AllocError, AllocFailed};
+
+/// Why the requests of a journal can't be read.
+#[derive(Clone, Copy, Debug, PartialEq, Eq)]
+pub enum LinesError {
+    /// There was no memory.
+    Memory,
+    /// A read failed, or there are more than 2^62 lines.
+    Read,
+    /// The file is no journal.
+    Fault(JournalFault),
+    /// There are fewer lines than there were: the file was changed since.
+    Changed,
+}
+
+impl From<AllocError> for LinesError {
+    ghost use Rattle.mds_retention.specs.declared.error.LinesError.TheVariants.{Memory};
+
+    ghost from_gives = { λ _ error. error ≡ Memory };
+
+    fn from(_refused: AllocError) -> LinesError {
+        LinesError::Memory
+    }
+}
+
+impl<T: Drop> From<AllocFailed<T>> for LinesError {
+    ghost use Rattle.mds_retention.specs.declared.error.LinesError.TheVariants.{Memory};
+
+    ghost from_gives = { λ _ error. error ≡ Memory };
+
+    fn from(_refused: AllocFailed<T>) -> LinesError {
+        LinesError::Memory
+    }
+}
+
+impl From<StreamError> for LinesError {
+    ghost use Rattle.mds_retention.specs.Telling.{stream_error};
+
+    ghost from_gives = { λ cause error. error ≡ stream_error cause };
+
+    fn from(error: StreamError) -> LinesError {
+        match error {
+            StreamError::Memory => LinesError::Memory,
+            StreamError::TooLong(line) => LinesError::Fault(JournalFault::TooLong(line)),
+            StreamError::Read | StreamError::Full => LinesError::Read,
+        }
+    }
+}
+
+/// Why a journal isn't compacted.
+#[derive(Clone, Copy, Debug, PartialEq, Eq)]
+pub enum CompactError {
+    /// What the old one tells can't be read.
+    Old(LinesError),
+    /// There is no new one.
+    New(NewFileFault),
+}
+
+impl From<LinesError> for CompactError {
+    ghost use Rattle.mds_retention.specs.declared.error.CompactError.TheVariants.{Old};
+
+    ghost from_gives = { λ cause error. error ≡ Old cause };
+
+    fn from(error: LinesError) -> CompactError {
+        CompactError::Old(error)
+    }
+}
+
+impl From<NewFileFault> for CompactError {
+    ghost use Rattle.mds_retention.specs.declared.error.CompactError.TheVariants.{New};
+
+    ghost from_gives = { λ cause error. error ≡ New cause };
+
+    fn from(fault: NewFileFault) -> CompactError {
+        CompactError::New(fault)
+    }
+}
+
+impl From<StreamError> for CompactError {
+    ghost use Rattle.mds_retention.specs.Telling.{stream_error};
+    ghost use Rattle.mds_retention.specs.declared.error.CompactError.TheVariants.{Old};
+
+    ghost from_gives = { λ cause error. error ≡ Old (stream_error cause) };
+
+    fn from(error: StreamError) -> CompactError {
+        CompactError::Old(LinesError::from(error))
+    }
+}

@@ -1,0 +1,25 @@
+//! Compaction of a journal: a new file of the lines of an old one that stay.
+//!
+//! The old journal is read again for each pass of a compaction: [`survey_of`], [`thinning_of`] and [`marks_of`] feed the requests
+//! that its lines tell to the passes of `mds_compact`. [`kept_lines`] copies the lines that stay into a [`Draft`]. [`compact`] does
+//! all of it, and gives the new file its name once it is whole. So the memory goes by the vehicles, and by two bytes for each
+//! request.
+#![tactic(auto)]
+
+mod compacting;
+mod copying;
+mod draft;
+mod error;
+mod lines;
+mod passes;
+#[cfg(test)]
+mod tests;
+mod vehicle_events;
+
+pub use compacting::{Readings, compact};
+pub use copying::kept_lines;
+pub use draft::Draft;
+pub use error::{CompactError, LinesError};
+pub use lines::RequestLines;
+pub use passes::{Marked, Surveyed, Totals, marks_of, survey_of, thinning_of};
+pub use vehicle_events::events_of;

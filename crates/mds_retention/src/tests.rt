@@ -1,0 +1,451 @@
+use crate::{
+    CompactError, Draft, LinesError, Readings, RequestLines, Totals, compact, events_of,
+    kept_lines, marks_of, survey_of, thinning_of,
+};
+use mds_file::{NewFileFault, NewName};
+use mds_journal::{JournalFault, Memory};
+use std::alloc::{AllocError, AllocFailed, Global};
+use std::hash::RandomState;
+use std::io;
+use std::io::{ErrorKind, Read};
+use std::random::RandomSource;
+
+/// The first line.
+const FORM: &str = "{\"form\":\"mds_city\",\"version\":1}";
+
+/// The registration of the one vehicle.
+const REGISTRATION: &str =
+    "{\"device_id\":\"00000000-0000-4000-8000-00000000000a\",\"provider_id\":\"00000000-0000-4000-8000-000000000001\"}";
+
+/// The digit of an event, which is its time and the end of its identifier, and the state that it reports.
+type Told = (&'static str, &'static str);
+
+/// The vehicle is free again and again.
+const RIDES: &[Told] = &[
+    ("1", "available"),
+    ("2", "on_trip"),
+    ("3", "available"),
+    ("4", "on_trip"),
+];
+
+/// The rides that stay where all are old.
+const WITHOUT_LOOP: &[Told] = &[("1", "available"), ("4", "on_trip")];
+
+/// Why a test has nothing to compare.
+#[derive(Clone, Copy, Debug, PartialEq, Eq)]
+enum Lack {
+    /// There was no memory, or no random number.
+    Means,
+}
+
+impl From<AllocError> for Lack {
+    fn from(_error: AllocError) -> Lack {
+        Lack::Means
+    }
+}
+
+impl From<LinesError> for Lack {
+    fn from(_error: LinesError) -> Lack {
+        Lack::Means
+    }
+}
+
+impl From<CompactError> for Lack {
+    fn from(_error: CompactError) -> Lack {
+        Lack::Means
+    }
+}
+
+impl From<NewFileFault> for Lack {
+    fn from(_fault: NewFileFault) -> Lack {
+        Lack::Means
+    }
+}
+
+impl<T: Drop> From<AllocFailed<T>> for Lack {
+    fn from(_error: AllocFailed<T>) -> Lack {
+        Lack::Means
+    }
+}
+
+/// The line of an event.
+fn event(alloc: Global, told: &Told) -> Result<String, Lack> {
+    let (digit, state) = *told;
+    let pieces = [
+        "{\"device_id\":\"00000000-0000-4000-8000-00000000000a\",\"event_id\":\"00000000-0000-4000-8000-00000000000",
+        digit,
+        "\",\"event_types\":[\"provider_drop_off\"],\"provider_id\":\"00000000-0000-4000-8000-000000000001\",\"timestamp\":",
+        digit,
+        ",\"vehicle_state\":\"",
+        state,
+        "\"}",
+    ];
+    let mut text = String::new(alloc);
+    for piece in pieces {
+        text.push_str(piece)?;
+    }
+    Ok(text)
+}
+
+/// Adds an open line.
+fn add_line(bytes: &mut Vec<u8>, text: &str) -> Result<(), Lack> {
+    bytes.extend_from_slice(b" ")?;
+    bytes.extend_from_slice(text.as_bytes())?;
+    bytes.extend_from_slice(b"\n")?;
+    Ok(())
+}
+
+/// The bytes of a journal with this first line, the vehicle's registration and these events.
+fn journal(alloc: Global, form: &str, events: &[Told]) -> Result<Vec<u8>, Lack> {
+    let mut bytes = Vec::new(alloc);
+    add_line(&mut bytes, form)?;
+    add_line(&mut bytes, REGISTRATION)?;
+    for told in events {
+        let text = event(alloc, told)?;
+        add_line(&mut bytes, text.as_str())?;
+    }
+    Ok(bytes)
+}
+
+/// A reader that fails where its bytes end.
+#[derive(Drop)]
+struct Broken<'a> {
+    bytes: &'a [u8],
+}
+
+impl Read for Broken<'_> {
+    fn read(&mut self, buf: &mut [u8]) -> io::Result<usize> {
+        if self.bytes.is_empty() {
+            return Err(io::Error::from(ErrorKind::Other));
+        }
+        let count = self.bytes.len().min(buf.len());
+        let (given, left) = self.bytes.split_at(count);
+        buf[..count].copy_from_slice(given);
+        self.bytes = left;
+        Ok(count)
+    }
+}
+
+/// The name of a file in memory. Its clauses say nothing.
+#[derive(Drop)]
+struct MemoryName {
+    alloc: Global,
+    made: Option<Memory>,
+    is_taken: bool,
+}
+
+impl NewName for MemoryName {
+    type File = Memory;
+
+    ghost may_stand = { λ _ _. ⊥ };
+
+    ghost is_true = { λ _. ⊥ };
+
+    fn is_free(&self) -> Result<(), NewFileFault> {
+        if self.is_taken {
+            return Err(NewFileFault::IsThere);
+        }
+        Ok(())
+    }
+
+    fn draft(&mut self) -> Result<Memory, NewFileFault> {
+        Ok(Memory::new(self.alloc, b"what was left there")?)
+    }
+
+    fn link(&mut self, file: Memory) -> Result<(), NewFileFault> {
+        self.made = Some(file);
+        Ok(())
+    }
+
+    fn discard(&mut self, _file: Memory) {}
+}
+
+/// What a compaction came to.
+#[derive(Clone, Copy, Debug, PartialEq, Eq)]
+enum Came {
+    /// The new file has the bytes that were wanted, and these are the totals.
+    Made(Totals),
+    /// It has others, or there is none.
+    Otherwise,
+    /// There is none, for this.
+    Failed(CompactError),
+}
+
+/// What a compaction of a journal comes to, with these bytes at its fourth reading, where events of the time `from` stay, and these
+/// bytes are wanted.
+fn comes_to<R: RandomSource>(
+    rt: &R,
+    alloc: Global,
+    old: &[u8],
+    last: &[u8],
+    from: u64,
+    wanted: &[u8],
+) -> Result<Came, Lack> {
+    let hasher = RandomState::new(rt).map_err(|_| Lack::Means)?;
+    let readings = Readings {
+        first: old,
+        second: old,
+        third: old,
+        fourth: last,
+    };
+    let mut name = MemoryName {
+        alloc,
+        made: None,
+        is_taken: false,
+    };
+    match compact(alloc, readings, from, hasher, &mut name) {
+        Ok(totals) => Ok(if has_bytes(&name, wanted) {
+            Came::Made(totals)
+        } else {
+            Came::Otherwise
+        }),
+        Err(CompactError::Old(LinesError::Memory) | CompactError::New(NewFileFault::Memory)) => {
+            Err(Lack::Means)
+        }
+        Err(error) => Ok(Came::Failed(error)),
+    }
+}
+
+fn has_bytes(name: &MemoryName, wanted: &[u8]) -> bool {
+    match &name.made {
+        Some(file) => file.bytes() == wanted,
+        None => false,
+    }
+}
+
+/// What a compaction of the rides comes to, of which these are wanted.
+fn of_rides<R: RandomSource>(
+    rt: &R,
+    alloc: Global,
+    from: u64,
+    wanted: &[Told],
+) -> Result<Came, Lack> {
+    let old = journal(alloc, FORM, RIDES)?;
+    let new = journal(alloc, FORM, wanted)?;
+    comes_to(rt, alloc, &old, &old, from, &new)
+}
+
+/// What a compaction of a journal with this first line and these events comes to.
+fn of_events<R: RandomSource>(
+    rt: &R,
+    alloc: Global,
+    form: &str,
+    events: &[Told],
+) -> Result<Came, Lack> {
+    let bytes = journal(alloc, form, events)?;
+    comes_to(rt, alloc, &bytes, &bytes, 10, &[])
+}
+
+/// What one of the rides comes to, where at the fourth reading these are there, and without its loop is wanted.
+fn of_rides_then<R: RandomSource>(rt: &R, alloc: Global, events: &[Told]) -> Result<Came, Lack> {
+    let old = journal(alloc, FORM, RIDES)?;
+    let last = journal(alloc, FORM, events)?;
+    let new = journal(alloc, FORM, WITHOUT_LOOP)?;
+    comes_to(rt, alloc, &old, &last, 10, &new)
+}
+
+/// What one comes to where the first reading fails behind the rides.
+fn of_broken<R: RandomSource>(rt: &R, alloc: Global) -> Result<Came, Lack> {
+    let hasher = RandomState::new(rt).map_err(|_| Lack::Means)?;
+    let bytes = journal(alloc, FORM, RIDES)?;
+    let reader = || Broken { bytes: &bytes };
+    let readings = Readings {
+        first: reader(),
+        second: reader(),
+        third: reader(),
+        fourth: reader(),
+    };
+    let mut name = MemoryName {
+        alloc,
+        made: None,
+        is_taken: false,
+    };
+    match compact(alloc, readings, 10, hasher, &mut name) {
+        Ok(_) => Ok(Came::Otherwise),
+        Err(CompactError::Old(LinesError::Memory)) => Err(Lack::Means),
+        Err(error) => Ok(Came::Failed(error)),
+    }
+}
+
+/// What one comes to under a name that is taken, of no journal.
+fn of_a_name_that_is_taken<R: RandomSource>(rt: &R, alloc: Global) -> Result<Came, Lack> {
+    let hasher = RandomState::new(rt).map_err(|_| Lack::Means)?;
+    let readings = Readings {
+        first: b"".as_slice(),
+        second: b"".as_slice(),
+        third: b"".as_slice(),
+        fourth: b"".as_slice(),
+    };
+    let mut name = MemoryName {
+        alloc,
+        made: None,
+        is_taken: true,
+    };
+    match compact(alloc, readings, 10, hasher, &mut name) {
+        Ok(_) => Ok(Came::Otherwise),
+        Err(error) => Ok(Came::Failed(error)),
+    }
+}
+
+/// Whether the vehicle's registration is read, and nothing behind it.
+fn reads_a_registration(alloc: Global) -> Result<bool, Lack> {
+    let bytes = journal(alloc, FORM, &[])?;
+    let mut lines = RequestLines::open(alloc, bytes.as_slice())?;
+    let first = lines.next()?;
+    let second = lines.next()?;
+    Ok(first.is_some() && second.is_none())
+}
+
+/// Whether the lines of the vehicle's rides are read.
+fn reads_its_events(alloc: Global) -> Result<bool, Lack> {
+    let bytes = journal(alloc, FORM, RIDES)?;
+    let mut wanted = Vec::new(alloc);
+    for told in RIDES {
+        let text = event(alloc, told)?;
+        wanted.extend_from_slice(text.as_bytes())?;
+        wanted.push(b'\n')?;
+    }
+    let mut lines = RequestLines::open(alloc, bytes.as_slice())?;
+    let Some(request) = lines.next()? else {
+        return Ok(false);
+    };
+    let found = events_of(alloc, bytes.as_slice(), *request.key())?;
+    Ok(found.is_some_and(|found| found.as_slice() == wanted.as_slice()))
+}
+
+/// Whether the passes, made one by one, leave the loop of the rides out.
+fn passes_leave_a_loop_out<R: RandomSource>(rt: &R, alloc: Global) -> Result<bool, Lack> {
+    let hasher = RandomState::new(rt).map_err(|_| Lack::Means)?;
+    let old = journal(alloc, FORM, RIDES)?;
+    let new = journal(alloc, FORM, WITHOUT_LOOP)?;
+    let surveyed = survey_of(alloc, old.as_slice(), hasher)?;
+    let requests = surveyed.requests;
+    let thinning = thinning_of(alloc, old.as_slice(), surveyed, 10)?;
+    let marked = marks_of(alloc, old.as_slice(), thinning, requests)?;
+    let mut draft = Draft::new(alloc, Memory::new(alloc, b"")?);
+    draft.begin()?;
+    kept_lines(alloc, old.as_slice(), &marked.marks, &mut draft)?;
+    Ok(draft.into_file().bytes() == new.as_slice())
+}
+
+/// Whether the lines of a draft are those that were added.
+fn a_draft_has_its_lines(alloc: Global) -> Result<bool, Lack> {
+    let wanted = journal(alloc, FORM, &[])?;
+    let mut draft = Draft::new(alloc, Memory::new(alloc, b"")?);
+    draft.begin()?;
+    draft.add_line(FORM.as_bytes())?;
+    draft.flush()?;
+    draft.add_line(REGISTRATION.as_bytes())?;
+    draft.flush()?;
+    Ok(draft.into_file().bytes() == wanted.as_slice())
+}
+
+/// The totals of the rides, of whose events so many stay.
+fn totals(kept: usize) -> Totals {
+    Totals {
+        registrations: 1,
+        events: 4,
+        kept,
+    }
+}
+
+#[test]
+fn a_journal_is_compacted_after_a_refused_growth(rt: HostRuntime) {
+    let again = || of_rides(&rt, rt.alloc(), 10, WITHOUT_LOOP);
+    assert_eq!(rt; again().or_else(|_| again()), Ok(Came::Made(totals(2))));
+}
+
+#[test]
+fn requests_are_read_after_a_refused_growth(rt: HostRuntime) {
+    let again = || reads_a_registration(rt.alloc());
+    assert_eq!(rt; again().or_else(|_| again()), Ok(true));
+}
+
+#[test]
+fn events_are_read_after_a_refused_growth(rt: HostRuntime) {
+    let again = || reads_its_events(rt.alloc());
+    assert_eq!(rt; again().or_else(|_| again()), Ok(true));
+}
+
+#[test]
+fn passes_are_made_after_a_refused_growth(rt: HostRuntime) {
+    let again = || passes_leave_a_loop_out(&rt, rt.alloc());
+    assert_eq!(rt; again().or_else(|_| again()), Ok(true));
+}
+
+#[test]
+fn lines_are_drafted_after_a_refused_growth(rt: HostRuntime) {
+    let again = || a_draft_has_its_lines(rt.alloc());
+    assert_eq!(rt; again().or_else(|_| again()), Ok(true));
+}
+
+#[test]
+fn recent_events_stay(rt: HostRuntime) {
+    let again = || of_rides(&rt, rt.alloc(), 2, RIDES);
+    assert_eq!(rt; again().or_else(|_| again()), Ok(Came::Made(totals(4))));
+}
+
+#[test]
+fn another_form_is_refused(rt: HostRuntime) {
+    let again = || of_events(
+        &rt,
+        rt.alloc(),
+        "{\"form\":\"mds_city\",\"version\":2}",
+        RIDES,
+    );
+    assert_eq!(rt;
+        again().or_else(|_| again()),
+        Ok(Came::Failed(CompactError::Old(LinesError::Fault(JournalFault::Form))))
+    );
+}
+
+#[test]
+fn a_line_that_tells_nothing_is_named(rt: HostRuntime) {
+    let events = [("1", "available"), ("2", "flying")];
+    let again = || of_events(&rt, rt.alloc(), FORM, &events);
+    assert_eq!(rt;
+        again().or_else(|_| again()),
+        Ok(Came::Failed(CompactError::Old(LinesError::Fault(JournalFault::BadLine(3)))))
+    );
+}
+
+#[test]
+fn a_file_that_lost_lines_is_refused(rt: HostRuntime) {
+    let fewer = [("1", "available")];
+    let again = || of_rides_then(&rt, rt.alloc(), &fewer);
+    assert_eq!(rt;
+        again().or_else(|_| again()),
+        Ok(Came::Failed(CompactError::Old(LinesError::Changed)))
+    );
+}
+
+#[test]
+fn lines_that_came_since_are_not_copied(rt: HostRuntime) {
+    let more = [
+        ("1", "available"),
+        ("2", "on_trip"),
+        ("3", "available"),
+        ("4", "on_trip"),
+        ("5", "available"),
+    ];
+    let again = || of_rides_then(&rt, rt.alloc(), &more);
+    assert_eq!(rt; again().or_else(|_| again()), Ok(Came::Made(totals(2))));
+}
+
+#[test]
+fn a_reading_that_fails_is_told(rt: HostRuntime) {
+    let again = || of_broken(&rt, rt.alloc());
+    assert_eq!(rt;
+        again().or_else(|_| again()),
+        Ok(Came::Failed(CompactError::Old(LinesError::Read)))
+    );
+}
+
+#[test]
+fn a_name_that_is_taken_is_told_first(rt: HostRuntime) {
+    let again = || of_a_name_that_is_taken(&rt, rt.alloc());
+    assert_eq!(rt;
+        again().or_else(|_| again()),
+        Ok(Came::Failed(CompactError::New(NewFileFault::IsThere)))
+    );
+}

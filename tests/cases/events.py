@@ -1,0 +1,78 @@
+"""Journals, and what `events` prints of one vehicle's."""
+
+from cases.debugging import BAD, NOBODY
+from cases.replays import A, B, P, event, identifier
+from cases.vehicles import FAULTS, FORM, LONG, NEW, NO_FORM, RESERVED, ROOM, WOKEN, journal, not_a_journal, registered
+from harness.building import no_random_numbers
+from harness.case import CLOSED, FOLDER, MAX_BYTES, NO_STREAMS, OUTPUT, Case, cannot_read, padded, told
+
+C = "00000000-0000-4000-8000-00000000000c"
+"""A device that no journal has."""
+OTHER = identifier(1, 1)
+"""Another provider, which has a device A too."""
+OF_A = f"events journal {P} {A}"
+ELSEWHERE = event(B, "e1", "provider_drop_off", "available", 1500)
+THEIRS = WOKEN.replace(P, OTHER)
+SPACED = " " + WOKEN.replace('"provider_id": ', '"provider_id" :\t') + "\r"
+"""The same request in another text."""
+# The lines behind the form's, and those that tell an event of device A.
+TAKEN = [
+    (NEW, ()),
+    ((*NEW, WOKEN), (WOKEN,)),
+    ((*NEW, WOKEN, RESERVED), (WOKEN, RESERVED)),
+    ((registered(B), *NEW, ELSEWHERE, WOKEN), (WOKEN,)),
+    ((*NEW, WOKEN, registered(B), ELSEWHERE, RESERVED), (WOKEN, RESERVED)),
+    ((registered(A).replace(P, OTHER), *NEW, THEIRS, WOKEN), (WOKEN,)),
+    ((*NEW, SPACED), (SPACED,)),
+    # no request is judged
+    ((*NEW, RESERVED, WOKEN, WOKEN), (RESERVED, WOKEN, WOKEN)),
+    ((WOKEN,), (WOKEN,)),
+    ((*NEW, *NEW), ()),
+]
+# The words for the vehicle's provider and device.
+NAMES = [(P.upper(), A), (P, A.replace("-", "")), (f"{{{P}}}", f"urn:uuid:{A}")]
+NO_NAMES = [(P, "A"), ("P", A), (P[:-1], A), (P, A + "0"), ("", A), (P, "")]
+
+
+def printed(text, lines, words=OF_A, **more):
+    return Case(words, out="".join(f"{line}\n" for line in lines), files={"journal": text}, **more)
+
+
+def events_of_a_vehicle():
+    """What is printed of journals at rest, torn ones and closed ones."""
+    for texts, lines in TAKEN:
+        yield printed(journal(*texts), lines)
+        yield printed(journal(*texts, end=""), lines)
+        yield printed(journal(*texts, end="#" + ROOM), lines)
+        yield printed("", lines, words=f"events - {P} {A}", given=journal(*texts))
+    for end in (f"#{RESERVED}\n {RESERVED}\n", "\n", f" {RESERVED}", f" {RESERVED[:-1]}", f"#{LONG}"):
+        yield printed(journal(*NEW, WOKEN, end=end), [WOKEN])
+    for provider, device in NAMES:
+        yield printed(journal(*NEW, WOKEN), [WOKEN], words=["events", "journal", provider, device])
+    long = padded(WOKEN, MAX_BYTES)
+    yield printed(journal(*NEW, long, long), [long, long])
+    yield printed(journal(*NEW, WOKEN), [WOKEN], env=no_random_numbers(), name="without random numbers")
+
+
+def no_events_of_it():
+    """A vehicle that isn't there, words that name none, and files that are no journal, of which nothing is printed."""
+    for texts in ((), (registered(B), ELSEWHERE), (registered(A).replace(P, OTHER), THEIRS)):
+        yield Case(OF_A, status=1, faults=NOBODY, files={"journal": journal(*texts)})
+    yield Case(f"events journal {P} {C}", status=1, faults=NOBODY, files={"journal": journal(*NEW, WOKEN)})
+    for provider, device in NO_NAMES:
+        for name in ("journal", "nowhere"):
+            yield Case(["events", name, provider, device], status=2, faults=BAD, files={"journal": FORM})
+    for texts, fault in FAULTS:
+        if not fault.startswith("refused"):
+            yield told(OF_A, not_a_journal(fault), files={"journal": journal(*texts)})
+    yield told(OF_A, not_a_journal("bad_line 3"), files={"journal": journal(*NEW, WOKEN, "{", RESERVED)})
+    yield told(OF_A, not_a_journal("too_long 2"), files={"journal": journal(*NEW, end=f" {LONG}")})
+    for text in NO_FORM:
+        yield told(OF_A, not_a_journal("form"), files={"journal": text})
+        yield told(f"events - {P} {A}", not_a_journal("form"), given=text)
+    yield told(f"events nowhere {P} {A}", cannot_read("nowhere"))
+    yield told(OF_A, cannot_read("journal"), files={"journal": FOLDER})
+    yield told(f"events - {P} {A}", cannot_read("-"), stdin=CLOSED)
+    for stdout in NO_STREAMS:
+        yield told(OF_A, OUTPUT, files={"journal": journal(*NEW, WOKEN)}, stdout=stdout)
+        yield Case(OF_A, files={"journal": journal(*NEW)}, stdout=stdout, name="nothing to print")

@@ -1,0 +1,188 @@
+"""Compactions that end in their middle: at each call of the system, by a fault of one, on a full disk. The new file isn't there then,
+or is whole."""
+
+import errno
+import os
+import subprocess
+import tempfile
+from concurrent.futures import ThreadPoolExecutor
+from pathlib import Path
+
+from compacting.running import content_amiss, left_amiss, run, totals
+from compacting.worked import journal_of
+from crashing.lacking import FullDisk
+from harness.building import built
+from harness.case import NO_STREAMS, OUTPUT, Case
+from harness.running import outcome
+from model.compaction import staying
+
+BEFORE = 9
+EVENTS = ("1a 2n 3a 4r", "1a 2np 3a 4n 5a", "")
+WRITES, SYNCS, LINKS = {1, 18, 20, 77, 285, 296}, {74, 75}, {82, 86, 264, 265, 316}
+"""Numbers of calls (syscalls(2)) that write or cut a file, that sync one, and that give it a name."""
+OF_FILES = {0, 2, 3, 5, 8, 17, 72, 73, 87, 257, 262, 263, 332} | WRITES | SYNCS | LINKS
+"""Those, and others that open, read, look at, lock, close or remove one."""
+MANY, LEFT = 500, 20_000
+"""Events of a journal, and how many bytes a disk has left, which are fewer than a tenth of these take."""
+AT_ONCE = 4
+WITHIN = 20
+"""Seconds in which a run ends, whatever fails."""
+
+
+class Call:
+    """A call of the system: its number, and the path of the open file that is its first argument."""
+
+    def __init__(self, line):
+        number, first, _, _, self.path = line.split(" ", 4)
+        self.number, self.first = int(number), int(first)
+
+    def is_of(self, numbers, folder):
+        return self.number in numbers and self.path.startswith(f"{folder}/") and self.path != f"{folder}/old"
+
+
+class Folder:
+    """A folder with a journal that is to be made small, and what is to come of it."""
+
+    def __init__(self, name):
+        self.path, self.making = Path(name), journal_of(*EVENTS)
+        self.old, self.new, self.record = self.path / "old", self.path / "new", Path(f"{name}.record")
+        self.content = self.making.content()
+        self.old.write_bytes(self.content)
+        self.places = staying(self.making.lines, BEFORE)
+        self.wanted = (0, totals(self.making.lines, self.places), "")
+
+    def traced(self, program, at=0, error=0):
+        """Runs the program, which is ended at a call, or has that fail: its status and outputs, and the calls."""
+        tool = built("trace-calls", "tests/trace-calls.c", "-O2")
+        words = [tool, self.record, at, error, program, "compact", self.old, self.new, "--before", BEFORE]
+        ran = subprocess.run([*map(str, words)], capture_output=True, timeout=WITHIN)
+        calls = [Call(line) for line in self.record.read_text().splitlines()]
+        self.record.unlink()
+        return (ran.returncode, ran.stdout.decode(), ran.stderr.decode()), calls
+
+    def amiss(self, is_there=None):
+        """What is wrong with the files: the old one is as it was, and the new one isn't there, or is whole."""
+        if self.old.read_bytes() != self.content:
+            yield "the old file is another one"
+        if self.new.exists():
+            yield from content_amiss(self.new.read_bytes(), self.making.content(self.places))
+        if is_there not in (None, self.new.exists()):
+            yield f"the new file is there: {self.new.exists()}"
+
+    def again(self, program):
+        """What is wrong with the next run: it has the new file made, or finds that it is there."""
+        was_there = self.new.exists()
+        found = run(program, "compact", self.old, self.new, "--before", BEFORE)
+        wanted = (3, "", f"mds_city: {self.new} is there\n") if was_there else self.wanted
+        if found != wanted:
+            yield f"the next run: {found}, in place of {wanted}"
+        yield from self.amiss(is_there=True)
+
+
+def calls_of(program, name):
+    """The calls of a run that nothing ends, from that one on which comes before the first one on the old file."""
+    folder = Folder(name)
+    found, calls = folder.traced(program)
+    if found != folder.wanted:
+        raise AssertionError(f"{found}, in place of {folder.wanted}")
+    first = next(at for at, call in enumerate(calls) if call.path == str(folder.old))
+    return calls, max(first - 1, 0)
+
+
+def each_call(program, ended, numbers=None):
+    """What is wrong with runs that each have another call made otherwise, as `ended` says, side by side: all, or those of these
+    numbers."""
+    with tempfile.TemporaryDirectory() as name, ThreadPoolExecutor(AT_ONCE) as pool:
+        (whole := Path(name, "whole")).mkdir()
+        calls, first = calls_of(program, str(whole))
+
+        def one(at):
+            (path := Path(name, str(at))).mkdir()
+            changed = Call(f"{calls[at].number} {calls[at].first} 0 0 {calls[at].path.replace(str(whole), str(path), 1)}")
+            return [f"call {at}, {changed.number} of {changed.path}: {it}" for it in ended(Folder(str(path)), at + 1, changed)]
+
+        chosen = [at for at in range(first, len(calls)) if numbers is None or calls[at].number in numbers]
+        for complaints in pool.map(one, chosen):
+            yield from complaints
+
+
+def killed_at_each_call(program):
+    """SIGKILL comes in place of each call."""
+
+    def ended(folder, at, _):
+        found, _ = folder.traced(program, at)
+        if found[0] != 137 or found[1] not in ("", folder.wanted[1]):
+            yield f"{found}"
+        yield from folder.amiss()
+        yield from folder.again(program)
+
+    yield from each_call(program, ended)
+
+
+def each_call_fails(program):
+    """Each call on a file fails with the error of a disk, or for want of room. Where a write or a sync of the new file, or of its folder,
+    failed, the status says so."""
+
+    def ended(folder, at, call):
+        for number in (errno.EIO, errno.ENOSPC):
+            found, _ = folder.traced(program, at, number)
+            is_of_new = call.number in SYNCS or call.is_of(WRITES, folder.path)
+            if found[0] == 0 and (found != folder.wanted or is_of_new):
+                yield f"error {number}: {found}"
+            if found[0] and (found[0] not in (3, 4, 127) or found[1] or not found[2]):
+                yield f"error {number}: {found}"
+            yield from folder.amiss(is_there=True if found[0] == 0 else None)
+            yield from folder.again(program)
+            folder.new.unlink()
+
+    yield from each_call(program, ended, OF_FILES)
+
+
+def synced_in_order(program):
+    """All that is written is synced before it has the new name, and the folder before the run tells of it. So a power cut leaves no
+    file of that name, or a whole one."""
+    with tempfile.TemporaryDirectory() as name:
+        calls, _ = calls_of(program, name)
+        folder = os.path.realpath(name)
+        wrote = [at for at, call in enumerate(calls) if call.is_of(WRITES, folder)]
+        synced = [at for at, call in enumerate(calls) if call.is_of(SYNCS, folder)]
+        named = [at for at, call in enumerate(calls) if call.number in LINKS]
+        of_folder = [at for at, call in enumerate(calls) if call.number in SYNCS and call.path == folder]
+        told = [at for at, call in enumerate(calls) if call.number in WRITES and call.first == 1]
+        order = [wrote[-1:], synced[-1:], named[:1], of_folder[-1:], told[:1]]
+        if not all(order) or order != sorted(order):
+            yield f"the last write, its sync, the name, the sync of the folder and the text stand at {order}"
+        if any(calls[at].path == f"{folder}/new" for at in wrote):
+            yield "it was written under its own name"
+
+
+def on_a_full_disk(program):
+    """There is no room for the new file: it isn't there, and takes no room. Once there is some it is made."""
+    with FullDisk() as folder:
+        making = journal_of(" ".join(f"{time}{'an'[time % 2]}" for time in range(1, MANY)))
+        (folder / "old").write_bytes(making.content())
+        (folder / "filler").write_bytes(bytes(free_blocks(folder) * os.statvfs(folder).f_bsize - LEFT))
+        free = free_blocks(folder)
+        status, out, faults = run(program, "compact", folder / "old", folder / "new", "--before", 0)
+        if (status, out) != (3, "") or not faults.startswith("mds_city: "):
+            yield f"without room: {status}, {out!r}, {faults!r}"
+        if sorted(os.listdir(folder)) != ["filler", "old"] or free_blocks(folder) != free:
+            yield f"without room: there are {os.listdir(folder)}, and {free_blocks(folder)} free blocks of {free}"
+        (folder / "filler").unlink()
+        yield from left_amiss(program, making, range(len(making.lines)), folder, "--before", 0)
+
+
+def free_blocks(folder):
+    return os.statvfs(folder).f_bavail
+
+
+def output_that_fails(program):
+    """Standard output is closed, full, or a pipe that nobody reads: that is told, and what there is of the new file is whole."""
+    for stream in NO_STREAMS:
+        case = Case(f"compact old new --before {BEFORE}", files={"old": journal_of(*EVENTS).content()}, stdout=stream)
+        status, _, faults = outcome(program, case)
+        if str(status) not in ("3", "3 with other files, new") or faults.decode() != OUTPUT:
+            yield f"{stream}: {status}, {faults!r}"
+
+
+ENDING = [killed_at_each_call, each_call_fails, synced_in_order, on_a_full_disk, output_that_fails]

@@ -1,0 +1,160 @@
+"""Files that `compact` doesn't take, and places where it writes nothing: what is told, and that nothing has changed."""
+
+import os
+import tempfile
+from pathlib import Path
+
+from cases.tables import ONE_ROW, PROFILE, table_file
+from cases.vehicles import FAULTS, NEW, NO_FORM, WOKEN, journal, not_a_journal
+from compacting.running import content_amiss, run
+from harness.case import cannot_read, not_a_table, padded
+from harness.texts import as_bytes
+
+BEFORE = ("--before", "9")
+
+
+def untouched(program, files, words, wanted):
+    """What is wrong with a run in a folder with these files, of which none may change, and that no new one may come to: its status
+    and outputs."""
+    with tempfile.TemporaryDirectory() as name:
+        paths = {Path(name, file): as_bytes(text) for file, text in files.items()}
+        for path, content in paths.items():
+            path.write_bytes(content)
+        words = [word.replace("@", name) for word in words]
+        found, wanted = run(program, "compact", *words), tuple(str(part).replace("@", name) for part in wanted)
+        if tuple(map(str, found)) != wanted:
+            yield f"{words}: {found}, in place of {wanted}"
+        if sorted(os.listdir(name)) != sorted(files) or any(path.read_bytes() != content for path, content in paths.items()):
+            yield f"{words}: there are {sorted(os.listdir(name))}, or others than before"
+
+
+def faulty_journals(program):
+    """Each fault of a journal is told as `vehicles` does. No line is judged, so none is refused."""
+    faulty = [(journal(*texts), fault) for texts, fault in FAULTS] + [(text, "form") for text in NO_FORM]
+    for text, fault in faulty:
+        if not fault.startswith("refused"):
+            yield from untouched(program, {"old": text}, ["@/old", "@/new", *BEFORE], (3, "", not_a_journal(fault)))
+
+
+def judged_first(program):
+    """With a table file the old journal is judged before all else is looked at, and each fault told as `vehicles` does. Where it's
+    accepted the compaction is as without one."""
+    words, table = ["@/old", "@/new", *BEFORE, "--table", "@/table"], {"table": profile()}
+    for texts, fault in FAULTS:
+        for there in ({}, {"new": ""}):
+            files = {"old": journal(*texts), **table, **there}
+            yield from untouched(program, files, words, (3, "", not_a_journal(fault)))
+    for text in NO_FORM:
+        yield from untouched(program, {"old": text, **table}, words, (3, "", not_a_journal("form")))
+    yield from untouched(program, table, words, (3, "", cannot_read("@/old")))
+    yield from untouched(program, {"old": journal("{")}, words, (3, "", cannot_read("@/table")))
+    for old in ("{", WOKEN):
+        yield from untouched(program, {"old": journal(old), "table": "{"}, words, (3, "", not_a_table("not_json")))
+    old = journal(*NEW, WOKEN)
+    yield from untouched(program, {"old": old, "new": "", **table}, words, (3, "", "mds_city: @/new is there\n"))
+    # by the one row of this table no vehicle is dropped off
+    yield from untouched(program, {"old": old, "table": ONE_ROW}, words, (3, "", not_a_journal("refused 2")))
+    yield from accepted(program, old)
+
+
+def accepted(program, old):
+    """What is wrong with the compaction of a journal of one event that the profile accepts, where it's judged."""
+    with tempfile.TemporaryDirectory() as name:
+        paths = [Path(name, file) for file in ("old", "new", "table")]
+        paths[0].write_text(old)
+        paths[2].write_text(profile())
+        found = run(program, "compact", *paths[:2], *BEFORE, "--table", paths[2])
+        if found != (0, "registrations 1 events 1 of 1\n", ""):
+            yield f"{found}"
+        else:
+            yield from content_amiss(paths[1].read_bytes(), old.encode())
+
+
+def profile():
+    return table_file(PROFILE)
+
+
+def no_old_file(program):
+    """A file that isn't there, or is a folder."""
+    yield from untouched(program, {}, ["@/old", "@/new", *BEFORE], (3, "", cannot_read("@/old")))
+    yield from untouched(program, {}, ["@", "@/new", *BEFORE], (3, "", cannot_read("@")))
+
+
+def a_new_file_that_is_there(program):
+    """Nothing is written over a file, the old one, a folder or a link that leads nowhere."""
+    there = (3, "", "mds_city: @/new is there\n")
+    old = journal(*NEW, WOKEN)
+    for text in ("", "what was there", old):
+        yield from untouched(program, {"old": old, "new": text}, ["@/old", "@/new", *BEFORE], there)
+    yield from untouched(program, {"old": old}, ["@/old", "@/old", *BEFORE], (3, "", "mds_city: @/old is there\n"))
+    with tempfile.TemporaryDirectory() as name:
+        path = Path(name, "old")
+        path.write_text(old)
+        for kind in ("folder", "link"):
+            new = Path(name, kind)
+            if kind == "folder":
+                new.mkdir()
+            else:
+                new.symlink_to("nowhere")
+            found = run(program, "compact", path, new, *BEFORE)
+            if found != (3, "", f"mds_city: {new} is there\n") or sorted(os.listdir(name))[-1] != "old":
+                yield f"{kind}: {found}, and {os.listdir(name)}"
+
+
+def no_place_for_it(program):
+    """A folder that isn't there: status 3, and a text."""
+    with tempfile.TemporaryDirectory() as name:
+        path = Path(name, "old")
+        path.write_text(journal(*NEW, WOKEN))
+        status, out, faults = run(program, "compact", path, Path(name, "nowhere/new"), *BEFORE)
+        if (status, out) != (3, "") or not faults.startswith("mds_city: ") or os.listdir(name) != ["old"]:
+            yield f"{status}, {out!r}, {faults!r}, and {os.listdir(name)}"
+
+
+def no_words(program):
+    """Words that don't parse."""
+    old = journal(*NEW, WOKEN)
+    for words in (
+        "@/old @/new",
+        "@/old --before 9",
+        "--before 9",
+        "@/old @/new --before",
+        "@/old @/new --before x",
+        "@/old @/new --before -1",
+        "@/old @/new --before 1.5",
+        "@/old @/new --before 9 --before 9",
+        "@/old @/new @/more --before 9",
+        "@/old @/new --before 9 --wait",
+        "@/old @/new --before 9 --table",
+        "@/old @/new --before 9 --table @/old --table @/old",
+    ):
+        with tempfile.TemporaryDirectory() as name:
+            Path(name, "old").write_text(old)
+            status, out, faults = run(program, "compact", *words.replace("@", name).split())
+            if (status, out) != (2, "") or not faults or os.listdir(name) != ["old"]:
+                yield f"{words}: {status}, {out!r}, {faults!r}, and {os.listdir(name)}"
+
+
+def long_lines(program):
+    """A line of the greatest length is copied as it stands."""
+    text = padded(WOKEN, 4194304)
+    old = journal(*NEW, text)
+    with tempfile.TemporaryDirectory() as name:
+        paths = Path(name, "old"), Path(name, "new")
+        paths[0].write_text(old)
+        found = run(program, "compact", *paths, *BEFORE)
+        if found != (0, "registrations 1 events 1 of 1\n", ""):
+            yield f"{found}"
+        else:
+            yield from content_amiss(paths[1].read_bytes(), old.encode())
+
+
+FAULTY = [
+    faulty_journals,
+    judged_first,
+    no_old_file,
+    a_new_file_that_is_there,
+    no_place_for_it,
+    no_words,
+    long_lines,
+]

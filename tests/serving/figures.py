@@ -1,0 +1,363 @@
+"""The port of figures: what it counts, whether the server is ready, and clients that are slow there."""
+
+import re
+import shutil
+import socket
+import subprocess
+import tempfile
+import threading
+import time
+from pathlib import Path
+
+from cases.replays import A, B, P, batch, event
+from crashing.recording import SYNC, WRITE, Recording
+from crashing.reports import NOT_KEPT, device_at, listing, looking, registering, reporting
+from crashing.resting import begins_to_write
+from harness.counting import Skipped
+from model.http import answer, error
+from serving.connections import SMALL_ROOM, long_list
+from serving.http import C, vehicle
+from serving.server import NotListening, Server, numbered_port
+from serving.wire import SECONDS, ask, close, connect, get, hang_up, post
+
+METRICS, READY = get("/metrics"), get("/ready")
+SERIES = re.compile(r"([a-z_]+(?:\{[^}]*\})?) ([0-9]+(?:\.[0-9]{6})?)")
+REQUESTS, ANSWERS, HTTP_FAULTS = "mds_city_requests_total", "mds_city_http_responses_total", "mds_city_http_faults_total"
+KEPT_AGAIN = "mds_city: journal not kept\nmds_city: journal kept again\n"
+SLOW_CLIENTS = 200
+SOON = 5
+"""Seconds in which an answer comes of a port that no client holds up."""
+PAUSE = 2.0
+"""Seconds that a sync takes that is slow."""
+PART = 5
+"""How many bytes come of a request that isn't whole."""
+LATE = 20
+"""Seconds in which a client is let go whose head doesn't come, on a machine that is busy with other tests."""
+READY_ANSWER = answer(200, {})
+NOT_FOUND = error(404, "not_found")
+
+
+def told_at(port, request):
+    """What is answered at the port of figures, of which openapi.json says nothing."""
+    with socket.create_connection(("127.0.0.1", port), timeout=SECONDS) as connection:
+        connection.sendall(request)
+        pieces = []
+        while piece := connection.recv(1 << 16):
+            pieces.append(piece)
+    return b"".join(pieces)
+
+
+def figures_at(port):
+    """The series that are told, by their names and labels."""
+    answered = told_at(port, METRICS).decode()
+    head, _, text = answered.partition("\r\n\r\n")
+    wanted = f"HTTP/1.1 200 OK\r\ncontent-type: text/plain; version=0.0.4; charset=utf-8\r\ncontent-length: {len(text)}"
+    if head != wanted + "\r\nconnection: close":
+        raise AssertionError(f"the head {head!r}")
+    series = {}
+    for line in text.splitlines():
+        if not line.startswith("#"):
+            name, value = SERIES.fullmatch(line).groups() if SERIES.fullmatch(line) else (line.split(" ")[0], "1")
+            series[name] = float(value)
+    return series
+
+
+def awaited(port, wanted, seconds=20):
+    """The figures, once all of these are told, or after so many seconds."""
+    ends = time.monotonic() + seconds
+    while True:
+        found = figures_at(port)
+        if all(found.get(name) == value for name, value in wanted.items()) or time.monotonic() > ends:
+            return found
+        time.sleep(0.05)
+
+
+def differing(found, wanted, what):
+    """Which of these figures aren't as wanted."""
+    for name, value in wanted.items():
+        if found.get(name) != value:
+            yield f"{what}: {name} is {found.get(name)}, in place of {value}"
+
+
+def of_kind(kind, **outcomes):
+    return {f'{REQUESTS}{{kind="{kind}",outcome="{outcome}"}}': count for outcome, count in outcomes.items()}
+
+
+def all_of(found, family):
+    return sum(value for name, value in found.items() if name.startswith(family + "{"))
+
+
+TALK = [
+    post("/vehicles", [vehicle(A), vehicle(B), vehicle(A), 7, {"provider_id": P}, {"provider_id": P, "device_id": 1}]),
+    post("/events", batch([event(A, 1, "provider_drop_off", "available", 1000)])),
+    post("/events", "[" + ",".join(12 * ["7"]) + "]"),
+    get(f"/vehicles/{P}/{A}"),
+    get(f"/vehicles/{P}/{A}"),
+    get(f"/vehicles/{P}/{C}"),
+    get(f"/vehicles/{P}/{A}/events"),
+    get(f"/vehicles/{P}/{C}/events"),
+    get("/table"),
+    get("/nowhere"),
+    post("/table", "[]"),
+    post("/events", "{"),
+    post("/events", "7"),
+    b"POST /events HTTP/1.1\r\n\r\n",
+    b"POST /events HTTP/1.1\r\ncontent-length: x\r\n\r\n",
+    b"POST /events HTTP/1.1\r\ncontent-length: 4194305\r\n\r\n",
+    b"POST /events HTTP/1.1\r\ntransfer-encoding: chunked\r\n\r\n",
+]
+WANTED = {
+    **of_kind("registration", done=2, already_registered=1, not_object=1, missing_param=1, bad_param=1, not_kept=0),
+    **of_kind("event", done=1, not_object=12, repeated=0, late=0, no_chain=0, unregistered=0),
+    **of_kind("look", seen=2, unregistered=1),
+    **of_kind("list", seen=1, unregistered=1),
+    **{f'{ANSWERS}{{status="{status}"}}': count for status, count in
+       {200: 7, 404: 3, 405: 1, 400: 3, 411: 1, 413: 1, 501: 1, 503: 0}.items()},
+    **{f'{HTTP_FAULTS}{{fault="{fault}"}}': count for fault, count in
+       {"not_found": 1, "method_not_allowed": 1, "not_json": 1, "not_list": 1, "length_required": 1, "bad_length": 1,
+        "too_long": 1, "transfer_encoding": 1, "bad_head": 0, "cut_short": 0, "too_many": 0}.items()},
+    'mds_city_batch_items_bucket{le="1"}': 1,
+    'mds_city_batch_items_bucket{le="10"}': 2,
+    'mds_city_batch_items_bucket{le="100"}': 3,
+    'mds_city_batch_items_bucket{le="+Inf"}': 3,
+    "mds_city_batch_items_sum": 19,
+    "mds_city_batch_items_count": 3,
+    "mds_city_held_vehicles": 2,
+    "mds_city_held_requests": 3,
+    "mds_city_newest_event_timestamp_seconds": 1,
+}
+
+
+def refused_events():
+    """Events of which each is refused by another reason, and the figures of them."""
+    events = [
+        event(A, 1, "provider_drop_off", "available", 1000),
+        event(A, 2, "trip_start", "on_trip", 999),
+        event(A, 3, "trip_end", "removed", 2000),
+        event(C, 4, "provider_drop_off", "available", 1000),
+    ]
+    return post("/events", batch(events)), of_kind("event", done=1, repeated=1, late=1, no_chain=1, unregistered=1)
+
+
+def counts_of_a_known_run(program):
+    """What is counted is what the answers say; asking for figures counts nowhere."""
+    port = numbered_port()
+    with Server(program, None, workers=3, metrics=port) as server:
+        begun = figures_at(port)
+        if all_of(begun, REQUESTS) or all_of(begun, ANSWERS):
+            yield "something is counted before anything is asked"
+        for request in TALK:
+            ask(server.port, request)
+        found = figures_at(port)
+        yield from differing(found, WANTED, "after the talk")
+        if all_of(found, ANSWERS) != len(TALK):
+            yield f"{all_of(found, ANSWERS)} answers in place of {len(TALK)}"
+        request, wanted = refused_events()
+        ask(server.port, request)
+        yield from differing(figures_at(port), wanted, "after refusals")
+        if found.get('mds_city_journal_lines') is not None:
+            yield "without a journal its lines are told"
+        for name in ("process_resident_memory_bytes", "process_virtual_memory_bytes", "process_threads"):
+            if not found.get(name):
+                yield f"{name} is {found.get(name)}"
+        if abs(found["process_start_time_seconds"] - time.time()) > 600:
+            yield f"it started at {found['process_start_time_seconds']}"
+
+
+def counts_where_a_client_goes(program):
+    """What was asked counts where its client goes before it read the answer."""
+    port, count = numbered_port(), 50
+    with Server(program, None, workers=2, metrics=port) as server:
+        ask(server.port, registering(*(device_at(number) for number in range(count))))
+        for number in range(count):
+            hang_up(server.port, reporting(device_at(number), 0, 1), reset=number % 2 == 0)
+        wanted = {**of_kind("event", done=count), "mds_city_held_requests": 2 * count}
+        yield from differing(awaited(port, wanted), wanted, "after clients went")
+
+
+def waits(coming, leaving=0, late=0):
+    """The figures of so many clients whose requests aren't whole, or whose answers leave, and that were let go since they were late."""
+    return {
+        "mds_city_waiting_connections": coming,
+        "mds_city_waiting_request_bytes": PART * coming,
+        "mds_city_leaving_answers": leaving,
+        'mds_city_dropped_connections_total{reason="late"}': late,
+        'mds_city_dropped_connections_total{reason="room"}': 0,
+    }
+
+
+def counts_who_waits_and_who_is_let_go(program):
+    """A client whose request comes, and one whose answer leaves, count while they do, and so no more once they went; one that is let
+    go since it is late counts as that."""
+    port = numbered_port()
+    with Server(program, None, workers=1, metrics=port) as server:
+        yield from long_list(server, A)
+        silent, going = connect(server.port), connect(server.port)
+        taking = connect(server.port, room=SMALL_ROOM)
+        for client in (silent, going):
+            client.sendall(METRICS[:PART])
+        taking.sendall(get(f"/vehicles/{P}/{A}/events"))
+        wanted = waits(coming=2, leaving=1)
+        found = awaited(port, wanted)
+        yield from differing(found, wanted, "beside three clients")
+        if not found["mds_city_leaving_answer_bytes"]:
+            yield "an answer that leaves has no bytes"
+        for client in (going, taking):
+            close(client, reset=True)
+        for what, wanted in (("beside one", waits(coming=1)), ("once it is late", waits(coming=0, late=1))):
+            yield from differing(awaited(port, wanted, LATE), wanted, what)
+        close(silent, reset=False)
+
+
+def figures_beside_slow_clients(program):
+    """Clients that are slow at the port of figures hinder neither those that aren't, nor those of the other port."""
+    port = numbered_port()
+    with Server(program, None, workers=1, metrics=port) as server:
+        slow = [connect(port) for _ in range(SLOW_CLIENTS)]
+        for number, client in enumerate(slow):
+            client.sendall(METRICS[: number % len(METRICS)])
+        for what, where, request in (("figures", port, METRICS), ("readiness", port, READY), ("the table", server.port, get("/table"))):
+            begun = time.monotonic()
+            if not told_at(where, request).startswith(b"HTTP/1.1 200 OK\r\n"):
+                yield f"{what} beside slow clients"
+            if time.monotonic() - begun > SOON:
+                yield f"{what} beside slow clients took {time.monotonic() - begun} s"
+        for client in slow:
+            close(client, reset=True)
+
+
+def figures_while_all_workers_wait(program):
+    """Figures are told while each worker waits for the disk: no worker tells them."""
+    port = numbered_port()
+    with tempfile.TemporaryDirectory() as folder:
+        path = Path(folder, "journal")
+        with Recording(path) as recording, Server(
+            program, None, workers=1, journal=path, env=recording.env, metrics=port
+        ) as server:
+            recording.set(pause=int(PAUSE * 1000000))
+            before = recording.number("writes")
+            client = threading.Thread(target=ask, args=(server.port, registering(device_at(1))))
+            client.start()
+            begins_to_write(recording, before)
+            begun = time.monotonic()
+            told_at(port, METRICS)
+            if time.monotonic() - begun > PAUSE / 2:
+                yield f"figures took {time.monotonic() - begun} s beside a worker that waits for the disk"
+            client.join()
+            recording.set(pause=0)
+            wanted = {"mds_city_journal_lines": 2, "mds_city_journal_groups_total": 2}
+            found = awaited(port, wanted)
+            yield from differing(found, wanted, "with a journal")
+            if found["mds_city_journal_bytes"] != len(path.read_bytes().rstrip(b"\n")):
+                yield f"the journal has {found['mds_city_journal_bytes']} bytes"
+            if found['mds_city_journal_sync_seconds_bucket{le="1"}'] >= found["mds_city_journal_sync_seconds_count"]:
+                yield "a slow sync isn't told"
+
+
+def ready_once_it_listens(program):
+    """While its journal is opened the server isn't ready, and says so; then it is, and tells what it held."""
+    port = numbered_port()
+    with tempfile.TemporaryDirectory() as folder:
+        path = Path(folder, "journal")
+        with Server(program, None, workers=2, journal=path) as server:
+            ask(server.port, registering(device_at(1), device_at(2)))
+            ask(server.port, reporting(device_at(1), 0, 5))
+        with Recording(path, pause=int(PAUSE * 1000000)) as recording:
+            starting = Server(program, None, workers=2, journal=path, env=recording.env, metrics=port)
+            early = answer_once_there(port)
+            if not early.startswith(b"HTTP/1.1 503 ") or not re.search(rb'\{"read":[0-9]+,"of":[0-9]+\}$', early):
+                yield f"before it listens: {early!r}"
+            recording.set(pause=0)
+            with starting:
+                if told_at(port, READY) != READY_ANSWER:
+                    yield f"once it listens: {told_at(port, READY)!r}"
+                if told_at(port, get("/nowhere")) != NOT_FOUND or told_at(port, post("/metrics", "{}")) != NOT_FOUND:
+                    yield "something else isn't refused"
+                wanted = {"mds_city_held_vehicles": 2, "mds_city_held_requests": 7, "mds_city_journal_lines": 8,
+                          "mds_city_newest_event_timestamp_seconds": 1.004, **of_kind("event", done=0)}
+                yield from differing(figures_at(port), wanted, "over a journal")
+
+
+def answer_once_there(port, seconds=20):
+    """What is answered to a question whether it is ready, as soon as anything is."""
+    ends = time.monotonic() + seconds
+    while True:
+        try:
+            return told_at(port, READY)
+        except ConnectionRefusedError:
+            if time.monotonic() > ends:
+                raise
+            time.sleep(0.02)
+
+
+def not_ready_while_nothing_is_kept(program):
+    """While what is asked can't be recorded, the server says so, and on standard error when that begins and ends."""
+    port = numbered_port()
+    with tempfile.TemporaryDirectory() as folder:
+        path = Path(folder, "journal")
+        with Recording(path) as recording, Server(
+            program, None, workers=2, journal=path, env=recording.env, metrics=port
+        ) as server:
+            ask(server.port, registering(device_at(1), device_at(2)))
+            for turn in range(2):
+                recording.fail(WRITE, many=1000)
+                for _ in range(3):
+                    if ask(server.port, reporting(device_at(1), 5 * turn, 5 * turn + 5)) != answer(503, NOT_KEPT):
+                        yield "what can't be written is answered otherwise"
+                if told_at(port, READY) != answer(503, NOT_KEPT):
+                    yield f"while nothing is kept: {told_at(port, READY)!r}"
+                if ask(server.port, looking(device_at(2)))[:15] != b"HTTP/1.1 200 OK":
+                    yield "a look that rests on nothing new isn't answered"
+                if told_at(port, READY) != answer(503, NOT_KEPT):
+                    yield "after a look that rests on nothing new it is ready"
+                recording.set(failing=0)
+                ask(server.port, listing(device_at(1)))
+                if told_at(port, READY) != READY_ANSWER:
+                    yield f"once all is kept: {told_at(port, READY)!r}"
+            wanted = {**of_kind("event", not_kept=30, done=0), "mds_city_journal_not_kept": 0, "mds_city_held_requests": 12,
+                      'mds_city_http_responses_total{status="503"}': 6}
+            yield from differing(figures_at(port), wanted, "once all is kept")
+            told = Path(server.folder.name, "faults").read_text()
+            if told != 2 * KEPT_AGAIN:
+                yield f"it told {told!r}"
+
+
+def figures_as_promtool_takes_them(program):
+    """Prometheus' own check of the text."""
+    promtool = shutil.which("promtool")
+    if not promtool:
+        raise Skipped("promtool isn't installed")
+    port = numbered_port()
+    with tempfile.TemporaryDirectory() as folder:
+        with Server(program, None, journal=Path(folder, "journal"), metrics=port) as server:
+            for request in TALK:
+                ask(server.port, request)
+            text = told_at(port, METRICS).partition(b"\r\n\r\n")[2]
+    checked = subprocess.run([promtool, "check", "metrics"], input=text, capture_output=True)
+    if checked.returncode or checked.stdout or checked.stderr:
+        yield f"promtool: status {checked.returncode}, {checked.stdout.decode()}{checked.stderr.decode()}"
+
+
+def a_port_that_is_taken(program):
+    """A port that another has is told as the other port is."""
+    with Server(program, None) as server:
+        try:
+            with Server(program, None, metrics=server.port):
+                yield "it listens for figures at a port that is taken"
+        except NotListening as fault:
+            if fault.ended != (3, "", "mds_city: socket\n"):
+                yield f"ended with {fault.ended}"
+
+
+FIGURES = [
+    counts_of_a_known_run,
+    counts_where_a_client_goes,
+    figures_beside_slow_clients,
+    figures_while_all_workers_wait,
+    ready_once_it_listens,
+    not_ready_while_nothing_is_kept,
+    figures_as_promtool_takes_them,
+    a_port_that_is_taken,
+]
+LATE_FIGURES = [counts_who_waits_and_who_is_let_go]
+"""Those that wait more than they work."""
