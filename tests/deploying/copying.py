@@ -18,7 +18,7 @@ from harness.counting import ROOT
 from model.http import error
 from model.json_text import compact
 from serving.server import Server
-from serving.wire import ask, get
+from serving.wire import ask, get, post
 
 SECONDS = 300
 VEHICLES, EVENTS = 100, 120
@@ -326,7 +326,34 @@ def another_history(program):
         fill(new, [(owner, [later])])
         yield from ended(run("backup", url(old), files.path("file"), files.registrations), 0)
         put = run("restore", url(new), files.path("file"))
-        yield from ended(put, 1, '"error":"late"', "stands otherwise", "1 there already, 4 refused, 1 stand otherwise")
+        yield from ended(put, 1, "stands otherwise", "5 there already, 0 refused, 1 stand otherwise")
+
+
+def into_a_small_journal(program):
+    """A server over a journal that was made small takes back what it had: what was left out is late, and counts as there. So does
+    what it lacks of a vehicle that stands otherwise, which is told."""
+    vehicles = list(fleet(20, 12))
+    owner, listed = vehicles[0]
+    with Files(vehicles) as files:
+        paths = files.path("old journal"), files.path("new journal")
+        with server_over(program, paths[0], EACH) as old:
+            fill(old, vehicles)
+            yield from ended(run("backup", url(old), files.path("file"), files.registrations), 0)
+        subprocess.run([program, "compact", *paths, "--before", "9000"], stdout=subprocess.DEVNULL, check=True)
+        with server_over(program, paths[1], EACH) as new:
+            told = body_in(ask(new.port, get(path_of(owner))))
+            if not told["events"] < len(listed):
+                yield f"nothing was left out: {told}"
+            counts = f"{len(vehicles) + sum(len(listed) for _, listed in vehicles)} there already, 0 refused"
+            yield from ended(run("restore", url(new), files.path("file")), 0, f"{counts}, 0 stand otherwise")
+            later = {**event(owner, 77, ["decommissioned"], "removed"), "timestamp": 9000}
+            if body_in(ask(new.port, post("/events", compact(later))))["success"] != 1:
+                yield "a later event isn't accepted"
+            yield from ended(run("restore", url(new), files.path("file")), 1, f"{counts}, 1 stand otherwise")
+
+
+def body_in(answered):
+    return json.loads(answered.partition(b"\r\n\r\n")[2])
 
 
 def words(program):
@@ -503,6 +530,7 @@ COPYING = [
     files_cut_short,
     events_that_lack_a_member,
     another_history,
+    into_a_small_journal,
     words,
     not_this_server,
     deep_answers,

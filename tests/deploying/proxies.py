@@ -37,6 +37,11 @@ WANTED = ("nginx", "haproxy", "openssl")
 SBIN = os.pathsep.join([os.environ.get("PATH", ""), "/usr/sbin", "/sbin"])
 
 
+def token_of(number):
+    """The token of the provider of this number, from 1."""
+    return f"{number:064x}"
+
+
 def installed(name):
     """The path of a program, or the case is skipped."""
     path = shutil.which(name, path=SBIN)
@@ -121,7 +126,9 @@ def is_heard(port):
 
 class City:
     """Three servers, each over a journal of its own, haproxy before them, and nginx before that. As a context they are taken down at
-    its end."""
+    its end. Another kind of city may have more instances, which its proxies name."""
+
+    names, providers = INSTANCES, PROVIDERS
 
     def __init__(self, program):
         self.program = program
@@ -158,14 +165,14 @@ class City:
         self.servers, self.proxies = [], []
 
     def start(self):
-        self.port, self.figures, *inner = free_ports(2 + 2 * len(INSTANCES))
-        self.queues, self.ports = inner[: len(INSTANCES)], inner[len(INSTANCES) :]
-        for number in range(len(INSTANCES)):
+        self.port, self.figures, *inner = free_ports(2 + 2 * len(self.names))
+        self.queues, self.ports = inner[: len(self.names)], inner[len(self.names) :]
+        for number in range(len(self.names)):
             self.servers.append(self.server(number))
         self.certify()
         shutil.copytree(ROOT / "deploy/page", self.folder / "page", dirs_exist_ok=True)
         self.write("503.http", (ROOT / "deploy/503.http").read_bytes().decode())
-        lines = [f'"Bearer {TOKENS[number]}" {PROVIDERS[number - 1]};' for number in TOKENS]
+        lines = [f'"Bearer {token_of(number)}" {provider};' for number, provider in enumerate(self.providers, 1)]
         self.write("tokens.map", "\n".join([changed("tokens.map", {}), *lines, f'"Bearer {CITY}" city;\n']))
         self.write("haproxy.cfg", self.haproxy())
         self.write("nginx.conf", self.nginx())
@@ -184,7 +191,7 @@ class City:
 
     def server(self, number):
         """The server of this number, which listens. It goes on from its journal, if there is one."""
-        path = self.folder / f"{INSTANCES[number]}.journal"
+        path = self.folder / f"{self.names[number]}.journal"
         return server_over(self.program, path, EACH, WORKERS, self.ports[number]).__enter__()
 
     def write(self, name, text):
@@ -200,7 +207,7 @@ class City:
     def haproxy(self):
         changes = {"/etc/mds_city": str(self.folder), "    user haproxy\n    group haproxy\n": ""}
         changes["127.0.0.1:8100"] = f"127.0.0.1:{self.figures}"
-        for number, (queue, port) in enumerate(zip(self.queues, self.ports), 1):
+        for number, queue, port in zip(range(1, len(INSTANCES) + 1), self.queues, self.ports):
             changes |= {f"127.0.0.1:810{number}": f"127.0.0.1:{queue}", f"127.0.0.1:800{number}": f"127.0.0.1:{port}"}
         return changed("haproxy.cfg", changes)
 
@@ -221,7 +228,7 @@ class City:
             "http {\n": f"http {{\n{temporary}",
             "listen 443 ": f"listen 127.0.0.1:{self.port} ",
         }
-        for number, queue in enumerate(self.queues, 1):
+        for number, queue in zip(range(1, len(INSTANCES) + 1), self.queues):
             changes[f"127.0.0.1:810{number}"] = f"127.0.0.1:{queue}"
         if not is_limited:
             changes |= {f"rate={rate}r/s": f"rate={FASTER}r/s" for rate in (REPORTS, LONG_REPORTS)}

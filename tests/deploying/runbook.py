@@ -3,6 +3,9 @@
 A machine is a folder with the files of deploy/ and with journals. The scripts of `tests/deploying/machine` stand in place of
 systemd and of its journal, and start the built program by the unit's words. Paths and ports are those of the folder."""
 
+import gzip
+import json
+import os
 import re
 import shutil
 import subprocess
@@ -20,14 +23,18 @@ from serving.wire import ask, post
 
 RUNBOOK = ROOT / "docs/runbook.md"
 HEADING = re.compile(r"^#{2,3} (.*)$", re.MULTILINE)
+SECOND = "/second.example/var/lib/mds_city_copies"
+"""Where the copies lie: in a folder in place of the second machine (tests/deploying/machine/rsync)."""
 P = PROVIDERS[0]
-A, B, C = (f"00000000-0000-4000-8000-00000000000{letter}" for letter in "abc")
-FOLDERS = ("/etc/mds_city", "/etc/systemd", "/var/lib/mds_city", "/var/log/nginx", "/var/tmp", "/usr/local/bin")
+A, B, C, D, E = (f"00000000-0000-4000-8000-00000000000{letter}" for letter in "abcde")
+FOLDERS = ("/etc/mds_city", "/etc/systemd", "/var/lib/mds_city", "/var/log/nginx", "/var/tmp", "/usr/local/bin", "/usr/local/lib")
 """What stands in the machine's folder in place of the root of a real one."""
 SMALL_DISK, MOST_KEPT, AT_ONCE = "3M", 50000, 1000
 """How large a disk is that is full soon; more vehicles than it has room for, and how many are registered by one request."""
 MANY, LITTLE, FORM = 400000, 64, ' {"form":"mds_city","version":1}\n'
 """How many vehicles take more than so many MiB; and the first line of a journal (docs/formats.md, `Journal`)."""
+COPIED = 1746010000
+"""When copies were made, in seconds."""
 GREATEST = 9007199254740991
 """The greatest time that an event may have (docs/formats.md, `Members`)."""
 
@@ -38,7 +45,7 @@ def registration(device):
 
 def event(device, number, types, state, hour):
     """An event at an hour of 30 April 2025, from 8 in the morning on."""
-    identifier = f"00000000-0000-4000-8000-0000000000e{number}"
+    identifier = f"00000000-0000-4000-8000-{0xE0 + number:012x}"
     when = 1746000000000 + 3600000 * hour
     return {**registration(device), "event_id": identifier, "event_types": types, "timestamp": when, "vehicle_state": state}
 
@@ -53,8 +60,12 @@ REQUESTS = [
 ]
 """What the instance `one` has accepted, a line of its journal each, behind the first line. A copy lacks the last."""
 
+WOKEN = {**REQUESTS[-1][1], "event_types": ["wake"]}
+"""The last event by a type of the city's own, of which the profile knows nothing."""
 LATER = event(A, 8, ["trip_start"], "on_trip", 4)
 """One more event of the first vehicle."""
+TRIPS = 10
+"""Those of the first vehicle by which its journal has grown."""
 
 
 def exported(names):
@@ -67,22 +78,26 @@ class Machine:
     """A folder in place of a machine, with two instances, and a shell on it. As a context it is taken down at its end."""
 
     def __init__(self, program):
-        for name in ("curl", "jq", "numfmt"):
+        for name in ("curl", "jq", "numfmt", "rsync"):
             installed(name)
         self.program, self.holder = program, tempfile.TemporaryDirectory()
         self.root = Path(self.holder.name)
-        self.ports = dict(zip(("one", "two"), free_ports(2)))
-        for folder in ("run", "etc/mds_city", "etc/systemd/system", "var/tmp", "usr/local/bin", "var/lib/mds_city_copies"):
+        self.ports, self.figures = ({"one": one, "two": two} for one, two in zip(*[iter(free_ports(4))] * 2))
+        folders = ("run", "etc/mds_city", "etc/systemd/system", "var/tmp", "usr/local/bin", "usr/local/lib/mds_city")
+        for folder in (*folders, "var/lib/mds_city_archive", SECOND.lstrip("/")):
             (self.root / folder).mkdir(parents=True)
         for name, port in self.ports.items():
-            self.write(f"/etc/mds_city/{name}.env", changed("one.env", {"PORT=8001": f"PORT={port}"}))
-        self.write("/etc/systemd/system/mds_city@.service", self.here(changed("mds_city@.service", {})))
+            changes = {"PORT=8001": f"PORT={port}", "METRICS=8201": f"METRICS={self.figures[name]}"}
+            self.write(f"/etc/mds_city/{name}.env", changed("one.env", changes))
+        for unit in ("mds_city@.service", "mds_city-compact@.service"):
+            self.write(f"/etc/systemd/system/{unit}", self.here(changed(unit, {})))
+        self.write("/usr/local/lib/mds_city/compact", self.here(changed("compact", {})))
+        self.path("/usr/local/lib/mds_city/compact").chmod(0o755)
         shutil.copy(program, self.root / "usr/local/bin/mds_city")
         shutil.copy(program, self.root / "var/tmp/mds_city")
         self.shell = Shell(program)
-        names = {"MACHINE": self.root, "P": P, "A": A, "C": C}
-        self.shell.__enter__().run(exported(names))
-        self.shell.ports["8001"] = str(self.ports["one"])
+        self.shell.__enter__().run(exported({"MACHINE": self.root, "P": P, "A": A}))
+        self.shell.ports |= {"8001": str(self.ports["one"]), "8201": str(self.figures["one"])}
 
     def __enter__(self):
         return self
@@ -90,7 +105,7 @@ class Machine:
     def __exit__(self, *_):
         for name in self.ports:
             self.shell.run(f"systemctl stop mds_city@{name}")
-        self.shell.run(f"mountpoint -q {self.journal().parent} && umount -l {self.journal().parent}")
+        self.shell.run(f"mountpoint -q {self.folder()} && umount -l {self.folder()}")
         self.shell.__exit__()
         self.holder.cleanup()
 
@@ -104,6 +119,15 @@ class Machine:
     def write(self, name, text):
         self.path(name).write_text(text)
 
+    def folder(self, name="one"):
+        """The folder of an instance, which is there with its link."""
+        folder, link = (self.path(f"/var/lib/{place}mds_city/{name}") for place in ("private/", ""))
+        folder.mkdir(parents=True, exist_ok=True)
+        link.parent.mkdir(exist_ok=True)
+        if not link.is_symlink():
+            link.symlink_to(folder)
+        return folder
+
     def journal(self, name="one"):
         return self.path(f"/var/lib/mds_city/{name}/journal")
 
@@ -114,14 +138,30 @@ class Machine:
     def ask(self, target, value):
         return ask(self.ports["one"], post(target, compact(value)))
 
-    def fill(self):
+    def fill(self, last=REQUESTS[-1][1]):
         """Starts the instance, has it accept all requests, and copies its journal before the last one."""
         self.run("systemctl start mds_city@one")
-        for target, value in REQUESTS:
-            if value is REQUESTS[-1][1]:
-                shutil.copy(self.journal(), self.path("/var/lib/mds_city_copies/one.journal"))
+        for target, value in [*REQUESTS[:-1], ("/events", last)]:
+            if value is last:
+                self.copy_journal()
             if success_of(self.ask(target, value)) != 1:
                 raise Unwell(f"{target} {value} isn't accepted")
+
+    def fill_by_own_table(self):
+        """The same, with a table file that has a row of the city's own, by which the last event is accepted."""
+        self.run("systemctl start mds_city@one")
+        rows = json.loads(self.run("curl -s http://127.0.0.1:8001/table")[0])["rows"]
+        own = {"from": "removed", "to": "available", "type": "wake"}
+        self.write("/etc/mds_city/table.json", compact({"rows": [*rows, own]}))
+        self.run("sed -i 's|^OPTIONS=.*|OPTIONS=--table /etc/mds_city/table.json|' /etc/mds_city/one.env")
+        self.run("systemctl stop mds_city@one")
+        self.fill(WOKEN)
+
+    def copy_journal(self, name="one"):
+        """Copies a journal to the second machine, with its time."""
+        copy = self.path(f"{SECOND}/{name}.journal")
+        shutil.copy(self.journal(name), copy)
+        os.utime(copy, (COPIED, COPIED))
 
     def change(self, line, old, new):
         """Stops the instance, and changes a line of its journal, from 0."""
@@ -142,20 +182,20 @@ def without_memory(machine):
         raise Skipped(f"the program doesn't run in {LITTLE} MiB")
     text = compact(registration("%s"))
     lines = [f' {text.replace("%s", device_of(number))}\n' for number in range(MANY)]
-    machine.journal().parent.mkdir(parents=True)
-    machine.journal().write_text("".join([FORM, *lines]))
+    (machine.folder() / "journal").write_text("".join([FORM, *lines]))
     machine.path("/etc/systemd/system/mds_city@one.service.d").mkdir()
-    machine.write("/etc/systemd/system/mds_city@one.service.d/before.conf", f"[Service]\nLimitAS={LITTLE}M\n")
+    machine.write("/etc/systemd/system/mds_city@one.service.d/override.conf", f"[Service]\nLimitAS={LITTLE}M\n")
     machine.run("systemctl start mds_city@one")
 
 
 def on_a_full_disk(machine):
     """The instance's folder is a small disk, which a copy fills, and then the journal all that it took as room."""
-    folder = machine.journal().parent
-    folder.mkdir(parents=True)
+    folder = machine.folder()
     if subprocess.run(["mount", "-t", "tmpfs", "-o", f"size={SMALL_DISK}", "none", folder], capture_output=True).returncode:
         raise Skipped("nothing can be mounted here")
     machine.run("systemctl start mds_city@one")
+    if success_of(machine.ask("/vehicles", registration(A))) != 1:
+        raise Unwell("a vehicle isn't accepted")
     machine.run(f"head -c {SMALL_DISK} /dev/zero > {folder}/copy-of-last-year")
     for number in range(0, MOST_KEPT, AT_ONCE):
         told = machine.ask("/vehicles", [registration(device_of(number + more)) for more in range(AT_ONCE)])
@@ -174,21 +214,21 @@ def refused_by_a_table(machine):
 
 def with_a_bad_line(machine):
     """A bit of a line is another one."""
-    machine.fill()
+    machine.fill_by_own_table()
     machine.change(4, b'"device_id"', b'"devicf_id"')
     machine.run("systemctl start mds_city@one")
 
 
 def with_a_closed_gate(machine):
     """A gate within the journal isn't open."""
-    machine.fill()
+    machine.fill_by_own_table()
     machine.change(4, b" ", b"#")
 
 
 def without_its_disk(machine):
     machine.fill()
     machine.run("systemctl stop mds_city@one")
-    shutil.rmtree(machine.journal().parent)
+    shutil.rmtree(machine.folder())
 
 
 def without_its_machine(machine):
@@ -197,15 +237,15 @@ def without_its_machine(machine):
     owner = {"provider_id": PROVIDERS[1], "device_id": A}
     if success_of(ask(machine.ports["two"], post("/vehicles", compact(owner)))) != 1:
         raise Unwell("the other instance accepts no vehicle")
-    shutil.copy(machine.journal("two"), machine.path("/var/lib/mds_city_copies/two.journal"))
+    machine.copy_journal("two")
     machine.run("systemctl stop mds_city@two")
-    shutil.rmtree(machine.journal("two").parent)
+    shutil.rmtree(machine.folder("two"))
     without_its_disk(machine)
 
 
 def with_a_time_to_come(machine):
     """An event of a vehicle has the greatest time that there is, and others of it are late."""
-    machine.fill()
+    machine.fill_by_own_table()
     ahead = {**event(A, 9, ["trip_start"], "on_trip", 3), "timestamp": GREATEST}
     if success_of(machine.ask("/events", ahead)) != 1 or b'"late"' not in machine.ask("/events", LATER):
         raise Unwell("the vehicle isn't stuck")
@@ -217,6 +257,65 @@ def is_accepted(machine):
         yield f"a later event: {machine.ask('/events', LATER)}"
 
 
+def with_many_trips(machine):
+    """The first vehicle has made trips since."""
+    machine.fill()
+    for number, (kind, state) in enumerate([("trip_start", "on_trip"), ("trip_end", "available")] * TRIPS):
+        if success_of(machine.ask("/events", event(A, 10 + number, [kind], state, 4 + number))) != 1:
+            raise Unwell(f"trip {number} isn't accepted")
+
+
+def with_unused_vehicles(machine):
+    """Three vehicles are registered that have no events."""
+    machine.fill_by_own_table()
+    if success_of(machine.ask("/vehicles", list(map(registration, (C, D, E))))) != 3:
+        raise Unwell("more vehicles aren't accepted")
+
+
+def unused_left_out(machine):
+    """What was accepted is there, and the vehicles without events aren't."""
+    yield from all_of_it_there(machine)
+    if success_of(machine.ask("/vehicles", list(map(registration, (C, D, E))))) != 3:
+        yield "vehicles without events are there"
+
+
+def with_copies(machine):
+    """Steps at the machine that has the copies, with one of each of 14 days."""
+    machine.fill()
+    folder = machine.path("/var/lib/mds_city_copies")
+    shutil.copytree(machine.path(SECOND), folder)
+    for day in range(14):
+        shutil.copy(folder / "one.journal", folder / f"one.journal.2025-04-{10 + day}")
+
+
+def fourteen_days(machine):
+    """The copy of the first day has gone, and that of today is there, with its time."""
+    first, *others, last, today = sorted(machine.path("/var/lib/mds_city_copies").iterdir())
+    if len(others) != 12 or others[0].name != "one.journal.2025-04-11" or today.stat().st_mtime != COPIED:
+        yield f"there are {[first, *others, last, today]}"
+
+
+def with_archives(machine):
+    """Three files were put away: they overlap, and the last one lacks the first event."""
+    machine.fill()
+    lines = machine.journal().read_bytes().splitlines(keepends=True)[: len(REQUESTS) + 1]
+    for day, kept in (("2025-05-01", lines[:5]), ("2025-06-01", lines), ("2025-07-01", lines[:3] + lines[4:])):
+        with gzip.open(machine.path(f"/var/lib/mds_city_archive/one.journal.{day}.gz"), "wb") as file:
+            file.writelines(kept)
+
+
+def old_trips_left_out(machine):
+    """Of what was accepted all is known, or late; and the file that was put away has all of it."""
+    (archive,) = machine.path("/var/lib/mds_city_archive").glob("one.journal.20*.gz")
+    events = gzip.open(archive).read().count(b"\n ")
+    if events != len(REQUESTS) + 2 * TRIPS:
+        yield f"{archive.name} has {events} lines"
+    for target, value in REQUESTS:
+        told = machine.ask(target, value)
+        if not re.search(rb"already_registered|repeated|late", told):
+            yield f"{value}: {told}"
+
+
 def all_sent_again(machine):
     """All that was accepted is sent again: what is there counts once, and what the copy lacked is accepted."""
     for target, value in REQUESTS:
@@ -226,6 +325,27 @@ def all_sent_again(machine):
             name = b'"success":1'
         if name not in told:
             yield f"{value}: {told}, in place of {name}"
+
+
+def sent_again_since(machine):
+    """The copy that was fetched has the time of the journal that it tells, and all is sent again."""
+    if {path.stat().st_mtime for path in machine.path("/var/tmp").glob("*.copy")} != {COPIED}:
+        yield "the time of the copy isn't that of the journal"
+    yield from all_sent_again(machine)
+
+
+def for_all_to_read(machine):
+    """The table file may be read by everybody, and others by root alone. A table is added to those that are there, too."""
+    table = machine.path("/etc/mds_city/table.json")
+    if table.stat().st_mode & 0o777 != 0o644 or machine.path("/var/tmp/one.journal").stat().st_mode & 0o077:
+        yield f"the table file has the mode {table.stat().st_mode:o}, or the copy of the journal is for everybody"
+    for step in sections()["Other rules"][:2]:
+        machine.run(step.command)
+    told = machine.run("jq -c '[.tables[] | [.from_time, (.rows | length)]]' /var/tmp/table.json")
+    before, now, later = json.loads(told[0])
+    if [before[0], now, later] != [0, later, later] or before[1] <= now[1]:
+        yield f"tables {told}"
+    yield from all_of_it_there(machine)
 
 
 def all_of_it_there(machine):
@@ -242,16 +362,19 @@ def nothing_more(_):
 
 SECTIONS = {
     "Memory runs out": (without_memory, nothing_more),
+    "Vehicles registered by mistake": (with_unused_vehicles, unused_left_out),
     "The disk is full": (on_a_full_disk, nothing_more),
     "refused": (refused_by_a_table, all_of_it_there),
     "bad_line": (with_a_bad_line, all_of_it_there),
     "damaged, or fewer vehicles than there were": (with_a_closed_gate, all_of_it_there),
-    "A disk is lost": (without_its_disk, all_sent_again),
-    "A machine is lost": (without_its_machine, all_sent_again),
-    "Another version of the program": (Machine.fill, all_of_it_there),
-    "Other rules": (Machine.fill, all_of_it_there),
+    "Copies of each day": (with_copies, fourteen_days),
+    "A disk is lost": (without_its_disk, sent_again_since),
+    "A machine is lost": (without_its_machine, sent_again_since),
+    "Another version of the program": (Machine.fill_by_own_table, all_of_it_there),
+    "Other rules": (Machine.fill, for_all_to_read),
+    "The journal has grown": (with_many_trips, old_trips_left_out),
     "A vehicle that is stuck": (with_a_time_to_come, is_accepted),
-    "An audit of last year": (Machine.fill, nothing_more),
+    "An audit of last year": (with_archives, nothing_more),
 }
 """How a machine gets into the trouble of each section, and what holds behind its steps."""
 
@@ -260,6 +383,11 @@ def sections():
     """The steps of each section of the document that has some, by its heading."""
     _, *parts = HEADING.split(RUNBOOK.read_text())
     return {name: steps for name, text in zip(parts[::2], parts[1::2]) if (steps := steps_of(text))}
+
+
+def first_steps():
+    """The steps before all sections."""
+    return steps_of(HEADING.split(RUNBOOK.read_text())[0])
 
 
 def run_steps(steps, run):
@@ -274,7 +402,7 @@ def of_section(name):
         prepare, check = SECTIONS[name]
         with Machine(program) as machine:
             prepare(machine)
-            yield from run_steps(sections()[name], machine.run)
+            yield from run_steps([*first_steps(), *sections()[name]], machine.run)
             yield from check(machine)
 
     section.__name__ = f"runbook, {name}"
@@ -295,7 +423,7 @@ def of_proxies(name, check):
         installed("jq")
         before = (city.folder / "tokens.map").read_text()
         here = lambda text: re.sub(r"(?<![\w/])(/etc/mds_city|/var/log/nginx)", str(city.folder), text)
-        names = {"MACHINE": city.folder, "PROXY": city.paths["nginx"], "P": P}
+        names = {"MACHINE": city.folder, "PROXY": city.paths["nginx"], "P": P, "OLD": TOKENS[1]}
         try:
             with Shell(city.program) as shell:
                 shell.run(exported(names))

@@ -70,7 +70,7 @@ def words_of():
 def words_of_the_unit(program):
     """The words that the unit runs with the environment file are words of the program, and the file sets each name."""
     names, words = variables(), words_of()
-    wanted = ["serve", "--port", names["PORT"], "--until-stopped", "--workers", names["WORKERS"]]
+    wanted = ["serve", "--port", names["PORT"], "--until-stopped", "--workers", names["WORKERS"], "--metrics", names["METRICS"]]
     if words[:-1] != [*wanted, "--journal"]:
         yield f"{words}, in place of {wanted}, and a journal"
     with Server(program, None, int(names["WORKERS"])):
