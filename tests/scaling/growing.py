@@ -32,6 +32,8 @@ EVENTS, LISTED = 120, 20_000
 """Events of the vehicle that is listed often, and of the one that is listed once."""
 MOST_GROWN, MOST_OF_LONG = 64 << 10, 6 << 20
 """Bytes that memory may be more behind a kind, and behind one of long requests, by pages that the C library keeps."""
+ROUNDS = 2 * WORKERS
+"""How often a kind is made where memory grows. The C library has a heap for each worker, and each of these may grow once."""
 MOST_MAPPINGS = 8
 """Mappings that the C library may have made more."""
 BODIES, MOST_OF_BODIES = 24, 40 << 20
@@ -239,8 +241,8 @@ def nothing_grows(program, times, told=lambda text: None):
 
 
 def grown_by(server, job, most, sockets, told):
-    """What a kind leaves. What grew once is made again, since the C library may have come to a larger heap."""
-    for _ in range(2):
+    """What a kind leaves each time it is made. A kind after which nothing is left isn't made again."""
+    for _ in range(ROUNDS):
         before = Held.by(server)
         yield from job(server, 1)
         yield from unclosed(server, sockets)
