@@ -6,7 +6,7 @@ use Rattle.std.proofs.lemmas.List.Elements.{All-nil, All-cons, All-head, All-tai
 use Rattle.mds_journal.specs.Lines.{open_lines}
 use Rattle.mds_journal.proofs.LineLemmas.{open_lines-append}
 use Rattle.mds_check.specs.Crc.{after_bytes, crc32}
-use Rattle.mds_check.specs.Form.{check_text, IsText, laid_out, with_text, groups_of, IsChecked, CheckState, between_groups, behind_text, FitsFrom, HasTaken}
+use Rattle.mds_check.specs.Form.{check_text, IsText, laid_out, with_text, groups_of, IsChecked, CheckState, between_groups, behind_text, behind_texts, is_begun, FitsFrom, HasTaken}
 use Rattle.mds_check.proofs.StateLemmas.{after_bytes-append}
 use Rattle.mds_check.proofs.FormLemmas.{check_text-length}
 
@@ -44,22 +44,11 @@ groups_read_back (group ∷ groups) are =
 
 -- ---- what fits from a line on
 
--- whether there is a text
-is_begun : List (List ℕ) → Bool
-is_begun [] = false
-is_begun (text ∷ texts) = true
-
--- how far the check of a group has come behind these texts of it
-behind_texts : List (List ℕ) → CheckState
-behind_texts texts = record { state = after_bytes 0xFFFF_FFFF (open_lines texts); begun = is_begun texts }
-
 begun_more : (texts : List (List ℕ)) (text : List ℕ) → is_begun (texts ++ text ∷ []) ≡ true
-unfolding is_begun
 begun_more [] text = refl
 begun_more (first ∷ texts) text = refl
 
-behind_more : (texts : List (List ℕ)) (text : List ℕ) → behind_texts (texts ++ text ∷ []) ≡ behind_text (behind_texts texts) text
-unfolding behind_texts
+pub behind_more : (texts : List (List ℕ)) (text : List ℕ) → behind_texts (texts ++ text ∷ []) ≡ behind_text (behind_texts texts) text
 behind_more texts text =
     let state : after_bytes 0xFFFF_FFFF (open_lines (texts ++ text ∷ [])) ≡ after_bytes (after_bytes 0xFFFF_FFFF (open_lines texts)) (open_lines (text ∷ [])) =
     ap (after_bytes 0xFFFF_FFFF) (open_lines-append texts (text ∷ [])) ∙ after_bytes-append 0xFFFF_FFFF (open_lines texts) (open_lines (text ∷ [])) in
@@ -68,7 +57,6 @@ behind_more texts text =
 
 -- where nothing is left, no text may be
 fits_end : (texts : List (List ℕ)) → All IsText texts → IsChecked (texts ++ []) ↔ (is_begun texts ≡ false)
-unfolding is_begun
 fits_end [] are = (λ checked. refl, λ fits. refl)
 fits_end (text ∷ texts) are =
     let none : laid_out (groups_of ((text ∷ texts) ++ [])) ≡ [] =
@@ -77,7 +65,6 @@ fits_end (text ∷ texts) are =
 
 -- lines behind texts of a group are checked where they fit from there on
 fits_is : (texts lines : List (List ℕ)) → All IsText texts → IsChecked (texts ++ lines) ↔ FitsFrom (behind_texts texts) lines
-unfolding behind_texts is_begun
 fits_is texts [] are = fits_end texts are
 fits_is texts (line ∷ lines) are = elim (cases_eq (length line) 20) [
   | inl is ↦
@@ -109,7 +96,6 @@ fits_is texts (line ∷ lines) are = elim (cases_eq (length line) 20) [
 
 -- nothing has been taken yet
 pub taken_none : HasTaken between_groups []
-unfolding behind_texts is_begun
 taken_none later = fits_is [] later (All-nil IsText)
 
 -- the lines that have been taken are checked where no group is begun
@@ -121,3 +107,32 @@ taken_whole check lines taken = by_begun check.begun refl where
   by_begun : (begun : Bool) → check.begun ≡ begun → IsTrue (not begun) ↔ IsChecked lines
   by_begun true is = (λ no. absurd cc, λ checked. let end = ends.0 (subst IsChecked (sym (append-nil lines)) checked) in absurd (cc (is, end)))
   by_begun false is = (λ _. subst IsChecked (append-nil lines) (ends.1 is), λ _. refl)
+
+-- ---- whole groups
+
+-- lines that were laid out are checked
+pub laid_out_checked : (groups : List (List (List ℕ))) → All (All IsText) groups → IsChecked (laid_out groups)
+laid_out_checked groups are = ap laid_out (groups_read_back groups are)
+
+-- texts and their check are a group
+pub group_checked : (texts : List (List ℕ)) → All IsText texts → IsChecked (texts ++ check_text (crc32 (open_lines texts)) ∷ [])
+group_checked texts are = laid_out_checked (texts ∷ []) (All-cons (All IsText) texts [] are (All-nil (All IsText)))
+
+-- where no group is begun, the check is at its start
+abbrev IsAtStart : CheckState → Type 0
+IsAtStart check = check.begun ≡ false → check ≡ between_groups
+
+-- what fits from a place on, and then whole groups
+fits_both : (check : CheckState) (lines more : List (List ℕ)) → IsAtStart check → FitsFrom check lines → FitsFrom between_groups more → FitsFrom check (lines ++ more)
+fits_both check [] more start fits later = subst (λ (w : CheckState). FitsFrom w more) (sym (start fits)) later
+fits_both check (line ∷ lines) more start fits later = (
+  λ text. fits_both (behind_text check line) lines more (λ begun. absurd cc) (fits.0 text) later,
+  λ is. let both = fits.1 is in (both.0, fits_both between_groups lines more (λ begun. refl) both.1 later),
+)
+
+-- whole groups behind whole groups are whole groups
+pub checked_both : (lines more : List (List ℕ)) → IsChecked lines → IsChecked more → IsChecked (lines ++ more)
+checked_both lines more one other =
+    let fits = (taken_none lines).0 one in
+    let later = (taken_none more).0 other in
+    (taken_none (lines ++ more)).1 (fits_both between_groups lines more (λ begun. refl) fits later)

@@ -60,6 +60,16 @@ abbrev pub behind_text : CheckState → List ℕ → CheckState
 behind_text check text =
     record { state = after_bytes check.state (open_lines (text ∷ [])); begun = true }
 
+-- whether there is a text
+abbrev pub is_begun : List (List ℕ) → Bool
+is_begun [] = false
+is_begun (text ∷ texts) = true
+
+-- these texts of a group have been taken
+abbrev pub behind_texts : List (List ℕ) → CheckState
+behind_texts texts =
+    record { state = after_bytes 0xFFFF_FFFF (open_lines texts); begun = is_begun texts }
+
 -- this line is the check of the texts that have been taken
 abbrev pub IsCheckOf : CheckState → List ℕ → Type 0
 IsCheckOf check line = line ≡ check_text (bit_xor check.state 0xFFFF_FFFF)

@@ -1,9 +1,9 @@
 //! The lines of a file, taken one by one: whether each fits behind those before it.
-ghost use Rattle.std.specs.Prelude.{◌≡◌, ◌↔◌, [], ◌∷◌, ◌++◌, ℕ, List, map, IsTrue};
+ghost use Rattle.std.specs.Prelude.{◌≡◌, ◌↔◌, [], ◌∷◌, ◌++◌, ℕ, List, length, map, IsTrue};
 ghost use Rattle.std.specs.Bool.{OnTrue, OnFalse};
 ghost use Rattle.mds_journal.specs.Lines.{open_lines};
 ghost use Rattle.mds_check.specs.Crc.{after_bytes};
-ghost use Rattle.mds_check.specs.Form.{IsText, IsChecked, HasTaken};
+ghost use Rattle.mds_check.specs.Form.{IsText, IsChecked, IsCheckOf, HasTaken, behind_text, between_groups};
 
 use crate::crc::{START, update, update_by_bytes};
 use crate::form::{CHECK_BYTES, is_check};
@@ -30,7 +30,8 @@ impl Model for GroupCheck {
 impl GroupCheck {
     /// No line has been taken yet.
     pub fn new() -> GroupCheck
-        ensures { HasTaken result [] }
+        ensures taken { HasTaken result [] }
+        ensures start { result ≡ between_groups }
     {
         GroupCheck {
             state: START,
@@ -47,7 +48,10 @@ impl GroupCheck {
         ensures unfit { OnFalse result ((lines later : List (List ℕ))
             → HasTaken self.old lines → IsChecked (lines ++ line.now ∷ later) → ⊥) }
         ensures unchanged { OnFalse result (self.new ≡ self.old) }
-        ensures text { IsText line.now → IsTrue result }
+        ensures text { IsText line.now
+            → IsTrue result × (self.new ≡ behind_text self.old line.now) }
+        ensures check { length line.now ≡ 20 → (IsTrue result ↔ IsCheckOf self.old line.now) }
+        ensures ended { length line.now ≡ 20 → IsTrue result → self.new ≡ between_groups }
     {
         if line.len() != CHECK_BYTES {
             self.state = behind_text(self.state, line);
