@@ -12,7 +12,7 @@ use Rattle.mds_check.specs.Crc.{after_bits, after_byte, after_bytes, crc32}
 use Rattle.mds_check.specs.Form.{check_text, IsText, laid_out, groups_of, IsChecked, CheckState, between_groups, behind_text, FitsFrom}
 use Rattle.mds_check.specs.Laws.{IsByte, number_of, DifferInARun, file_with}
 use Rattle.mds_check.proofs.StateLemmas.{Differ, differ, differ_is, xor_across, after_bits-xor, after_bits-add, after_bits-shl, after_bits-lt, after_bits-none, after_bytes-append, after_bytes-number, differ_bytes, differ_byte, differ_number}
-use Rattle.mds_check.proofs.FormLemmas.{same_low_bits, check_text-no_feed}
+use Rattle.mds_check.proofs.FormLemmas.{checks_are_apart, same_low_bits, check_text-no_feed}
 use Rattle.mds_check.proofs.GroupLemmas.{groups_read_back, taken_none}
 
 -- ---- checks of bytes
@@ -51,6 +51,24 @@ pub byte_found : (front back : List ℕ) (x y : ℕ) → IsByte x → IsByte y �
 byte_found front back x y first second other =
     other_check (after_bytes 0xFFFF_FFFF (front ++ x ∷ back)) (after_bytes 0xFFFF_FFFF (front ++ y ∷ back))
     (differ_one 0xFFFF_FFFF x y front back (differ_bytes_of x y first second other))
+
+-- behind bytes a state has at most 32 bits
+after_byte-lt : (state byte : ℕ) → state < 2 ^ 32 → IsByte byte → after_byte state byte < 2 ^ 32
+unfolding after_byte
+after_byte-lt state byte small is = after_bits-lt 8 (bit_xor state byte) (xor_lt 32 state byte small (omega (arith, is)))
+
+after_bytes-lt : (state : ℕ) (bytes : List ℕ) → state < 2 ^ 32 → All IsByte bytes → after_bytes state bytes < 2 ^ 32
+after_bytes-lt state [] small are = small
+after_bytes-lt state (byte ∷ bytes) small are =
+    after_bytes-lt (after_byte state byte) bytes (after_byte-lt state byte small (All-head IsByte byte bytes are)) (All-tail IsByte byte bytes are)
+
+crc32-lt : (bytes : List ℕ) → All IsByte bytes → crc32 bytes < 2 ^ 32
+crc32-lt bytes are =
+    xor_lt 32 (after_bytes 0xFFFF_FFFF bytes) 0xFFFF_FFFF (after_bytes-lt 0xFFFF_FFFF bytes (omega arith) are) (omega arith)
+
+-- bytes whose checks have one text have one check
+pub checks_same : (xs ys : List ℕ) → All IsByte xs → All IsByte ys → check_text (crc32 xs) ≡ check_text (crc32 ys) → crc32 xs ≡ crc32 ys
+checks_same xs ys first second same = checks_are_apart (crc32 xs) (crc32 ys) (crc32-lt xs first) (crc32-lt ys second) same
 
 -- ---- several bytes
 
@@ -210,14 +228,14 @@ joined_apart before after one two byte small other first second whole =
 -- ---- files
 
 -- the lines of a file with this byte in one of them
-file_lines : (before : List (List ℕ)) (front back rest : List ℕ) (byte : ℕ) → All HasNoFeed before → HasNoFeed (front ++ byte ∷ back)
+pub file_lines : (before : List (List ℕ)) (front back rest : List ℕ) (byte : ℕ) → All HasNoFeed before → HasNoFeed (front ++ byte ∷ back)
     → recovered_texts (file_with before front byte back rest) ≡ before ++ (front ++ byte ∷ back) ∷ recovered_texts rest
 file_lines before front back rest byte none own =
     ap (λ (bytes : List ℕ). recovered_texts (open_lines before ++ 32 ∷ bytes)) (sym (append_assoc front (byte ∷ back) (10 ∷ rest)))
     ∙ recovered_lines before (32 ∷ ((front ++ byte ∷ back) ++ 10 ∷ rest)) none
     ∙ ap (λ (lines : List (List ℕ)). before ++ lines) (recovered_line (front ++ byte ∷ back) rest own)
 
-with_no_feed : (front back : List ℕ) (byte : ℕ) → HasNoFeed front → HasNoFeed back → byte ≢ 10 → HasNoFeed (front ++ byte ∷ back)
+pub with_no_feed : (front back : List ℕ) (byte : ℕ) → HasNoFeed front → HasNoFeed back → byte ≢ 10 → HasNoFeed (front ++ byte ∷ back)
 with_no_feed front back byte first second other =
     let IsOther : ℕ → Type 0 = λ (b : ℕ). b ≢ 10 in
     All-append IsOther front (byte ∷ back) first (All-cons IsOther byte back other second)
