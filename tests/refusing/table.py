@@ -141,6 +141,8 @@ TESTED = {
         "EntryReader::read_into",
         "EntryReader::text_of",
     ],
+    ("mds_groups", "test_journal", "groups_are_read_after_a_refused_growth"): ["GroupStream::take"],
+    ("mds_groups", "test_journal", "groups_are_written_after_a_refused_growth"): ["end_group"],
 }
 """A library, where its test stands (a crate, and a module of it where more than one has a test of this name), the test, and the
 calls of the library that it makes."""

@@ -10,6 +10,8 @@ mod files;
 #[cfg(test)]
 mod frail;
 #[cfg(test)]
+mod groups;
+#[cfg(test)]
 mod lines;
 #[cfg(test)]
 mod streams;

@@ -1,0 +1,5 @@
+-- Lemmas of this crate.
+pub mod LengthLemmas
+pub mod JournalLemmas
+pub mod ChangeLemmas
+pub mod StreamLemmas

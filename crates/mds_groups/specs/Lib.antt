@@ -1,0 +1,5 @@
+-- Definitions that the contracts cite.
+pub mod Fault
+pub mod Form
+pub mod Stream
+pub mod Laws
