@@ -29,6 +29,7 @@ PASSED_ON = {
         "EventList::reserve": ["count.checked_mul"],
     },
     "mds_entries/entry.rt": {"EntryReader::text_of": ["lay_out"]},
+    "mds_groups/stream.rt": {"push_copy": ["texts.push"]},
     "mds_journal/all.rt": {"read_lines": ["lines.push"]},
     "mds_journal/group.rt": {"Group::push": ["add_line"]},
     "mds_journal/memory.rt": {

@@ -37,67 +37,7 @@ module _ (stream : GroupStream) (stage : Stage) (lines : List (List ℕ)) (group
       taken_at (split ∙ sym (append-nil (lines_before stage groups)) ∙ ap (λ (w : List (List ℕ)). lines_before stage groups ++ w) (sym none))
       (subst (MayHave stage groups) (sym none) may) (check ∙ ap behind_texts (sym none))
 
-  pub split_between : HasTaken stream lines groups → begun_of stream ≡ [] → lines ≡ lines_before stage groups
-  split_between taken none =
-      split_at taken ∙ ap (λ (w : List (List ℕ)). lines_before stage groups ++ w) none ∙ append-nil (lines_before stage groups)
-
--- nothing was taken
-pub taken_none : (stream : GroupStream) → stream.stage ≡ First → begun_of stream ≡ [] → stream.check ≡ between_groups → HasTaken stream [] []
-taken_none stream at none check = taken_between stream First [] [] at none refl (refl, refl) check
-
--- the check of a stream where no group is begun
-check_between : (stream : GroupStream) (lines : List (List ℕ)) (groups : List (List (List ℕ))) → HasTaken stream lines groups → begun_of stream ≡ []
-    → stream.check ≡ between_groups
-check_between stream lines groups taken none = taken.check ∙ ap behind_texts none
-
--- ---- the lines before the first group
-
-module _ (old new : GroupStream) (number : ℕ) (line : List ℕ) (same_texts : begun_of new ≡ begun_of old) (same_check : new.check ≡ old.check) where
-  -- the first line names a form without checks
-  pub takes_plain_form : old.stage ≡ First → new.stage ≡ Groups Plain → line ≡ first_line Plain → Takes old new number line None
-  takes_plain_form from to names lines groups taken at =
-      let may = may_at old First lines groups from taken in
-      let none : groups ++ [] ≡ [] = append-nil groups ∙ may.0 in
-      let empty : lines ≡ [] = split_between old First lines groups from taken may.1 in
-      let here : lines ++ line ∷ [] ≡ header Plain = ap (λ (w : List (List ℕ)). w ++ line ∷ []) empty ∙ ap (λ (w : List ℕ). w ∷ []) names in
-      let journal = subst (IsJournal Plain (lines ++ line ∷ [])) (sym none) (subst (λ (w : List (List ℕ)). IsJournal Plain w []) (sym here) (journals_begin Plain)) in (
-        taken_between new (Groups Plain) (lines ++ line ∷ []) (groups ++ []) to (same_texts ∙ may.1) journal.lines_are (journal.texts_are, refl)
-            (same_check ∙ check_between old lines groups taken may.1),
-        tt,
-      )
-
-  -- the first line names the form with checks
-  pub takes_checked_form : old.stage ≡ First → new.stage ≡ FormCheck → line ≡ first_line Checked → Takes old new number line None
-  takes_checked_form from to names lines groups taken at =
-      let may = may_at old First lines groups from taken in
-      let none : groups ++ [] ≡ [] = append-nil groups ∙ may.0 in
-      let empty : lines ≡ [] = split_between old First lines groups from taken may.1 in
-      let here : lines ++ line ∷ [] ≡ first_line Checked ∷ [] = ap (λ (w : List (List ℕ)). w ++ line ∷ []) empty ∙ ap (λ (w : List ℕ). w ∷ []) names in (
-        taken_between new FormCheck (lines ++ line ∷ []) (groups ++ []) to (same_texts ∙ may.1) here (none, refl)
-            (same_check ∙ check_between old lines groups taken may.1),
-        tt,
-      )
-
-  -- the second line is the first one's check
-  pub takes_form_check : old.stage ≡ FormCheck → new.stage ≡ Groups Checked → line ≡ check_of (first_line Checked ∷ []) → Takes old new number line None
-  takes_form_check from to fits lines groups taken at =
-      let may = may_at old FormCheck lines groups from taken in
-      let none : groups ++ [] ≡ [] = append-nil groups ∙ may.0 in
-      let front : lines ≡ first_line Checked ∷ [] = split_between old FormCheck lines groups from taken may.1 in
-      let here : lines ++ line ∷ [] ≡ header Checked = ap (λ (w : List (List ℕ)). w ++ line ∷ []) front ∙ ap (λ (w : List ℕ). first_line Checked ∷ w ∷ []) fits in
-      let journal = subst (IsJournal Checked (lines ++ line ∷ [])) (sym none) (subst (λ (w : List (List ℕ)). IsJournal Checked w []) (sym here) (journals_begin Checked)) in (
-        taken_between new (Groups Checked) (lines ++ line ∷ []) (groups ++ []) to (same_texts ∙ may.1) journal.lines_are (journal.texts_are, All-nil IsText)
-            (same_check ∙ check_between old lines groups taken may.1),
-        tt,
-      )
-
--- ---- journals of whole groups
-
-pub plain_journal : (stream : GroupStream) (lines : List (List ℕ)) (groups : List (List (List ℕ))) → stream.stage ≡ Groups Plain → HasTaken stream lines groups
-    → IsJournal Plain lines groups
-plain_journal stream lines groups from taken =
-    let may = may_at stream (Groups Plain) lines groups from taken in
-    record { lines_are = split_between stream (Groups Plain) lines groups from taken may.1; texts_are = may.0 }
+-- ---- groups
 
 -- the place of a group's first line
 begins_at : (before begun lines : List (List ℕ)) (number first : ℕ) → lines ≡ before ++ begun → number ≡ length lines
@@ -105,35 +45,6 @@ begins_at : (before begun lines : List (List ℕ)) (number first : ℕ) → line
 begins_at before begun lines number first split at is =
     let whole : number ≡ length before + length begun = at ∙ ap (λ (w : List (List ℕ)). length w) split ∙ length-append before begun in
     omega (arith, whole, is (omega (arith, whole)))
-
--- the group that is begun
-pub begins_group : (stream : GroupStream) (lines : List (List ℕ)) (groups : List (List (List ℕ))) (number first : ℕ) → stream.stage ≡ Groups Checked → HasTaken stream lines groups
-    → number ≡ length lines → (length (begun_of stream) ≤ number → first + length (begun_of stream) ≡ number) → BeginsGroup lines groups first (begun_of stream)
-begins_group stream lines groups number first from taken at is =
-    let may = may_at stream (Groups Checked) lines groups from taken in
-    let split = split_at stream (Groups Checked) lines groups from taken in
-    record {
-      whole = lines_before (Groups Checked) groups;
-      journal = record { lines_are = refl; texts_are = may.0 };
-      split = split;
-      texts = may.1;
-      first = begins_at (lines_before (Groups Checked) groups) (begun_of stream) lines number first split at is;
-    }
-
--- ---- groups
-
--- where there are no checks, a line is a group
-pub takes_plain : (stream : GroupStream) (number : ℕ) (line : List ℕ) (group : WholeGroup) → stream.stage ≡ Groups Plain → IsEntry Plain line → texts_of group ≡ line ∷ []
-    → group.first ≡ number → Takes stream stream number line (Some group)
-takes_plain stream number line group from entry texts first lines groups taken at =
-    let may = may_at stream (Groups Plain) lines groups from taken in
-    let old = plain_journal stream lines groups from taken in
-    let more = journal_more Plain lines groups (line ∷ []) old (All-cons (IsEntry Plain) line [] entry (All-nil (IsEntry Plain))) in
-    let journal = subst (λ (w : List (List ℕ)). IsJournal Plain (lines ++ line ∷ []) (groups ++ w ∷ [])) (sym texts) more in (
-      taken_between stream (Groups Plain) (lines ++ line ∷ []) (groups ++ texts_of group ∷ []) from may.1 journal.lines_are (journal.texts_are, refl)
-          (check_between stream lines groups taken may.1),
-      record { form = Plain; journal = journal; first = first ∙ at ∙ ap (λ (w : List (List ℕ)). length w) old.lines_are },
-    )
 
 -- a text is one more of the group that is begun
 pub takes_text : (old new : GroupStream) (number : ℕ) (line : List ℕ) → old.stage ≡ Groups Checked → new.stage ≡ Groups Checked → IsText line
@@ -169,14 +80,3 @@ takes_check old new number line group from to fits texts none check first lines 
       taken_between new (Groups Checked) (lines ++ line ∷ []) (groups ++ texts_of group ∷ []) to none journal.lines_are (journal.texts_are, All-nil IsText) check,
       record { form = Checked; journal = journal; first = begins },
     )
-
--- another check than theirs
-pub other_check : (stream : GroupStream) (lines : List (List ℕ)) (groups : List (List (List ℕ))) (line : List ℕ) (number first : ℕ) → stream.stage ≡ Groups Checked → HasTaken stream lines groups
-    → number ≡ length lines → (length (begun_of stream) ≤ number → first + length (begun_of stream) ≡ number) → length line ≡ 20 → (IsCheckOf stream.check line → ⊥)
-    → HasOtherCheck lines groups line first
-other_check stream lines groups line number first from taken at is long other = (
-  begun_of stream,
-  begins_group stream lines groups number first from taken at is,
-  long,
-  λ same. other (subst (λ (w : CheckState). IsCheckOf w line) (sym taken.check) same),
-)

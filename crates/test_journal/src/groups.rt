@@ -5,9 +5,13 @@ use std::alloc::Global;
 use std::fmt::Write as _;
 
 const PLAIN: &str = "{\"form\":\"mds_city\",\"version\":1}";
+
 const CHECKED: &str = "{\"form\":\"mds_city\",\"version\":2}";
+
 const FORM_CHECK: &str = "{\"crc32\":\"033c3350\"}";
+
 const AB_CHECK: &str = "{\"crc32\":\"f2d2bcd7\"}";
+
 const C_CHECK: &str = "{\"crc32\":\"69094e88\"}";
 
 /// The lines of a file, and what is told of them: each group behind a bar, with the number of its first line, and the fault
