@@ -15,7 +15,7 @@ from deploying.dashboards import queries_without_answer
 from deploying.proxies import INSTANCES, PROVIDERS, Proxy, changed, free_ports, installed
 from deploying.units import variables
 from deploying.vehicles import short_events, vehicle
-from deploying.watching import OUR_JOBS, Watch, promtool, values_of
+from deploying.watching import ALWAYS, OUR_JOBS, Watch, promtool, values_of
 from documents.names import anchors_of
 from harness.counting import ROOT, Skipped
 from model.json_text import compact
@@ -25,7 +25,7 @@ from serving.wire import ask, post
 
 RULES = ROOT / "deploy/alarms.yml"
 P = PROVIDERS[0]
-TROUBLED = ("memory", "notkept", "silent", "refusals", "restarts", "syncs", "fewer", "gone")
+TROUBLED = ("memory", "notkept", "silent", "refusals", "restarts", "syncs", "fewer", "gone", "ahead")
 """The instances, by what befalls them. One more is well."""
 ADDRESSES, NEARLY = 280 << 10, 0.62
 """How many KiB of addresses the first may have, and which part of them it then has."""
@@ -46,7 +46,9 @@ MEMORY = Path("/dev/shm")
 SMALL_DISK = "1M"
 DISKS = '"/|/var|/var/lib|/var/lib/private"'
 """Where disks are mounted of which the alarm is."""
-SEVERITIES = {"page", "ticket"}
+SEVERITIES = {"page", "ticket", "watch"}
+TO_COME = 4000000
+"""How many milliseconds ahead of the clock an event is that is told of."""
 
 
 # By promtool
@@ -90,6 +92,11 @@ def unit(values, state="failed", name="mds_city-ship@one.service"):
     return series("node_systemd_unit_state", values, job="machine", instance="machine", name=name, state=state)
 
 
+def newest(seconds):
+    """The time of the newest event, in seconds of promtool's clock, which begins at 0."""
+    return of_server("mds_city_newest_event_timestamp_seconds", f"{seconds}x100")
+
+
 def refusals(refused):
     """A hundred events each 15 seconds, of which two are refused; from two hours on so many."""
     return [events("0+98x2000"), events(f"0+2x480 960+{refused}x1000", "late"), events("0+50x2000", "not_kept")]
@@ -98,6 +105,9 @@ def refusals(refused):
 CASES = [
     ("MdsCityDown", [series("up", "1x20 0x20", job="haproxy", instance="haproxy")], {"6m": 0, "7m30s": 1}),
     ("MdsCityDown", [of_server("up", "1x20 0x4 1x20")], {"7m30s": 0}),
+    ("MdsCityProxies", [unit("1x20 0x360", "active", "nginx.service")], {"6m45s": 0, "7m30s": 1, "1h30m": 1}),
+    ("MdsCityProxies", [unit("1x20 0x360", "active", "haproxy.service")], {"7m30s": 1}),
+    ("MdsCityProxies", [unit("1x20 0x4 1x20", "active", "nginx.service"), unit("0x50", "active", "cron.service")], {"7m30s": 0}),
     ("MdsCityMemory", addresses("610x30"), {"4m45s": 0, "5m": 1}),
     ("MdsCityMemory", addresses("600x30"), {"7m": 0}),
     ("MdsCityDisk", disk("14x40"), {"4m45s": 0, "5m": 1}),
@@ -113,9 +123,14 @@ CASES = [
     ("MdsCitySyncs", syncs(1), {"10m": 0}),
     ("MdsCityFewer", [vehicles("100x40 99x200")], {"14m45s": 0, "15m15s": 1, "50m": 1}),
     ("MdsCityFewer", [vehicles("100x40 0x8 100x40 101x40")], {"13m": 0, "30m": 0}),
+    ("MdsCityAhead", [newest(5100)], {"4m45s": 0, "5m15s": 1}),
+    ("MdsCityAhead", [newest(3600)], {"15m": 0}),
+    ("MdsCityWatch", [], {"0s": 1, "20m": 1}),
     # Each minute it fails for 45 seconds, and is tried for 15.
     ("MdsCityUnits", [unit("0x20" + " 1 1 1 0" * 60)], {"14m45s": 0, "15m30s": 1}),
     ("MdsCityUnits", [unit("0x20 1 1 1 0x100")], {"16m": 0, "20m": 0}),
+    ("MdsCityUnits", [unit("1x100", name="mds_city-days.service")], {"10m15s": 1}),
+    ("MdsCityUnits", [unit("1x100", name="mds_city-archive.service")], {"10m15s": 1}),
     ("MdsCityUnits", [unit("1x100", "active"), unit("1x100", name="cron.service")], {"20m": 0}),
 ]
 """Series of figures, and when the alarm fires over them, and when it doesn't."""
@@ -132,7 +147,7 @@ def alerts():
 
 def case_of(number, name, inputs, wanted):
     """A case of promtool: at these times so many alarms of this name fire."""
-    labels = {"instance": re.search(r'instance="(\w+)"', inputs[0]["series"])[1]}
+    labels = {"instance": re.search(r'instance="(\w+)"', inputs[0]["series"])[1] if inputs else "prometheus"}
     listed = lambda count: [{"exp_labels": labels}] * count
     tests = [{"eval_time": when, "alertname": name, "exp_alerts": listed(count)} for when, count in wanted.items()]
     return {"name": f"{number} {name}", "interval": "15s", "input_series": inputs, "alert_rule_test": tests}
@@ -142,8 +157,9 @@ def plain(rule):
     """A rule whose alarm has the instance as its only label, and no texts."""
     if "alert" not in rule:
         return rule
-    kept = {key: it for key, it in rule.items() if key not in ("annotations", "labels")}
-    return {**kept, "expr": f"max by (instance) ({rule['expr']})"}
+    kept = {key: it for key, it in rule.items() if key != "annotations"}
+    labels = {key: it for key, it in rule["labels"].items() if key != "severity"}
+    return {**kept, "expr": f"max by (instance) ({rule['expr']})", "labels": labels}
 
 
 def rules_by_promtool(_):
@@ -159,7 +175,8 @@ def rules_by_promtool(_):
             ran = promtool(*words)
             if ran.returncode or "FAILED" in ran.stdout + ran.stderr:
                 yield f"{words[:2]}: {ran.returncode} {ran.stdout}{ran.stderr}"
-    untried = {(name, fires) for name in alerts() for fires in (0, 1)} ^ {(name, it) for name, _, wanted in CASES for it in wanted.values()}
+    both = {(name, fires) for name in alerts() for fires in (0, 1)} - {(ALWAYS, 0)}
+    untried = both ^ {(name, it) for name, _, wanted in CASES for it in wanted.values()}
     if untried:
         yield f"alarms that aren't tried, or not both ways: {untried}"
 
@@ -182,6 +199,20 @@ def files_that_fit(_):
             yield f"{name}: {path} has no part {anchor}"
         if rule["labels"]["severity"] not in SEVERITIES:
             yield f"{name} is {rule['labels']}"
+
+
+def who_is_told(_):
+    """amtool takes alertmanager.yml, by which each severity goes to a receiver of its own."""
+    words = [installed("amtool"), "config", "routes", "test", f"--config.file={ROOT / 'deploy/alertmanager.yml'}"]
+    found = {}
+    for severity in {rule["labels"]["severity"] for rule in alerts().values()}:
+        ran = subprocess.run([*words, f"severity={severity}"], capture_output=True, text=True, timeout=60)
+        found[severity] = ran.stdout.strip() or ran.stderr
+    if found != {severity: severity for severity in SEVERITIES}:
+        yield f"{found}"
+    ran = subprocess.run([words[0], "check-config", ROOT / "deploy/alertmanager.yml"], capture_output=True, text=True, timeout=60)
+    if ran.returncode or "SUCCESS" not in ran.stdout:
+        yield f"{ran.stdout}{ran.stderr}"
 
 
 # By servers
@@ -232,6 +263,11 @@ class Instance:
         lines = self.journal().read_bytes().splitlines(keepends=True)
         self.journal().write_bytes(b"".join(line for line in lines if device not in line))
         self.start()
+
+    def look_ahead(self):
+        """Is told an event with a time to come, of a vehicle that has none."""
+        told = next(short_events(vehicle(P, UNUSED), 1))
+        ask(self.port, post("/events", compact({**told, "timestamp": int(time.time() * 1000) + TO_COME})))
 
     def grow(self):
         """Registers vehicles until it has nearly all addresses."""
@@ -289,6 +325,7 @@ class Troubles:
             at["restarts"].restart()
             time.sleep(2)
         at["fewer"].leave_out()
+        at["ahead"].look_ahead()
         at["memory"].grow()
 
     def keep(self):
@@ -325,7 +362,7 @@ def exporter(folder, port):
 NOT_KEPT = ("MdsCityNotKept", "notkept")
 PASSING = {NOT_KEPT, ("MdsCitySilent", "silent"), ("MdsCityRefusals", "refusals"), ("MdsCitySyncs", "syncs")}
 LASTING = {("MdsCityDown", "gone"), ("MdsCityDown", "haproxy"), ("MdsCityMemory", "memory"), ("MdsCityRestarts", "restarts")}
-LASTING |= {("MdsCityFewer", "fewer")}
+LASTING |= {("MdsCityFewer", "fewer"), ("MdsCityAhead", "ahead")}
 WANTED = PASSING | LASTING
 """Which alarm fires of whom: first those whose cause is ended, then the others. That of restarts is over after an hour, and that of
 fewer vehicles after a day."""
@@ -335,7 +372,7 @@ MAYBE = {("MdsCityDown", "restarts"), ("MdsCityDown", "fewer")}
 
 def each_alarm_fires(program):
     """Each alarm fires once its cause is made, of that instance alone; none fires before, or of an instance that is well. It is over
-    once its cause is. Each query of the dashboard is answered meanwhile. Left out is that of units: it wants systemd."""
+    once its cause is. Each query of the dashboard is answered meanwhile. Left out are those of units and proxies: they want systemd."""
     for _ in range(TRIES):
         wrong = list(alarms_amiss(program))
         if not wrong:
@@ -380,11 +417,11 @@ def alarm_of_a_full_disk(_):
         watch = stack.enter_context(Watch({"well": machine}, machine, machine, rules_here))
         watch.wait_for(lambda: watch.query("node_filesystem_size_bytes"), SOON)
         time.sleep(1)
-        if watch.firing():
-            yield f"before the disk is full: {watch.firing()}"
+        if watch.firing() or not watch.query(f'ALERTS{{alertname="{ALWAYS}",alertstate="firing"}}'):
+            yield f"before the disk is full: {watch.firing()}, or {ALWAYS} doesn't fire"
         (place / "filled").write_bytes(bytes(1000000))
         if not watch.wait_for(lambda: watch.firing() == [("MdsCityDisk", "machine")], SOON):
             yield f"fire: {watch.firing()}"
 
 
-ALARMS = [rules_by_promtool, files_that_fit, each_alarm_fires, alarm_of_a_full_disk]
+ALARMS = [rules_by_promtool, who_is_told, files_that_fit, each_alarm_fires, alarm_of_a_full_disk]

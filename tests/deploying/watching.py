@@ -26,6 +26,10 @@ TIME = re.compile(r"(?<!\w)([0-9]+)([smhd])\b")
 MILLISECONDS = {"s": 1000, "m": 60000, "h": 3600000, "d": 86400000}
 SECONDS = 60
 """How long Prometheus may take to answer."""
+ALWAYS = "MdsCityWatch"
+"""The alarm that always fires, and isn't told of here."""
+SECOND = '      - {targets: ["second.example:9100"], labels: {instance: second}}\n'
+"""The line of prometheus.yml that has the second machine asked, which isn't there."""
 OUR_JOBS = {"one": 8201, "two": 8202, "three": 8203}
 """The instances of prometheus.yml, and where it asks them."""
 
@@ -75,6 +79,7 @@ class Watch:
         one, *others = (target(*it) for it in OUR_JOBS.items())
         changes = {one: "".join(target(*it) for it in instances.items()), **{it: "" for it in others}}
         changes |= {"127.0.0.1:8100": f"127.0.0.1:{haproxy}", "127.0.0.1:9100": f"127.0.0.1:{machine}"}
+        changes |= {SECOND: ""}
         changes |= {"/etc/mds_city": str(folder), '["127.0.0.1:9093"]': "[]"}
         return changed("prometheus.yml", changes)
 
@@ -107,12 +112,12 @@ class Watch:
 
     def firing(self):
         """Which alarms fire now, each with who it is about."""
-        alerts = self.api("alerts")["alerts"]
-        return sorted((it["labels"]["alertname"], it["labels"]["instance"]) for it in alerts if it["state"] == "firing")
+        labels = [it["labels"] for it in self.api("alerts")["alerts"] if it["state"] == "firing"]
+        return sorted((it["alertname"], it["instance"]) for it in labels if it["alertname"] != ALWAYS)
 
     def fired(self):
         """Which alarms fired at any time, each with who it was about."""
-        found = self.query('count_over_time(ALERTS{alertstate="firing"}[1h])')
+        found = self.query(f'count_over_time(ALERTS{{alertname!="{ALWAYS}",alertstate="firing"}}[1h])')
         return sorted((labels["alertname"], labels["instance"]) for labels, _ in found)
 
     @staticmethod
