@@ -9,7 +9,7 @@ import time
 
 from cases.replays import batch, history
 from deploying.copying import Files, ended, run, url
-from deploying.proxies import CITY, NOBODY, PROVIDERS, SECONDS, TOKENS, read_answer
+from deploying.proxies import ANNA, CITY, NOBODY, PROVIDERS, SECONDS, TOKENS, read_answer
 from deploying.vehicles import event, fill, fleet, vehicle
 from harness.case import MAX_BYTES, MAX_ITEMS, padded
 from harness.counting import Skipped
@@ -20,6 +20,8 @@ from serving.wire import ask, connect, get, read_all
 
 SHARED = vehicle(PROVIDERS[0], 700)["device_id"]
 """A device that each provider has."""
+UNKNOWN = vehicle(PROVIDERS[0], 701)["device_id"]
+"""One that nobody has."""
 SLOW, LOOKS, PACE = 200, 100, 1.0
 """Clients that send a byte each so many seconds, and looks beside them."""
 READERS, PARTS, LISTED = 8, 3, 10000
@@ -93,6 +95,19 @@ def three_instances(city):
                 yield f"server {at} answers {found!r} of provider {number}"
     yield from answered(city, sent("POST", "/vehicles", CITY, b"[]"), 403, {"error": "forbidden"})
     yield from answered(city, sent("GET", path_of("00000000-0000-4000-8000-0000000000ff"), CITY), 403)
+
+
+def persons_of_the_city(city):
+    """Who has a token of its own as a person of the city may look as the city does, and no more; the log has the name."""
+    yield from answered(city, sent("GET", "/table", ANNA), 200)
+    yield from answered(city, sent("GET", path_of(PROVIDERS[1], UNKNOWN), ANNA), 404)
+    yield from answered(city, sent("POST", "/vehicles", ANNA, b"[]"), 403, {"error": "forbidden"})
+    log, wanted, end = city.folder / "mds_city.log", [200, 404, 403], time.monotonic() + SECONDS
+    named = lambda: [json.loads(line)["status"] for line in log.read_text().splitlines() if '"who":"city anna"' in line]
+    while len(named()) < len(wanted) and time.monotonic() < end:
+        time.sleep(0.1)
+    if named() != wanted:
+        yield f"the log has {named()} of her"
 
 
 def answers_of_each_kind(city):
@@ -479,6 +494,7 @@ PASSING = [
     tokens,
     paths_of_others,
     three_instances,
+    persons_of_the_city,
     answers_of_each_kind,
     chunked_bodies,
     over_http_2,

@@ -31,8 +31,8 @@ SHUT = 3
 STARTS = 3
 """How often the servers and the proxies are started, on other ports each time: somebody else may have taken one meanwhile."""
 TOKENS = {number: f"{number:064x}" for number in range(1, len(PROVIDERS) + 1)}
-CITY, NOBODY = f"{99:064x}", f"{100:064x}"
-"""The token of the city, and one that nobody has."""
+CITY, NOBODY, ANNA = f"{99:064x}", f"{100:064x}", f"{101:064x}"
+"""The token of the city, one that nobody has, and that of a person of the city."""
 WANTED = ("nginx", "haproxy", "openssl")
 SBIN = os.pathsep.join([os.environ.get("PATH", ""), "/usr/sbin", "/sbin"])
 
@@ -173,7 +173,7 @@ class City:
         shutil.copytree(ROOT / "deploy/page", self.folder / "page", dirs_exist_ok=True)
         self.write("503.http", (ROOT / "deploy/503.http").read_bytes().decode())
         lines = [f'"Bearer {token_of(number)}" {provider};' for number, provider in enumerate(self.providers, 1)]
-        self.write("tokens.map", "\n".join([changed("tokens.map", {}), *lines, f'"Bearer {CITY}" city;\n']))
+        self.write("tokens.map", "\n".join([changed("tokens.map", {}), *lines, f'"Bearer {CITY}" city;', f'"Bearer {ANNA}" "city anna";\n']))
         self.write("haproxy.cfg", self.haproxy())
         self.write("nginx.conf", self.nginx())
         words = [self.paths["haproxy"], "-db", "-f", str(self.folder / "haproxy.cfg")]
