@@ -10,6 +10,7 @@ import re
 import shutil
 import subprocess
 import tempfile
+import time
 from pathlib import Path
 
 from deploying.passing import answered, sent
@@ -27,6 +28,13 @@ SECOND = "/second.example/var/lib/mds_city_copies"
 """Where the copies lie: in a folder in place of the second machine (tests/deploying/machine/rsync)."""
 P = PROVIDERS[0]
 A, B, C, D, E = (f"00000000-0000-4000-8000-00000000000{letter}" for letter in "abcde")
+JOBS = ("compact", "archive", "days")
+"""What units run that stands in /usr/local/lib/mds_city."""
+UNITS = ("mds_city@", "mds_city-compact@", "mds_city-ship@", "mds_city-archive", "mds_city-days")
+CURL = 'curl() { command curl -m 60 "$@"; }'
+"""The steps say themselves what curl prints of a fault."""
+SETTLED = 60
+"""How many seconds a server may take until it listens or has ended."""
 FOLDERS = ("/etc/mds_city", "/etc/systemd", "/var/lib/mds_city", "/var/log/nginx", "/var/tmp", "/usr/local/bin", "/usr/local/lib")
 """What stands in the machine's folder in place of the root of a real one."""
 SMALL_DISK, MOST_KEPT, AT_ONCE = "3M", 50000, 1000
@@ -71,7 +79,7 @@ TRIPS = 10
 def exported(names):
     """The command by which a shell has these names, and finds the scripts that stand in place of others."""
     commands = [f"export {name}={value}" for name, value in names.items()]
-    return "; ".join([f"export PATH={ROOT}/tests/deploying/machine:$PATH", *commands])
+    return "; ".join([f"export PATH={ROOT}/tests/deploying/machine:$PATH", CURL, *commands])
 
 
 class Machine:
@@ -84,15 +92,18 @@ class Machine:
         self.root = Path(self.holder.name)
         self.ports, self.figures = ({"one": one, "two": two} for one, two in zip(*[iter(free_ports(4))] * 2))
         folders = ("run", "etc/mds_city", "etc/systemd/system", "var/tmp", "usr/local/bin", "usr/local/lib/mds_city")
-        for folder in (*folders, "var/lib/mds_city_archive", SECOND.lstrip("/")):
+        for folder in (*folders, "var/lib/mds_city_archive", "var/lib/mds_city_days", SECOND.lstrip("/")):
             (self.root / folder).mkdir(parents=True)
+        self.write("/etc/mds_city/ship.conf", changed("ship.conf", {}))
         for name, port in self.ports.items():
             changes = {"PORT=8001": f"PORT={port}", "METRICS=8201": f"METRICS={self.figures[name]}"}
             self.write(f"/etc/mds_city/{name}.env", changed("one.env", changes))
-        for unit in ("mds_city@.service", "mds_city-compact@.service"):
-            self.write(f"/etc/systemd/system/{unit}", self.here(changed(unit, {})))
-        self.write("/usr/local/lib/mds_city/compact", self.here(changed("compact", {})))
-        self.path("/usr/local/lib/mds_city/compact").chmod(0o755)
+        for unit in UNITS:
+            text = self.here(changed(f"{unit}.service", {})).replace("/usr/bin/rsync", str(ROOT / "tests/deploying/machine/rsync"))
+            self.write(f"/etc/systemd/system/{unit}.service", text)
+        for job in JOBS:
+            self.write(f"/usr/local/lib/mds_city/{job}", self.here(changed(job, {})))
+            self.path(f"/usr/local/lib/mds_city/{job}").chmod(0o755)
         shutil.copy(program, self.root / "usr/local/bin/mds_city")
         shutil.copy(program, self.root / "var/tmp/mds_city")
         self.shell = Shell(program)
@@ -134,6 +145,14 @@ class Machine:
     def run(self, command):
         """What a command prints, with the paths of a real machine."""
         return [line.replace(str(self.root), "").strip() for line in self.shell.run(self.here(command))]
+
+    def settle(self):
+        """Waits until each server that was started listens or has ended."""
+        end = time.monotonic() + SETTLED
+        for pid in self.path("/run").glob("mds_city@*.pid"):
+            log, process = pid.with_suffix(".log"), Path("/proc", pid.read_text().strip())
+            while "listening" not in log.read_text() and process.exists() and time.monotonic() < end:
+                time.sleep(0.02)
 
     def ask(self, target, value):
         return ask(self.ports["one"], post(target, compact(value)))
@@ -226,21 +245,65 @@ def with_a_closed_gate(machine):
 
 
 def without_its_disk(machine):
-    machine.fill()
-    machine.run("systemctl stop mds_city@one")
-    shutil.rmtree(machine.folder())
-
-
-def without_its_machine(machine):
-    """Both instances have copies, and nothing else."""
+    """Both instances have copies, and nothing else but an earlier fetched one, of the same length and second. They, and the timers of their
+    copies, start with the machine."""
+    for name in machine.ports:
+        machine.run(f"systemctl enable mds_city@{name} mds_city-ship@{name}.timer")
     machine.run("systemctl start mds_city@two")
     owner = {"provider_id": PROVIDERS[1], "device_id": A}
     if success_of(ask(machine.ports["two"], post("/vehicles", compact(owner)))) != 1:
         raise Unwell("the other instance accepts no vehicle")
     machine.copy_journal("two")
-    machine.run("systemctl stop mds_city@two")
-    shutil.rmtree(machine.folder("two"))
-    without_its_disk(machine)
+    machine.fill()
+    fetched = machine.path("/var/tmp/one.copy")
+    fetched.write_bytes(bytes(machine.path(f"{SECOND}/one.journal").stat().st_size))
+    os.utime(fetched, (COPIED, COPIED))
+    machine.run("systemctl stop mds_city@one mds_city@two")
+    for name in machine.ports:
+        shutil.rmtree(machine.folder(name))
+
+
+def kept_over_a_boot(machine):
+    """What is wrong where a boot starts a server, or writes over a copy."""
+    copies = lambda: {path.name: path.read_bytes() for path in machine.path(SECOND).iterdir()}
+    before = copies()
+    machine.run("boot")
+    if copies() != before:
+        yield "a boot writes over the copies"
+    if machine.run("systemctl is-active mds_city@one mds_city@two") != ["inactive", "inactive"]:
+        yield "a boot starts a server"
+
+
+def copied_again(machine):
+    """From the next boot on the servers go on, and their copies are made."""
+    machine.run("systemctl stop mds_city@one mds_city@two; boot")
+    if machine.run("systemctl is-active mds_city@one mds_city@two") != ["active", "active"]:
+        yield "a boot starts no server"
+    for name in machine.ports:
+        copy = machine.path(f"{SECOND}/{name}.journal")
+        if copy.read_bytes() != machine.journal(name).read_bytes():
+            yield f"the copy of {name} isn't made anew"
+
+
+def on_another_machine(machine):
+    """Nothing starts there by itself. Then what is done behind a lost disk puts all in its place."""
+    yield from kept_over_a_boot(machine)
+    yield from run_steps(sections()["A disk is lost"][1:], machine.run)
+    machine.settle()
+    yield from sent_again_since(machine)
+
+
+def lost_disk_over_a_boot(program):
+    """The machine is started anew, with an empty disk, once the copies were stopped: the last copies stay. Behind the last step they are
+    made again."""
+    with Machine(program) as machine:
+        without_its_disk(machine)
+        first, *others = sections()["A disk is lost"]
+        yield from run_steps([*first_steps(), first], machine.run)
+        yield from kept_over_a_boot(machine)
+        yield from run_steps(others, machine.run)
+        yield from sent_again_since(machine)
+        yield from copied_again(machine)
 
 
 def with_a_time_to_come(machine):
@@ -282,26 +345,31 @@ def unused_left_out(machine):
 def with_copies(machine):
     """Steps at the machine that has the copies, with one of each of 14 days."""
     machine.fill()
-    folder = machine.path("/var/lib/mds_city_copies")
-    shutil.copytree(machine.path(SECOND), folder)
+    shutil.copytree(machine.path(SECOND), machine.path("/var/lib/mds_city_copies"))
     for day in range(14):
-        shutil.copy(folder / "one.journal", folder / f"one.journal.2025-04-{10 + day}")
+        kept = machine.path(f"/var/lib/mds_city_days/one.journal.2025-04-{10 + day}")
+        shutil.copy(machine.path(f"{SECOND}/one.journal"), kept)
 
 
 def fourteen_days(machine):
     """The copy of the first day has gone, and that of today is there, with its time."""
-    first, *others, last, today = sorted(machine.path("/var/lib/mds_city_copies").iterdir())
-    if len(others) != 12 or others[0].name != "one.journal.2025-04-11" or today.stat().st_mtime != COPIED:
+    first, *others, last, today = sorted(machine.path("/var/lib/mds_city_days").iterdir())
+    if len(others) != 11 or first.name != "one.journal.2025-04-11" or today.stat().st_mtime != COPIED:
         yield f"there are {[first, *others, last, today]}"
 
 
 def with_archives(machine):
-    """Three files were put away: they overlap, and the last one lacks the first event."""
+    """Three files were put away: they overlap, the last one lacks the first event, none has that of the last trip's end, and the first one
+    has an event that was taken out later."""
     machine.fill()
     lines = machine.journal().read_bytes().splitlines(keepends=True)[: len(REQUESTS) + 1]
-    for day, kept in (("2025-05-01", lines[:5]), ("2025-06-01", lines), ("2025-07-01", lines[:3] + lines[4:])):
+    number, taken = REQUESTS[3][1]["event_id"].encode(), b"00000000-0000-4000-8000-0000000000e9"
+    out = lines[4].replace(number, taken)
+    for day, kept in (("2025-05-01", [*lines[:4], out]), ("2025-06-01", lines[:5]), ("2025-07-01", lines[:3] + lines[4:5])):
         with gzip.open(machine.path(f"/var/lib/mds_city_archive/one.journal.{day}.gz"), "wb") as file:
             file.writelines(kept)
+    machine.path("/var/lib/mds_city_left_out").mkdir()
+    machine.path("/var/lib/mds_city_left_out/one").write_bytes(out)
 
 
 def old_trips_left_out(machine):
@@ -369,7 +437,7 @@ SECTIONS = {
     "damaged, or fewer vehicles than there were": (with_a_closed_gate, all_of_it_there),
     "Copies of each day": (with_copies, fourteen_days),
     "A disk is lost": (without_its_disk, sent_again_since),
-    "A machine is lost": (without_its_machine, sent_again_since),
+    "A machine is lost": (without_its_disk, on_another_machine),
     "Another version of the program": (Machine.fill_by_own_table, all_of_it_there),
     "Other rules": (Machine.fill, for_all_to_read),
     "The journal has grown": (with_many_trips, old_trips_left_out),
@@ -402,7 +470,10 @@ def of_section(name):
         prepare, check = SECTIONS[name]
         with Machine(program) as machine:
             prepare(machine)
+            machine.run("export IS_SLOW=1")
             yield from run_steps([*first_steps(), *sections()[name]], machine.run)
+            machine.run("unset IS_SLOW")
+            machine.settle()
             yield from check(machine)
 
     section.__name__ = f"runbook, {name}"
@@ -462,4 +533,4 @@ def is_nobodys(city):
 
 
 OF_PROXIES = [of_proxies("A provider floods", shut_out), of_proxies("A token is known to others", renewed)]
-RUNBOOKS = [runbook_is_whole, *map(of_section, SECTIONS)]
+RUNBOOKS = [runbook_is_whole, lost_disk_over_a_boot, *map(of_section, SECTIONS)]

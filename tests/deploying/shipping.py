@@ -2,6 +2,7 @@
 
 import json
 import os
+import re
 import shlex
 import shutil
 import subprocess
@@ -14,13 +15,14 @@ from deploying.passing import sent
 from deploying.proxies import TOKENS, changed, installed
 from deploying.units import exec_start, variables, words_of
 from deploying.vehicles import PROVIDERS, event, vehicle
-from harness.counting import Unwell
+from harness.counting import ROOT, Unwell
 from model.json_text import compact
 from serving.server import success_of
 from serving.wire import post
 
 UNIT = "mds_city-ship@.service"
 EACH, COPIES, SECONDS = 1000000, 8, 300
+COPIES_AT = "/var/lib/mds_city_copies"
 AT_ONCE, PACE = 25, 0.02
 """How many vehicles a batch registers, and how many seconds lie between two of them."""
 LOOKS = 40
@@ -112,6 +114,39 @@ def copies_at_any_moment(program):
             yield f"the server didn't go on: {counts}"
 
 
+def key_of_one_folder(folder):
+    """In place of ssh: what the key of docs/operations.md runs at the second machine, with a folder of it."""
+    forced = re.search(r'command="([^"]*)",restrict', (ROOT / "docs/operations.md").read_text())[1]
+    path = Path(folder, "ssh")
+    path.write_text(f'#!/bin/sh\nshift\nSSH_ORIGINAL_COMMAND="$*" exec {forced.replace(COPIES_AT, str(folder))}\n')
+    path.chmod(0o755)
+    return f"rsync --rsh={path}"
+
+
+def copies_by_a_key(program):
+    """By a key that opens the folder of the copies alone, the unit's words with the place of ship.conf make a copy, which the runbook's
+    words get back. Another folder isn't written."""
+    for name in ("rsync", "rrsync"):
+        installed(name)
+    with tempfile.TemporaryDirectory() as folder, tempfile.TemporaryDirectory() as second:
+        journal, place = Path(folder, "journal"), variables("ship.conf")["TO"]
+        with server_over(program, journal, EACH) as server:
+            if success_of(server.ask(post("/vehicles", compact(vehicle(PROVIDERS[0], 1))))) != 1:
+                yield "a vehicle isn't accepted"
+            by_ssh = {"times": f"times {key_of_one_folder(second).removeprefix('rsync ')}"}
+            copy = ship(journal, place, **{name: f"--{words}" for name, words in by_ssh.items()})
+            if Path(second, copy.name).read_bytes() != journal.read_bytes():
+                yield "the copy is another"
+        words = [*key_of_one_folder(second).split(), "--times", "--ignore-times"]
+        run = lambda *more: subprocess.run([*words, *more], capture_output=True, timeout=SECONDS).returncode
+        if run(f"{place}/{copy.name}", f"{folder}/back") or told_of(program, Path(folder, "back")) != (1, 0):
+            yield "the copy isn't got back"
+        host = place.partition(":")[0]
+        for other in (f"../{Path(folder).name}/out", f"{folder}/out"):
+            if not run(journal, f"{host}:{other}") or Path(folder, "out").exists():
+                yield f"{other} is written"
+
+
 def copies_of_one_second(program):
     """What a server wrote in the very second of the last copy, within the length of the file, is in the next one. A copy to which
     only new bytes are added ends where the one before did: of what came behind it tells nothing."""
@@ -157,5 +192,5 @@ def log_put_away(city):
         yield f"the new log has the mode {oct(log.stat().st_mode)}"
 
 
-SHIPPING = [copies_at_any_moment, copies_of_one_second]
+SHIPPING = [copies_at_any_moment, copies_by_a_key, copies_of_one_second]
 ROTATING = [log_put_away]

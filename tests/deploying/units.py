@@ -1,5 +1,6 @@
 """The units and the environment file."""
 
+import configparser
 import json
 import re
 import shutil
@@ -17,6 +18,8 @@ from serving.tools import body_of
 from serving.wire import ask, get, post
 
 NAME, INSTANCE = "mds_city@.service", "one"
+DROP_INS = ("memory.conf", "restart.conf")
+"""Those of a proxy."""
 STATE = "/var/lib"
 """Where systemd makes the folders of `StateDirectory`."""
 EACH, VEHICLES, EVENTS = 1000, 20, 10
@@ -28,7 +31,7 @@ def unit_names():
 
 
 def the_units(program):
-    """`systemd-analyze` finds nothing wrong with the units, nor with the drop-in of a proxy."""
+    """`systemd-analyze` finds nothing wrong with the units, nor with the drop-ins of a proxy."""
     if not shutil.which("systemd-analyze"):
         raise Skipped("no `systemd-analyze` here")
     with tempfile.TemporaryDirectory() as folder:
@@ -39,11 +42,20 @@ def the_units(program):
         proxy = Path(folder, "proxy.service")
         proxy.write_text("[Service]\nExecStart=/bin/true\n")
         proxy.with_suffix(".service.d").mkdir()
-        shutil.copy(ROOT / "deploy/memory.conf", proxy.with_suffix(".service.d"))
+        for name in DROP_INS:
+            shutil.copy(ROOT / "deploy" / name, proxy.with_suffix(".service.d"))
         words = ["systemd-analyze", "verify", *names, proxy]
         ran = subprocess.run(words, capture_output=True, text=True, timeout=300)
     if ran.returncode or folder in ran.stderr or "mds_city" in ran.stderr or len(names) < 1:
         yield f"status {ran.returncode}: {ran.stdout}{ran.stderr}"
+
+
+def proxies_that_end(_):
+    """A proxy that ended is started again, by its own unit or by a drop-in, however often that is."""
+    found = configparser.ConfigParser(strict=False, interpolation=None)
+    found.read(ROOT / "deploy" / name for name in DROP_INS)
+    if found["Service"].get("Restart") != "always" or found["Unit"].get("StartLimitIntervalSec") != "0":
+        yield f"{dict(found['Service'])}"
 
 
 def setting(name, unit=NAME):
@@ -65,6 +77,14 @@ def variables(name="one.env"):
 def words_of():
     """The words that the unit runs with the environment file, behind the program."""
     return exec_start(NAME, variables()).split()[1:]
+
+
+def timers_that_catch_up(_):
+    """A timer whose unit runs once a day or less often comes with the next start where the machine was off."""
+    for name in unit_names():
+        text = changed(name, {})
+        if name.endswith(".timer") and "OnCalendar=minutely" not in text and "\nPersistent=true\n" not in text:
+            yield f"{name} hasn't Persistent=true"
 
 
 def words_of_the_unit(program):
@@ -124,4 +144,4 @@ def a_restart(program):
             yield f"vehicles: {ran.returncode} {ran.stdout[-200:]!r} {ran.stderr!r}"
 
 
-UNITS = [the_units, words_of_the_unit, folder_of_the_unit, a_restart]
+UNITS = [the_units, proxies_that_end, timers_that_catch_up, words_of_the_unit, folder_of_the_unit, a_restart]

@@ -14,10 +14,11 @@ KNOWN = frozenset(["repeated", "late"])
 """What is answered to an event that is in, and is sent again to a server whose journal was made small."""
 
 
-def small(machine):
+def small(machine, by=""):
     """The last line of a run of the unit, its status, and the files of the instance then, but for the journal."""
-    *lines, status = machine.run(f"systemctl start {UNIT} 2>&1; echo $?")
-    return lines[-1:], status, sorted({*os.listdir(machine.journal().parent)} - {"journal"})
+    (status,) = machine.run(f"{by} systemctl start {UNIT} 2> /dev/null; echo $?")
+    lines = machine.run(f"journalctl _SYSTEMD_UNIT={UNIT}.service -n 1 -o cat")
+    return lines, status, sorted({*os.listdir(machine.journal().parent)} - {"journal"})
 
 
 def goes_on(machine):
@@ -95,21 +96,49 @@ def where_it_fails(program):
         old.unlink()
         machine.change(3, b'"device_id"', b'"devicf_id"')
         machine.run("systemctl start mds_city@one")
-        if small(machine)[1:] != ("0", []):
-            yield f"a server that isn't there: {small(machine)}"
+        if small(machine)[1:] != ("1", []) or machine.run("systemctl is-active mds_city@one") != ["activating"]:
+            yield f"a server that can't start: {small(machine)}"
 
 
 def stopped_by_hand(program):
-    """An instance that is stopped stays so, and its journal as it is."""
+    """An instance that is stopped stays so, and its journal as it is. Who asks for a small one is told; to the timer it is no fault."""
     with Machine(program) as machine:
         machine.fill()
         machine.run("systemctl stop mds_city@one")
         content = machine.journal().read_bytes()
+        for by, status in (("", "1"), (f"TRIGGER_UNIT={UNIT}.timer", "0")):
+            found = small(machine, by)
+            if found != (["mds_city@one is stopped: its journal stays as it is"], status, []):
+                yield f"{by}: {found}"
+        if machine.journal().read_bytes() != content or machine.run("systemctl is-active mds_city@one") != ["inactive"]:
+            yield "its journal isn't as it was, or it was started"
+
+
+def tried_again(program):
+    """An instance that ended, and is tried again each second, has its journal made small, and is started over that."""
+    with Machine(program) as machine:
+        machine.fill()
+        machine.run("kill -9 $(cat $MACHINE/run/mds_city@one.pid); sleep 0.1")
         told, status, others = small(machine)
-        if (told, status, others) != ([], "0", []) or machine.journal().read_bytes() != content:
+        if (told, status, len(others)) != (["registrations 2 events 4 of 4"], "0", 1):
             yield f"{told}, {status}, {others}"
-        if machine.run("systemctl is-active mds_city@one; echo $?") == ["0"]:
-            yield "it was started"
+        yield from goes_on(machine)
 
 
-YEARS = [over_the_change, where_it_fails, stopped_by_hand]
+def days_that_are_none(program):
+    """Without a number of days, or with one that isn't, nothing is done: nearly all events would be left out."""
+    with Machine(program) as machine:
+        machine.fill()
+        whole, environment = machine.journal().read_bytes(), machine.path("/etc/mds_city/one.env")
+        plain = environment.read_text()
+        for line in ("", "DAYS=", "DAYS=0", "DAYS=-90", "DAYS=90d", "DAYS=010", "DAYS=100000", "DAYS=9223372036854775807"):
+            environment.write_text(plain.replace("DAYS=90", line))
+            told, status, others = small(machine)
+            if status != "1" or others or machine.journal().read_bytes() != whole or "is no number of days" not in told[-1]:
+                yield f"{line}: {told}, {status}, {others}"
+        if machine.run("/usr/local/lib/mds_city/compact one 2> /dev/null; echo $?") != ["2"]:
+            yield "without days it does something"
+        yield from goes_on(machine)
+
+
+YEARS = [over_the_change, where_it_fails, stopped_by_hand, tried_again, days_that_are_none]
