@@ -173,7 +173,8 @@ class City:
         shutil.copytree(ROOT / "deploy/page", self.folder / "page", dirs_exist_ok=True)
         self.write("503.http", (ROOT / "deploy/503.http").read_bytes().decode())
         lines = [f'"Bearer {token_of(number)}" {provider};' for number, provider in enumerate(self.providers, 1)]
-        self.write("tokens.map", "\n".join([changed("tokens.map", {}), *lines, f'"Bearer {CITY}" city;', f'"Bearer {ANNA}" "city anna";\n']))
+        lines += [f'"Bearer {CITY}" city;', f'"Bearer {ANNA}" "city anna";\n']
+        self.write("tokens.map", "\n".join([changed("tokens.map", {}), *lines]))
         self.write("haproxy.cfg", self.haproxy())
         self.write("nginx.conf", self.nginx())
         words = [self.paths["haproxy"], "-db", "-f", str(self.folder / "haproxy.cfg")]
