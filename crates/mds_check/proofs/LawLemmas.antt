@@ -72,7 +72,7 @@ checks_same xs ys first second same = checks_are_apart (crc32 xs) (crc32 ys) (cr
 
 -- ---- several bytes
 
-number-lt : (bytes : List ℕ) → All IsByte bytes → number_of bytes < 2 ^ (8 * length bytes)
+pub number-lt : (bytes : List ℕ) → All IsByte bytes → number_of bytes < 2 ^ (8 * length bytes)
 number-lt [] are = omega arith
 number-lt (byte ∷ bytes) are =
     let rest = number-lt bytes (All-tail IsByte byte bytes are) in
@@ -84,7 +84,7 @@ number-lt (byte ∷ bytes) are =
     subst (λ (bits : ℕ). number_of (byte ∷ bytes) < 2 ^ bits) (sym size) (xor_lt (8 * length bytes + 8) byte (number_of bytes * 2 ^ 8) low shifted)
 
 -- bytes of one length with one number are the same
-same_number : (xs ys : List ℕ) → All IsByte xs → All IsByte ys → length xs ≡ length ys → number_of xs ≡ number_of ys → xs ≡ ys
+pub same_number : (xs ys : List ℕ) → All IsByte xs → All IsByte ys → length xs ≡ length ys → number_of xs ≡ number_of ys → xs ≡ ys
 same_number [] [] first second size same = refl
 same_number [] (y ∷ ys) first second size same = absurd (omega arith)
 same_number (x ∷ xs) [] first second size same = absurd (omega arith)

@@ -1,14 +1,14 @@
 -- What is found of a journal that was changed.
-use Rattle.std.proofs.Common.{◌≡◌, ◌≢◌, ℕ, ◌<◌, ◌^◌, List, [], ◌∷◌, ◌++◌, length, get_or, All, refl, sym, ap, ◌∙◌, subst, arith}
+use Rattle.std.proofs.Common.{◌≡◌, ◌≢◌, ℕ, List, [], ◌∷◌, ◌++◌, get_or, All, refl, sym, ap, ◌∙◌, subst, arith}
 use Rattle.std.proofs.lemmas.List.Elements.{All-nil, All-cons, All-head}
-use Rattle.mds_journal.specs.Lines.{HasNoFeed, open_lines, recovered_texts}
+use Rattle.mds_journal.specs.Lines.{open_lines, recovered_texts}
 use Rattle.mds_check.specs.Crc.{after_bit, after_bits, after_byte, crc32}
-use Rattle.mds_check.specs.Form.{check_text, IsText, laid_out, IsChecked}
-use Rattle.mds_check.specs.Laws.{IsByte, DifferInARun, file_with}
+use Rattle.mds_check.specs.Form.{IsText, laid_out, IsChecked}
+use Rattle.mds_check.specs.Laws.{IsByte}
 use Rattle.mds_check.proofs.GroupLemmas.{laid_out_checked}
-use Rattle.mds_check.proofs.LawLemmas.{checks_same, file_lines, line_found, run_found, with_no_feed}
-use Rattle.mds_groups.specs.Form.{check_of, first_line, header, lines_of, texts_in, IsEntry, IsJournal}
-use Rattle.mds_groups.specs.Laws.{ChangedGroupsAreFound, ChangedJournalsAreFound}
+use Rattle.mds_check.proofs.LawLemmas.{file_lines, line_found, with_no_feed}
+use Rattle.mds_groups.specs.Form.{check_of, first_line, texts_in, IsEntry, IsJournal}
+use Rattle.mds_groups.specs.Laws.{ChangedJournalsAreFound}
 use Rattle.mds_groups.specs.declared.form.JournalForm.{JournalForm}
 use Rattle.mds_groups.specs.declared.form.JournalForm.TheVariants.{Plain, Checked}
 use Rattle.mds_groups.proofs.JournalLemmas.{all_texts}
@@ -69,8 +69,3 @@ changed_journals_are_found form groups others before front back rest x y none ah
     lines_found form groups others before (recovered_texts rest) front back x y first second other
     (subst (λ (w : List (List ℕ)). IsJournal Checked w groups) (file_lines before front back rest x none (with_no_feed front back x ahead behind x_other)) one)
     (subst (λ (w : List (List ℕ)). IsJournal form w others) (file_lines before front back rest y none (with_no_feed front back y ahead behind y_other)) two)
-
-pub changed_groups_are_found : ChangedGroupsAreFound
-changed_groups_are_found texts others differs same =
-    run_found (open_lines texts) (open_lines others) differs
-    (checks_same (open_lines texts) (open_lines others) differs.are_bytes.0 differs.are_bytes.1 same)

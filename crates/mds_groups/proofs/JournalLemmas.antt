@@ -1,14 +1,13 @@
 -- Lines of whole groups, and groups put behind them.
-use Rattle.std.proofs.Common.{◌≡◌, ◌≢◌, ℕ, ◌<◌, ◌^◌, List, [], ◌∷◌, ◌++◌, length, All, refl, sym, ap, ◌∙◌, subst, append_assoc}
-use Rattle.std.specs.List.{flat_map}
+use Rattle.std.proofs.Common.{◌≡◌, ℕ, List, [], ◌∷◌, ◌++◌, length, All, refl, sym, ap, ◌∙◌, subst, append_assoc}
 use Rattle.std.proofs.lemmas.List.{append-nil, append_cancel_left}
 use Rattle.std.proofs.lemmas.List.Concat.{flat_map-append}
-use Rattle.std.proofs.lemmas.List.Elements.{All-nil, All-cons, All-head, All-tail, All-append, All-push, All-weaker}
-use Rattle.mds_check.specs.Form.{check_text, IsText, laid_out, groups_of}
+use Rattle.std.proofs.lemmas.List.Elements.{All-nil, All-head, All-tail, All-append, All-push, All-weaker}
+use Rattle.mds_check.specs.Form.{IsText, laid_out, groups_of}
 use Rattle.mds_check.proofs.FormLemmas.{check_text-length}
 use Rattle.mds_check.proofs.GroupLemmas.{groups_read_back}
-use Rattle.mds_groups.specs.Form.{check_of, ended, group_lines, header, lines_of, texts_in, IsEntry, IsJournal}
-use Rattle.mds_groups.specs.Laws.{JournalsBegin, JournalsGoOn, JournalsTellOnce, TellsTexts}
+use Rattle.mds_groups.specs.Form.{check_of, group_lines, header, lines_of, texts_in, IsEntry, IsJournal}
+use Rattle.mds_groups.specs.Laws.{JournalsBegin, JournalsGoOn, JournalsTellOnce}
 use Rattle.mds_groups.specs.declared.form.JournalForm.{JournalForm}
 use Rattle.mds_groups.specs.declared.form.JournalForm.TheVariants.{Plain, Checked}
 

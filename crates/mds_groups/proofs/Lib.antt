@@ -2,4 +2,5 @@
 pub mod LengthLemmas
 pub mod JournalLemmas
 pub mod ChangeLemmas
+pub mod BurstLemmas
 pub mod StreamLemmas

@@ -1,18 +1,17 @@
 -- What a stream has taken, line by line.
-use Rattle.std.proofs.Common.{◌≡◌, ◌≢◌, ◌↔◌, inl, inr, ℕ, ◌+◌, ◌<◌, ◌≤◌, ◌^◌, Bool, true, false, IsTrue, List, [], ◌∷◌, ◌++◌, length, map, Option, Some, None, All, refl, sym, ap, ◌∙◌, subst, arith, append_assoc, length-append}
+use Rattle.std.proofs.Common.{◌≡◌, ℕ, ◌+◌, ◌≤◌, List, [], ◌∷◌, ◌++◌, length, Some, None, All, refl, sym, ap, ◌∙◌, subst, arith, append_assoc, length-append}
 use Rattle.std.proofs.lemmas.List.{append-nil}
-use Rattle.std.proofs.lemmas.List.Elements.{All-nil, All-cons, All-push}
-use Rattle.mds_check.specs.Form.{CheckState, between_groups, behind_text, behind_texts, check_text, IsCheckOf, IsText}
+use Rattle.std.proofs.lemmas.List.Elements.{All-nil, All-push}
+use Rattle.mds_check.specs.Form.{CheckState, between_groups, behind_text, behind_texts, IsCheckOf, IsText}
 use Rattle.mds_check.proofs.GroupLemmas.{behind_more}
-use Rattle.mds_groups.specs.Form.{check_of, first_line, group_lines, header, lines_of, IsEntry, IsJournal}
-use Rattle.mds_groups.specs.Stream.{begun_of, handed_on, lines_before, texts_held, texts_of, BeginsGroup, EndsGroup, HasOtherCheck, HasTaken, MayHave, Takes}
-use Rattle.mds_groups.specs.declared.form.JournalForm.{JournalForm}
-use Rattle.mds_groups.specs.declared.form.JournalForm.TheVariants.{Plain, Checked}
+use Rattle.mds_groups.specs.Form.{check_of, group_lines, IsJournal}
+use Rattle.mds_groups.specs.Stream.{begun_of, lines_before, texts_of, HasTaken, MayHave, Takes}
+use Rattle.mds_groups.specs.declared.form.JournalForm.TheVariants.{Checked}
 use Rattle.mds_groups.specs.declared.stream.GroupStream.{GroupStream}
 use Rattle.mds_groups.specs.declared.stream.Stage.{Stage}
-use Rattle.mds_groups.specs.declared.stream.Stage.TheVariants.{First, FormCheck, Groups}
+use Rattle.mds_groups.specs.declared.stream.Stage.TheVariants.{Groups}
 use Rattle.mds_groups.specs.declared.stream.WholeGroup.{WholeGroup}
-use Rattle.mds_groups.proofs.JournalLemmas.{journal_more, journals_begin}
+use Rattle.mds_groups.proofs.JournalLemmas.{journal_more}
 
 -- ---- a stream at a stage
 

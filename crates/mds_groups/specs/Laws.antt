@@ -1,11 +1,11 @@
 -- What holds of the lines of journals, whoever reads them.
-use Rattle.std.specs.Prelude.{◌≡◌, ◌≢◌, ℕ, List, [], ◌∷◌, ◌++◌, Some, All}
+use Rattle.std.specs.Prelude.{◌≡◌, ◌≢◌, ℕ, List, [], ◌++◌, Some, All}
 use Rattle.mds_core.specs.declared.request.Request.{Request}
 use Rattle.mds_journal.specs.Lines.{HasNoFeed, open_lines, recovered_texts}
 use Rattle.mds_check.specs.Form.{IsText}
 use Rattle.mds_check.specs.Laws.{IsByte, DifferInARun, file_with}
 use Rattle.mds_entries.specs.Entry.{line_of}
-use Rattle.mds_groups.specs.Form.{check_of, ended, header, texts_in, IsJournal}
+use Rattle.mds_groups.specs.Form.{ended, group_lines, header, texts_in, IsJournal}
 use Rattle.mds_groups.specs.declared.form.JournalForm.{JournalForm}
 use Rattle.mds_groups.specs.declared.form.JournalForm.TheVariants.{Checked}
 
@@ -47,9 +47,11 @@ ChangedJournalsAreFound =
     → IsJournal Checked (recovered_texts (file_with before front x back rest)) groups
     → IsJournal form (recovered_texts (file_with before front y back rest)) others → ⊥
 
--- where the bytes of a group's lines differ in a run of at most 32 bits from those of another, its
--- gates and line feeds among them, the check isn't the other's
+-- the bytes of a group as it stands in a file, its check and all gates and line feeds among them
+abbrev pub bytes_of : List (List ℕ) → List ℕ
+bytes_of texts = open_lines (group_lines Checked texts)
+
+-- those of two groups don't differ in a run of at most 32 bits, wherever it begins
 abbrev pub ChangedGroupsAreFound : Type 0
 ChangedGroupsAreFound =
-    (texts others : List (List ℕ))
-    → DifferInARun (open_lines texts) (open_lines others) → check_of texts ≢ check_of others
+    (texts others : List (List ℕ)) → DifferInARun (bytes_of texts) (bytes_of others) → ⊥

@@ -45,6 +45,13 @@ MayHave FormCheck groups begun = (groups ≡ []) × (begun ≡ [])
 MayHave (Groups Plain) groups begun = All (All (IsEntry Plain)) groups × (begun ≡ [])
 MayHave (Groups Checked) groups begun = All (All (IsEntry Checked)) groups × All IsText begun
 
+-- these lines are the front of a journal: with these groups, which are whole
+pub record IsFront (lines : List (List ℕ)) (groups : List (List (List ℕ))) : Type 0 where
+  pub stage : Stage
+  pub begun : List (List ℕ)
+  pub split : lines ≡ lines_before stage groups ++ begun
+  pub may : MayHave stage groups begun
+
 -- these lines of a file were taken, from its first one on, and these groups handed on
 pub record HasTaken (stream : GroupStream) (lines : List (List ℕ)) (groups : List (List (List ℕ)))
     : Type 0 where

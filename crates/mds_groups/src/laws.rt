@@ -32,8 +32,7 @@ pub fn changed_journals_are_found()
     ensures { ChangedJournalsAreFound }
 {}
 
-/// Where the lines of a group differ from those of another in a run of at most 32 bits, their checks differ.
-#[tactic(auto, using(crate::proofs::ChangeLemmas::changed_groups_are_found))]
+/// The bytes of two groups, their checks and all gates and line feeds among them, don't differ in a run of at most 32 bits.
 pub fn changed_groups_are_found()
     ensures { ChangedGroupsAreFound }
 {}
