@@ -91,6 +91,7 @@ WRONG = [
     ["table", "--table", "table.json", "--table", "table.json"],
     ["vehicles"],
     ["vehicles", "--"],
+    ["vehicles", "--check"],
     ["vehicles", "journal", "more"],
     ["vehicles", "journal", "--any"],
     ["vehicles", "journal", "--table"],

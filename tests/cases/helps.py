@@ -82,6 +82,7 @@ Arguments:
 
 Options:
       --table <FILE>  A table of transitions, or several with times; without it the profile's
+      --check         Tells how many lines and groups there are, too
   -h, --help          Print help
 """
 COMPACT = """Makes a new journal of an old one, without old events that no state needs

@@ -1,5 +1,7 @@
 """Journals, and what `vehicles` prints of them."""
 
+import zlib
+
 from cases.replays import A, B, P, event
 from cases.tables import ONE_ROW, ONE_ROW_PRINTED
 from harness.building import no_random_numbers
@@ -7,7 +9,9 @@ from harness.case import CLOSED, FOLDER, MAX_BYTES, NO_STREAMS, OUTPUT, RANDOM
 from harness.case import Case, cannot_read, not_a_table, padded, told
 
 FORM = '{"form":"mds_city","version":1}'
-"""The first line of a journal."""
+"""The first line of a journal whose lines stand alone, as older versions made it."""
+CHECKED = '{"form":"mds_city","version":2}'
+"""The first line of one whose lines stand in groups, each with its check."""
 ROOM = "\n" * (1 << 20)
 """What a server writes ahead behind the closed gate of a file at rest."""
 
@@ -19,6 +23,17 @@ def registered(device):
 def journal(*texts, end="#", form=FORM):
     """Open lines of these texts behind the form's, and an end: of a file at rest a closed gate."""
     return "".join(f" {text}\n" for text in (form, *texts)) + end
+
+
+def group(*texts):
+    """Open lines of these texts, and of their check."""
+    lines = "".join(f" {text}\n" for text in texts)
+    return f'{lines} {{"crc32":"{zlib.crc32(lines.encode("utf-8", "surrogateescape")):08x}"}}\n'
+
+
+def checked(*groups, end="#"):
+    """Groups of these texts behind the form's, each with its check, and an end."""
+    return "".join(group(*texts) for texts in ((CHECKED,), *groups)) + end
 
 
 def not_a_journal(fault):
@@ -60,6 +75,48 @@ FAULTS = [
     ((*NEW, LONG, RESERVED), "too_long 2"),
     ((*NEW, RESERVED, LONG), "refused 2"),
 ]
+# Groups of lines behind that of the form, and what is printed of them.
+GROUPS_TAKEN = [
+    ((), []),
+    ((NEW,), [(A, "removed", 0)]),
+    (((registered(B), registered(A)),), [(B, "removed", 0), (A, "removed", 0)]),
+    (((registered(A), WOKEN), (registered(B), RESERVED)), [(A, "reserved", 2), (B, "removed", 0)]),
+    ((NEW, (WOKEN,), (RESERVED,)), [(A, "reserved", 2)]),
+    ((NEW, (), (WOKEN,)), [(A, "available", 1)]),
+]
+# The same, and the fault of the first line or group that can't be taken. The lines of the form and of its check are 0 and 1.
+GROUP_FAULTS = [
+    ((("",),), "bad_line 2"),
+    ((NEW, ("{",)), "bad_line 4"),
+    ((NEW, (WOKEN, "7")), "bad_line 5"),
+    (((WOKEN,),), "refused 2"),
+    ((NEW, (WOKEN, WOKEN)), "refused 5"),
+    ((NEW, (RESERVED,), ("{",)), "refused 4"),
+    ((NEW, (WOKEN, padded(RESERVED, MAX_BYTES + 1))), "too_long 5"),
+    ((NEW, (WOKEN, LONG)), "too_long 5"),
+    ((NEW, ("{", LONG)), "too_long 5"),
+    ((NEW, (RESERVED,), (LONG,)), "refused 4"),
+]
+FIRST = checked(end="")
+"""The lines before the first group."""
+# Files with groups that aren't as they were written, and the number of the first line of the first of these.
+DAMAGED = [
+    (f" {CHECKED}\n#", 0),
+    (f' {CHECKED}\n {{"crc32":"00000000"}}\n#', 0),
+    (f" {CHECKED}\n {registered(A)}\n#", 0),
+    (FIRST + f" {registered(A)}\n#", 2),
+    (FIRST + group(registered(A)).replace("000a", "000b", 1) + "#", 2),
+    (FIRST + group(registered(A)).replace(" {", " {{", 1) + "#", 2),
+    (FIRST + group(registered(A)).upper() + "#", 2),
+    (FIRST + group(registered(A)) + group("{").replace("{", "[", 1) + "#", 4),
+    (FIRST + group(registered(A)) + group(RESERVED, "{").replace("2000", "2001", 1) + "#", 4),
+    (FIRST + group(registered(A)) + group(WOKEN) + f" {RESERVED}\n", 6),
+    (FIRST + group(registered(A)) + group(WOKEN)[:-1], 4),
+    (FIRST + group(registered(A)) + group(registered(A), WOKEN)[len(f" {registered(A)}\n") :] + "#", 4),
+    (journal(registered(A), end="") + group(WOKEN) + "#", 0),
+    (f" {FORM}\n" + group(registered(A)) + "#", 0),
+    (FIRST.replace("2", "1", 1) + "#", 0),
+]
 # Files whose first line that counts, if there is one, isn't the form's.
 NO_FORM = [
     "",
@@ -70,16 +127,17 @@ NO_FORM = [
     f"{FORM}\n",
     f" {FORM} \n",
     " \n",
-    ' {"form":"mds_city","version":2}\n',
+    ' {"form":"mds_city","version":3}\n',
     f" {registered(A)}\n",
 ]
 
 
-def listed(text, vehicles, words="vehicles journal", **more):
-    """A case of a journal, and of each vehicle its device, its state and how many events it has."""
+def listed(text, vehicles, words="vehicles journal", counts="", **more):
+    """A case of a journal, of each vehicle its device, its state and how many events it has, and of the journal how many lines and
+    groups, where that is asked for."""
     lines = [f"vehicle {P} {device} {state} {events}\n" for device, state, events in vehicles]
     total = f"registrations {len(vehicles)} events {sum(events for _, _, events in vehicles)}\n"
-    return Case(words, out="".join(lines) + total, files={"journal": text, "table.json": ONE_ROW}, **more)
+    return Case(words, out="".join(lines) + total + counts, files={"journal": text, "table.json": ONE_ROW}, **more)
 
 
 def journals():
@@ -89,6 +147,16 @@ def journals():
         yield listed(journal(*texts, end=""), vehicles)
         yield listed(journal(*texts, end="#" + ROOM), vehicles)
         yield listed("", vehicles, words="vehicles -", given=journal(*texts))
+        counts = f"lines {1 + len(texts)} groups {len(texts)}\n"
+        yield listed(journal(*texts, end="#" + ROOM), vehicles, words="vehicles journal --check", counts=counts)
+    for groups, vehicles in GROUPS_TAKEN:
+        yield listed(checked(*groups), vehicles)
+        yield listed(checked(*groups, end=""), vehicles)
+        yield listed(checked(*groups, end="#" + ROOM), vehicles)
+        yield listed("", vehicles, words="vehicles -", given=checked(*groups))
+        yield listed(checked(*groups, end="#" + group(RESERVED)), vehicles)
+        counts = f"lines {2 + sum(len(texts) + 1 for texts in groups)} groups {len(groups)}\n"
+        yield listed("", vehicles, words="vehicles --check -", counts=counts, given=checked(*groups))
     # behind a gate that isn't open, and in a line that was cut off, nothing counts
     for end in (f"#{WOKEN}\n {RESERVED}\n", "\n", "x {\n", f" {WOKEN}", " {", f" {WOKEN[:-1]}", f"#{LONG}", f" {LONG[1:]}"):
         yield listed(journal(*NEW, end=end), [(A, "removed", 0)])
@@ -102,6 +170,12 @@ def journal_faults():
     """Files that are no journal, or whose requests aren't accepted."""
     for texts, fault in FAULTS:
         yield told("vehicles journal", not_a_journal(fault), files={"journal": journal(*texts)})
+    for groups, fault in GROUP_FAULTS:
+        yield told("vehicles journal", not_a_journal(fault), files={"journal": checked(*groups)})
+    for text, line in DAMAGED:
+        for words in ("vehicles journal", "vehicles --check journal"):
+            yield told(words, not_a_journal(f"damaged {line}"), files={"journal": text})
+        yield told("vehicles -", not_a_journal(f"damaged {line}"), given=text)
     for text in NO_FORM:
         yield told("vehicles journal", not_a_journal("form"), files={"journal": text})
         yield told("vehicles -", not_a_journal("form"), given=text)

@@ -22,7 +22,7 @@ asked_count (Some found) (Serve port each workers table journal metrics) asks = 
 asked_count (Some found) (Replay file table any lines unlimited workers) asks = within _ workers asks.1.6
 asked_count (Some found) (Debug file provider device table) asks = tt
 asked_count (Some found) (Table table) asks = tt
-asked_count (Some found) (Vehicles file table) asks = tt
+asked_count (Some found) (Vehicles file table check) asks = tt
 asked_count (Some found) (Compact old new before table) asks = tt
 asked_count (Some found) (Events file provider device) asks = tt
 

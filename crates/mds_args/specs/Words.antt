@@ -91,10 +91,11 @@ debug_app =
 abbrev pub table_app : App
 table_app = with_rule (new_app (codes "table")) table_rule
 
--- the command `vehicles`, with its file and the option
+-- the command `vehicles`, with its file, the option and the flag
 abbrev pub vehicles_app : App
 vehicles_app =
-    with_rule (with_rule (new_app (codes "vehicles")) (word_rule (codes "FILE"))) table_rule
+    with_rule (with_rule (with_rule (new_app (codes "vehicles")) (word_rule (codes "FILE")))
+    table_rule) (flag_rule (codes "check"))
 
 -- the greatest time that an event may have
 abbrev pub max_time : ℕ
@@ -142,7 +143,7 @@ name_of (Serve port each workers table journal metrics) = codes "serve"
 name_of (Replay file table any lines unlimited workers) = codes "replay"
 name_of (Debug file provider device table) = codes "debug"
 name_of (Table table) = codes "table"
-name_of (Vehicles file table) = codes "vehicles"
+name_of (Vehicles file table check) = codes "vehicles"
 name_of (Compact old new before table) = codes "compact"
 name_of (Events file provider device) = codes "events"
 
@@ -237,9 +238,10 @@ HasValues values (Debug file provider device table) =
     × (first_of (codes "table") values ≡ option_map (λ path. path.now) table)
 HasValues values (Table table) =
     first_of (codes "table") values ≡ option_map (λ path. path.now) table
-HasValues values (Vehicles file table) =
+HasValues values (Vehicles file table check) =
     (first_of (codes "FILE") values ≡ Some file.now)
     × (first_of (codes "table") values ≡ option_map (λ path. path.now) table)
+    × (IsTrue check ↔ IsSet (codes "check") values)
 HasValues values (Compact old new before table) =
     (first_of (codes "OLD") values ≡ Some old.now)
     × (first_of (codes "NEW") values ≡ Some new.now)

@@ -77,6 +77,8 @@ pub enum Command<'a> {
         file: &'a str,
         /// As for `Replay`.
         table: Option<&'a str>,
+        /// Whether it's also told how many lines the journal has, and how many groups of requests.
+        check: bool,
     },
     /// Make a new journal of an old one, without those of its old events that no state needs.
     Compact {
@@ -379,6 +381,7 @@ fn vehicles_of<'a>(values: &ArgMatches<'a>) -> Option<Command<'a>>
     Some(Command::Vehicles {
         file,
         table: values.get_str("table"),
+        check: is_set(values, "check"),
     })
 }
 
@@ -535,7 +538,12 @@ fn vehicles_form<'a>(alloc: Global) -> Form<'a>
 {
     let bare = bare_form(alloc, "vehicles", "Lists the vehicles of a journal");
     let with_file = with_word(alloc, bare, "FILE", "The journal; - is standard input");
-    with_table(alloc, with_file)
+    with_flag(
+        alloc,
+        with_table(alloc, with_file),
+        "check",
+        "Tells how many lines and groups there are, too",
+    )
 }
 
 fn compact_form<'a>(alloc: Global) -> Form<'a>

@@ -11,6 +11,6 @@ has_workers (Serve port each workers table journal metrics) few = (omega (arith,
 has_workers (Replay file table any lines unlimited workers) few = few
 has_workers (Debug file provider device table) few = tt
 has_workers (Table table) few = tt
-has_workers (Vehicles file table) few = tt
+has_workers (Vehicles file table check) few = tt
 has_workers (Compact old new before table) few = tt
 has_workers (Events file provider device) few = tt

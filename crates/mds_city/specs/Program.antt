@@ -101,14 +101,14 @@ module _ {F : Type 0} (opens : List ℕ → Option F → Type 0) where
 -- of the program: the files of its host, and standard input
 module _ {F I : Type 0} (files : FileHost F) (input : StandardInput I) where
   -- a listing of the journal of this path, which is standard input for `-` alone, came to these
-  abbrev pub CarriesVehicles : List ℕ → Option (Source F) → Outcome → Type 0
-  CarriesVehicles path table outcome =
+  abbrev pub CarriesVehicles : List ℕ → Bool → Option (Source F) → Outcome → Type 0
+  CarriesVehicles path check table outcome =
       ((path ≡ codes "-") × (file : Source I)
       × (file.path.now ≡ path) × (file.reader ≡ Some input.reader)
-      × CameToListing (files_of files.bytes table input.bytes file)
+      × CameToListing (files_of files.bytes table input.bytes file) check
       outcome.ended outcome.out outcome.faults)
       ⊎ ((path ≢ codes "-") × (file : Source F) × IsFileOf files.opens path file
-      × CameToListing (files_of files.bytes table files.bytes file)
+      × CameToListing (files_of files.bytes table files.bytes file) check
       outcome.ended outcome.out outcome.faults)
 
   -- a print of the lines of a vehicle's events in the journal of this path, which is standard input
@@ -197,10 +197,10 @@ module _ {F N L J I : Type 0} (all : HostFiles F N) (host : ServerHost L J)
       unlimited ≡ false → (table : Option (Source F))
       × IsFileNamed all.opener.opens (option_map (λ named. named.now) path) table
       × CarriesReplay all.opener input (options_of any lines workers) file.now table outcome
-  Carries (Vehicles file path) outcome =
+  Carries (Vehicles file path check) outcome =
       (table : Option (Source F))
       × IsFileNamed all.opener.opens (option_map (λ named. named.now) path) table
-      × CarriesVehicles all.opener input file.now table outcome
+      × CarriesVehicles all.opener input file.now check table outcome
   Carries (Debug file provider device path) outcome =
       (table : Option (Source F))
       × IsFileNamed all.opener.opens (option_map (λ named. named.now) path) table

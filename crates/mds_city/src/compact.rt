@@ -195,7 +195,7 @@ fn problem_of<'a>(error: CompactError, old: &'a str, new: &'a str) -> CompactPro
 {
     match error {
         CompactError::Old(LinesError::Fault(fault)) => {
-            CompactProblem::Journal(JournalProblem::NotAJournal(fault))
+            CompactProblem::Journal(JournalProblem::from(fault))
         }
         CompactError::Old(LinesError::Read) | CompactError::Old(LinesError::Changed) => {
             CompactProblem::from(Problem::CannotRead(old))

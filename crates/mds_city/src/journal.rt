@@ -308,7 +308,7 @@ fn problem_of_start<'a>(path: &'a str, fault: StartFault) -> ServeProblem<'a>
     match fault {
         StartFault::Memory => ServeProblem::from(Problem::Memory),
         StartFault::Device | StartFault::Shared => ServeProblem::from(Problem::CannotRead(path)),
-        StartFault::Journal(fault) => ServeProblem::Journal(JournalProblem::NotAJournal(fault)),
+        StartFault::Journal(fault) => ServeProblem::Journal(JournalProblem::from(fault)),
     }
 }
 

@@ -251,8 +251,8 @@ fn carry_out<
                 rt, alloc, files, file, table, options, unlimited, input, out, faults,
             )
         }
-        Command::Vehicles { file, table } => {
-            list_vehicles(rt, alloc, files, file, table, input, out, faults)
+        Command::Vehicles { file, table, check } => {
+            list_vehicles(rt, alloc, files, file, table, check, input, out, faults)
         }
         Command::Compact {
             old,
@@ -416,6 +416,7 @@ fn list_vehicles<R: RandomSource, O: Opens, I: Read + Drop, W: Write, E: Write>(
     files: &O,
     path: &str,
     table: Option<&str>,
+    check: bool,
     input: I,
     out: &mut W,
     faults: &mut E,
@@ -423,7 +424,7 @@ fn list_vehicles<R: RandomSource, O: Opens, I: Read + Drop, W: Write, E: Write>(
     ensures { (table_file : Option (Source O.File))
         × IsFileNamed (O.opens files.now) (option_map (λ named. named.now) table.entry) table_file
         × CarriesVehicles (record { opens = O.opens files.now; bytes = O.File.remaining })
-        (record { bytes = I.remaining; reader = input }) path.now table_file
+        (record { bytes = I.remaining; reader = input }) path.now check table_file
         (outcome_of result
         (change_of (W.contents out.old) (W.contents out.new))
         (change_of (E.contents faults.old) (E.contents faults.new))) }
@@ -431,9 +432,9 @@ fn list_vehicles<R: RandomSource, O: Opens, I: Read + Drop, W: Write, E: Write>(
     let table = file_if_named(files, table);
     if is_standard_input(path) {
         let file = source_of(path, input);
-        return vehicles_to(rt, alloc, table, file, out, faults);
+        return vehicles_to(rt, alloc, table, file, check, out, faults);
     }
-    vehicles_to(rt, alloc, table, file_of(files, path), out, faults)
+    vehicles_to(rt, alloc, table, file_of(files, path), check, out, faults)
 }
 
 /// Makes a new journal of an old one. Where a table file is named, the old one is judged by its tables first.

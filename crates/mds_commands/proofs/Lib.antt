@@ -8,4 +8,5 @@ pub mod FedLemmas
 pub mod NameLemmas
 pub mod Pushed
 pub mod TakingLemmas
+pub mod ListingLemmas
 pub mod PlaceLemmas

@@ -1,5 +1,5 @@
 -- What the command does.
-use Rattle.std.specs.Prelude.{◌≡◌, ◌≢◌, ◌⊎◌, ℕ, List, Option, Some}
+use Rattle.std.specs.Prelude.{◌≡◌, ◌≢◌, ◌⊎◌, ℕ, Bool, List, length, Option, Some}
 use Rattle.std.specs.Io.KnownBytes.{Appends, Keeps}
 use Rattle.mds_table.specs.Tables.{Tables}
 use Rattle.mds_core.specs.declared.request.Request.{Request}
@@ -17,15 +17,22 @@ use Rattle.mds_commands.specs.Change.{Change}
 use Rattle.mds_commands.specs.declared.vehicles.problem.JournalProblem.{JournalProblem}
 use Rattle.mds_commands.specs.declared.vehicles.problem.JournalProblem.TheVariants.{NotAJournal}
 use Rattle.mds_commands.specs.declared.vehicles.problem.JournalProblem.TheVariants.{Other}
+use Rattle.mds_commands.specs.declared.vehicles.taking.Taken.{Taken}
 use Rattle.mds_commands.specs.declared.vehicles.taking.TakeError.TheVariants.{Fault}
 use Rattle.mds_commands.specs.JournalProblem.{TellsJournal, journal_status_of}
-use Rattle.mds_commands.specs.Taking.{IsTaken, IsJournalFault}
-use Rattle.mds_commands.specs.ListingText.{listing_text}
+use Rattle.mds_commands.specs.Taking.{HasTold, IsJournalFault, IsTakenBy}
+use Rattle.mds_commands.specs.ListingText.{printed_text}
 
--- the file was opened, and its lines tell this history
-abbrev pub IsTakenIn : {R : Type 0} → (R → Option (List ℕ)) → Source R → List Request → Type 0
-IsTakenIn {R} remaining source history =
-    (reader : R) × (source.reader ≡ Some reader) × IsTaken (remaining reader) history
+-- the file was opened, and its lines, a journal with these groups, tell this history
+abbrev pub IsToldIn : {R : Type 0} → (R → Option (List ℕ))
+    → Source R → List (List ℕ) → List (List (List ℕ)) → List Request → Type 0
+IsToldIn {R} remaining source lines groups history =
+    (reader : R) × (source.reader ≡ Some reader) × HasTold (remaining reader) lines groups history
+
+-- the file was opened, and this is what its lines come to over the tables
+abbrev pub IsTakenIn : {R : Type 0} → (R → Option (List ℕ)) → Source R → Tables → Taken → Type 0
+IsTakenIn {R} remaining source tables taken =
+    (reader : R) × (source.reader ≡ Some reader) × IsTakenBy tables (remaining reader) taken
 
 -- why no roster over the tables was had of a file
 abbrev pub ExplainsJournal : {R : Type 0} → (R → Option (List ℕ))
@@ -44,21 +51,37 @@ ExplainsJournal remaining source tables (Other Output) = ⊥
 
 -- of a listing: the files, of which one is a journal
 module _ {T R : Type 0} (files : Files T R) where
+  -- the lines of the journal, with these groups, tell this history, which is lawful under the tables
+  abbrev pub HasJournal : List (List ℕ) → List (List (List ℕ)) → List Request → Type 0
+  HasJournal lines groups history =
+      (tables : Tables) × HasTablesIn files.table_bytes files.table tables
+      × IsToldIn files.file_bytes files.file lines groups history × IsLawful tables history
+
   -- the lines of the journal tell this history, which is lawful under the tables
   abbrev pub HasHistory : List Request → Type 0
   HasHistory history =
-      (tables : Tables) × HasTablesIn files.table_bytes files.table tables
-      × IsTakenIn files.file_bytes files.file history × IsLawful tables history
+      (lines : List (List ℕ)) × (groups : List (List (List ℕ))) × HasJournal lines groups history
 
-  -- the listing of the journal's history went out
-  abbrev pub Listed : Option (List ℕ) → Option (List ℕ) → Type 0
-  Listed old new =
-      (history : List Request) × HasHistory history × Appends old new (listing_text history)
+  -- this is what its lines come to over the tables
+  abbrev pub CameToTaken : Taken → Type 0
+  CameToTaken taken =
+      (tables : Tables) × HasTablesIn files.table_bytes files.table tables
+      × IsTakenIn files.file_bytes files.file tables taken
+
+  -- this holds of a text that is printed of the journal
+  abbrev pub PrintsBy : Bool → (List ℕ → Type 0) → Type 0
+  PrintsBy check Prints =
+      (lines : List (List ℕ)) × (groups : List (List (List ℕ))) × (history : List Request)
+      × HasJournal lines groups history
+      × Prints (printed_text check history (length lines) (length groups))
+
+  -- what is printed of the journal went out
+  abbrev pub Listed : Bool → Option (List ℕ) → Option (List ℕ) → Type 0
+  Listed check old new = PrintsBy check (Appends old new)
 
   -- a front of it went out, and not all of it
-  abbrev pub ListedFront : Option (List ℕ) → Option (List ℕ) → Type 0
-  ListedFront old new =
-      (history : List Request) × HasHistory history × AppendsFront old new (listing_text history)
+  abbrev pub ListedFront : Bool → Option (List ℕ) → Option (List ℕ) → Type 0
+  ListedFront check old new = PrintsBy check (AppendsFront old new)
 
   -- the tables were had, and then the problem is one of the journal
   abbrev pub ExplainsRequests : JournalProblem → Type 0
@@ -89,26 +112,26 @@ module _ {T R : Type 0} (files : Files T R) where
 
   -- what went out before a problem: nothing where a file was at fault, a front of the listing where
   -- the output was
-  abbrev pub ListingWentOut : JournalProblem → Option (List ℕ) → Option (List ℕ) → Type 0
-  ListingWentOut (NotAJournal fault) old new = Keeps old new
-  ListingWentOut (Other (CannotRead path)) old new = Keeps old new
-  ListingWentOut (Other (NotATable fault)) old new = Keeps old new
-  ListingWentOut (Other (NotABatch fault)) old new = ⊥
-  ListingWentOut (Other (NotLines fault)) old new = ⊥
-  ListingWentOut (Other Socket) old new = ⊥
-  ListingWentOut (Other Random) old new = Keeps old new
-  ListingWentOut (Other Output) old new = ListedFront old new
-  ListingWentOut (Other Memory) old new = Keeps old new ⊎ ListedFront old new
+  abbrev pub ListingWentOut : Bool → JournalProblem → Option (List ℕ) → Option (List ℕ) → Type 0
+  ListingWentOut check (NotAJournal fault) old new = Keeps old new
+  ListingWentOut check (Other (CannotRead path)) old new = Keeps old new
+  ListingWentOut check (Other (NotATable fault)) old new = Keeps old new
+  ListingWentOut check (Other (NotABatch fault)) old new = ⊥
+  ListingWentOut check (Other (NotLines fault)) old new = ⊥
+  ListingWentOut check (Other Socket) old new = ⊥
+  ListingWentOut check (Other Random) old new = Keeps old new
+  ListingWentOut check (Other Output) old new = ListedFront check old new
+  ListingWentOut check (Other Memory) old new = Keeps old new ⊎ ListedFront check old new
 
   -- a problem has this status, is explained, and was told
-  abbrev pub ListingTold : Status → Change → Change → Type 0
-  ListingTold status out faults =
+  abbrev pub ListingTold : Bool → Status → Change → Change → Type 0
+  ListingTold check status out faults =
       (problem : JournalProblem) × (status ≡ journal_status_of problem) × ExplainsListing problem
-      × ListingWentOut problem out.before out.after
+      × ListingWentOut check problem out.before out.after
       × TellsJournal faults.before faults.after problem
 
   -- what a listing came to: it was printed and nothing was told, or a problem was told
-  abbrev pub CameToListing : Status → Change → Change → Type 0
-  CameToListing status out faults =
-      ((status ≡ Done) × Listed out.before out.after × Keeps faults.before faults.after)
-      ⊎ ListingTold status out faults
+  abbrev pub CameToListing : Bool → Status → Change → Change → Type 0
+  CameToListing check status out faults =
+      ((status ≡ Done) × Listed check out.before out.after × Keeps faults.before faults.after)
+      ⊎ ListingTold check status out faults

@@ -1,5 +1,5 @@
 -- What is printed of a roster.
-use Rattle.std.specs.Prelude.{ℕ, List, ◌++◌, length, codes, decimal}
+use Rattle.std.specs.Prelude.{ℕ, Bool, true, false, List, ◌++◌, length, codes, decimal}
 use Rattle.std.specs.List.{flat_map}
 use Rattle.uuid.specs.Text.{hyphenated_text, lower}
 use Rattle.mds_table.specs.State.{name_of}
@@ -34,6 +34,17 @@ abbrev pub listing_text : List Request → List ℕ
 listing_text history =
     vehicle_lines (standings_in history)
     ++ with_newline (totals_line (length (registered_in history)) (length (reports history)))
+
+-- the line of a journal's lines and groups
+abbrev pub counts_line : ℕ → ℕ → List ℕ
+counts_line lines groups = codes "lines " ++ decimal lines ++ codes " groups " ++ decimal groups
+
+-- all that is printed of a journal with this history: the listing, and how many lines and groups it
+-- has, where that is asked for
+abbrev pub printed_text : Bool → List Request → ℕ → ℕ → List ℕ
+printed_text false history lines groups = listing_text history
+printed_text true history lines groups =
+    listing_text history ++ with_newline (counts_line lines groups)
 
 -- the roster is that of some history
 abbrev pub IsRosterOfSome : Roster → Type 0

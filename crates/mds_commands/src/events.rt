@@ -103,7 +103,7 @@ fn tell_events<E: Write>(alloc: Global, faults: &mut E, problem: EventsProblem<'
 {
     match problem {
         EventsProblem::NotAJournal(fault) => {
-            tell_journal_problem(alloc, faults, JournalProblem::NotAJournal(fault))
+            tell_journal_problem(alloc, faults, JournalProblem::from(fault))
         }
         EventsProblem::Debug(problem) => tell_debug(alloc, faults, problem),
     }

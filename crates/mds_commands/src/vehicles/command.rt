@@ -1,20 +1,16 @@
 //! The command, over any reader, writers and table file.
 ghost use Rattle.std.specs.Prelude.{List, IfOk, IfErr, OnOk};
-ghost use Rattle.mds_table.specs.Tables.{Tables as TableList};
 ghost use Rattle.mds_core.specs.declared.request.Request.{Request};
-ghost use Rattle.mds_commands.specs.Roster.{IsRosterOf};
 ghost use Rattle.mds_commands.specs.Files.{files_of};
 ghost use Rattle.mds_commands.specs.Change.{change_of};
-ghost use Rattle.mds_commands.specs.Listing.{CameToListing, ExplainsJournal, ExplainsJudging, ExplainsListing, HasHistory, IsTakenIn, Listed, ListingWentOut};
-ghost use Rattle.mds_commands.specs.Source.{HasTablesIn};
+ghost use Rattle.mds_commands.specs.Listing.{CameToListing, CameToTaken, ExplainsJournal, ExplainsJudging, ExplainsListing, HasHistory, IsTakenIn, Listed, ListingWentOut};
 
 use crate::problem::Problem;
-use crate::roster::Roster;
 use crate::source::{Source, tables_in};
 use crate::status::Status;
-use crate::vehicles::print::print_roster;
+use crate::vehicles::print::print_taken;
 use crate::vehicles::problem::{JournalProblem, tell_journal_problem};
-use crate::vehicles::taking::{TakeError, roster_of};
+use crate::vehicles::taking::{TakeError, Taken, roster_of};
 use mds_table::Tables;
 use std::alloc::Global;
 use std::hash::RandomState;
@@ -25,20 +21,22 @@ use std::random::RandomSource;
 /// line for each vehicle in the order of registration, and the totals. It answers the status that the program ends with:
 /// `Done`, or the one of the problem, which is told to `faults` in one line: `Fault` for a file that can't be read, is no table
 /// or no journal, where no random numbers are had, or an output fails; `NoMemory` for want of memory. Nothing is printed before
-/// the file was read and each of its requests accepted.
+/// the file was read and each of its requests accepted. With `check` a last line tells how many lines that count the journal has,
+/// and how many groups of requests.
 pub fn vehicles_to<P: RandomSource, T: Read + Drop, R: Read + Drop, W: Write, E: Write>(
     rt: &P,
     alloc: Global,
     table: Option<Source<'_, T>>,
     file: Source<'_, R>,
+    check: bool,
     out: &mut W,
     faults: &mut E,
 ) -> Status
-    ensures { CameToListing (files_of T.remaining table.entry R.remaining file.entry) result
+    ensures { CameToListing (files_of T.remaining table.entry R.remaining file.entry) check result
         (change_of (W.contents out.old) (W.contents out.new))
         (change_of (E.contents faults.old) (E.contents faults.new)) }
 {
-    match vehicles_into(rt, alloc, table, file, out) {
+    match vehicles_into(rt, alloc, table, file, check, out) {
         Ok(()) => Status::Done,
         Err(problem) => tell_journal_problem(alloc, faults, problem),
     }
@@ -49,17 +47,18 @@ fn vehicles_into<'a, P: RandomSource, T: Read + Drop, R: Read + Drop, W: Write>(
     alloc: Global,
     table: Option<Source<'a, T>>,
     file: Source<'a, R>,
+    check: bool,
     out: &mut W,
 ) -> Result<(), JournalProblem<'a>>
     ensures ok { OnOk result (Listed (files_of T.remaining table.entry R.remaining file.entry)
-        (W.contents out.old) (W.contents out.new)) }
+        check (W.contents out.old) (W.contents out.new)) }
     ensures err { IfErr result (λ problem.
         ExplainsListing (files_of T.remaining table.entry R.remaining file.entry) problem
-        × ListingWentOut (files_of T.remaining table.entry R.remaining file.entry) problem
+        × ListingWentOut (files_of T.remaining table.entry R.remaining file.entry) check problem
         (W.contents out.old) (W.contents out.new)) }
 {
-    let roster = roster_over(rt, alloc, table, file)?;
-    print_roster(alloc, out, &roster)?;
+    let taken = taken_over(rt, alloc, table, file)?;
+    print_taken(alloc, out, &taken, check)?;
     Ok(())
 }
 
@@ -80,20 +79,19 @@ pub fn judge_journal<'a, P: RandomSource, T: Read + Drop, R: Read + Drop>(
     ensures err { IfErr result (ExplainsJudging
         (files_of T.remaining table.entry R.remaining file.entry)) }
 {
-    roster_over(rt, alloc, table, file)?;
+    taken_over(rt, alloc, table, file)?;
     Ok(())
 }
 
-/// The roster of a journal over the tables of a table file.
-fn roster_over<'a, P: RandomSource, T: Read + Drop, R: Read + Drop>(
+/// What the lines of a journal come to over the tables of a table file.
+fn taken_over<'a, P: RandomSource, T: Read + Drop, R: Read + Drop>(
     rt: &P,
     alloc: Global,
     table: Option<Source<'a, T>>,
     file: Source<'a, R>,
-) -> Result<Roster, JournalProblem<'a>>
-    ensures ok { IfOk result (λ roster. (tables : TableList) × (history : List Request)
-        × HasTablesIn T.remaining table.entry tables × IsTakenIn R.remaining file.entry history
-        × IsRosterOf tables history roster) }
+) -> Result<Taken, JournalProblem<'a>>
+    ensures ok { IfOk result
+        (CameToTaken (files_of T.remaining table.entry R.remaining file.entry)) }
     ensures err { IfErr result (ExplainsJudging
         (files_of T.remaining table.entry R.remaining file.entry)) }
 {
@@ -101,17 +99,16 @@ fn roster_over<'a, P: RandomSource, T: Read + Drop, R: Read + Drop>(
     let Ok(hasher) = RandomState::new(rt) else {
         return Err(JournalProblem::Other(Problem::Random));
     };
-    roster_in(alloc, tables, hasher, file)
+    taken_in(alloc, tables, hasher, file)
 }
 
-fn roster_in<'a, R: Read + Drop>(
+fn taken_in<'a, R: Read + Drop>(
     alloc: Global,
     tables: Tables,
     hasher: RandomState,
     file: Source<'a, R>,
-) -> Result<Roster, JournalProblem<'a>>
-    ensures ok { IfOk result (λ roster. (history : List Request)
-        × IsTakenIn R.remaining file.entry history × IsRosterOf tables history roster) }
+) -> Result<Taken, JournalProblem<'a>>
+    ensures ok { IfOk result (IsTakenIn R.remaining file.entry tables) }
     ensures err { IfErr result (ExplainsJournal R.remaining file.entry tables) }
 {
     let path = file.path;
@@ -119,7 +116,7 @@ fn roster_in<'a, R: Read + Drop>(
         return Err(JournalProblem::Other(Problem::CannotRead(path)));
     };
     match roster_of(alloc, reader, tables, hasher) {
-        Ok(roster) => Ok(roster),
+        Ok(taken) => Ok(taken),
         Err(TakeError::Memory) => Err(JournalProblem::Other(Problem::Memory)),
         Err(TakeError::Read) => Err(JournalProblem::Other(Problem::CannotRead(path))),
         Err(TakeError::Fault(fault)) => Err(JournalProblem::NotAJournal(fault)),

@@ -1,6 +1,6 @@
 //! The lines that are printed of a roster.
 ghost use Rattle.std.specs.Prelude.{Some};
-ghost use Rattle.mds_commands.specs.ListingText.{vehicle_line, totals_line};
+ghost use Rattle.mds_commands.specs.ListingText.{counts_line, totals_line, vehicle_line};
 
 use mds_core::{Key, Standing};
 use std::fmt;
@@ -26,7 +26,7 @@ impl fmt::Display for VehicleLine {
     }
 }
 
-/// The last line: how many vehicles are registered, and how many events were accepted.
+/// The line behind those: how many vehicles are registered, and how many events were accepted.
 #[derive(Clone, Copy)]
 pub struct TotalsLine {
     /// How many vehicles.
@@ -42,5 +42,24 @@ impl fmt::Display for TotalsLine {
         let registrations = self.registrations;
         let events = self.events;
         write!(f, "registrations {registrations} events {events}")
+    }
+}
+
+/// The line of a journal: how many lines it has, and how many groups of requests.
+#[derive(Clone, Copy)]
+pub struct CountsLine {
+    /// How many lines.
+    pub lines: usize,
+    /// How many groups.
+    pub groups: usize,
+}
+
+impl fmt::Display for CountsLine {
+    ghost output = { λ line. Some (counts_line line.lines line.groups) };
+
+    fn fmt<W: fmt::Write>(&self, f: &mut fmt::Formatter<W>) -> fmt::Result {
+        let lines = self.lines;
+        let groups = self.groups;
+        write!(f, "lines {lines} groups {groups}")
     }
 }

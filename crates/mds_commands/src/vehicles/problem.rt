@@ -4,6 +4,7 @@ ghost use Rattle.mds_commands.specs.JournalProblem.{journal_status_of, TellsJour
 
 use crate::problem::{Problem, tell};
 use crate::status::Status;
+use mds_groups::GroupFault;
 use mds_io::{MAX_CALLS, PrintError, write_all_of};
 use mds_journal::JournalFault;
 use std::alloc::Global;
@@ -14,7 +15,7 @@ use std::io::Write;
 #[derive(Clone, Copy, Debug)]
 pub enum JournalProblem<'a> {
     /// The file is no journal.
-    NotAJournal(JournalFault),
+    NotAJournal(GroupFault),
     /// What may hinder other commands too.
     Other(Problem<'a>),
 }
@@ -26,6 +27,17 @@ impl<'a> From<Problem<'a>> for JournalProblem<'a> {
 
     fn from(problem: Problem<'a>) -> Self {
         JournalProblem::Other(problem)
+    }
+}
+
+impl From<JournalFault> for JournalProblem<'_> {
+    ghost use Rattle.mds_commands.specs.declared.vehicles.problem.JournalProblem.TheVariants.{NotAJournal};
+    ghost use Rattle.mds_groups.specs.declared.fault.GroupFault.TheVariants.{Journal};
+
+    ghost from_gives = { λ fault problem. problem ≡ NotAJournal (Journal fault) };
+
+    fn from(fault: JournalFault) -> Self {
+        JournalProblem::NotAJournal(GroupFault::Journal(fault))
     }
 }
 
@@ -58,7 +70,7 @@ pub fn tell_journal_problem<E: Write>(
     }
 }
 
-fn tell_fault<E: Write>(alloc: Global, faults: &mut E, fault: JournalFault) -> Status
+fn tell_fault<E: Write>(alloc: Global, faults: &mut E, fault: GroupFault) -> Status
     ensures { ((result ≡ Status.Fault) × TellsJournal (E.contents faults.old)
         (E.contents faults.new) (JournalProblem.NotAJournal fault))
         ⊎ ((result ≡ Status.NoMemory) × TellsJournal (E.contents faults.old)

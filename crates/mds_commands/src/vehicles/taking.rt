@@ -1,12 +1,15 @@
-//! The requests of a journal, taken by a roster line by line.
-ghost use Rattle.std.specs.Prelude.{◌≡◌, ℕ, ◌+◌, ◌<◌, ◌^◌, List, Option, true, false, IfOk, IfErr, OnOk};
-ghost use Rattle.mds_table.specs.Tables.{Tables as TableList};
-ghost use Rattle.mds_journal.specs.Stream.{IsStream, StandsForNothing, unread_of, lines_given, most_of};
-ghost use Rattle.mds_table.specs.Json.{max_bytes};
-ghost use Rattle.mds_commands.specs.Taking.{BeginsWithForm, IsFormFault, IsJournalFault, IsLineFault, IsTakenBy, IsTakenSo, TakesLine};
+//! The requests of a journal, taken by a roster group by group.
+ghost use Rattle.std.specs.Prelude.{◌≡◌, ◌+◌, ◌<◌, ◌≤◌, ◌^◌, List, ℕ, length, true, false, IfOk, IfErr, OnOk};
+ghost use Rattle.mds_core.specs.declared.request.Request.{Request};
+ghost use Rattle.mds_entries.specs.Entry.{Tells};
+ghost use Rattle.mds_groups.specs.Stream.{AreWhole, HasTaken, texts_of};
+ghost use Rattle.mds_journal.specs.Stream.{lines_given};
+ghost use Rattle.mds_commands.specs.Roster.{Accepts};
+ghost use Rattle.mds_commands.specs.Taking.{IsEntryFault, IsJournalFault, IsTakenBy, IsTaking, StopsAmong, StopsBy, TakesAll, TakesOn, TakesTexts};
 
 use crate::roster::Roster;
-use mds_entries::{EntryFault, EntryReader, is_form};
+use mds_entries::{EntryFault, EntryReader};
+use mds_groups::{GroupError, GroupFault, GroupStream, WholeGroup};
 use mds_journal::{JournalFault, LineStream, StreamError};
 use mds_table::{MAX_BYTES, Tables};
 use std::alloc::{AllocError, Global};
@@ -21,7 +24,7 @@ pub enum TakeError {
     /// A read failed.
     Read,
     /// The file is no journal.
-    Fault(JournalFault),
+    Fault(GroupFault),
 }
 
 impl From<AllocError> for TakeError {
@@ -42,14 +45,43 @@ impl From<StreamError> for TakeError {
     fn from(error: StreamError) -> TakeError {
         match error {
             StreamError::Memory => TakeError::Memory,
-            StreamError::TooLong(line) => TakeError::Fault(JournalFault::TooLong(line)),
+            StreamError::TooLong(line) => fault_of(JournalFault::TooLong(line)),
             StreamError::Read | StreamError::Full => TakeError::Read,
         }
     }
 }
 
-/// The roster over the tables of the requests that the lines of a reader tell, from the second to the last that counts. The
-/// first names the form.
+impl From<GroupError> for TakeError {
+    ghost use Rattle.mds_commands.specs.Taking.{group_error};
+
+    ghost from_gives = { λ cause error. error ≡ group_error cause };
+
+    fn from(error: GroupError) -> TakeError {
+        match error {
+            GroupError::Memory => TakeError::Memory,
+            GroupError::Fault(fault) => TakeError::Fault(fault),
+        }
+    }
+}
+
+fn fault_of(fault: JournalFault) -> TakeError
+    ensures { result ≡ TakeError.Fault (GroupFault.Journal fault) }
+{
+    TakeError::Fault(GroupFault::Journal(fault))
+}
+
+/// What the lines of a journal come to.
+#[derive(Drop)]
+pub struct Taken {
+    /// The roster of their requests.
+    pub roster: Roster,
+    /// How many lines there are.
+    pub lines: usize,
+    /// How many groups of requests they have.
+    pub groups: usize,
+}
+
+/// The roster over the tables of the requests that the lines of a reader tell, to the last that counts.
 ///
 /// # Errors
 ///
@@ -59,95 +91,131 @@ pub fn roster_of<R: Read + Drop>(
     reader: R,
     tables: Tables,
     hasher: RandomState,
-) -> Result<Roster, TakeError>
+) -> Result<Taken, TakeError>
     ensures ok { IfOk result (IsTakenBy tables (R.remaining reader)) }
     ensures fault { IfErr result (IsJournalFault tables (R.remaining reader)) }
 {
-    let mut lines = LineStream::new(alloc, reader, MAX_BYTES);
-    let mut line = Vec::new(alloc);
-    take_form(&mut lines, &mut line)?;
-    let mut roster = Roster::open(alloc, tables, hasher);
-    let mut entries = EntryReader::new(alloc);
-    take_all(&mut lines, &mut line, &mut entries, &mut roster)?;
-    Ok(roster)
+    let mut taking = Taking {
+        lines: LineStream::new(alloc, reader, MAX_BYTES),
+        line: Vec::new(alloc),
+        groups: GroupStream::new(alloc),
+        count: 0,
+        entries: EntryReader::new(alloc),
+        roster: Roster::open(alloc, tables, hasher),
+    };
+    taking.take_all()?;
+    Ok(taking.into_taken())
 }
 
-/// The first line has to name the form.
-fn take_form<R: Read>(lines: &mut LineStream<R>, line: &mut Vec<u8>) -> Result<(), TakeError>
-    requires stream { IsStream lines.old }
-    requires limit { most_of lines.old ≡ max_bytes }
-    requires number { lines_given lines.old ≡ 0 }
-    ensures stream { IsStream lines.new }
-    ensures limit { most_of lines.new ≡ max_bytes }
-    ensures form { OnOk result
-        (BeginsWithForm (unread_of R.remaining lines.old) (unread_of R.remaining lines.new)) }
-    ensures number { OnOk result (lines_given lines.new ≡ 1) }
-    ensures fault { IfErr result (IsFormFault (unread_of R.remaining lines.old)) }
-{
-    let is_there = lines.next_line(line)?;
-    if is_there && is_form(line) {
-        Ok(())
-    } else {
-        Err(TakeError::Fault(JournalFault::Form))
-    }
+/// The lines of a reader, and what they came to so far.
+#[derive(Drop)]
+struct Taking<R: Read> {
+    lines: LineStream<R>,
+    line: Vec<u8>,
+    groups: GroupStream,
+    count: usize,
+    entries: EntryReader,
+    roster: Roster,
 }
 
-fn take_all<R: Read>(
-    lines: &mut LineStream<R>,
-    line: &mut Vec<u8>,
-    entries: &mut EntryReader,
-    roster: &mut Roster,
-) -> Result<(), TakeError>
-    requires stream { IsStream lines.old }
-    requires limit { most_of lines.old ≡ max_bytes }
-    ensures ok { OnOk result ((tables : TableList) (known : Option (List ℕ))
-        → IsTakenSo tables known (lines_given lines.old)
-        (unread_of R.remaining lines.old) roster.old
-        → IsTakenBy tables known roster.new) }
-    ensures fault { IfErr result (λ error. (tables : TableList) (known : Option (List ℕ))
-        → IsTakenSo tables known (lines_given lines.old)
-        (unread_of R.remaining lines.old) roster.old
-        → IsJournalFault tables known error) }
-{
-    'requests: loop {
-        if !take_line(lines, line, entries, roster)? {
-            return Ok(());
+impl<R: Read + Drop> Taking<R> {
+    fn into_taken(self) -> Taken
+        ensures roster { result.roster ≡ self.roster }
+        ensures lines { result.lines ≡ lines_given self.lines }
+        ensures groups { result.groups ≡ self.count }
+    {
+        let lines = self.lines.number();
+        let Taking {
+            lines: _lines,
+            line: _line,
+            groups: _groups,
+            count,
+            entries: _entries,
+            roster,
+        } = self;
+        Taken {
+            roster,
+            lines,
+            groups: count,
         }
     }
 }
 
-/// `false` where no more lines count.
-fn take_line<R: Read>(
-    lines: &mut LineStream<R>,
-    line: &mut Vec<u8>,
+impl<R: Read> Taking<R> {
+    fn take_all(&mut self) -> Result<(), TakeError>
+        requires { IsTaking self.old }
+        ensures all { OnOk result (TakesAll R.remaining self.old self.new) }
+        ensures whole { OnOk result ((lines : List (List ℕ)) (groups : List (List (List ℕ)))
+            → HasTaken self.new.groups lines groups → AreWhole lines groups) }
+        ensures fault { IfErr result (StopsBy R.remaining self.old) }
+    {
+        'lines: while self.take_line()? {}
+        match self.groups.finish(self.lines.number()) {
+            Ok(()) => Ok(()),
+            Err(fault) => Err(TakeError::Fault(fault)),
+        }
+    }
+
+    /// Takes the next line, and the requests of the group that it ends. It says `false` where no more lines count.
+    fn take_line(&mut self) -> Result<bool, TakeError>
+        requires { IsTaking self.old }
+        ensures taking { IsTaking self.new }
+        ensures taken { IfOk result (λ more. more ≡ true
+            → TakesOn R.remaining self.old self.new) }
+        ensures number { IfOk result (λ more. more ≡ true
+            → lines_given self.new.lines ≡ lines_given self.old.lines + 1) }
+        ensures few { IfOk result (λ more. more ≡ true
+            → lines_given self.new.lines < 2 ^ 64) }
+        ensures all { IfOk result (λ more. more ≡ false
+            → TakesAll R.remaining self.old self.new) }
+        ensures fault { IfErr result (StopsBy R.remaining self.old) }
+    {
+        if !self.lines.next_line(&mut self.line)? {
+            return Ok(false);
+        }
+        let number = self.lines.number() - 1;
+        if let Some(group) = self.groups.take(number, &self.line)? {
+            take_group(&group, &mut self.entries, &mut self.roster)?;
+            self.count += 1;
+        }
+        Ok(true)
+    }
+}
+
+fn take_group(
+    group: &WholeGroup,
     entries: &mut EntryReader,
     roster: &mut Roster,
-) -> Result<bool, TakeError>
-    requires stream { IsStream lines.old }
-    requires limit { most_of lines.old ≡ max_bytes }
-    ensures stream { IsStream lines.new }
-    ensures limit { most_of lines.new ≡ max_bytes }
-    ensures taken { IfOk result (λ more. more ≡ true → TakesLine (unread_of R.remaining lines.old)
-        (unread_of R.remaining lines.new) roster.old roster.new) }
-    ensures number { IfOk result (λ more. more ≡ true
-        → lines_given lines.new ≡ lines_given lines.old + 1) }
-    ensures done { IfOk result (λ more. more ≡ false
-        → StandsForNothing (unread_of R.remaining lines.old) × (roster.new ≡ roster.old)) }
+) -> Result<(), TakeError>
+    requires { group.now.first + length group.now.texts.items ≤ 2 ^ 64 }
+    ensures taken { OnOk result (TakesTexts (texts_of group.now) roster.old roster.new) }
     ensures fault { IfErr result
-        (IsLineFault (lines_given lines.old) (unread_of R.remaining lines.old) roster.old) }
-    ensures few { lines_given lines.old < 2 ^ 64 }
+        (StopsAmong group.now.first (texts_of group.now) roster.old) }
 {
-    let number = lines.number();
-    if !lines.next_line(line)? {
-        return Ok(false);
+    for (at, text) in group.texts.iter().enumerate() {
+        take_entry(group.first + at, text, entries, roster)?;
     }
-    let request = match entries.read(line) {
+    Ok(())
+}
+
+fn take_entry(
+    number: usize,
+    text: &[u8],
+    entries: &mut EntryReader,
+    roster: &mut Roster,
+) -> Result<(), TakeError>
+    ensures taken { OnOk result ((request : Request)
+        × Tells text.now request × Accepts request roster.old roster.new) }
+    ensures fault { IfErr result (IsEntryFault number text.now roster.old) }
+{
+    let request = match entries.read(text) {
         Ok(request) => request,
         Err(EntryFault::Memory) => return Err(TakeError::Memory),
-        Err(_) => return Err(TakeError::Fault(JournalFault::BadLine(number))),
+        Err(_) => return Err(fault_of(JournalFault::BadLine(number))),
     };
-    if !roster.take(&request)? {
-        return Err(TakeError::Fault(JournalFault::Refused(number)));
+    if roster.take(&request)? {
+        Ok(())
+    } else {
+        Err(fault_of(JournalFault::Refused(number)))
     }
-    Ok(true)
 }

@@ -17,5 +17,6 @@ returns c =
       (
         text_of_rows values (codes "FILE") (Some c.in_ok-file.file) c.in_ok-file.ensures,
         text_of_rows values (codes "table") c.get_str-2.result c.get_str-2.ensures,
+        c.is_set.ensures,
       ),
     )

@@ -1,4 +1,4 @@
-use Rattle.std.proofs.Common.{ℕ, List, Option, inl, inr}
+use Rattle.std.proofs.Common.{ℕ, Bool, List, Option, inl, inr}
 use Rattle.mds_commands.specs.Files.{Files, files_of}
 use Rattle.mds_commands.specs.declared.problem.Problem.TheVariants.{CannotRead, NotATable, NotABatch, NotLines, Socket, Random, Output, Memory}
 use Rattle.mds_commands.specs.declared.vehicles.problem.JournalProblem.{JournalProblem}
@@ -7,18 +7,18 @@ use Rattle.mds_commands.specs.Listing.{ListingWentOut}
 use Rattle.mds_commands.proofs.vehicles.command.vehicles_to.Goals as goal
 
 -- whatever the problem, nothing went out before it, or a front of the listing
-out_before : {T R : Type 0} (files : Files T R)
-    (problem : JournalProblem) (old new : Option (List ℕ)) → ListingWentOut files problem old new
-    → ListingWentOut files (Other Memory) old new
-out_before files (NotAJournal fault) old new out = inl out
-out_before files (Other (CannotRead path)) old new out = inl out
-out_before files (Other (NotATable fault)) old new out = inl out
-out_before files (Other (NotABatch fault)) old new out = absurd out
-out_before files (Other (NotLines fault)) old new out = absurd out
-out_before files (Other Socket) old new out = absurd out
-out_before files (Other Random) old new out = inl out
-out_before files (Other Output) old new out = inr out
-out_before files (Other Memory) old new out = out
+out_before : {T R : Type 0} (files : Files T R) (check : Bool)
+    (problem : JournalProblem) (old new : Option (List ℕ)) → ListingWentOut files check problem old new
+    → ListingWentOut files check (Other Memory) old new
+out_before files check (NotAJournal fault) old new out = inl out
+out_before files check (Other (CannotRead path)) old new out = inl out
+out_before files check (Other (NotATable fault)) old new out = inl out
+out_before files check (Other (NotABatch fault)) old new out = absurd out
+out_before files check (Other (NotLines fault)) old new out = absurd out
+out_before files check (Other Socket) old new out = absurd out
+out_before files check (Other Random) old new out = inl out
+out_before files check (Other Output) old new out = inr out
+out_before files check (Other Memory) old new out = out
 
 pub returns-in-Err : goal.returns-in-Err
 returns-in-Err g c =
@@ -29,7 +29,7 @@ returns-in-Err g c =
         Other Memory,
         told.0,
         tt,
-        out_before (files_of g.T.Read.remaining c.args.table g.R.Read.remaining c.args.file) c.in-Err.problem (g.W.Write.contents c.args.out.now) (g.W.Write.contents c.vehicles_into.new.out) failed.1,
+        out_before (files_of g.T.Read.remaining c.args.table g.R.Read.remaining c.args.file) c.args.check c.in-Err.problem (g.W.Write.contents c.args.out.now) (g.W.Write.contents c.vehicles_into.new.out) failed.1,
         told.1,
       )
     ]

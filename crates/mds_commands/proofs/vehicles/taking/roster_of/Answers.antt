@@ -1,34 +1,31 @@
-use Rattle.std.proofs.Common.{[], subst, sym}
-use Rattle.mds_entries.specs.Form.{form_line}
-use Rattle.mds_journal.specs.Stream.{unread_of}
+use Rattle.std.proofs.Common.{◌∙◌, refl, sym, subst}
 use Rattle.mds_commands.specs.Roster.{IsRosterOf}
 use Rattle.mds_commands.proofs.ErrorLemmas.{passed_on}
-use Rattle.mds_commands.specs.Taking.{IsTakenSo}
-use Rattle.mds_commands.proofs.TakingLemmas.{begun, form_fault, handed_out}
+use Rattle.mds_commands.proofs.TakingLemmas.{begun}
 use Rattle.mds_commands.proofs.vehicles.taking.roster_of.Goals as goal
-
-pub returns-in_err-take_form-clause-fault : goal.returns-in_err-take_form-clause-fault
-returns-in_err-take_form-clause-fault g c =
-    passed_on _ _ _ c.from_residual.ensures.1 (form_fault c.args.tables _ _ c.in_err-take_form.field-0.0 c.new-lines.ensures.all c.in_err-take_form.ensures.fault)
 
 pub returns-in_err-take_all-clause-fault : goal.returns-in_err-take_all-clause-fault
 returns-in_err-take_all-clause-fault g c =
     let remaining = g.R.Read.remaining in
     let known = remaining c.args.reader in
-    let left = unread_of remaining c.take_form.new.lines in
-    let roster = c.open-roster.result in
-    let begins = handed_out known (unread_of remaining c.new-lines.result) left form_line c.new-lines.ensures.all c.in_ok-take_form.ensures.form in
-    let is : IsRosterOf c.args.tables [] roster = c.open-roster.ensures in
-    let so = subst (λ number. IsTakenSo c.args.tables known number left roster) (sym c.in_ok-take_form.ensures.number) (begun c.args.tables known left roster begins is) in
-    passed_on _ _ _ c.from_residual-in_err-take_all.ensures.1 (c.in_err-take_all.ensures.fault c.args.tables known so)
+    let start = begun remaining c.args.tables known _ c.new.ensures.all c.new-3.ensures c.new.ensures.number refl c.open.ensures in
+    passed_on _ _ _ c.from_residual.ensures.1 (c.in_err-take_all.ensures.fault c.args.tables known start)
 
 pub returns-clause-ok : goal.returns-clause-ok
 returns-clause-ok g c =
     let remaining = g.R.Read.remaining in
     let known = remaining c.args.reader in
-    let left = unread_of remaining c.take_form.new.lines in
-    let roster = c.open-roster.result in
-    let begins = handed_out known (unread_of remaining c.new-lines.result) left form_line c.new-lines.ensures.all c.in_ok-take_form.ensures.form in
-    let is : IsRosterOf c.args.tables [] roster = c.open-roster.ensures in
-    let so = subst (λ number. IsTakenSo c.args.tables known number left roster) (sym c.in_ok-take_form.ensures.number) (begun c.args.tables known left roster begins is) in
-    c.in_ok-take_all.ensures.ok c.args.tables known so
+    let start = begun remaining c.args.tables known _ c.new.ensures.all c.new-3.ensures c.new.ensures.number refl c.open.ensures in
+    let all = c.in_ok-take_all.ensures.all c.args.tables known start in
+    let taken = all.taken in
+    let whole = c.in_ok-take_all.ensures.whole taken.lines taken.groups taken.stream in
+    let roster = subst (IsRosterOf c.args.tables taken.history) (sym c.into_taken.ensures.roster) taken.roster_is in
+    record {
+      lines = taken.lines;
+      groups = taken.groups;
+      history = taken.history;
+      told = record { counted = all.counted; whole = whole; told = taken.told };
+      roster_is = roster;
+      line_count = c.into_taken.ensures.lines ∙ taken.number;
+      group_count = c.into_taken.ensures.groups ∙ taken.count;
+    }

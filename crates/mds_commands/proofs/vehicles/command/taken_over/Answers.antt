@@ -7,7 +7,7 @@ use Rattle.mds_commands.specs.Source.{HasTablesIn}
 use Rattle.mds_commands.specs.declared.problem.Problem.TheVariants.{CannotRead, NotATable, NotABatch, NotLines, Socket, Random, Output, Memory}
 use Rattle.mds_commands.specs.declared.vehicles.problem.JournalProblem.{JournalProblem}
 use Rattle.mds_commands.specs.declared.vehicles.problem.JournalProblem.TheVariants.{NotAJournal, Other}
-use Rattle.mds_commands.proofs.vehicles.command.roster_over.Goals as goal
+use Rattle.mds_commands.proofs.vehicles.command.taken_over.Goals as goal
 
 -- a problem of the journal is one of the listing, and not of its output
 explained : {T R : Type 0} (files : Files T R) (tables : Tables) (problem : JournalProblem) → HasTablesIn files.table_bytes files.table tables
@@ -24,10 +24,10 @@ explained files tables (Other Memory) has why = (tt, λ is. cc)
 
 pub returns-clause-ok : goal.returns-clause-ok
 returns-clause-ok g c =
-    IfOk-weaker c.roster_in.result _ _ (λ roster taken. (c.in_ok-tables.tables, taken.0, c.in_ok-tables.ensures.ok, taken.1, taken.2)) c.roster_in.ensures.ok
+    IfOk-weaker c.taken_in.result _ _ (λ taken is. (c.in_ok-tables.tables, c.in_ok-tables.ensures.ok, is)) c.taken_in.ensures.ok
 
 pub returns-clause-err : goal.returns-clause-err
 returns-clause-err g c =
-    IfErr-weaker c.roster_in.result _ _
+    IfErr-weaker c.taken_in.result _ _
     (λ problem why. explained (files_of g.T.Read.remaining c.args.table g.R.Read.remaining c.args.file) c.in_ok-tables.tables problem c.in_ok-tables.ensures.ok why)
-    c.roster_in.ensures.err
+    c.taken_in.ensures.err
