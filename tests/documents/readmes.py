@@ -1,6 +1,6 @@
 """The crates' READMEs: each library and the program has one, of 60 lines at most. What it shows of code stands in a source, it names
-each law of its crate and each of the kit's crates that it trusts, and its table of calls has clauses that these have. README.md names
-all crates."""
+each law of its crate and each of the kit's crates that it trusts, and its table of calls has clauses that these have. That of a library
+shows a proved call of it, a function of mds_uses, whole. README.md names all crates."""
 
 import re
 
@@ -8,11 +8,15 @@ from documents.changing import CRATES, LISTED
 from documents.names import CODE, functions_at, in_one_line
 
 LIBRARY = re.compile(r"crates/(mds_\w+)/src/(?:lib|main)\.rt")
+CALLERS = "mds_uses"
+UNCALLED = {CALLERS, "mds_city"}
+"""Of all crates but these CALLERS has a call each: itself, and the program."""
 EXAMPLE = "CONTRIBUTING.md"
 """Its code stands in a source, too."""
 MOST_LINES = 60
 SHOWN = re.compile(r"^```rust\n(.*?)^```", re.M | re.S)
 CALLS = re.compile(r"^\| call \| clauses \| .*\n\|---.*\n((?:\|.*\n)+)", re.M)
+CALL = re.compile(r"^## A proved call \(\[\w+\.rt\]\(\.\./mds_uses/(src/\w+\.rt)\)\)\n\n```rust\n(.*?)^```", re.M | re.S)
 TRUSTS = re.compile(r"The crate trusts the toolchain(?:, and what the kit's (.*?) states?\.| alone\.)")
 NO_NAME = re.compile(r"\b(?:its clause|their clauses)\b")
 INNER = re.compile(r"(?:src|specs|proofs|must-fail)/[\w./-]+")
@@ -32,6 +36,17 @@ def unshown(text, sources):
     for piece in SHOWN.findall(text):
         if not any(even(piece) in source for source in sources):
             yield f"no source has what it shows: {piece.splitlines()[0].strip()} .."
+
+
+def uncalled(crate, text, found):
+    """Whether the README of a library lacks its proved call: a public function of a file of CALLERS that uses the library, from the
+    line in front of which a blank one stands to its end."""
+    called = CALL.search(text)
+    source = found.get(f"crates/{CALLERS}/{called[1]}", "") if called else ""
+    if not called or f"\nuse {crate}::" not in source:
+        yield f"it shows no proved call of {crate}, under a heading that has a link to its file of {CALLERS}"
+    elif "\npub fn " not in f"\n{called[2]}" or f"\n\n{called[2]}" not in source or not called[2].endswith("\n}\n"):
+        yield f"crates/{CALLERS}/{called[1]} hasn't the function that it shows, from its first line to its last"
 
 
 def outside(crate, text, found):
@@ -82,6 +97,8 @@ def unfit(crate, text, crates, found, sources):
     yield from outside(crate, text, found)
     yield from unclaused(text, {crate: crates[crate]})
     yield from mistrusted(crate, text, found)
+    if crate not in UNCALLED:
+        yield from uncalled(crate, text, found)
     lacking = crates[crate].laws - {*CODE.findall(in_one_line(text))}
     yield from (f"it doesn't name the law {law}" for law in sorted(lacking))
 

@@ -6,6 +6,8 @@ from pathlib import Path
 
 from harness.counting import ROOT
 
+CALLERS = "mds_uses"
+"""The crate of a proved call of each library, which nothing calls."""
 WANT = "AllocError"
 """The error of a growth that was refused. A type of which a part is this, or is called `Memory`, can tell of one, too."""
 COMMENT = re.compile(r"//[^\n]*")
@@ -45,8 +47,8 @@ def crates():
 
 
 def libraries(found):
-    """Those of these crates that aren't of tests alone."""
-    return {name: crate for name, crate in found.items() if not name.startswith("test_")}
+    """Those of these crates that aren't of tests or of calls alone."""
+    return {name: crate for name, crate in found.items() if not name.startswith("test_") and name != CALLERS}
 
 
 def types_of(crate):
