@@ -44,7 +44,7 @@ TRIES = 3
 MEMORY = Path("/dev/shm")
 """Where journals lie, so that syncs are slow only where they shall be."""
 SMALL_DISK = "1M"
-DISKS = '"/|/var|/var/lib|/var/lib/private"'
+DISKS = '"/|/var(/.*)?"'
 """Where disks are mounted of which the alarm is."""
 SEVERITIES = {"page", "ticket", "watch"}
 TO_COME = 4000000
@@ -74,8 +74,8 @@ def syncs(slow):
     return [of_server("mds_city_journal_sync_seconds_bucket", f"0+{count}x100", le=le) for le, count in counts.items()]
 
 
-def disk(available):
-    where = {"job": "machine", "instance": "machine", "mountpoint": "/var/lib"}
+def disk(available, place="/var/lib"):
+    where = {"job": "machine", "instance": "machine", "mountpoint": place}
     sizes = [series("node_filesystem_avail_bytes", available, **where), series("node_filesystem_size_bytes", "100x100", **where)]
     return sizes + [series("node_filesystem_avail_bytes", "1x100", **{**where, "mountpoint": "/boot"})]
 
@@ -90,6 +90,11 @@ def vehicles(values):
 
 def unit(values, state="failed", name="mds_city-ship@one.service"):
     return series("node_systemd_unit_state", values, job="machine", instance="machine", name=name, state=state)
+
+
+def machine(values):
+    """Whether the exporter of the machine answers."""
+    return series("up", values, job="machine", instance="machine")
 
 
 def newest(seconds):
@@ -112,6 +117,7 @@ CASES = [
     ("MdsCityMemory", addresses("600x30"), {"7m": 0}),
     ("MdsCityDisk", disk("14x40"), {"4m45s": 0, "5m": 1}),
     ("MdsCityDisk", disk("15x40"), {"8m": 0}),
+    ("MdsCityDisk", disk("14x40", "/var/lib/mds_city_archive"), {"5m": 1}),
     ("MdsCityNotKept", [of_server("mds_city_journal_not_kept", "0x10 1 0x60")], {"2m30s": 0, "2m45s": 1, "7m30s": 1, "8m": 0}),
     ("MdsCitySilent", [events("0+1x40 40x400")], {"1h9m": 0, "1h11m": 1}),
     ("MdsCitySilent", [events("0+1x40 40x150 0+1x40")], {"1h20m": 0}),
@@ -132,6 +138,9 @@ CASES = [
     ("MdsCityUnits", [unit("1x100", name="mds_city-days.service")], {"10m15s": 1}),
     ("MdsCityUnits", [unit("1x100", name="mds_city-archive.service")], {"10m15s": 1}),
     ("MdsCityUnits", [unit("1x100", "active"), unit("1x100", name="cron.service")], {"20m": 0}),
+    ("MdsCityNoUnits", [machine("1x60")], {"9m45s": 0, "10m15s": 1}),
+    ("MdsCityNoUnits", [machine("1x60"), unit("0x60")], {"15m": 0}),
+    ("MdsCityNoUnits", [machine("0x60")], {"15m": 0}),
 ]
 """Series of figures, and when the alarm fires over them, and when it doesn't."""
 
@@ -354,9 +363,11 @@ def haproxy_alone(folder, figures, queues):
 
 
 def exporter(folder, port):
-    """The exporter of the machine, of its disks alone."""
+    """The exporter of the machine, of its disks alone, and of a unit in place of systemd."""
     words = [installed("prometheus-node-exporter"), f"--web.listen-address=127.0.0.1:{port}", "--log.level=error"]
-    return Proxy([*words, "--collector.disable-defaults", "--collector.filesystem"], folder, [port])
+    Path(folder, "units.prom").write_text('node_systemd_unit_state{name="cron.service",state="active"} 1\n')
+    words += ["--collector.disable-defaults", "--collector.filesystem", "--collector.textfile", f"--collector.textfile.directory={folder}"]
+    return Proxy(words, folder, [port])
 
 
 NOT_KEPT = ("MdsCityNotKept", "notkept")
