@@ -45,6 +45,21 @@ def broken_copies(program):
             yield f"of {before} {kept} are left"
 
 
+def copies_of_long_ago(program):
+    """A copy that wasn't made anew for a day isn't kept as one of today, and no earlier one goes. One whose journal is old, as a silent
+    provider leaves it, is kept."""
+    with Machine(program) as machine:
+        with_copies(machine)
+        before = names_in(machine, DAYS)
+        machine.run("mkdir /var/tmp/later; export PATH=/var/tmp/later:$PATH")
+        for hours, status in (("25", "1"), ("23", "0")):
+            machine.write("/var/tmp/later/date", f'#!/bin/sh\nexec /bin/date -d "{hours} hours" "$@"\n')
+            machine.path("/var/tmp/later/date").chmod(0o755)
+            found, told = run_unit(machine, "mds_city-days")
+            if found != status or (names_in(machine, DAYS) == before) != (status == "1"):
+                yield f"{hours} hours later: status {found}, {told}, {names_in(machine, DAYS)}"
+
+
 def old_files_put_away(program):
     """The old files of all instances are put away, packed. A second one of a day doesn't take the place of the first, and what was put
     away already is there once. Where one can't be written it stays, and the unit has failed."""
@@ -70,4 +85,4 @@ def old_files_put_away(program):
             yield f"without its folder: {status}, {told}"
 
 
-KEEPING = [broken_copies, old_files_put_away]
+KEEPING = [broken_copies, copies_of_long_ago, old_files_put_away]
