@@ -9,7 +9,7 @@ from serving.server import Server
 
 NAMES = (*INSTANCES, "four", "five", "six", "seven", "eight", "nine", "ten", "eleven", "twelve")
 ADDRESSES = 1600 << 10
-"""How many KiB of addresses each may have: what docs/operations.md says of twelve on a machine of 24 GiB."""
+"""How many KiB of addresses each may have: what docs/operations.md says of twelve on a machine of 28 GiB."""
 
 
 def repeated(text, part, words):

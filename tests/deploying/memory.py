@@ -1,6 +1,7 @@
 """`deploy/memory`: the sum of the limits of all units, beside the memory of the machine."""
 
 import os
+import re
 import shutil
 import subprocess
 import tempfile
@@ -77,6 +78,18 @@ def drop_ins_of_units(_):
         yield from told(units.run("--machine", "64G"), 0, one=4 * GIB, two=GIB, all=9 * GIB)
 
 
+def twelve_on_a_machine(_):
+    """Twelve instances fit into the machine of which docs/operations.md says so."""
+    text = (ROOT / "docs/operations.md").read_text()
+    said = r"Twelve on a\s+machine of ([0-9]+) GiB may have `LimitAS=(\w+)` each beside `--system (\w+)`"
+    for machine, limit, system in re.findall(said, text) or [("0", "1G", "0")]:
+        with Units() as units:
+            for number in range(10):
+                units.write(units.etc / f"more{number}.env", changed("one.env", {}))
+            units.drop_in(TEMPLATE, "m.conf", f"[Service]\nLimitAS={limit}\n")
+            yield from told(units.run("--machine", f"{machine}G", "--system", system), 0)
+
+
 def without_a_limit(_):
     """What has no limit, or one that isn't a number of bytes, is told, and is never enough."""
     for text in ("LimitAS=infinity\n", "LimitAS=\n", "LimitAS=9g\n"):
@@ -101,4 +114,4 @@ def memory_of_this_machine(_):
             yield f"{found}, in place of {wanted}"
 
 
-MEMORY = [the_sum_of_all_limits, drop_ins_of_units, without_a_limit, memory_of_this_machine]
+MEMORY = [the_sum_of_all_limits, drop_ins_of_units, twelve_on_a_machine, without_a_limit, memory_of_this_machine]

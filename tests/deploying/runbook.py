@@ -35,7 +35,7 @@ CURL = 'curl() { command curl -m 60 "$@"; }'
 """The steps say themselves what curl prints of a fault."""
 SETTLED = 60
 """How many seconds a server may take until it listens or has ended."""
-FOLDERS = ("/etc/mds_city", "/etc/systemd", "/var/lib/mds_city", "/var/log/nginx", "/var/tmp", "/usr/local/bin", "/usr/local/lib")
+FOLDERS = ("/etc/mds_city", "/etc/systemd", "/var/lib/mds_city", "/var/lib/private", "/var/log/nginx", "/var/tmp", "/usr/local")
 """What stands in the machine's folder in place of the root of a real one."""
 SMALL_DISK, MOST_KEPT, AT_ONCE = "3M", 50000, 1000
 """How large a disk is that is full soon; more vehicles than it has room for, and how many are registered by one request."""
@@ -43,6 +43,12 @@ MANY, LITTLE, FORM = 400000, 64, ' {"form":"mds_city","version":1}\n'
 """How many vehicles take more than so many MiB; and the first line of a journal (docs/formats.md, `Journal`)."""
 COPIED = 1746010000
 """When copies were made, in seconds."""
+TIME_COPIED = f" {time.strftime('%Y-%m-%d %H:%M:%S', time.localtime(COPIED))}."
+"""The same, as `stat` tells it."""
+MICROSECONDS = 1796000000000000
+"""A time that a client gives in microseconds."""
+OWNER = 1
+"""Whose the folders of journals are where a disk was lost."""
 GREATEST = 9007199254740991
 """The greatest time that an event may have (docs/formats.md, `Members`)."""
 
@@ -72,6 +78,8 @@ WOKEN = {**REQUESTS[-1][1], "event_types": ["wake"]}
 """The last event by a type of the city's own, of which the profile knows nothing."""
 LATER = event(A, 8, ["trip_start"], "on_trip", 4)
 """One more event of the first vehicle."""
+ONE_TRIP = [("trip_start", "on_trip"), ("trip_end", "available")]
+"""The types of a trip's events, each with the state behind it."""
 TRIPS = 10
 """Those of the first vehicle by which its journal has grown."""
 
@@ -79,7 +87,8 @@ TRIPS = 10
 def exported(names):
     """The command by which a shell has these names, and finds the scripts that stand in place of others."""
     commands = [f"export {name}={value}" for name, value in names.items()]
-    return "; ".join([f"export PATH={ROOT}/tests/deploying/machine:$PATH", CURL, *commands])
+    paths = f"{ROOT}/tests/deploying/machine:$PATH:$MACHINE/usr/local/bin"
+    return "; ".join([*commands, f"export PATH={paths}", CURL])
 
 
 class Machine:
@@ -255,6 +264,8 @@ def without_its_disk(machine):
         raise Unwell("the other instance accepts no vehicle")
     machine.copy_journal("two")
     machine.fill()
+    if os.getuid() == 0:
+        machine.run(f"export OWNER={OWNER}")
     fetched = machine.path("/var/tmp/one.copy")
     fetched.write_bytes(bytes(machine.path(f"{SECOND}/one.journal").stat().st_size))
     os.utime(fetched, (COPIED, COPIED))
@@ -285,10 +296,17 @@ def copied_again(machine):
             yield f"the copy of {name} isn't made anew"
 
 
+def lost_steps():
+    """The steps behind a lost disk: those that say of which journals, the one that stops all, and the others."""
+    which, copy, stops, *others = sections()["A disk is lost"]
+    return [which, copy], stops, others
+
+
 def on_another_machine(machine):
     """Nothing starts there by itself. Then what is done behind a lost disk puts all in its place."""
     yield from kept_over_a_boot(machine)
-    yield from run_steps(sections()["A disk is lost"][1:], machine.run)
+    which, _, others = lost_steps()
+    yield from run_steps([*which, *others], machine.run)
     machine.settle()
     yield from sent_again_since(machine)
 
@@ -298,12 +316,109 @@ def lost_disk_over_a_boot(program):
     made again."""
     with Machine(program) as machine:
         without_its_disk(machine)
-        first, *others = sections()["A disk is lost"]
-        yield from run_steps([*first_steps(), first], machine.run)
+        which, stops, others = lost_steps()
+        yield from run_steps([*first_steps(), *which, stops], machine.run)
         yield from kept_over_a_boot(machine)
         yield from run_steps(others, machine.run)
         yield from sent_again_since(machine)
         yield from copied_again(machine)
+
+
+def words_for_one():
+    """What the part of lines that were cut off has in place of the first steps behind a lost disk."""
+    text = RUNBOOK.read_text().partition("### damaged")[2].partition("## ")[0]
+    return re.findall(r"`((?:LOST|COPY)=\S+)`", text)
+
+
+def one_goes_back_a_day(program):
+    """One instance goes on from the copy of a day before, with its time. The journal that it had stays as a copy, also where that is done
+    twice. The other one, which is sound and has more than its copy, goes on."""
+    with Machine(program) as machine:
+        without_its_disk(machine)
+        machine.fill()
+        day, copies = (machine.path(f"/var/lib/mds_city_{name}") for name in ("days", "copies"))
+        shutil.copy(machine.path(f"{SECOND}/one.journal"), day / "one.journal.2025-04-23")
+        os.utime(day / "one.journal.2025-04-23", (COPIED, COPIED))
+        copies.symlink_to(machine.path(SECOND))
+        for step in sections()["Copies of each day"][2:]:
+            yield from unlike(step, machine.run(step.command))
+        machine.run("systemctl start mds_city@two")
+        before = {name: machine.journal(name).read_bytes() for name in machine.ports}
+        machine.path(f"{SECOND}/one.journal").write_bytes(b"")
+        which, stops, others = lost_steps()
+        commands = [step.command for step in (*first_steps()[:3], *which)] + words_for_one() + [stops.command]
+        for command in [*commands, others[0].command, others[0].command]:
+            told = machine.run(command)
+        times = machine.path("/var/tmp/times").read_text().splitlines()
+        if told[:1] != ["registrations 2 events 3"] or len(times) != 2 or not all(TIME_COPIED in line for line in times):
+            yield f"{told}, copies of {times}"
+        if machine.journal("two").read_bytes() != before["two"] or machine.run("systemctl is-active mds_city@two") != ["active"]:
+            yield "the other instance isn't as it was"
+        if before["one"] not in [path.read_bytes() for path in machine.path("/var/tmp").glob("one.before*")]:
+            yield "the journal that was there is lost"
+
+
+def with_others_stuck(machine):
+    """Both vehicles have an event with a time to come, and the last group of the journal is half written."""
+    with_a_time_to_come(machine)
+    ahead = {**event(B, 10, ["trip_start"], "on_trip", 4), "timestamp": MICROSECONDS}
+    if success_of(machine.ask("/events", ahead)) != 1:
+        raise Unwell("an event with a time to come isn't accepted")
+    half_written(machine)
+
+
+def half_written(machine):
+    """Stops the instance, and puts two events behind the lines that count, of which the first one's gate isn't open."""
+    machine.run("systemctl stop mds_city@one")
+    lines = machine.journal().read_bytes().splitlines(keepends=True)
+    count = next((at for at, line in enumerate(lines) if not line.startswith(b" ")), len(lines))
+    texts = [compact(event(A, 12 + number, [kind], state, 5 + number)) for number, (kind, state) in enumerate(ONE_TRIP)]
+    group = "".join(f"{gate}{text}\n" for gate, text in zip("# ", texts)).encode()
+    machine.journal().write_bytes(b"".join([*lines[:count], group, b"\n" * LITTLE]))
+
+
+def all_accepted_again(machine):
+    """Both vehicles have later events accepted, and the events that were taken out are kept."""
+    yield from is_accepted(machine)
+    if success_of(machine.ask("/events", event(B, 11, ["trip_start"], "on_trip", 4))) != 1:
+        yield "the other vehicle has no event accepted"
+    kept = machine.path("/var/lib/mds_city_left_out/one").read_text()
+    if [f'"timestamp":{when},' in kept for when in (GREATEST, MICROSECONDS)] != [True, True] or kept.count("\n") != 2:
+        yield f"kept is {kept}"
+
+
+def copied_at_last(machine):
+    """The last copy has all that was answered, and no loop over all instances finds the one that has moved."""
+    if machine.path(f"{SECOND}/one.journal").read_bytes() != machine.journal().read_bytes():
+        yield "the last copy isn't the journal"
+    if list(machine.path("/etc/mds_city").glob("one*.env")) or machine.run("boot; systemctl is-active mds_city@one") != ["inactive"]:
+        yield "it goes on here"
+
+
+def with_two_journals(machine):
+    """Two instances have journals, and the one that leaves has an old one, too, of this very day."""
+    machine.fill()
+    (machine.folder("two") / "journal").write_bytes(b"the last one")
+    (machine.folder("two") / f"journal.{time.strftime('%Y-%m-%d')}").write_bytes(b"an old one")
+
+
+def put_away_whole(machine):
+    """An audit finds all files of the one that left, and its folder is gone. The other one goes on."""
+    found = sorted(gzip.open(path).read() for path in machine.path("/var/lib/mds_city_archive").glob("two.journal.*.gz"))
+    if found != [b"an old one", b"the last one"] or os.path.lexists(machine.path("/var/lib/mds_city/two")):
+        yield f"put away is {found}"
+    yield from all_of_it_there(machine)
+
+
+def leaves_without_an_archive(program):
+    """Where nothing can be put away the journal of one that leaves stays."""
+    with Machine(program) as machine:
+        with_two_journals(machine)
+        machine.path("/var/lib/mds_city_archive").rmdir()
+        for step in sections()["A provider leaves"]:
+            machine.run(step.command)
+        if machine.journal("two").read_bytes() != b"the last one":
+            yield "the journal is lost"
 
 
 def with_a_time_to_come(machine):
@@ -323,7 +438,7 @@ def is_accepted(machine):
 def with_many_trips(machine):
     """The first vehicle has made trips since."""
     machine.fill()
-    for number, (kind, state) in enumerate([("trip_start", "on_trip"), ("trip_end", "available")] * TRIPS):
+    for number, (kind, state) in enumerate(ONE_TRIP * TRIPS):
         if success_of(machine.ask("/events", event(A, 10 + number, [kind], state, 4 + number))) != 1:
             raise Unwell(f"trip {number} isn't accepted")
 
@@ -333,6 +448,7 @@ def with_unused_vehicles(machine):
     machine.fill_by_own_table()
     if success_of(machine.ask("/vehicles", list(map(registration, (C, D, E))))) != 3:
         raise Unwell("more vehicles aren't accepted")
+    half_written(machine)
 
 
 def unused_left_out(machine):
@@ -349,6 +465,7 @@ def with_copies(machine):
     for day in range(14):
         kept = machine.path(f"/var/lib/mds_city_days/one.journal.2025-04-{10 + day}")
         shutil.copy(machine.path(f"{SECOND}/one.journal"), kept)
+        os.utime(kept, (COPIED, COPIED))
 
 
 def fourteen_days(machine):
@@ -356,6 +473,9 @@ def fourteen_days(machine):
     first, *others, last, today = sorted(machine.path("/var/lib/mds_city_days").iterdir())
     if len(others) != 11 or first.name != "one.journal.2025-04-11" or today.stat().st_mtime != COPIED:
         yield f"there are {[first, *others, last, today]}"
+    chosen = machine.path("/var/lib/mds_city_copies/one.day")
+    if chosen.read_bytes() != last.read_bytes() or chosen.stat().st_mtime != COPIED:
+        yield f"the copy of a day has the time {chosen.stat().st_mtime}"
 
 
 def with_archives(machine):
@@ -396,9 +516,16 @@ def all_sent_again(machine):
 
 
 def sent_again_since(machine):
-    """The copy that was fetched has the time of the journal that it tells, and all is sent again."""
-    if {path.stat().st_mtime for path in machine.path("/var/tmp").glob("*.copy")} != {COPIED}:
-        yield "the time of the copy isn't that of the journal"
+    """The time that is kept of each copy is that of the journal that it tells, no copy takes room, each journal is its folder's owner's, and
+    all is sent again."""
+    times = machine.path("/var/tmp/times").read_text().splitlines()
+    if len(times) != len(machine.ports) or not all(TIME_COPIED in line for line in times):
+        yield f"the times of the copies are {times}"
+    if list(machine.path("/var/tmp").glob("*.copy")):
+        yield "copies take room"
+    for name in machine.ports:
+        if machine.journal(name).stat().st_uid != machine.folder(name).stat().st_uid:
+            yield f"the journal of {name} has another owner than its folder"
     yield from all_sent_again(machine)
 
 
@@ -441,7 +568,10 @@ SECTIONS = {
     "Another version of the program": (Machine.fill_by_own_table, all_of_it_there),
     "Other rules": (Machine.fill, for_all_to_read),
     "The journal has grown": (with_many_trips, old_trips_left_out),
+    "An instance moves": (Machine.fill, copied_at_last),
+    "A provider leaves": (with_two_journals, put_away_whole),
     "A vehicle that is stuck": (with_a_time_to_come, is_accepted),
+    "Many vehicles are stuck": (with_others_stuck, all_accepted_again),
     "An audit of last year": (with_archives, nothing_more),
 }
 """How a machine gets into the trouble of each section, and what holds behind its steps."""
@@ -487,8 +617,8 @@ def runbook_is_whole(_):
         yield f"sections {sorted(sections())}, and tried are {sorted(wanted)}"
 
 
-def of_proxies(name, check):
-    """The subject that runs the steps of a section over nginx, and then checks it. All tokens are put back."""
+def of_proxies(name, check, *before_it):
+    """The subject that runs the steps of a section over nginx, behind those of others, and then checks it. All tokens are put back."""
 
     def section(city):
         installed("jq")
@@ -498,10 +628,12 @@ def of_proxies(name, check):
         try:
             with Shell(city.program) as shell:
                 shell.run(exported(names))
-                yield from run_steps(sections()[name], lambda command: shell.run(here(command)))
+                for section_name in (*before_it, name):
+                    yield from run_steps(sections()[section_name], lambda command: shell.run(here(command)))
                 yield from check(city)
         finally:
             city.write("tokens.map", before)
+            (city.folder / f"tokens.{P}").unlink(missing_ok=True)
             city.reload(city.nginx())
 
     section.__name__ = f"runbook, {name}"
@@ -511,9 +643,16 @@ def of_proxies(name, check):
 def shut_out(city):
     """The provider's token is nobody's any more, and the others' are as they were."""
     yield from is_nobodys(city)
-    before, now = ((city.folder / name).read_text().count(TOKENS[1]) for name in ("tokens.before", "tokens.map"))
-    if (before, now) != (1, 0):
-        yield f"the token stands {before} times in the file of before, and {now} times in that of now"
+    kept, now = ((city.folder / name).read_text().count(TOKENS[1]) for name in (f"tokens.{P}", "tokens.map"))
+    if (kept, now) != (1, 0):
+        yield f"the token stands {kept} times in the file that is kept, and {now} times in that of now"
+
+
+def came_back(city):
+    """A token that was taken away, twice by mistake, and was then known to others, comes back as another one. Those of others are there."""
+    yield from renewed(city)
+    if list(city.folder.glob("tokens.*")) != [city.folder / "tokens.map"]:
+        yield "the file that was kept is still there"
 
 
 def renewed(city):
@@ -532,5 +671,9 @@ def is_nobodys(city):
     yield from answered(city, sent("GET", "/table", TOKENS[2]), 200)
 
 
-OF_PROXIES = [of_proxies("A provider floods", shut_out), of_proxies("A token is known to others", renewed)]
-RUNBOOKS = [runbook_is_whole, lost_disk_over_a_boot, *map(of_section, SECTIONS)]
+OF_PROXIES = [
+    of_proxies("A provider floods", shut_out),
+    of_proxies("Its tokens come back", came_back, *["A provider floods"] * 2, "A token is known to others"),
+    of_proxies("A token is known to others", renewed),
+]
+RUNBOOKS = [runbook_is_whole, lost_disk_over_a_boot, one_goes_back_a_day, leaves_without_an_archive, *map(of_section, SECTIONS)]

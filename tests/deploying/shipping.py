@@ -147,6 +147,24 @@ def copies_by_a_key(program):
                 yield f"{other} is written"
 
 
+def rest_by_the_key(_):
+    """By the same key the command of docs/operations.md copies all else that a machine has, and what was taken out of journals."""
+    for name in ("rsync", "rrsync"):
+        installed(name)
+    shown = re.search(r"^rsync (-\w+) ((?:/|.*\n    /).*) (second\S+)$", (ROOT / "docs/operations.md").read_text(), re.MULTILINE)
+    options, paths, place = shown[1], shown[2].replace("\\\n", " ").split(), shown[3]
+    with tempfile.TemporaryDirectory() as folder, tempfile.TemporaryDirectory() as second:
+        files = [Path(f"{folder}{path}", "file") for path in paths]
+        for file in files:
+            file.parent.mkdir(parents=True)
+            file.write_text(file.parent.name)
+        words = [*key_of_one_folder(second).split(), options, *(file.parent for file in files), place]
+        ran = subprocess.run(words, capture_output=True, text=True, timeout=SECONDS)
+        missing = [file for file in files if not Path(f"{second}/rest{file}").is_file()]
+    if ran.returncode or missing or "/var/lib/mds_city_left_out" not in paths:
+        yield f"{ran.returncode} {ran.stderr}, without {missing}"
+
+
 def copies_of_one_second(program):
     """What a server wrote in the very second of the last copy, within the length of the file, is in the next one. A copy to which
     only new bytes are added ends where the one before did: of what came behind it tells nothing."""
@@ -192,5 +210,5 @@ def log_put_away(city):
         yield f"the new log has the mode {oct(log.stat().st_mode)}"
 
 
-SHIPPING = [copies_at_any_moment, copies_by_a_key, copies_of_one_second]
+SHIPPING = [copies_at_any_moment, copies_by_a_key, rest_by_the_key, copies_of_one_second]
 ROTATING = [log_put_away]
