@@ -80,6 +80,8 @@ LATER = event(A, 8, ["trip_start"], "on_trip", 4)
 """One more event of the first vehicle."""
 ONE_TRIP = [("trip_start", "on_trip"), ("trip_end", "available")]
 """The types of a trip's events, each with the state behind it."""
+TORN = b"#{\0\n"
+"""What a crash may leave behind the lines that count."""
 TRIPS = 10
 """Those of the first vehicle by which its journal has grown."""
 
@@ -368,12 +370,12 @@ def with_others_stuck(machine):
 
 
 def half_written(machine):
-    """Stops the instance, and puts two events behind the lines that count, of which the first one's gate isn't open."""
+    """Stops the instance, and puts two events behind the lines that count, of which the first one's gate isn't open, and which is no text."""
     machine.run("systemctl stop mds_city@one")
     lines = machine.journal().read_bytes().splitlines(keepends=True)
     count = next((at for at, line in enumerate(lines) if not line.startswith(b" ")), len(lines))
     texts = [compact(event(A, 12 + number, [kind], state, 5 + number)) for number, (kind, state) in enumerate(ONE_TRIP)]
-    group = "".join(f"{gate}{text}\n" for gate, text in zip("# ", texts)).encode()
+    group = f"#\0{texts[0]}\n {texts[1]}\n".encode()
     machine.journal().write_bytes(b"".join([*lines[:count], group, b"\n" * LITTLE]))
 
 
@@ -480,14 +482,14 @@ def fourteen_days(machine):
 
 def with_archives(machine):
     """Three files were put away: they overlap, the last one lacks the first event, none has that of the last trip's end, and the first one
-    has an event that was taken out later."""
+    has an event that was taken out later. Each has a torn end."""
     machine.fill()
     lines = machine.journal().read_bytes().splitlines(keepends=True)[: len(REQUESTS) + 1]
     number, taken = REQUESTS[3][1]["event_id"].encode(), b"00000000-0000-4000-8000-0000000000e9"
     out = lines[4].replace(number, taken)
     for day, kept in (("2025-05-01", [*lines[:4], out]), ("2025-06-01", lines[:5]), ("2025-07-01", lines[:3] + lines[4:5])):
         with gzip.open(machine.path(f"/var/lib/mds_city_archive/one.journal.{day}.gz"), "wb") as file:
-            file.writelines(kept)
+            file.writelines([*kept, TORN])
     machine.path("/var/lib/mds_city_left_out").mkdir()
     machine.path("/var/lib/mds_city_left_out/one").write_bytes(out)
 
