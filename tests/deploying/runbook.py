@@ -370,7 +370,7 @@ def with_others_stuck(machine):
 
 
 def half_written(machine):
-    """Stops the instance, and puts two events behind the lines that count, of which the first one's gate isn't open, and which is no text."""
+    """Stops the instance, and puts two events behind the lines that count. The first one's gate isn't open, and its line is no text."""
     machine.run("systemctl stop mds_city@one")
     lines = machine.journal().read_bytes().splitlines(keepends=True)
     count = next((at for at, line in enumerate(lines) if not line.startswith(b" ")), len(lines))
@@ -518,8 +518,8 @@ def all_sent_again(machine):
 
 
 def sent_again_since(machine):
-    """The time that is kept of each copy is that of the journal that it tells, no copy takes room, each journal is its folder's owner's, and
-    all is sent again."""
+    """The time that is kept of each copy is that of the journal that it tells, no copy takes room, each journal is its folder's owner's,
+    and all is sent again."""
     times = machine.path("/var/tmp/times").read_text().splitlines()
     if len(times) != len(machine.ports) or not all(TIME_COPIED in line for line in times):
         yield f"the times of the copies are {times}"
