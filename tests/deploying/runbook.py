@@ -255,9 +255,17 @@ def with_a_closed_gate(machine):
     machine.change(4, b" ", b"#")
 
 
+def words_of(part):
+    """What a part of the document has the reader say first, in its order: of which instances, and which copies are taken."""
+    text = RUNBOOK.read_text().partition(f"# {part}\n")[2].partition("\n#")[0]
+    return [re.search(rf"`({name}=\S+)`", text)[1] for name in ("LOST", "COPY")]
+
+
 def without_its_disk(machine):
     """Both instances have copies, and nothing else but an earlier fetched one, of the same length and second. They, and the timers of their
-    copies, start with the machine."""
+    copies, start with the machine. The shell knows what was lost."""
+    for words in words_of("A disk is lost"):
+        machine.run(words)
     for name in machine.ports:
         machine.run(f"systemctl enable mds_city@{name} mds_city-ship@{name}.timer")
     machine.run("systemctl start mds_city@two")
@@ -298,17 +306,10 @@ def copied_again(machine):
             yield f"the copy of {name} isn't made anew"
 
 
-def lost_steps():
-    """The steps behind a lost disk: those that say of which journals, the one that stops all, and the others."""
-    which, copy, stops, *others = sections()["A disk is lost"]
-    return [which, copy], stops, others
-
-
 def on_another_machine(machine):
     """Nothing starts there by itself. Then what is done behind a lost disk puts all in its place."""
     yield from kept_over_a_boot(machine)
-    which, _, others = lost_steps()
-    yield from run_steps([*which, *others], machine.run)
+    yield from run_steps(sections()["A disk is lost"][1:], machine.run)
     machine.settle()
     yield from sent_again_since(machine)
 
@@ -318,18 +319,12 @@ def lost_disk_over_a_boot(program):
     made again."""
     with Machine(program) as machine:
         without_its_disk(machine)
-        which, stops, others = lost_steps()
-        yield from run_steps([*first_steps(), *which, stops], machine.run)
+        stops, *others = sections()["A disk is lost"]
+        yield from run_steps([*first_steps(), stops], machine.run)
         yield from kept_over_a_boot(machine)
         yield from run_steps(others, machine.run)
         yield from sent_again_since(machine)
         yield from copied_again(machine)
-
-
-def words_for_one():
-    """What the part of lines that were cut off has in place of the first steps behind a lost disk."""
-    text = RUNBOOK.read_text().partition("### damaged")[2].partition("## ")[0]
-    return re.findall(r"`((?:LOST|COPY)=\S+)`", text)
 
 
 def one_goes_back_a_day(program):
@@ -347,9 +342,9 @@ def one_goes_back_a_day(program):
         machine.run("systemctl start mds_city@two")
         before = {name: machine.journal(name).read_bytes() for name in machine.ports}
         machine.path(f"{SECOND}/one.journal").write_bytes(b"")
-        which, stops, others = lost_steps()
-        commands = [step.command for step in (*first_steps()[:3], *which)] + words_for_one() + [stops.command]
-        for command in [*commands, others[0].command, others[0].command]:
+        stops, restores, *_ = (step.command for step in sections()["A disk is lost"])
+        commands = [*(step.command for step in first_steps()[:3]), *words_of("damaged, or fewer vehicles than there were")]
+        for command in [*commands, stops, restores, restores]:
             told = machine.run(command)
         times = machine.path("/var/tmp/times").read_text().splitlines()
         if told[:1] != ["registrations 2 events 3"] or len(times) != 2 or not all(TIME_COPIED in line for line in times):
