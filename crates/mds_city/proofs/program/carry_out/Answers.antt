@@ -27,6 +27,20 @@ returns-in-Replay g c =
       subst (λ (options : ReplayOptions). CarriesReplay files input options c.in-Replay.file.now came.0 outcome) c.options_of-options.ensures came.2,
     ))
 
+pub returns-in-Vehicles : goal.returns-in-Vehicles
+returns-in-Vehicles g c =
+    let files : FileHost _ = record { opens = g.O.Opens.opens c.args.files.now; bytes = g.O.File.Read.remaining } in
+    let all : HostFiles _ _ = record {
+      opener = files;
+      maker = record { names = g.O.MakesFiles.names_file c.args.files.now; may_stand = g.O.New.NewName.may_stand; is_true = g.O.New.NewName.is_true };
+    } in
+    let host : ServerHost _ _ = record { listens = g.O.Listens.listens c.args.files.now; opens_journal = g.O.OpensJournals.opens_journal c.args.files.now } in
+    let input : StandardInput _ = record { bytes = g.I.Read.remaining; reader = c.args.input } in
+    let outcome : Outcome = outcome_of c.list_vehicles.result
+    (change_of (g.W.Write.contents c.args.out.now) (g.W.Write.contents c.list_vehicles.new.out))
+    (change_of (g.E.Write.contents c.args.faults.now) (g.E.Write.contents c.list_vehicles.new.faults)) in
+    subst (λ (command : Command). Carries all host input command outcome) (sym c.in-Vehicles.is) c.list_vehicles.ensures
+
 pub returns-in-Debug : goal.returns-in-Debug
 returns-in-Debug g c =
     let files : FileHost _ = record { opens = g.O.Opens.opens c.args.files.now; bytes = g.O.File.Read.remaining } in
