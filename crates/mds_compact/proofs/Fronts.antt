@@ -1,18 +1,18 @@
--- Fronts of lawful lists of one vehicle.
-use Rattle.std.proofs.Common.{◌≡◌, ℕ, zero, suc, ◌+◌, List, [], ◌∷◌, ◌++◌, take, Bool, true, false, refl, sym, ◌∙◌, ap, subst, append_assoc, arith}
+-- Fronts of lawful lists of one vehicle, and what cuts leave.
+use Rattle.std.proofs.Common.{◌≡◌, ℕ, zero, suc, ◌+◌, List, [], ◌∷◌, ◌++◌, take, Option, Some, None, refl, sym, ◌∙◌, ap, subst, append_assoc, arith}
 use Rattle.std.proofs.lemmas.List.{append-nil}
 use Rattle.mds_table.specs.Tables.{Tables}
 use Rattle.mds_core.specs.declared.key.Key.{Key}
 use Rattle.mds_core.specs.declared.request.Request.{Request}
 use Rattle.mds_core.specs.declared.request.Request.TheVariants.{Register, Report, Look}
 use Rattle.mds_core.specs.declared.reply.Outcome.TheVariants.{Done}
-use Rattle.mds_core.specs.History.{requests_of, same_key, reports}
+use Rattle.mds_core.specs.History.{requests_of, reports}
 use Rattle.mds_core.specs.Known.{standing_if}
 use Rattle.mds_core.specs.Answer.{Gives}
 use Rattle.mds_core.specs.Machine.{standing_in}
 use Rattle.mds_core.specs.Lawful.{IsCareer, IsLawfulOf, IsLawful}
-use Rattle.mds_core.proofs.Histories.{same_key_is}
-use Rattle.mds_compact.specs.Compaction.{IsFront}
+use Rattle.mds_compact.specs.Cutting.{IsCutBy, front_of, most_events}
+use Rattle.mds_compact.specs.declared.cutting.Cut.{Cut}
 
 -- a front of a career is one
 career_front : (tables : Tables) (before first second : List Request) → IsCareer tables before (first ++ second) → IsCareer tables before first
@@ -54,19 +54,15 @@ taken zero all = (all, refl)
 taken (suc count) [] = ([], refl)
 taken (suc count) (request ∷ all) = let behind = taken count all in (behind.0, ap (λ tail. request ∷ tail) behind.1)
 
--- a front of one vehicle's events is lawful, with all of every other
-pub lawful_front_of : (tables : Tables) (key : Key) (count : ℕ) (old new : List Request) → IsLawful tables old → IsFront key count old new → IsLawful tables new
-lawful_front_of tables key count old new lawful front other = by_key (same_key key other) refl where
-  P : List Request → Type 0
-  P requests = IsLawfulOf tables requests
-
-  by_key : (b : Bool) → same_key key other ≡ b → IsLawfulOf tables (requests_of new other)
-  by_key false apart = subst P (sym (front.others other apart)) (lawful other)
-  by_key true same =
+-- what is left of each vehicle is lawful
+pub lawful_cut : (tables : Tables) (cuts : List Cut) (old new : List Request) → IsLawful tables old → IsCutBy cuts old new → IsLawful tables new
+lawful_cut tables cuts old new lawful left key = let P : List Request → Type 0 = λ requests. IsLawfulOf tables requests in subst P (sym (left key)) (own (most_events cuts key)) where
+  own : (most : Option ℕ) → IsLawfulOf tables (front_of most (requests_of old key))
+  own None = lawful key
+  own (Some count) =
       let behind = taken (1 + count) (requests_of old key) in
-      let own : IsLawfulOf tables (requests_of new key) = subst P (sym front.own) (lawful_front tables (take (1 + count) (requests_of old key)) behind.0 (subst P behind.1 (lawful key))) in
-      let Q : Key → Type 0 = λ k. IsLawfulOf tables (requests_of new k) in
-      subst Q (same_key_is key other same) own
+      let P : List Request → Type 0 = λ requests. IsLawfulOf tables requests in
+      lawful_front tables (take (1 + count) (requests_of old key)) behind.0 (subst P behind.1 (lawful key))
 
 -- the events of a front of a career are the first ones
 career_reports : (tables : Tables) (before all : List Request) (count : ℕ) → IsCareer tables before all → reports (take count all) ≡ take count (reports all)
@@ -84,11 +80,13 @@ reports_front tables (Register key ∷ all) count lawful = career_reports tables
 reports_front tables (Report event ∷ all) count lawful = absurd lawful
 reports_front tables (Look key ∷ all) count lawful = absurd lawful
 
--- the events that are left are the first ones, and every other vehicle stands as it stood
-pub others_kept : (tables : Tables) (key : Key) (count : ℕ) (old new : List Request) → IsLawful tables old → IsFront key count old new
-    → (reports (requests_of new key) ≡ take count (reports (requests_of old key))) × ((other : Key) → same_key key other ≡ false → standing_in new other ≡ standing_in old other)
-others_kept tables key count old new lawful front =
-    let next : 1 + count ≡ suc count = omega arith in (
-      ap reports front.own ∙ ap (λ n. reports (take n (requests_of old key))) next ∙ reports_front tables (requests_of old key) count (lawful key),
-      λ other apart. ap standing_if (front.others other apart),
-    )
+-- the events that are left are the first ones, and a vehicle that no cut names stands as it stood
+pub others_kept : (tables : Tables) (cuts : List Cut) (old new : List Request) (key : Key) → IsLawful tables old → IsCutBy cuts old new
+    → ((count : ℕ) → most_events cuts key ≡ Some count → reports (requests_of new key) ≡ take count (reports (requests_of old key))) × (most_events cuts key ≡ None → standing_in new key ≡ standing_in old key)
+others_kept tables cuts old new key lawful left = (
+  λ count is.
+      let own = requests_of old key in
+      let next : 1 + count ≡ suc count = omega arith in
+      ap reports (left key ∙ ap (λ most. front_of most own) is) ∙ ap (λ n. reports (take n own)) next ∙ reports_front tables own count (lawful key),
+  λ none. ap standing_if (left key ∙ ap (λ most. front_of most (requests_of old key)) none),
+)

@@ -13,3 +13,4 @@ pub mod Taken
 pub mod Passes
 pub mod Items
 pub mod Marks
+pub mod Tallies

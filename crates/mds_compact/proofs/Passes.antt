@@ -30,14 +30,14 @@ pub unknown_at : (Is : Way → Type 0) (requests : List Request) (found : Option
 unknown_at Is requests found is known = let P : Option Way → Type 0 = λ one. IsKnownBy Is requests one in subst P (sym is) known
 
 -- the value of one vehicle alone changes, by whichever equal key
-pub written_for : (before after : Key → Option Way) (key asked : Key) (way : Way) → key ≡ asked → ((other : Key) → after other ≡ cond (same_key key other) (Some way) (before other))
+pub written_for : {V : Type 0} (before after : Key → Option V) (key asked : Key) (way : V) → key ≡ asked → ((other : Key) → after other ≡ cond (same_key key other) (Some way) (before other))
     → (other : Key) → after other ≡ cond (same_key asked other) (Some way) (before other)
 written_for before after key asked way is updates other = updates other ∙ ap (λ one. cond (same_key one other) (Some way) (before other)) is
 
 -- where the value of the request's vehicle alone changes, what holds of its new value, and goes on of the others, holds of each
-each_next : (Was Is : Key → Option Way → Type 0) (request : Request) (before after : Key → Option Way) (way : Way) → ((key : Key) → Was key (before key))
+pub each_next : {V : Type 0} (Was Is : Key → Option V → Type 0) (request : Request) (before after : Key → Option V) (way : V) → ((key : Key) → Was key (before key))
     → ((key : Key) → after key ≡ cond (same_key (key_of request) key) (Some way) (before key)) → Is (key_of request) (Some way)
-    → ((key : Key) (found : Option Way) → same_key (key_of request) key ≡ false → Was key found → Is key found) → (key : Key) → Is key (after key)
+    → ((key : Key) (found : Option V) → same_key (key_of request) key ≡ false → Was key found → Is key found) → (key : Key) → Is key (after key)
 each_next Was Is request before after way known updates own other key = by_key (same_key (key_of request) key) refl where
   by_key : (b : Bool) → same_key (key_of request) key ≡ b → Is key (after key)
   by_key true same =

@@ -1,5 +1,5 @@
 -- What may be left out of a history.
-use Rattle.std.specs.Prelude.{◌≡◌, ◌⊎◌, ℕ, ◌+◌, ◌≤◌, List, [], ◌∷◌, length, take, filter}
+use Rattle.std.specs.Prelude.{◌≡◌, ◌⊎◌, ℕ, ◌≤◌, List, [], ◌∷◌, length, filter}
 use Rattle.std.specs.Prelude.{Bool, true, false, cond, not, nat_le, ◌||◌, Option}
 use Rattle.std.specs.List.{filter_map}
 use Rattle.mds_table.specs.declared.state.State.{State}
@@ -7,7 +7,7 @@ use Rattle.mds_table.specs.declared.state.State.TheVariants.{Removed}
 use Rattle.mds_core.specs.declared.key.Key.{Key}
 use Rattle.mds_core.specs.declared.request.Request.{Request}
 use Rattle.mds_core.specs.declared.request.Request.TheVariants.{Register, Report, Look}
-use Rattle.mds_core.specs.History.{requests_of, same_key, reports, state_of, has_event}
+use Rattle.mds_core.specs.History.{requests_of, reports, state_of, has_event}
 use Rattle.mds_core.specs.History.{last_time, last_position, is_late}
 
 -- what is kept of a list by a mark for each of its items: of a history, or of the lines that tell
@@ -90,10 +90,3 @@ HasLeftOut old new (Look key) = ⊥
 -- how many of the events carry a position
 abbrev pub position_count : List Request → ℕ
 position_count requests = length (filter_map (λ event. event.position) (reports requests))
-
--- of the vehicle's requests its registration and the first `count` events are left, and of every
--- other vehicle's all
-pub record IsFront (key : Key) (count : ℕ) (old new : List Request) : Type 0 where
-  pub own : requests_of new key ≡ take (1 + count) (requests_of old key)
-  pub others : (other : Key) → same_key key other ≡ false
-      → requests_of new other ≡ requests_of old other

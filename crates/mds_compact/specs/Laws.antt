@@ -1,5 +1,5 @@
 -- What compaction keeps.
-use Rattle.std.specs.Prelude.{◌≡◌, ℕ, List, [], ◌++◌, map, take, Some, Bool, false, Contains}
+use Rattle.std.specs.Prelude.{◌≡◌, ℕ, List, [], ◌++◌, map, take, Some, None, Bool, false, Contains}
 use Rattle.std.specs.List.{All}
 use Rattle.std.specs.Option.{option_map}
 use Rattle.mds_table.specs.Tables.{Tables}
@@ -12,13 +12,15 @@ use Rattle.mds_core.specs.declared.reply.Outcome.TheVariants.{Done, Seen, Refuse
 use Rattle.mds_core.specs.declared.reply.Refusal.TheVariants.{Late}
 use Rattle.mds_core.specs.declared.reply.Reply.{Reply}
 use Rattle.mds_core.specs.Reported.{Reported}
-use Rattle.mds_core.specs.History.{requests_of, reports, has_event, last_time, same_key}
+use Rattle.mds_core.specs.History.{requests_of, reports, has_event, last_time}
 use Rattle.mds_core.specs.Answer.{Answers}
 use Rattle.mds_core.specs.Machine.{standing_in}
 use Rattle.mds_core.specs.Run.{IsRun}
 use Rattle.mds_core.specs.Lawful.{IsLawful}
-use Rattle.mds_compact.specs.Compaction.{kept_of, IsCompaction, IsThin, HasLeftOut, IsFront}
+use Rattle.mds_compact.specs.Compaction.{kept_of, IsCompaction, IsThin, HasLeftOut}
+use Rattle.mds_compact.specs.Cutting.{IsCutBy, most_events}
 use Rattle.mds_compact.specs.Passes.{IsMarkingOf}
+use Rattle.mds_compact.specs.declared.cutting.Cut.{Cut}
 use Rattle.mds_compact.specs.declared.marking.Marking.{Marking}
 
 -- where a vehicle stands, but for the number of its events
@@ -99,17 +101,18 @@ MarkedAreCompactions =
     → IsCompaction from history (kept_of marks history)
     × ((tables : Tables) → IsLawful tables history → IsThin from history (kept_of marks history))
 
--- a front of a vehicle's events is lawful, with all of every other
-abbrev pub FrontsAreLawful : Type 0
-FrontsAreLawful =
-    (tables : Tables) (key : Key) (count : ℕ) (old new : List Request)
-    → IsLawful tables old → IsFront key count old new → IsLawful tables new
+-- what cuts leave of a lawful history is lawful
+abbrev pub CutsAreLawful : Type 0
+CutsAreLawful =
+    (tables : Tables) (cuts : List Cut) (old new : List Request)
+    → IsLawful tables old → IsCutBy cuts old new → IsLawful tables new
 
--- the events that are left of a vehicle are its first ones, and every other stands as it stood
-abbrev pub FrontsKeepOthers : Type 0
-FrontsKeepOthers =
-    (tables : Tables) (key : Key) (count : ℕ) (old new : List Request)
-    → IsLawful tables old → IsFront key count old new
-    → (reports (requests_of new key) ≡ take count (reports (requests_of old key)))
-    × ((other : Key) → same_key key other ≡ false
-    → standing_in new other ≡ standing_in old other)
+-- the events that cuts leave of a vehicle are its first ones, and a vehicle that none names stands
+-- as it stood
+abbrev pub CutsKeepOthers : Type 0
+CutsKeepOthers =
+    (tables : Tables) (cuts : List Cut) (old new : List Request) (key : Key)
+    → IsLawful tables old → IsCutBy cuts old new
+    → ((count : ℕ) → most_events cuts key ≡ Some count
+    → reports (requests_of new key) ≡ take count (reports (requests_of old key)))
+    × (most_events cuts key ≡ None → standing_in new key ≡ standing_in old key)

@@ -1,5 +1,5 @@
 pub mod Compaction
 pub mod Path
 pub mod Passes
-pub mod Front
+pub mod Cutting
 pub mod Laws

@@ -1,5 +1,5 @@
 //! What compaction keeps, whoever makes it. Each law is a function that does nothing; its contract is the law.
-ghost use Rattle.mds_compact.specs.Laws.{CompactionsAreLawful, VehiclesStandAlike, OutcomesStay, LeftOutAreLate, RunsGoOn, TailsGoOn, MarkedAreCompactions, FrontsAreLawful, FrontsKeepOthers};
+ghost use Rattle.mds_compact.specs.Laws.{CompactionsAreLawful, VehiclesStandAlike, OutcomesStay, LeftOutAreLate, RunsGoOn, TailsGoOn, MarkedAreCompactions, CutsAreLawful, CutsKeepOthers};
 
 /// A compaction of a lawful history is lawful, over the tables over which that is.
 pub fn compactions_are_lawful()
@@ -40,12 +40,13 @@ pub fn marked_are_compactions()
     ensures { MarkedAreCompactions }
 {}
 
-/// A lawful history stays lawful where a vehicle keeps its registration and a front of its events alone.
-pub fn fronts_are_lawful()
-    ensures { FrontsAreLawful }
+/// What cuts leave of a lawful history is lawful: of a vehicle that they name its registration and its first events, of every
+/// other all.
+pub fn cuts_are_lawful()
+    ensures { CutsAreLawful }
 {}
 
-/// Of a vehicle of which a front is left there are the first events, and every other vehicle stands as it stood.
-pub fn fronts_keep_others()
-    ensures { FrontsKeepOthers }
+/// The events that cuts leave of a vehicle are its first ones, and a vehicle that none names stands as it stood.
+pub fn cuts_keep_others()
+    ensures { CutsKeepOthers }
 {}

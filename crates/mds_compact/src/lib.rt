@@ -8,10 +8,12 @@
 //! request after another, so a file can feed them. They keep a few words for each vehicle and a byte for each request. No
 //! tables are needed: the state held is the one last reported.
 //!
-//! What compaction keeps is told by the [`laws`].
+//! A [`Cutting`] is a pass of its own, before these: of vehicles that are named it leaves the first events alone.
+//!
+//! What compaction keeps, and what cuts keep, is told by the [`laws`].
 #![tactic(auto)]
 
-mod front;
+mod cutting;
 pub mod laws;
 mod marking;
 mod path;
@@ -21,7 +23,7 @@ mod tests;
 mod thinning;
 mod whole;
 
-pub use front::Front;
+pub use cutting::{Cut, Cutting};
 pub use marking::Marking;
 pub use survey::Survey;
 pub use thinning::Thinning;

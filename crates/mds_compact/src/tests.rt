@@ -1,4 +1,4 @@
-use crate::{Front, Marking, Survey, Thinning, compaction};
+use crate::{Cut, Cutting, Marking, Survey, Thinning, compaction};
 use mds_core::{Event, Key, Position, Request};
 use mds_table::{State, TypeName};
 use std::alloc::{AllocError, AllocFailed, Global};
@@ -150,9 +150,31 @@ fn the_last_position_stays(rt: HostRuntime) {
     assert_eq!(rt; marks_are(&rt, rt.alloc(), &asked, 10, &wanted), Ok(true));
 }
 
+/// Whether cuts of the first vehicle, which leave two of its events and one, give a history these marks, and say that the first
+/// vehicle has two events and that the third isn't there.
+fn cuts_mark<R: RandomSource>(
+    rt: &R,
+    alloc: Global,
+    asked: &[Ask],
+    wanted: &[bool],
+) -> Result<bool, Lack> {
+    let hasher = RandomState::new(rt).map_err(|_| Lack::Means)?;
+    let cuts = [(1, 2), (1, 1), (3, 0)].map(|(device, events)| Cut {
+        key: key(device),
+        events,
+    });
+    let mut cutting = Cutting::open(alloc, &cuts, hasher)?;
+    for (ask, want) in asked.iter().zip(wanted) {
+        let request = request_of(ask).ok_or(Lack::Case)?;
+        if cutting.next_mark(&request) != *want {
+            return Ok(false);
+        }
+    }
+    Ok(cutting.events_of(&key(1)) == Some(2) && cutting.events_of(&key(3)).is_none())
+}
+
 #[test]
-fn a_front_is_kept(rt: HostRuntime) {
-    let mut front = Front::open(key(1), 1);
+fn cuts_leave_the_first_events(rt: HostRuntime) {
     let asked = [
         Register(1),
         Register(2),
@@ -161,10 +183,11 @@ fn a_front_is_kept(rt: HostRuntime) {
         Report(2, Available, 3),
     ];
     let wanted = [true, true, true, false, true];
-    for (ask, want) in asked.iter().zip(wanted) {
-        let mark = request_of(ask).map(|request| front.next_mark(&request));
-        assert_eq!(rt; mark, Some(want));
-    }
+    let told = match cuts_mark(&rt, rt.alloc(), &asked, &wanted) {
+        Err(Lack::Means) => cuts_mark(&rt, rt.alloc(), &asked, &wanted),
+        told => told,
+    };
+    assert_eq!(rt; told, Ok(true));
 }
 
 #[test]
