@@ -1,12 +1,14 @@
 -- What the words of the command line ask for.
-use Rattle.std.specs.Prelude.{◌≡◌, ◌⊎◌, ◌↔◌, ℕ, List, [], ◌∷◌, Option, Some}
-use Rattle.std.specs.Prelude.{None, Result, true, codes, option_map, IfOk, IsTrue}
+use Rattle.std.specs.Prelude.{◌≡◌, ◌≢◌, ◌⊎◌, ◌↔◌, ℕ, List, [], ◌∷◌, drop, Option, Some}
+use Rattle.std.specs.Prelude.{None, Result, true, codes, option_map, unwrap_or, IfOk, IsTrue}
 use Rattle.std.specs.Str.Parse.{digits_value, without_leading_plus}
-use Rattle.clap.specs.declared.builder.action.ArgAction.TheVariants.{SetTrue}
+use Rattle.clap.specs.declared.builder.action.ArgAction.TheVariants.{Append, SetTrue}
 use Rattle.clap.specs.declared.builder.command.Command.{Command as Form}
 use Rattle.clap.specs.declared.builder.value_parser.ValueParser.TheVariants.{Unsigned}
-use Rattle.clap.specs.Words.{App, IsUnsignedIn, Row, Rule, Text, app_of, fault_of, first_of}
-use Rattle.clap.specs.Words.{new_app, new_rule, takes, with_rule, subcommand_of, with_subcommand}
+use Rattle.clap.specs.Words.{App, IsUnsignedIn, Row, Rule, Text, all_of, app_of, fault_of}
+use Rattle.clap.specs.Words.{first_of, new_app, new_rule, takes, with_rule, subcommand_of}
+use Rattle.clap.specs.Words.{with_subcommand}
+use Rattle.mds_args.specs.declared.cuts.CutWords.{CutWords}
 use Rattle.mds_args.specs.declared.words.Command.{Command}
 use Rattle.mds_args.specs.declared.words.Command.TheVariants.{Serve, Replay, Debug, Table, Vehicles}
 use Rattle.mds_args.specs.declared.words.Command.TheVariants.{Compact, Events}
@@ -101,15 +103,19 @@ vehicles_app =
 abbrev pub max_time : ℕ
 max_time = 9007199254740991
 
--- the option `--before`, which must be there
+-- the option `--before`
 abbrev pub before_rule : Rule
-before_rule = needed_number_rule (codes "before") max_time
+before_rule = number_rule (codes "before") 0 max_time
+
+-- the option `--cut`, which takes three words each time that it's given
+abbrev pub cut_rule : Rule
+cut_rule = record (long_rule (codes "cut")) { value_names = 3; action = Some Append }
 
 -- the command `compact`, with both files and the options
 abbrev pub compact_app : App
 compact_app =
-    with_rule (with_rule (with_rule (with_rule (new_app (codes "compact"))
-    (word_rule (codes "OLD"))) (word_rule (codes "NEW"))) before_rule) table_rule
+    with_rule (with_rule (with_rule (with_rule (with_rule (new_app (codes "compact"))
+    (word_rule (codes "OLD"))) (word_rule (codes "NEW"))) before_rule) cut_rule) table_rule
 
 -- the command `events`, with its file, and its vehicle's provider and device
 abbrev pub events_app : App
@@ -144,7 +150,7 @@ name_of (Replay file table any lines unlimited workers) = codes "replay"
 name_of (Debug file provider device table) = codes "debug"
 name_of (Table table) = codes "table"
 name_of (Vehicles file table check) = codes "vehicles"
-name_of (Compact old new before table) = codes "compact"
+name_of (Compact old new before cuts table) = codes "compact"
 name_of (Events file provider device) = codes "events"
 
 -- the value is a text that is this number, one of this range
@@ -207,11 +213,34 @@ LacksFileOrWorkers values =
     ⊎ HasNoNumber 1 max_workers (first_of (codes "workers") values)
     ⊎ LacksLines values
 
--- one of the two files is missing, or the time is missing or out of its range
-abbrev pub LacksFilesOrTime : List Row → Type 0
-LacksFilesOrTime values =
-    (first_of (codes "OLD") values ≡ None) ⊎ (first_of (codes "NEW") values ≡ None)
-    ⊎ HasNoNumber 0 max_time (first_of (codes "before") values)
+-- events are old before this time: that which is given, or none are where none is
+abbrev pub IsBefore : List Row → Option ℕ → Type 0
+IsBefore values (Some time) = IsNumber 0 max_time (first_of (codes "before") values) time
+IsBefore values None = first_of (codes "before") values ≡ None
+
+-- the time is out of its range
+abbrev pub LacksBefore : List Row → Type 0
+LacksBefore values = (before : Option ℕ) → IsBefore values before → ⊥
+
+-- the most events that a cut may name
+abbrev pub max_events : ℕ
+max_events = 1000000000000
+
+-- the first three of these words are a vehicle's provider and device, and how many events stay
+abbrev pub IsFirstCut : List Text → CutWords → Type 0
+IsFirstCut (provider ∷ device ∷ number ∷ words) cut =
+    (cut.provider.now ≡ provider) × (cut.device.now ≡ device)
+    × IsNumber 0 max_events (Some number) cut.events
+IsFirstCut words cut = ⊥
+
+-- these words are those of these cuts, three of each, in order
+abbrev pub AreCuts : List Text → List CutWords → Type 0
+AreCuts words [] = words ≡ []
+AreCuts words (cut ∷ cuts) = IsFirstCut words cut × AreCuts (drop 3 words) cuts
+
+-- the values of `--cut` are those of these cuts
+abbrev pub HasCuts : List Row → List CutWords → Type 0
+HasCuts values cuts = AreCuts (unwrap_or (all_of (codes "cut") values) []) cuts
 
 -- the values that were found are those of this command; it has no table or journal where none was
 -- given, and a flag that is set is true
@@ -242,10 +271,12 @@ HasValues values (Vehicles file table check) =
     (first_of (codes "FILE") values ≡ Some file.now)
     × (first_of (codes "table") values ≡ option_map (λ path. path.now) table)
     × (IsTrue check ↔ IsSet (codes "check") values)
-HasValues values (Compact old new before table) =
+HasValues values (Compact old new before cuts table) =
     (first_of (codes "OLD") values ≡ Some old.now)
     × (first_of (codes "NEW") values ≡ Some new.now)
-    × IsNumber 0 max_time (first_of (codes "before") values) before
+    × IsBefore values before
+    × HasCuts values cuts.items
+    × (before ≡ None → cuts.items ≢ [])
     × (first_of (codes "table") values ≡ option_map (λ path. path.now) table)
 HasValues values (Events file provider device) =
     (first_of (codes "FILE") values ≡ Some file.now)

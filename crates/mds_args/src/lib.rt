@@ -1,6 +1,7 @@
 //! What the words of the command line ask for.
 #![tactic(auto)]
 
+mod cuts;
 mod error;
 mod words;
 
@@ -8,5 +9,6 @@ mod words;
 /// journal's form. CHANGELOG.md tells what came with each.
 pub const VERSION: &str = "0.9.0";
 
+pub use cuts::CutWords;
 pub use error::{WordsError, WordsErrorKind};
 pub use words::{Command, parse_words};

@@ -1,5 +1,5 @@
 //! The words of the command line, read by `clap`.
-ghost use Rattle.std.specs.Prelude.{◌≡◌, ◌↔◌, ◌<◌, ◌^◌, ◌∷◌, [], None, Some, true, false};
+ghost use Rattle.std.specs.Prelude.{◌≡◌, ◌≢◌, ◌↔◌, ◌<◌, ◌^◌, ◌∷◌, [], None, Some, true, false};
 ghost use Rattle.std.specs.Prelude.{codes, map, IsTrue, IfOk, IfErr, MatchOption};
 ghost use Rattle.clap.specs.Words.{App, app_of, fault_of, first_of, found_of, kind_of, new_app, new_rule, rows_of};
 ghost use Rattle.clap.specs.Words.{rule_of, subcommand_of, subcommand_rows_of, takes, with_rule};
@@ -7,12 +7,13 @@ ghost use Rattle.clap.specs.Words.{with_subcommand};
 ghost use Rattle.mds_args.specs.Error.{HasCause, IsCause, SaysMissing, missing_kind, words_kind};
 ghost use Rattle.mds_args.specs.Words.{Asks, AsksNothing, IsAskedBy, AreTaken};
 ghost use Rattle.mds_args.specs.Words.{HasNoNumber, HasValues, IsEach, IsMetrics, IsNumber, IsTold};
-ghost use Rattle.mds_args.specs.Words.{LacksEach, LacksFileOrWorkers, LacksFilesOrTime, LacksMetrics, LacksNumber, LacksOneOf};
-ghost use Rattle.mds_args.specs.Words.{name_of, before_rule, compact_app, debug_app, each_rule, events_app, flag_rule, long_rule, max_each, max_port, max_time, max_workers};
+ghost use Rattle.mds_args.specs.Words.{HasCuts, IsBefore, LacksBefore, LacksEach, LacksFileOrWorkers, LacksMetrics, LacksNumber, LacksOneOf};
+ghost use Rattle.mds_args.specs.Words.{name_of, before_rule, compact_app, cut_rule, debug_app, each_rule, events_app, flag_rule, long_rule, max_each, max_port, max_time, max_workers};
 ghost use Rattle.mds_args.specs.Words.{needed_number_rule, number_rule, option_rule, program_app, replay_app};
 ghost use Rattle.mds_args.specs.Words.{journal_rule, metrics_rule, serve_app, table_app, table_rule, vehicles_app, word_rule, workers_rule};
 
 use crate::VERSION;
+use crate::cuts::{CutWords, cuts_of};
 use crate::error::{WordsError, WordsErrorKind};
 use clap::builder::ValueParser;
 use clap::error::ErrorKind;
@@ -21,7 +22,7 @@ use std::alloc::{AllocError, Global};
 use std::convert::AsStr;
 
 /// What the command line asks for.
-#[derive(Debug, Clone, Copy, PartialEq, Eq)]
+#[derive(Debug, Drop)]
 pub enum Command<'a> {
     /// Serve vehicles over HTTP, at an address of this machine.
     Serve {
@@ -80,14 +81,17 @@ pub enum Command<'a> {
         /// Whether it's also told how many lines the journal has, and how many groups of requests.
         check: bool,
     },
-    /// Make a new journal of an old one, without those of its old events that no state needs.
+    /// Make a new journal of an old one, without those of its old events that no state needs, and without those that cuts name.
     Compact {
         /// The path of the old journal. Here `-` is a file of that name.
         old: &'a str,
         /// The path of the new one. Here `-` is a file of that name.
         new: &'a str,
-        /// The time, in milliseconds since the Unix epoch, before which events are old.
-        before: u64,
+        /// The time, in milliseconds since the Unix epoch, before which events are old, or `None`: then none are, and there is a
+        /// cut.
+        before: Option<u64>,
+        /// The vehicles of which the first events alone stay.
+        cuts: Vec<CutWords<'a>>,
         /// The path of a table file by which the old one is judged first, or `None`: then it isn't judged. Here `-` is a file of
         /// that name.
         table: Option<&'a str>,
@@ -133,13 +137,14 @@ fn command_in<'a, S: AsStr>(alloc: Global, words: &'a [S]) -> Result<Command<'a>
         → kind_of error ≡ ErrorKind.OutOfMemory) }
 {
     match program_form(alloc) {
-        Ok(mut form) => command_by(&mut form, words),
+        Ok(mut form) => command_by(alloc, &mut form, words),
         Err(error) => Err(Error::from(error)),
     }
 }
 
 /// `form` is the program's.
 fn command_by<'a, S: AsStr>(
+    alloc: Global,
     form: &mut clap::Command<'a>,
     words: &'a [S],
 ) -> Result<Command<'a>, Error>
@@ -152,17 +157,18 @@ fn command_by<'a, S: AsStr>(
         → kind_of error ≡ ErrorKind.OutOfMemory) }
 {
     let matches = form.try_get_matches_from_mut(words)?;
-    command_or_error(form, &matches)
+    command_or_error(alloc, form, &matches)
 }
 
 fn command_or_error<'a>(
+    alloc: Global,
     form: &mut clap::Command<'a>,
     matches: &ArgMatches<'a>,
 ) -> Result<Command<'a>, Error>
     ensures ok { IfOk result (Asks (subcommand_rows_of matches.now)) }
     ensures err { IfErr result (SaysMissing (subcommand_rows_of matches.now)) }
 {
-    match command_of(matches) {
+    match command_of(alloc, matches)? {
         Some(command) => Ok(command),
         None => Err(missing(form, matches)?),
     }
@@ -173,28 +179,49 @@ fn missing<'a>(form: &mut clap::Command<'a>, matches: &ArgMatches<'a>) -> Result
     ensures { IfOk result (λ error. kind_of error ≡ missing_kind (subcommand_rows_of matches.now)) }
 {
     match matches.subcommand() {
-        Some((name, _)) => form.error(ErrorKind::MissingRequiredArgument, missing_option(name)),
+        Some((name, values)) => form.error(
+            ErrorKind::MissingRequiredArgument,
+            missing_option(name, values),
+        ),
         None => form.error(ErrorKind::MissingSubcommand, "a command is needed"),
     }
 }
 
-/// Which option the words of a command lack that `clap` took.
-fn missing_option(name: &str) -> &'static str {
+/// What the words of a command lack that `clap` took.
+fn missing_option(name: &str, values: &ArgMatches<'_>) -> &'static str {
     match name {
         "replay" => "--unlimited is for --lines alone",
+        "compact" => missing_of_compact(values),
         _ => "one of --each <N> and --until-stopped is needed, and not both",
     }
 }
 
-fn command_of<'a>(matches: &ArgMatches<'a>) -> Option<Command<'a>>
-    ensures { MatchOption result (AsksNothing (subcommand_rows_of matches.now))
-        (Asks (subcommand_rows_of matches.now)) }
-{
-    let (name, values) = matches.subcommand()?;
-    command_named(name, values)
+fn missing_of_compact(values: &ArgMatches<'_>) -> &'static str {
+    match values.get_str("cut") {
+        Some(_) => "the <N> of --cut <PROVIDER> <DEVICE> <N> is a number of events",
+        None => "one of --before <TIME> and --cut <PROVIDER> <DEVICE> <N> is needed",
+    }
 }
 
+fn command_of<'a>(
+    alloc: Global,
+    matches: &ArgMatches<'a>,
+) -> Result<Option<Command<'a>>, AllocError>
+    ensures { IfOk result (λ found. MatchOption found
+        (AsksNothing (subcommand_rows_of matches.now)) (Asks (subcommand_rows_of matches.now))) }
+{
+    let Some((name, values)) = matches.subcommand() else {
+        return Ok(None);
+    };
+    if name == "compact" {
+        return compact_of(alloc, values);
+    }
+    Ok(command_named(name, values))
+}
+
+/// The command of this name, which isn't `compact`.
 fn command_named<'a>(name: &str, values: &ArgMatches<'a>) -> Option<Command<'a>>
+    requires { name.now ≢ codes "compact" }
     ensures { MatchOption result (AsksNothing (Some (name.now, rows_of (found_of values.now))))
         (Asks (Some (name.now, rows_of (found_of values.now)))) }
 {
@@ -212,9 +239,6 @@ fn command_named<'a>(name: &str, values: &ArgMatches<'a>) -> Option<Command<'a>>
     }
     if name == "vehicles" {
         return vehicles_of(values);
-    }
-    if name == "compact" {
-        return compact_of(values);
     }
     if name == "events" {
         return events_of(values);
@@ -295,7 +319,7 @@ fn number_of(values: &ArgMatches<'_>, name: &str, least: u64, most: u64) -> Opti
     number_in(values.get_str(name)?, least, most)
 }
 
-fn number_in(text: &str, least: u64, most: u64) -> Option<u64>
+pub(crate) fn number_in(text: &str, least: u64, most: u64) -> Option<u64>
     ensures { MatchOption result (HasNoNumber least most (Some text.now))
         (IsNumber least most (Some text.now)) }
 {
@@ -385,21 +409,47 @@ fn vehicles_of<'a>(values: &ArgMatches<'a>) -> Option<Command<'a>>
     })
 }
 
-fn compact_of<'a>(values: &ArgMatches<'a>) -> Option<Command<'a>>
+fn compact_of<'a>(alloc: Global, values: &ArgMatches<'a>) -> Result<Option<Command<'a>>, AllocError>
+    ensures { IfOk result (λ found. MatchOption found
+        (AsksNothing (Some (codes "compact", rows_of (found_of values.now))))
+        (Asks (Some (codes "compact", rows_of (found_of values.now))))) }
+{
+    let Some(cuts) = cuts_of(alloc, values)? else {
+        return Ok(None);
+    };
+    Ok(compact_by(values, cuts))
+}
+
+fn compact_by<'a>(values: &ArgMatches<'a>, cuts: Vec<CutWords<'a>>) -> Option<Command<'a>>
+    requires { HasCuts (rows_of (found_of values.now)) cuts.items }
     ensures { MatchOption result
-        (LacksFilesOrTime (rows_of (found_of values.now)))
-        (λ command. (name_of command ≡ codes "compact")
-        × HasValues (rows_of (found_of values.now)) command) }
+        (AsksNothing (Some (codes "compact", rows_of (found_of values.now))))
+        (Asks (Some (codes "compact", rows_of (found_of values.now)))) }
 {
     let old = values.get_str("OLD")?;
     let new = values.get_str("NEW")?;
-    let before = number_of(values, "before", 0, MAX_TIME)?;
+    let before = before_of(values)?;
+    if before.is_none() && cuts.is_empty() {
+        return None;
+    }
     Some(Command::Compact {
         old,
         new,
         before,
+        cuts,
         table: values.get_str("table"),
     })
+}
+
+/// The time before which events are old, if one is given.
+fn before_of(values: &ArgMatches<'_>) -> Option<Option<u64>>
+    ensures { MatchOption result (LacksBefore (rows_of (found_of values.now)))
+        (IsBefore (rows_of (found_of values.now))) }
+{
+    match values.get_str("before") {
+        Some(_) => Some(Some(number_of(values, "before", 0, MAX_TIME)?)),
+        None => Some(None),
+    }
 }
 
 fn events_of<'a>(values: &ArgMatches<'a>) -> Option<Command<'a>>
@@ -552,11 +602,11 @@ fn compact_form<'a>(alloc: Global) -> Form<'a>
     let bare = bare_form(
         alloc,
         "compact",
-        "Makes a new journal of an old one, without old events that no state needs",
+        "Makes a new journal of an old one, without old events that no state needs, or events to be cut",
     );
     let with_old = with_word(alloc, bare, "OLD", "The journal, which stays as it is");
     let with_new = with_word(alloc, with_old, "NEW", "The file to make");
-    with_judge(alloc, with_before(alloc, with_new))
+    with_judge(alloc, with_cut(alloc, with_before(alloc, with_new)))
 }
 
 fn events_form<'a>(alloc: Global) -> Form<'a>
@@ -615,9 +665,25 @@ fn with_number<'a>(
 fn with_before<'a>(alloc: Global, form: Form<'a>) -> Form<'a>
     ensures { (app : App) → IsTold app form.entry → IsTold (with_rule app before_rule) result }
 {
-    let help = "The time from which on all events stay, in milliseconds since 1970";
-    with_arg(form, time_option(alloc, "before", help).required(true))
+    let help =
+        "The time from which on all events stay, in milliseconds since 1970; without it all do";
+    with_arg(form, time_option(alloc, "before", help))
 }
+
+fn with_cut<'a>(alloc: Global, form: Form<'a>) -> Form<'a>
+    ensures { (app : App) → IsTold app form.entry → IsTold (with_rule app cut_rule) result }
+{
+    let help = "A vehicle of which the first N events alone stay; may be given again";
+    with_arg(
+        form,
+        long_argument(alloc, "cut", help)
+            .value_names(CUT_NAMES)
+            .action(ArgAction::Append),
+    )
+}
+
+/// What the words of a cut are called in help.
+const CUT_NAMES: &[&str] = &["PROVIDER", "DEVICE", "N"];
 
 fn with_each<'a>(alloc: Global, form: Form<'a>) -> Form<'a>
     ensures { (app : App) → IsTold app form.entry → IsTold (with_rule app each_rule) result }
