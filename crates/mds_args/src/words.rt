@@ -22,7 +22,7 @@ use std::alloc::{AllocError, Global};
 use std::convert::AsStr;
 
 /// What the command line asks for.
-#[derive(Debug, Drop)]
+#[derive(Debug, PartialEq, Eq, Drop)]
 pub enum Command<'a> {
     /// Serve vehicles over HTTP, at an address of this machine.
     Serve {

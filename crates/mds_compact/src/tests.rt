@@ -174,7 +174,7 @@ fn cuts_mark<R: RandomSource>(
 }
 
 #[test]
-fn cuts_leave_the_first_events(rt: HostRuntime) {
+fn cuts_leave_the_first_events_after_a_refused_growth(rt: HostRuntime) {
     let asked = [
         Register(1),
         Register(2),

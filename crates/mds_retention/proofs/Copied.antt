@@ -1,5 +1,5 @@
 -- How the lines that were copied add up, and how many there are.
-use Rattle.std.proofs.Common.{◌≡◌, ◌∙◌, ℕ, ◌+◌, ◌<◌, inl, inr, List, [], ◌∷◌, ◌++◌, length, take, get_or, cond, Bool, Option, Some, None, refl, sym, ap, arith, length-append, length-take}
+use Rattle.std.proofs.Common.{◌≡◌, ◌∙◌, ℕ, ◌+◌, ◌<◌, inl, inr, List, [], ◌∷◌, ◌++◌, length, take, get_or, cond, Bool, Option, refl, sym, ap, arith, length-take}
 use Rattle.std.proofs.lemmas.List.{take_more}
 use Rattle.mds_table.specs.Json.{max_bytes}
 use Rattle.mds_compact.specs.Compaction.{kept_of}

@@ -3,6 +3,6 @@ pub mod Halfway
 pub mod Copied
 pub mod Journals
 pub mod Drafts
-pub mod Compacted
-pub mod Tallies
+pub mod NewNames
 pub mod Events
+pub mod Left

@@ -73,7 +73,7 @@ told_more known middle left history request told next = record {
 }
 
 -- where no more lines count, all were told
-told_all : (known left : Option (List ℕ)) (history : List Request) → HasTold known history left → StandsForNothing left → IsTaken known history
+pub told_all : (known left : Option (List ℕ)) (history : List Request) → HasTold known history left → StandsForNothing left → IsTaken known history
 told_all known left history told none = (told.entries, gives_all known left (form_line ∷ told.entries) told.given none, told.told)
 
 -- texts tell a front of what longer ones tell

@@ -1,13 +1,16 @@
 //! A new journal, made of an old one.
-ghost use Rattle.std.specs.Prelude.{◌≡◌, ◌⊎◌, ℕ, List, [], length, Option, IfOk, IfErr, OnOk};
-ghost use Rattle.mds_retention.specs.Copying.{HasKept, IsCompactedJournal};
+ghost use Rattle.std.specs.Prelude.{◌≡◌, ◌⊎◌, ℕ, List, Bool, [], length, Option, IfOk, IfErr, OnOk};
+ghost use Rattle.mds_core.specs.declared.request.Request.{Request as Requested};
+ghost use Rattle.mds_compact.specs.Cutting.{IsCuttingOf};
+ghost use Rattle.mds_retention.specs.Copying.{HasKept, IsCompactedJournal, cut_totals};
 ghost use Rattle.mds_retention.specs.Draft.{IsWritten};
-ghost use Rattle.mds_retention.specs.Compacting.{AreReadings, IsCompactFault, IsCompactedTo, IsWriteFault, StandsWhole};
+ghost use Rattle.mds_retention.specs.Compacting.{AreReadings, IsCompactFault, IsCompactedTo, IsCutFault, IsWriteFault, StandsWhole};
 
 use crate::copying::kept_lines;
 use crate::draft::Draft;
 use crate::error::CompactError;
 use crate::passes::{Totals, marks_of, survey_of, thinning_of};
+use mds_compact::{Cut, Cutting};
 use mds_file::NewName;
 use mds_journal::Device;
 use std::alloc::Global;
@@ -27,37 +30,82 @@ pub struct Readings<R> {
     pub fourth: R,
 }
 
-/// Makes a new journal under a name: of the requests that the lines of an old one tell those that stay in a compaction. Each
-/// event of the time `from` or later stays.
+/// A vehicle of which events are cut.
+#[derive(Clone, Copy, Debug, PartialEq, Eq)]
+pub struct CutTotals {
+    /// How many of its events may stay.
+    pub cut: Cut,
+    /// How many events it has.
+    pub events: usize,
+}
+
+/// What came of a compaction.
+#[derive(Debug, Drop)]
+pub struct Compacted {
+    /// The vehicles of which events are cut, in the order of the cuts.
+    pub cuts: Vec<CutTotals>,
+    /// How many requests there are, and how many stay.
+    pub totals: Totals,
+}
+
+/// Makes a new journal under a name: of the requests that the lines of an old one tell, and that cuts leave, those that stay in a
+/// compaction. Each event of the time `from` or later stays.
 ///
 /// # Errors
 ///
 /// `New` with `IsThere` where something stands under the name; that is looked for first. `Old` with the first fault of the old
-/// journal's lines. Else `New` or `Old` where the new file can't be written, or the old one not read; and where there is no
+/// journal's lines. `NotThere` where a vehicle that a cut names isn't in it. Else `New` or `Old` where the new file can't be written, or the old one not read; and where there is no
 /// memory. The new file isn't there then, but where that can't be known.
 pub fn compact<R: Read + Drop, N: NewName>(
     alloc: Global,
     old: Readings<R>,
     from: u64,
+    cuts: &[Cut],
     hasher: RandomState,
     name: &mut N,
-) -> Result<Totals, CompactError>
-    ensures made { IfOk result (λ totals. (first : List ℕ) → AreReadings R.remaining first old
+) -> Result<Compacted, CompactError>
+    ensures made { IfOk result (λ compacted. (first : List ℕ) → AreReadings R.remaining first old
         → N.is_true name.new → (found : Option (List ℕ)) → N.may_stand name.new found
-        → StandsWhole (IsCompactedTo from first totals) found) }
+        → StandsWhole (IsCompactedTo from cuts.now first compacted) found) }
     // Whatever crash ends it, also before this returns.
     ensures crash { (first : List ℕ) → AreReadings R.remaining first old → N.is_true name.new
         → (found : Option (List ℕ)) → N.may_stand name.new found
-        → N.may_stand name.old found ⊎ StandsWhole (IsCompactedJournal from first) found }
-    ensures fault { IfErr result (IsCompactFault R.remaining old) }
+        → N.may_stand name.old found ⊎ StandsWhole (IsCompactedJournal from cuts.now first) found }
+    ensures fault { IfErr result (IsCompactFault R.remaining old cuts.now) }
 {
     name.is_free()?;
-    let surveyed = survey_of(alloc, old.first, hasher)?;
-    let count = surveyed.requests;
-    let thinning = thinning_of(alloc, old.second, surveyed, from)?;
-    let marked = marks_of(alloc, old.third, thinning, count)?;
+    let cutting = Cutting::open(alloc, cuts, hasher)?;
+    let surveyed = survey_of(alloc, old.first, cutting, hasher)?;
+    let cut = cut_totals_of(alloc, &surveyed.cutting, cuts)?;
+    let thinning = thinning_of(alloc, old.second, surveyed.survey, &surveyed.marks, from)?;
+    let marked = marks_of(alloc, old.third, thinning, &surveyed.marks)?;
     write_new(alloc, old.fourth, &marked.marks, name)?;
-    Ok(marked.totals)
+    Ok(Compacted {
+        cuts: cut,
+        totals: marked.totals,
+    })
+}
+
+/// How many events the vehicles have that cuts name, once a pass by these cuts took all requests.
+fn cut_totals_of(
+    alloc: Global,
+    cutting: &Cutting,
+    cuts: &[Cut],
+) -> Result<Vec<CutTotals>, CompactError>
+    ensures totals { IfOk result (λ all. (history : List Requested) (marks : List Bool)
+        → IsCuttingOf cuts.now history marks cutting.now
+        → all.items ≡ cut_totals history cuts.now) }
+    ensures fault { IfErr result (λ error. (history : List Requested) (marks : List Bool)
+        → IsCuttingOf cuts.now history marks cutting.now → IsCutFault history cuts.now error) }
+{
+    let mut all = Vec::with_capacity(alloc, cuts.len())?;
+    for cut in cuts {
+        let Some(events) = cutting.events_of(&cut.key) else {
+            return Err(CompactError::NotThere);
+        };
+        all.push(CutTotals { cut: *cut, events })?;
+    }
+    Ok(all)
 }
 
 /// Makes the new file of the marked lines of a reader.

@@ -59,6 +59,30 @@ pub enum CompactError {
     Old(LinesError),
     /// There is no new one.
     New(NewFileFault),
+    /// A vehicle of which events are to be cut isn't in the old one.
+    NotThere,
+}
+
+impl From<AllocError> for CompactError {
+    ghost use Rattle.mds_retention.specs.declared.error.LinesError.TheVariants.{Memory};
+    ghost use Rattle.mds_retention.specs.declared.error.CompactError.TheVariants.{Old};
+
+    ghost from_gives = { λ _ error. error ≡ Old Memory };
+
+    fn from(_refused: AllocError) -> CompactError {
+        CompactError::Old(LinesError::Memory)
+    }
+}
+
+impl<T: Drop> From<AllocFailed<T>> for CompactError {
+    ghost use Rattle.mds_retention.specs.declared.error.LinesError.TheVariants.{Memory};
+    ghost use Rattle.mds_retention.specs.declared.error.CompactError.TheVariants.{Old};
+
+    ghost from_gives = { λ _ error. error ≡ Old Memory };
+
+    fn from(_refused: AllocFailed<T>) -> CompactError {
+        CompactError::Old(LinesError::Memory)
+    }
 }
 
 impl From<LinesError> for CompactError {

@@ -2,7 +2,7 @@
 //!
 //! The old journal is read again for each pass of a compaction: [`survey_of`], [`thinning_of`] and [`marks_of`] feed the requests
 //! that its lines tell to the passes of `mds_compact`. [`kept_lines`] copies the lines that stay into a [`Draft`]. [`compact`] does
-//! all of it, and gives the new file its name once it is whole. So the memory goes by the vehicles, and by two bytes for each
+//! all of it, and gives the new file its name once it is whole. So the memory goes by the vehicles, and by three bytes for each
 //! request.
 #![tactic(auto)]
 
@@ -16,7 +16,7 @@ mod passes;
 mod tests;
 mod vehicle_events;
 
-pub use compacting::{Readings, compact};
+pub use compacting::{Compacted, CutTotals, Readings, compact};
 pub use copying::kept_lines;
 pub use draft::Draft;
 pub use error::{CompactError, LinesError};

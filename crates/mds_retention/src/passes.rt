@@ -1,26 +1,48 @@
 //! The passes of a compaction over the lines of a journal.
-ghost use Rattle.std.specs.Prelude.{◌≡◌, ◌+◌, ◌<◌, ◌≤◌, ◌∷◌, ◌++◌, [], ℕ, List, Some, cond, length, IfOk, IfErr};
+ghost use Rattle.std.specs.Prelude.{◌≡◌, ◌+◌, ◌<◌, ◌≤◌, ◌∷◌, ◌++◌, [], ℕ, List, Bool, false, Some, cond, length, IfOk, IfErr, OnOk};
 ghost use Rattle.mds_core.specs.declared.request.Request.{Request as Requested};
 ghost use Rattle.mds_compact.specs.Compaction.{kept_of};
-ghost use Rattle.mds_compact.specs.Passes.{IsSurveyOf, IsThinningOf};
+ghost use Rattle.mds_compact.specs.Cutting.{IsCuttingOf};
+ghost use Rattle.mds_compact.specs.Passes.{IsSurveyOf, IsThinningOf, IsMarkingOf};
+ghost use Rattle.mds_compact.specs.declared.cutting.Cut.{Cut as Cuts};
 ghost use Rattle.mds_retention.specs.Telling.{BeginsWith, IsTaken, IsJournalFault, IsAgainFault};
-ghost use Rattle.mds_retention.specs.Copying.{AreTotalsOf, IsMarkedBy};
+ghost use Rattle.mds_retention.specs.Copying.{AreTotalsOf, IsMarkedBy, IsSurveyed};
 
 use crate::error::LinesError;
 use crate::lines::RequestLines;
-use mds_compact::{Marking, Survey, Thinning};
+use mds_compact::{Cutting, Marking, Survey, Thinning};
 use mds_core::Request;
-use std::alloc::Global;
+use std::alloc::{AllocError, Global};
 use std::hash::RandomState;
 use std::io::Read;
 
 /// What the first pass learns.
 #[derive(Debug, Drop)]
 pub struct Surveyed {
-    /// What is to come of each vehicle.
+    /// How many events there are of the vehicles that cuts name.
+    pub cutting: Cutting,
+    /// What is to come of each vehicle, of what the cuts leave.
     pub survey: Survey,
-    /// How many requests there are. The later passes read so many, and none behind them.
-    pub requests: usize,
+    /// Whether the cuts leave each request. The later passes read so many, and none behind them.
+    pub marks: Vec<bool>,
+}
+
+impl Surveyed {
+    /// Takes the next request.
+    fn note(&mut self, request: &Request) -> Result<(), LinesError>
+        ensures count { OnOk result (length self.new.marks.items ≡ length self.old.marks.items + 1) }
+        ensures surveyed { OnOk result ((cuts : List Cuts) (history : List Requested)
+            → length history < usize.MAX → IsSurveyed cuts history self.old
+            → IsSurveyed cuts (history ++ request.now ∷ []) self.new) }
+        ensures memory { IfErr result (λ error. error ≡ LinesError.Memory) }
+    {
+        let stays = self.cutting.next_mark(request);
+        self.marks.push(stays)?;
+        if stays {
+            self.survey.note(request)?;
+        }
+        Ok(())
+    }
 }
 
 /// How many requests there are, and how many of them stay.
@@ -64,7 +86,7 @@ pub struct Marked {
     pub totals: Totals,
 }
 
-/// The survey of the requests that a reader's lines tell.
+/// The survey of what the cuts of a pass, which has taken no request yet, leave of the requests that a reader's lines tell.
 ///
 /// # Errors
 ///
@@ -72,25 +94,30 @@ pub struct Marked {
 pub fn survey_of<R: Read + Drop>(
     alloc: Global,
     reader: R,
+    cutting: Cutting,
     hasher: RandomState,
 ) -> Result<Surveyed, LinesError>
     ensures survey { IfOk result (λ surveyed. (history : List Requested)
-        × IsTaken (R.remaining reader) history × IsSurveyOf history surveyed.survey
-        × (surveyed.requests ≡ length history)) }
+        × IsTaken (R.remaining reader) history × (length surveyed.marks.items ≡ length history)
+        × ((cuts : List Cuts) → IsCuttingOf cuts [] [] cutting → IsSurveyed cuts history surveyed)) }
     ensures fault { IfErr result (IsJournalFault (R.remaining reader)) }
 {
     let mut lines = RequestLines::open(alloc, reader)?;
-    let mut survey = Survey::open(alloc, hasher);
+    let mut surveyed = Surveyed {
+        cutting,
+        survey: Survey::open(alloc, hasher),
+        marks: Vec::new(alloc),
+    };
     'requests: loop {
         let Some(request) = lines.next()? else {
-            let requests = lines.count();
-            return Ok(Surveyed { survey, requests });
+            return Ok(surveyed);
         };
-        survey.note(&request)?;
+        surveyed.note(&request)?;
     }
 }
 
-/// The thinning of the requests that were surveyed. They have to be the first that the reader's lines tell.
+/// The thinning of the requests that were surveyed: of so many, those that stay by the cuts. They have to be the first that the
+/// reader's lines tell.
 ///
 /// # Errors
 ///
@@ -98,28 +125,42 @@ pub fn survey_of<R: Read + Drop>(
 pub fn thinning_of<R: Read + Drop>(
     alloc: Global,
     reader: R,
-    surveyed: Surveyed,
+    survey: Survey,
+    stays: &[bool],
     from: u64,
 ) -> Result<Thinning, LinesError>
     ensures thinning { IfOk result (λ thinning. (bytes : List ℕ) (history : List Requested)
         → R.remaining reader ≡ Some bytes → BeginsWith bytes history
-        → surveyed.requests ≡ length history → IsSurveyOf history surveyed.survey
-        → IsThinningOf from history [] thinning) }
-    ensures fault { IfErr result (IsAgainFault (R.remaining reader) surveyed.requests) }
+        → length stays.now ≡ length history → IsSurveyOf (kept_of stays.now history) survey
+        → IsThinningOf from (kept_of stays.now history) [] thinning) }
+    ensures fault { IfErr result (IsAgainFault (R.remaining reader) (length stays.now)) }
 {
     let mut lines = RequestLines::open(alloc, reader)?;
-    let mut thinning = Thinning::open(surveyed.survey, from);
-    for _ in 0..surveyed.requests {
+    let mut thinning = Thinning::open(survey, from);
+    for mark in stays {
         let Some(request) = lines.next()? else {
             return Err(LinesError::Changed);
         };
-        thinning.take(&request)?;
+        take_if(&mut thinning, *mark, &request)?;
     }
     Ok(thinning)
 }
 
-/// The marks of so many requests, once they were thinned: whether each stays. They have to be the first that the reader's lines
-/// tell.
+/// Takes the next request if it stays by the cuts.
+fn take_if(thinning: &mut Thinning, stays: bool, request: &Request) -> Result<(), AllocError>
+    ensures { OnOk result ((from : ℕ) (old rest : List Requested)
+        → IsThinningOf from old (cond stays (request.now ∷ []) [] ++ rest) thinning.old
+        → IsThinningOf from (old ++ cond stays (request.now ∷ []) []) rest thinning.new) }
+{
+    if stays {
+        thinning.take(request)
+    } else {
+        Ok(())
+    }
+}
+
+/// The marks of so many requests, once those that stay by the cuts were thinned: whether each stays. They have to be the first
+/// that the reader's lines tell.
 ///
 /// # Errors
 ///
@@ -128,31 +169,47 @@ pub fn marks_of<R: Read + Drop>(
     alloc: Global,
     reader: R,
     thinning: Thinning,
-    requests: usize,
+    stays: &[bool],
 ) -> Result<Marked, LinesError>
     ensures marks { IfOk result (λ marked. (from : ℕ) (bytes : List ℕ) (history : List Requested)
         → R.remaining reader ≡ Some bytes → BeginsWith bytes history
-        → requests ≡ length history → IsThinningOf from history [] thinning
-        → IsMarkedBy from history marked.marks.items
+        → length stays.now ≡ length history
+        → IsThinningOf from (kept_of stays.now history) [] thinning
+        → IsMarkedBy from (kept_of stays.now history) history marked.marks.items
         × AreTotalsOf history (kept_of marked.marks.items history) marked.totals) }
-    ensures count { IfOk result (λ marked. length marked.marks.items ≡ requests) }
-    ensures fault { IfErr result (IsAgainFault (R.remaining reader) requests) }
+    ensures count { IfOk result (λ marked. length marked.marks.items ≡ length stays.now) }
+    ensures fault { IfErr result (IsAgainFault (R.remaining reader) (length stays.now)) }
 {
     let mut lines = RequestLines::open(alloc, reader)?;
     let mut marking = Marking::open(thinning);
-    let mut marks = Vec::with_capacity(alloc, requests)?;
+    let mut marks = Vec::with_capacity(alloc, stays.len())?;
     let mut totals = Totals {
         registrations: 0,
         events: 0,
         kept: 0,
     };
-    for _ in 0..requests {
+    for left in stays {
         let Some(request) = lines.next()? else {
             return Err(LinesError::Changed);
         };
-        let mark = marking.next_mark(&request);
+        let mark = mark_if(&mut marking, *left, &request);
         totals.count(&request, mark);
         marks.push(mark)?;
     }
     Ok(Marked { marks, totals })
+}
+
+/// Whether the next request stays, which stays by the cuts or doesn't.
+fn mark_if(marking: &mut Marking, stays: bool, request: &Request) -> bool
+    ensures less { stays ≡ false → result ≡ false }
+    ensures marks { (from : ℕ) (old rest : List Requested) (marks : List Bool)
+        → IsMarkingOf from old (cond stays (request.now ∷ []) [] ++ rest) marks marking.old
+        → IsMarkingOf from (old ++ cond stays (request.now ∷ []) []) rest
+        (marks ++ cond stays (result ∷ []) []) marking.new }
+{
+    if stays {
+        marking.next_mark(request)
+    } else {
+        false
+    }
 }

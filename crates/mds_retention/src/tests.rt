@@ -1,7 +1,9 @@
 use crate::{
-    CompactError, Draft, LinesError, Readings, RequestLines, Totals, compact, events_of,
+    CompactError, Compacted, Draft, LinesError, Readings, RequestLines, Totals, compact, events_of,
     kept_lines, marks_of, survey_of, thinning_of,
 };
+use mds_compact::{Cut, Cutting};
+use mds_core::Key;
 use mds_file::{NewFileFault, NewName};
 use mds_journal::{JournalFault, Memory};
 use std::alloc::{AllocError, AllocFailed, Global};
@@ -178,7 +180,7 @@ fn comes_to<R: RandomSource>(
     alloc: Global,
     old: &[u8],
     last: &[u8],
-    from: u64,
+    (from, cuts): (u64, &[Cut]),
     wanted: &[u8],
 ) -> Result<Came, Lack> {
     let hasher = RandomState::new(rt).map_err(|_| Lack::Means)?;
@@ -193,9 +195,9 @@ fn comes_to<R: RandomSource>(
         made: None,
         is_taken: false,
     };
-    match compact(alloc, readings, from, hasher, &mut name) {
-        Ok(totals) => Ok(if has_bytes(&name, wanted) {
-            Came::Made(totals)
+    match compact(alloc, readings, from, cuts, hasher, &mut name) {
+        Ok(compacted) => Ok(if has_bytes(&name, wanted) && tells(&compacted, cuts) {
+            Came::Made(compacted.totals)
         } else {
             Came::Otherwise
         }),
@@ -204,6 +206,16 @@ fn comes_to<R: RandomSource>(
         }
         Err(error) => Ok(Came::Failed(error)),
     }
+}
+
+/// Whether the totals of the cuts are those of the rides' vehicle, of four events.
+fn tells(compacted: &Compacted, cuts: &[Cut]) -> bool {
+    compacted.cuts.len() == cuts.len()
+        && compacted
+            .cuts
+            .iter()
+            .zip(cuts)
+            .all(|(told, cut)| told.cut == *cut && told.events == 4)
 }
 
 fn has_bytes(name: &MemoryName, wanted: &[u8]) -> bool {
@@ -222,7 +234,40 @@ fn of_rides<R: RandomSource>(
 ) -> Result<Came, Lack> {
     let old = journal(alloc, FORM, RIDES)?;
     let new = journal(alloc, FORM, wanted)?;
-    comes_to(rt, alloc, &old, &old, from, &new)
+    comes_to(rt, alloc, &old, &old, (from, &[]), &new)
+}
+
+/// The vehicle of a journal.
+fn vehicle_of(alloc: Global, bytes: &[u8]) -> Result<Key, Lack> {
+    match RequestLines::open(alloc, bytes)?.next()? {
+        Some(request) => Ok(*request.key()),
+        None => Err(Lack::Means),
+    }
+}
+
+/// What a compaction comes to of so many of the first rides, where events of the time `from` stay, and these are wanted.
+fn of_first_rides<R: RandomSource>(
+    rt: &R,
+    alloc: Global,
+    events: usize,
+    from: u64,
+    wanted: &[Told],
+) -> Result<Came, Lack> {
+    let old = journal(alloc, FORM, RIDES)?;
+    let new = journal(alloc, FORM, wanted)?;
+    let key = vehicle_of(alloc, &old)?;
+    comes_to(rt, alloc, &old, &old, (from, &[Cut { key, events }]), &new)
+}
+
+/// What one comes to where a cut names another vehicle.
+fn of_another_vehicle<R: RandomSource>(rt: &R, alloc: Global) -> Result<Came, Lack> {
+    let old = journal(alloc, FORM, RIDES)?;
+    let there = vehicle_of(alloc, &old)?;
+    let key = Key {
+        provider: there.device,
+        device: there.provider,
+    };
+    comes_to(rt, alloc, &old, &old, (10, &[Cut { key, events: 1 }]), &old)
 }
 
 /// What a compaction of a journal with this first line and these events comes to.
@@ -233,7 +278,7 @@ fn of_events<R: RandomSource>(
     events: &[Told],
 ) -> Result<Came, Lack> {
     let bytes = journal(alloc, form, events)?;
-    comes_to(rt, alloc, &bytes, &bytes, 10, &[])
+    comes_to(rt, alloc, &bytes, &bytes, (10, &[]), &[])
 }
 
 /// What one of the rides comes to, where at the fourth reading these are there, and without its loop is wanted.
@@ -241,7 +286,7 @@ fn of_rides_then<R: RandomSource>(rt: &R, alloc: Global, events: &[Told]) -> Res
     let old = journal(alloc, FORM, RIDES)?;
     let last = journal(alloc, FORM, events)?;
     let new = journal(alloc, FORM, WITHOUT_LOOP)?;
-    comes_to(rt, alloc, &old, &last, 10, &new)
+    comes_to(rt, alloc, &old, &last, (10, &[]), &new)
 }
 
 /// What one comes to where the first reading fails behind the rides.
@@ -260,7 +305,7 @@ fn of_broken<R: RandomSource>(rt: &R, alloc: Global) -> Result<Came, Lack> {
         made: None,
         is_taken: false,
     };
-    match compact(alloc, readings, 10, hasher, &mut name) {
+    match compact(alloc, readings, 10, &[], hasher, &mut name) {
         Ok(_) => Ok(Came::Otherwise),
         Err(CompactError::Old(LinesError::Memory)) => Err(Lack::Means),
         Err(error) => Ok(Came::Failed(error)),
@@ -281,7 +326,7 @@ fn of_a_name_that_is_taken<R: RandomSource>(rt: &R, alloc: Global) -> Result<Cam
         made: None,
         is_taken: true,
     };
-    match compact(alloc, readings, 10, hasher, &mut name) {
+    match compact(alloc, readings, 10, &[], hasher, &mut name) {
         Ok(_) => Ok(Came::Otherwise),
         Err(error) => Ok(Came::Failed(error)),
     }
@@ -318,10 +363,11 @@ fn passes_leave_a_loop_out<R: RandomSource>(rt: &R, alloc: Global) -> Result<boo
     let hasher = RandomState::new(rt).map_err(|_| Lack::Means)?;
     let old = journal(alloc, FORM, RIDES)?;
     let new = journal(alloc, FORM, WITHOUT_LOOP)?;
-    let surveyed = survey_of(alloc, old.as_slice(), hasher)?;
-    let requests = surveyed.requests;
-    let thinning = thinning_of(alloc, old.as_slice(), surveyed, 10)?;
-    let marked = marks_of(alloc, old.as_slice(), thinning, requests)?;
+    let cutting = Cutting::open(alloc, &[], hasher)?;
+    let surveyed = survey_of(alloc, old.as_slice(), cutting, hasher)?;
+    let stays = surveyed.marks;
+    let thinning = thinning_of(alloc, old.as_slice(), surveyed.survey, &stays, 10)?;
+    let marked = marks_of(alloc, old.as_slice(), thinning, &stays)?;
     let mut draft = Draft::new(alloc, Memory::new(alloc, b"")?);
     draft.begin()?;
     kept_lines(alloc, old.as_slice(), &marked.marks, &mut draft)?;
@@ -383,6 +429,28 @@ fn lines_are_drafted_after_a_refused_growth(rt: HostRuntime) {
 fn recent_events_stay(rt: HostRuntime) {
     let again = || of_rides(&rt, rt.alloc(), 2, RIDES);
     assert_eq!(rt; again().or_else(|_| again()), Ok(Came::Made(totals(4))));
+}
+
+#[test]
+fn a_vehicles_first_events_stay(rt: HostRuntime) {
+    let first = [("1", "available"), ("2", "on_trip"), ("3", "available")];
+    let again = || of_first_rides(&rt, rt.alloc(), 3, 0, &first);
+    assert_eq!(rt; again().or_else(|_| again()), Ok(Came::Made(totals(3))));
+}
+
+#[test]
+fn what_a_cut_leaves_is_thinned(rt: HostRuntime) {
+    let again = || of_first_rides(&rt, rt.alloc(), 2, 10, &RIDES[..2]);
+    assert_eq!(rt; again().or_else(|_| again()), Ok(Came::Made(totals(2))));
+}
+
+#[test]
+fn a_cut_of_a_vehicle_that_is_not_there_is_refused(rt: HostRuntime) {
+    let again = || of_another_vehicle(&rt, rt.alloc());
+    assert_eq!(rt;
+        again().or_else(|_| again()),
+        Ok(Came::Failed(CompactError::NotThere))
+    );
 }
 
 #[test]

@@ -1,4 +1,4 @@
-use Rattle.std.proofs.Common.{◌∷◌, ◌++◌, [], ℕ, List}
+use Rattle.std.proofs.Common.{◌∷◌, ◌++◌, []}
 use Rattle.std.proofs.lemmas.Result.{IfOk-weaker}
 use Rattle.mds_journal.specs.Lines.{open_lines}
 use Rattle.mds_retention.proofs.Drafts.{drafted_more}

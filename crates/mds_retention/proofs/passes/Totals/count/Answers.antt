@@ -1,8 +1,7 @@
-use Rattle.std.proofs.Common.{◌≡◌, ◌∙◌, ◌+◌, ◌∷◌, ◌++◌, [], Bool, true, List, None, cond, length, rules, sym, ap, append-nil, arith}
+use Rattle.std.proofs.Common.{◌≡◌, ◌∙◌, ◌+◌, ◌∷◌, ◌++◌, [], true, None, cond, length, rules, sym, ap, append-nil, arith}
 use Rattle.std.proofs.lemmas.List.{length_push}
-use Rattle.mds_core.specs.declared.request.Request.{Request}
 use Rattle.mds_core.specs.History.{report_of, reports}
-use Rattle.mds_retention.proofs.Tallies.{none_more, event_more}
+use Rattle.mds_compact.proofs.Tallies.{none_more, event_more}
 use Rattle.mds_retention.proofs.passes.Totals.count.Goals as goal
 
 pub returns-then-is_none-clause-counted : goal.returns-then-is_none-clause-counted
