@@ -4,6 +4,7 @@ import os
 import tempfile
 from pathlib import Path
 
+from cases.replays import A, P
 from cases.tables import ONE_ROW, PROFILE, table_file
 from cases.vehicles import FAULTS, NEW, NO_FORM, WOKEN, journal, not_a_journal
 from compacting.running import content_amiss, run
@@ -127,6 +128,14 @@ def no_words(program):
         "@/old @/new --before 9 --wait",
         "@/old @/new --before 9 --table",
         "@/old @/new --before 9 --table @/old --table @/old",
+        f"@/old --cut {P} {A} 1",
+        f"@/old @/new --cut {P} {A}",
+        f"@/old @/new --cut {P} {A} x",
+        f"@/old @/new --cut {P} {A} -1",
+        f"@/old @/new --cut {P} {A} 1000000000001",
+        f"@/old @/new --cut {P} {A} 1 --before x",
+        f"@/old @/new --before 9 --cut {P} {A} 1 {P}",
+        "@/old @/new --before 9 --cut",
     ):
         with tempfile.TemporaryDirectory() as name:
             Path(name, "old").write_text(old)

@@ -30,14 +30,14 @@ def content_amiss(content, wanted):
         yield f"behind the lines stands {behind(content)[:200]!r}"
 
 
-def left_amiss(program, making, places, folder, *words, end=b"#"):
+def left_amiss(program, making, places, folder, *words, end=b"#", printed=""):
     """What is wrong with a compaction of a journal, which is written to the folder with this end, and with what is left: these
-    places of it."""
+    places of it. So much is printed before the totals."""
     old, new = folder / "old", folder / "new"
     content = making.content(end=end)
     old.write_bytes(content)
     found = run(program, "compact", old, new, *words)
-    wanted = (0, totals(making.lines, places), "")
+    wanted = (0, printed + totals(making.lines, places), "")
     if found != wanted:
         yield f"{words}: {found}, in place of {wanted}"
     elif old.read_bytes() != content:

@@ -1,6 +1,6 @@
 """What a compaction leaves of a journal, after docs/formats.md: of each vehicle the way through its states without loops."""
 
-from collections import defaultdict, namedtuple
+from collections import Counter, defaultdict, namedtuple
 
 Line = namedtuple("Line", "key time state position")
 """A request of a journal: its vehicle; and of an event the time, the state that it reports, and whether it has a position. Of a
@@ -13,6 +13,21 @@ def staying(lines, before):
     for place, line in enumerate(lines):
         places[line.key].append(place)
     return sorted(place for own in places.values() for place in of_one_vehicle(lines, own, before))
+
+
+def staying_of(lines, places, before):
+    """Those of these places that stay."""
+    return [places[at] for at in staying([lines[place] for place in places], before)]
+
+
+def first_events(lines, cuts):
+    """The places of the lines that cuts leave: of each vehicle that they name its registration and so many of its events, of every
+    other all."""
+    counts = Counter()
+    for place, line in enumerate(lines):
+        counts[line.key] += line.time is not None
+        if line.time is None or counts[line.key] <= cuts.get(line.key, counts[line.key]):
+            yield place
 
 
 def of_one_vehicle(lines, places, before):

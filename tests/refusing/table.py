@@ -20,6 +20,7 @@ TESTED = {
     ("mds_past", "test_shards", "a_packed_past_takes_events_after_a_refused_growth"): ["Past::reserve"],
     ("mds_compact", "mds_compact", "a_history_is_compacted_after_a_refused_growth"): ["compaction"],
     ("mds_compact", "mds_compact", "passes_are_begun_anew_after_a_refused_growth"): ["Survey::note", "Thinning::take"],
+    ("mds_compact", "mds_compact", "cuts_leave_the_first_events_after_a_refused_growth"): ["Cutting::open"],
     ("mds_retention", "mds_retention", "a_journal_is_compacted_after_a_refused_growth"): ["compact"],
     ("mds_retention", "mds_retention", "requests_are_read_after_a_refused_growth"): ["RequestLines::open", "RequestLines::next"],
     ("mds_retention", "mds_retention", "events_are_read_after_a_refused_growth"): ["events_of"],

@@ -37,7 +37,7 @@ pub struct Named<'a> {
 
 impl Named<'_> {
     /// The vehicle, if both are identifiers.
-    pub(crate) fn key(&self) -> Option<Key>
+    pub fn key(&self) -> Option<Key>
         ensures { MatchOption result ((key : Vehicle) → IsNamed self.now key
             → ⊥) (IsNamed self.now) }
     {
@@ -124,11 +124,7 @@ pub fn debug_to<T: Read + Drop, R: Read + Drop, I: Read, W: Write, E: Write>(
 
 /// Tells the problem in one line, and answers its status. Where there is no memory to lay the line out, the problem that
 /// is told is that. Where the writer fails the status stays.
-pub(crate) fn tell_debug<E: Write>(
-    alloc: Global,
-    faults: &mut E,
-    problem: DebugProblem<'_>,
-) -> Status
+pub fn tell_debug<E: Write>(alloc: Global, faults: &mut E, problem: DebugProblem<'_>) -> Status
     ensures { ((result ≡ debug_status_of problem.entry)
         × TellsDebug (E.contents faults.old) (E.contents faults.new) problem.entry)
         ⊎ (IsOther problem.entry × (result ≡ Status.NoMemory)

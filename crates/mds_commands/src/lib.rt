@@ -22,7 +22,7 @@ mod unlimited;
 mod vehicles;
 
 pub use commands::{ReplayOptions, replay_to, table_to};
-pub use debug::{Named, debug_live_to, debug_to};
+pub use debug::{DebugProblem, Named, debug_live_to, debug_to, tell_debug};
 pub use events::events_to;
 pub use problem::{Problem, tell};
 pub use roster::Roster;

@@ -36,9 +36,9 @@ impl Surveyed {
             → IsSurveyed cuts (history ++ request.now ∷ []) self.new) }
         ensures memory { IfErr result (λ error. error ≡ LinesError.Memory) }
     {
-        let stays = self.cutting.next_mark(request);
-        self.marks.push(stays)?;
-        if stays {
+        let is_left = self.cutting.next_mark(request);
+        self.marks.push(is_left)?;
+        if is_left {
             self.survey.note(request)?;
         }
         Ok(())
