@@ -12,5 +12,5 @@ has_workers (Replay file table any lines unlimited workers) few = few
 has_workers (Debug file provider device table) few = tt
 has_workers (Table table) few = tt
 has_workers (Vehicles file table check) few = tt
-has_workers (Compact old new before table) few = tt
+has_workers (Compact old new before cuts table) few = tt
 has_workers (Events file provider device) few = tt

@@ -4,4 +4,6 @@ pub mod Journal
 pub mod Outcome
 pub mod Program
 pub mod Serve
+pub mod CompactText
 pub mod Compact
+pub mod Cuts

@@ -1,6 +1,7 @@
 -- What the program does with the words of its command line.
 use Rattle.std.specs.Prelude.{◌≡◌, ◌≢◌, ◌⊎◌, ℕ, ◌<◌, ◌≤◌, ◌^◌, ◌-◌, List, Option, Some}
 use Rattle.std.specs.Prelude.{None, Bool, true, false, codes, option_map}
+use Rattle.std.specs.Borrow.{Bor}
 use Rattle.std.specs.Io.KnownBytes.{Keeps}
 use Rattle.mds_trace.specs.declared.report.Opening.{Opening}
 use Rattle.mds_trace.specs.declared.report.Opening.TheVariants.{Removed, Any}
@@ -13,16 +14,18 @@ use Rattle.mds_commands.specs.declared.problem.Problem.TheVariants as problem
 use Rattle.mds_commands.specs.declared.source.Source.{Source}
 use Rattle.mds_commands.specs.declared.status.Status.{Status}
 use Rattle.mds_commands.specs.declared.status.Status.TheVariants as status
+use Rattle.mds_args.specs.declared.cuts.CutWords.{CutWords}
 use Rattle.mds_args.specs.declared.words.Command.{Command}
 use Rattle.mds_args.specs.declared.words.Command.TheVariants.{Serve, Replay, Debug, Table, Vehicles}
 use Rattle.mds_args.specs.declared.words.Command.TheVariants.{Compact, Events}
 use Rattle.mds_commands.specs.Change.{Change, change_of}
 use Rattle.mds_commands.specs.Files.{files_of}
 use Rattle.mds_commands.specs.Command.{CameToReplay, CameToTable}
-use Rattle.mds_commands.specs.Debug.{Debugs}
+use Rattle.mds_commands.specs.Debug.{Debugs, TellsDebug, debug_status_of}
 use Rattle.mds_commands.specs.Events.{CameToEvents}
 use Rattle.mds_commands.specs.JournalProblem.{TellsJournal, journal_status_of}
 use Rattle.mds_commands.specs.Listing.{CameToListing, ExplainsJudging, HasHistory}
+use Rattle.mds_commands.specs.declared.debug.DebugProblem.{DebugProblem}
 use Rattle.mds_commands.specs.declared.debug.Named.{Named}
 use Rattle.mds_commands.specs.declared.vehicles.problem.JournalProblem.{JournalProblem}
 use Rattle.mds_core.specs.declared.request.Request.{Request}
@@ -30,6 +33,7 @@ use Rattle.mds_city.specs.declared.compact.CompactAsked.{CompactAsked}
 use Rattle.mds_city.specs.declared.serve.ServeOptions.{ServeOptions}
 use Rattle.mds_city.specs.Host.{FileHost, HostFiles, ServerHost, StandardInput, TableFile}
 use Rattle.mds_city.specs.Compact.{CameToCompact}
+use Rattle.mds_city.specs.Cuts.{AreCutsOf, ExplainsCuts}
 use Rattle.mds_city.specs.Outcome.{Outcome}
 use Rattle.mds_city.specs.Serve.{CameToServe}
 use Rattle.mds_city.specs.Journal.{CameToServeOver}
@@ -80,6 +84,11 @@ form_if false = Batch
 abbrev pub connections_each : Option ℕ → ℕ
 connections_each (Some each) = each
 connections_each None = 2 ^ 64 - 1
+
+-- the time from which on all events stay that cuts leave: the first one where none is given
+abbrev pub first_kept : Option ℕ → ℕ
+first_kept (Some time) = time
+first_kept None = 0
 
 -- what these flags and so many workers ask of a replay
 abbrev pub options_of : Bool → Bool → ℕ → ReplayOptions
@@ -161,6 +170,23 @@ module _ {F : Type 0} (files : FileHost F) where
       (table : Source F) × (file : Source F) × AreJudged path old table file
       × ExplainsJudging (files_of files.bytes (Some table) files.bytes file) problem
 
+-- what the words of a compaction ask for
+pub record CutAsked : Type 0 where
+  -- the paths of the old journal and of the new one
+  pub old : Bor (List ℕ)
+  pub new : Bor (List ℕ)
+  -- the time from which on all events stay that the cuts leave
+  pub before : ℕ
+  -- the cuts, as they were written
+  pub words : List CutWords
+
+-- this is what is asked by them
+pub record AsksSo (words : CutAsked) (asked : CompactAsked) : Type 0 where
+  pub old : asked.old ≡ words.old
+  pub new : asked.new ≡ words.new
+  pub before : asked.before ≡ words.before
+  pub cuts : AreCutsOf words.words asked.cuts.now
+
 -- the files of a host, of which it also makes new ones
 module _ {F N : Type 0} (all : HostFiles F N) where
   -- a compaction came to these, where the old journal was judged by the table file that is named, if
@@ -171,6 +197,15 @@ module _ {F N : Type 0} (all : HostFiles F N) where
       ⊎ ((problem : JournalProblem) × ExplainsJudged all.opener table asked.old.now problem
       × Keeps outcome.out.before outcome.out.after × (outcome.ended ≡ journal_status_of problem)
       × TellsJournal outcome.faults.before outcome.faults.after problem)
+
+  -- a compaction by the cuts that the words ask for came to these; or they ask for none, and why was
+  -- told
+  abbrev pub CarriesCuts : Option (List ℕ) → CutAsked → Outcome → Type 0
+  CarriesCuts table words outcome =
+      ((asked : CompactAsked) × AsksSo words asked × CarriesCompact table asked outcome)
+      ⊎ ((problem : DebugProblem) × ExplainsCuts words.words problem
+      × Keeps outcome.out.before outcome.out.after × (outcome.ended ≡ debug_status_of problem)
+      × TellsDebug outcome.faults.before outcome.faults.after problem)
 
 -- of the program: the files of its host, what that gives a server, and standard input
 module _ {F N L J I : Type 0} (all : HostFiles F N) (host : ServerHost L J)
@@ -209,9 +244,9 @@ module _ {F N L J I : Type 0} (all : HostFiles F N) (host : ServerHost L J)
       × Debugs (files_of all.opener.bytes table all.opener.bytes events)
       (record { provider = provider; device = device }) outcome.ended
       (change_of (input.bytes input.reader) input_new) outcome.out outcome.faults
-  Carries (Compact old new before path) outcome =
-      CarriesCompact all (option_map (λ named. named.now) path)
-      (record { old = old; new = new; before = before }) outcome
+  Carries (Compact old new before cuts path) outcome =
+      CarriesCuts all (option_map (λ named. named.now) path)
+      (record { old = old; new = new; before = first_kept before; words = cuts.items }) outcome
   Carries (Events file provider device) outcome =
       CarriesEvents all.opener input file.now (record { provider = provider; device = device })
       outcome

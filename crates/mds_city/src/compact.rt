@@ -1,17 +1,20 @@
 //! The command that makes a new journal of an old one.
 ghost use Rattle.std.specs.Prelude.{◌≡◌, ◌⊎◌, ℕ, List, None, Some, ⊤, IfOk, IfErr, MatchOption};
+ghost use Rattle.mds_city.specs.CompactText.{compacted_text};
 ghost use Rattle.mds_commands.specs.Change.{change_of};
 ghost use Rattle.mds_city.specs.Outcome.{outcome_of};
-ghost use Rattle.mds_city.specs.Compact.{CameToCompact, Compacts, ExplainsCompact, IsProblemOf, TellsCompact, compact_line, compact_status_of};
+ghost use Rattle.mds_city.specs.Compact.{CameToCompact, Compacts, ExplainsCompact, IsProblemOf, TellsCompact, compact_status_of};
 
-use crate::page::print_line;
+use crate::compacted::print_compacted;
 use crate::program::Opens;
-use mds_commands::{JournalProblem, Problem, Status, tell_journal_problem};
+use mds_commands::{
+    DebugProblem, JournalProblem, Problem, Status, tell_debug, tell_journal_problem,
+};
+use mds_compact::Cut;
 use mds_file::{NewFileFault, NewName};
 use mds_io::{MAX_CALLS, write_all_of};
-use mds_retention::{CompactError, LinesError, Readings, Totals, compact};
+use mds_retention::{CompactError, Compacted, LinesError, Readings, compact};
 use std::alloc::{AllocError, Global};
-use std::fmt;
 use std::fmt::Write as _;
 use std::hash::RandomState;
 use std::io::Write;
@@ -41,8 +44,10 @@ pub struct CompactAsked<'a> {
     pub old: &'a str,
     /// The path of the new one.
     pub new: &'a str,
-    /// The time from which on all events stay.
+    /// The time from which on all events stay that the cuts leave.
     pub before: u64,
+    /// The vehicles of which the first events alone stay.
+    pub cuts: &'a [Cut],
 }
 
 /// Why a journal isn't compacted.
@@ -52,6 +57,8 @@ pub(crate) enum CompactProblem<'a> {
     IsThere(&'a str),
     /// The new file of this path can't be made or written.
     CannotWrite(&'a str),
+    /// A vehicle of which events are to be cut isn't in the old file.
+    NotInFile,
     /// What may hinder other commands over a journal too.
     Journal(JournalProblem<'a>),
 }
@@ -79,24 +86,8 @@ impl From<AllocError> for CompactProblem<'_> {
     }
 }
 
-/// The line that says how many registrations there are, and how many events stay of how many.
-#[derive(Clone, Copy)]
-struct CompactLine {
-    totals: Totals,
-}
-
-impl fmt::Display for CompactLine {
-    ghost output = { λ line. Some (compact_line line.totals) };
-
-    fn fmt<W: fmt::Write>(&self, f: &mut fmt::Formatter<W>) -> fmt::Result {
-        let registrations = self.totals.registrations;
-        let kept = self.totals.kept;
-        let events = self.totals.events;
-        write!(f, "registrations {registrations} events {kept} of {events}")
-    }
-}
-
-/// Makes a new journal of an old one, without those of its events before a time that no state needs, and prints how many stay. It
+/// Makes a new journal of an old one, without events that are to be cut, and without those before a time that no state needs; and
+/// prints how many stay. It
 /// answers the status that the program ends with; a problem is told to `faults` in one line. Where it isn't `Done`, nothing stands
 /// under the new path that didn't stand there before, but where the output failed, or the disk may have failed.
 pub fn compact_to<P: RandomSource, O: Opens + MakesFiles, W: Write, E: Write>(
@@ -122,7 +113,7 @@ pub fn compact_to<P: RandomSource, O: Opens + MakesFiles, W: Write, E: Write>(
         (change_of (E.contents faults.old) (E.contents faults.new))) }
 {
     match compact_file(rt, alloc, files, asked) {
-        Ok(totals) => match print_line(alloc, out, &CompactLine { totals }) {
+        Ok(compacted) => match print_compacted(alloc, out, &compacted) {
             Ok(()) => Status::Done,
             Err(fault) => tell_journal_problem(alloc, faults, JournalProblem::from(fault)),
         },
@@ -136,7 +127,7 @@ fn compact_file<'a, P: RandomSource, O: Opens + MakesFiles>(
     alloc: Global,
     files: &O,
     asked: CompactAsked<'a>,
-) -> Result<Totals, CompactProblem<'a>>
+) -> Result<Compacted, CompactProblem<'a>>
     ensures ok { IfOk result (Compacts
         (record {
           opener = record { opens = O.opens files.now; bytes = O.File.remaining };
@@ -164,8 +155,8 @@ fn compact_file<'a, P: RandomSource, O: Opens + MakesFiles>(
         return Err(CompactProblem::from(Problem::CannotRead(asked.old)));
     };
     let mut name = files.new_file(alloc, asked.new)?;
-    match compact(alloc, readings, asked.before, hasher, &mut name) {
-        Ok(totals) => Ok(totals),
+    match compact(alloc, readings, asked.before, asked.cuts, hasher, &mut name) {
+        Ok(compacted) => Ok(compacted),
         Err(error) => Err(problem_of(error, asked.old, asked.new)),
     }
 }
@@ -202,6 +193,7 @@ fn problem_of<'a>(error: CompactError, old: &'a str, new: &'a str) -> CompactPro
         }
         CompactError::New(NewFileFault::IsThere) => CompactProblem::IsThere(new),
         CompactError::New(NewFileFault::CannotWrite) => CompactProblem::CannotWrite(new),
+        CompactError::NotThere => CompactProblem::NotInFile,
         CompactError::Old(LinesError::Memory) | CompactError::New(NewFileFault::Memory) => {
             CompactProblem::from(Problem::Memory)
         }
@@ -224,6 +216,7 @@ fn tell_compact_problem<E: Write>(
         CompactProblem::Journal(problem) => tell_journal_problem(alloc, faults, problem),
         CompactProblem::IsThere(path) => tell_is_there(alloc, faults, path),
         CompactProblem::CannotWrite(path) => tell_cannot_write(alloc, faults, path),
+        CompactProblem::NotInFile => tell_debug(alloc, faults, DebugProblem::NotInFile),
     }
 }
 

@@ -3,6 +3,8 @@
 #![tactic(auto)]
 
 mod compact;
+mod compacted;
+mod cuts;
 mod figures;
 mod journal;
 mod page;

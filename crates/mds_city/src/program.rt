@@ -10,17 +10,18 @@ ghost use Rattle.mds_commands.specs.Problem.{Tells};
 ghost use Rattle.mds_io.specs.Page.{AppendsUpTo, with_newline};
 ghost use Rattle.mds_trace.specs.WithFault.{IsWorkerCount};
 ghost use Rattle.mds_city.specs.Outcome.{outcome_of};
-ghost use Rattle.mds_city.specs.Program.{Carries, CarriesCompact, CarriesEvents, CarriesReplay, CarriesServe, CarriesVehicles, Explains, ExplainsJudged, HasWorkers, IsFileNamed, IsFileOf, IsJudged, Runs};
-ghost use Rattle.mds_city.specs.Program.{connections_each, form_if, opening_if, options_of};
+ghost use Rattle.mds_city.specs.Program.{Carries, CarriesCompact, CarriesCuts, CarriesEvents, CarriesReplay, CarriesServe, CarriesVehicles, Explains, ExplainsJudged, HasWorkers, IsFileNamed, IsFileOf, IsJudged, Runs};
+ghost use Rattle.mds_city.specs.Program.{connections_each, first_kept, form_if, opening_if, options_of};
 
 use crate::compact::{CompactAsked, MakesFiles, compact_to};
+use crate::cuts::cuts_of;
 use crate::journal::{OpensJournals, serve_over};
 use crate::serve::{Listens, ServeOptions, serve_at};
-use mds_args::{Command, WordsError, WordsErrorKind, parse_words};
+use mds_args::{Command, CutWords, WordsError, WordsErrorKind, parse_words};
 use mds_commands::{
     Form, JournalProblem, Named, Problem, ReplayOptions, Source, Status, debug_live_to, debug_to,
-    events_to, judge_journal, replay_to, replay_unlimited_to, table_to, tell, tell_journal_problem,
-    vehicles_to,
+    events_to, judge_journal, replay_to, replay_unlimited_to, table_to, tell, tell_debug,
+    tell_journal_problem, vehicles_to,
 };
 use mds_io::{MAX_CALLS, write_all_of};
 use mds_trace::Opening;
@@ -258,10 +259,13 @@ fn carry_out<
             old,
             new,
             before,
+            cuts,
             table,
         } => {
-            let asked = CompactAsked { old, new, before };
-            compact_judged(rt, alloc, files, asked, table, out, faults)
+            let before = first_kept(before);
+            compact_cut(
+                rt, alloc, files, old, new, before, &cuts, table, out, faults,
+            )
         }
         Command::Events {
             file,
@@ -435,6 +439,54 @@ fn list_vehicles<R: RandomSource, O: Opens, I: Read + Drop, W: Write, E: Write>(
         return vehicles_to(rt, alloc, table, file, check, out, faults);
     }
     vehicles_to(rt, alloc, table, file_of(files, path), check, out, faults)
+}
+
+/// Makes a new journal of an old one, with these cuts and an event's time from which on all stay that the cuts leave.
+fn compact_cut<R: RandomSource, O: Opens + MakesFiles, W: Write, E: Write>(
+    rt: &R,
+    alloc: Global,
+    files: &O,
+    old: &str,
+    new: &str,
+    before: u64,
+    words: &[CutWords<'_>],
+    table: Option<&str>,
+    out: &mut W,
+    faults: &mut E,
+) -> Status
+    ensures { CarriesCuts (record {
+      opener = record { opens = O.opens files.now; bytes = O.File.remaining };
+      maker = record {
+        names = O.names_file files.now;
+        may_stand = O.New.may_stand;
+        is_true = O.New.is_true;
+      };
+    })
+        (option_map (λ named. named.now) table.entry)
+        (record { old = old.entry; new = new.entry; before = before; words = words.now })
+        (outcome_of result
+        (change_of (W.contents out.old) (W.contents out.new))
+        (change_of (E.contents faults.old) (E.contents faults.new))) }
+{
+    match cuts_of(alloc, words) {
+        Ok(cuts) => {
+            let asked = CompactAsked {
+                old,
+                new,
+                before,
+                cuts: &cuts,
+            };
+            compact_judged(rt, alloc, files, asked, table, out, faults)
+        }
+        Err(problem) => tell_debug(alloc, faults, problem),
+    }
+}
+
+/// Where no time is given all events stay that the cuts leave: none is of a time before this one.
+fn first_kept(before: Option<u64>) -> u64
+    ensures { result ≡ first_kept before }
+{
+    before.unwrap_or(0)
 }
 
 /// Makes a new journal of an old one. Where a table file is named, the old one is judged by its tables first.

@@ -1,5 +1,5 @@
 //! What words ask for.
-use mds_args::{Command, WordsErrorKind, parse_words};
+use mds_args::{Command, CutWords, WordsErrorKind, parse_words};
 use std::alloc::Global;
 use test_fixtures::{fence, rows};
 
@@ -10,6 +10,9 @@ const CASES: &[Case<'static>] = rows! {
     (&["mds_city", "replay", "--workers=64", "F", "--any"], Ok(REPLAY)),
     (&["mds_city", "table"], Ok(Command::Table { table: None })),
     (&["mds_city", "replay", "-", "--workers=65"], MISTAKE),
+    (&["mds_city", "compact", "OLD", "NEW"], MISTAKE),
+    (&["mds_city", "compact", "OLD", "NEW", "--cut", "P", "D"], MISTAKE),
+    (&["mds_city", "compact", "OLD", "NEW", "--cut", "P", "D", "x"], MISTAKE),
     (&[], MISTAKE),
     (&["mds_city", "--help"], Err(WordsErrorKind::Help)),
 };
@@ -46,6 +49,31 @@ fn first_other(alloc: Global, cases: &[Case<'_>]) -> Option<usize> {
         }
     }
     None
+}
+
+/// Words that ask for cuts of two vehicles.
+const CUT: &[&str] = &[
+    "mds_city", "compact", "OLD", "NEW", "--cut", "P", "D", "3", "--cut", "Q", "E", "0",
+];
+
+/// Whether these words ask for a compaction by these cuts, and no time.
+fn cuts_are(alloc: Global, words: &[&str], wanted: &[CutWords<'_>]) -> bool {
+    match command_again(alloc, words) {
+        Ok(Command::Compact { before, cuts, .. }) => {
+            before.is_none() && cuts.as_slice() == wanted
+        }
+        _ => false,
+    }
+}
+
+#[test]
+fn cuts_are_read_after_a_refused_growth(rt: HostRuntime) {
+    let wanted = [("P", "D", 3), ("Q", "E", 0)].map(|(provider, device, events)| CutWords {
+        provider,
+        device,
+        events,
+    });
+    assert!(rt; cuts_are(rt.alloc(), CUT, &wanted));
 }
 
 /// Growths are refused by `tests/refused-growths`.

@@ -16,25 +16,28 @@ of_line : (fault : PrintError) → (Journal (Other (written_problem fault)) ≡ 
 of_line write.Memory = inr refl
 of_line write.Device = inl refl
 
-pub returns-in-Err-print_line : goal.returns-in-Err-print_line
-returns-in-Err-print_line g c =
+pub returns-in-Ok-print_compacted : goal.returns-in-Ok-print_compacted
+returns-in-Ok-print_compacted g c = inl (c.in-Ok.compacted, c.in-Ok.ensures.ok, refl, c.in-Ok-print_compacted.ensures.ok, Keeps-refl _)
+
+pub returns-in-Ok : goal.returns-in-Ok
+returns-in-Ok g c =
     let old = g.E.Write.contents c.args.faults.now in
     let new = g.E.Write.contents c.tell_journal_problem.new.faults in
     let IsTold : JournalProblem → Type 0 = λ problem. (c.tell_journal_problem.result ≡ journal_status_of problem) × TellsJournal old new problem in
     inr (inl (
-      c.in-Ok.totals,
+      c.in-Ok.compacted,
       c.in-Ok.ensures.ok,
-      c.in-Err-print_line.ensures.err,
+      c.in-Err-print_compacted.ensures.err,
       elim c.tell_journal_problem.ensures [
         | inl told ↦
             let line = subst IsTold c.from.ensures told in
-            (Journal (Other (written_problem c.in-Err-print_line.fault)), of_line c.in-Err-print_line.fault, line.0, line.1)
+            (Journal (Other (written_problem c.in-Err-print_compacted.fault)), of_line c.in-Err-print_compacted.fault, line.0, line.1)
         | inr told ↦ (Journal (Other Memory), inr refl, told.0, told.1)
       ],
     ))
 
-pub returns-in-Err : goal.returns-in-Err
-returns-in-Err g c =
+pub returns : goal.returns
+returns g c =
     inr (inr (elim c.tell_compact_problem.ensures [
       | inl told ↦ (c.in-Err.problem, c.in-Err.ensures.err, Keeps-refl _, told.0, told.1)
       | inr told ↦ (Journal (Other Memory), inl (inr refl), Keeps-refl _, told.0, told.1)

@@ -5,7 +5,7 @@ use Rattle.mds_commands.specs.declared.commands.ReplayOptions.{ReplayOptions}
 use Rattle.mds_commands.specs.Change.{change_of}
 use Rattle.mds_city.specs.Host.{FileHost, HostFiles, ServerHost, StandardInput}
 use Rattle.mds_city.specs.Outcome.{Outcome, outcome_of}
-use Rattle.mds_city.specs.Program.{Carries, CarriesReplay, CarriesServe}
+use Rattle.mds_city.specs.Program.{Carries, CarriesCuts, CarriesReplay, CarriesServe, CutAsked}
 use Rattle.mds_city.proofs.program.carry_out.Goals as goal
 
 pub returns-in-Replay : goal.returns-in-Replay
@@ -64,10 +64,11 @@ returns-in-Compact g c =
     } in
     let host : ServerHost _ _ = record { listens = g.O.Listens.listens c.args.files.now; opens_journal = g.O.OpensJournals.opens_journal c.args.files.now } in
     let input : StandardInput _ = record { bytes = g.I.Read.remaining; reader = c.args.input } in
-    let outcome : Outcome = outcome_of c.compact_judged.result
-    (change_of (g.W.Write.contents c.args.out.now) (g.W.Write.contents c.compact_judged.new.out))
-    (change_of (g.E.Write.contents c.args.faults.now) (g.E.Write.contents c.compact_judged.new.faults)) in
-    subst (λ (command : Command). Carries all host input command outcome) (sym c.in-Compact.is) c.compact_judged.ensures
+    let outcome : Outcome = outcome_of c.compact_cut.result
+    (change_of (g.W.Write.contents c.args.out.now) (g.W.Write.contents c.compact_cut.new.out))
+    (change_of (g.E.Write.contents c.args.faults.now) (g.E.Write.contents c.compact_cut.new.faults)) in
+    subst (λ (command : Command). Carries all host input command outcome) (sym c.in-Compact.is)
+    (subst (λ (asked : CutAsked). CarriesCuts all (option_map (λ named. named.now) c.in-Compact.table) asked outcome) (search rules) c.compact_cut.ensures)
 
 pub returns-in-Events : goal.returns-in-Events
 returns-in-Events g c =
