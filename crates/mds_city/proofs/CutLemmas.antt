@@ -1,7 +1,6 @@
 -- Cuts that words ask for, one by one.
 use Rattle.std.proofs.Common.{◌≡◌, ℕ, ◌+◌, ◌<◌, List, [], ◌∷◌, ◌++◌, length, take, drop, get_or, ap, sym, ◌∙◌, subst}
 use Rattle.std.proofs.lemmas.List.{get_or_default, take-append-drop}
-use Rattle.std.specs.List.{AllZip}
 use Rattle.mds_args.specs.declared.cuts.CutWords.{CutWords}
 use Rattle.mds_compact.specs.declared.cutting.Cut.{Cut}
 use Rattle.mds_compact.proofs.Items.{next_item}

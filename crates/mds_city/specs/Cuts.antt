@@ -1,5 +1,5 @@
 -- Which cuts words ask for.
-use Rattle.std.specs.Prelude.{◌≡◌, List, [], ◌∷◌}
+use Rattle.std.specs.Prelude.{◌≡◌, List}
 use Rattle.std.specs.List.{AllZip}
 use Rattle.mds_args.specs.declared.cuts.CutWords.{CutWords}
 use Rattle.mds_commands.specs.Debug.{IsNamed}

@@ -7,7 +7,6 @@ use Rattle.mds_commands.specs.declared.vehicles.problem.JournalProblem.{JournalP
 use Rattle.mds_commands.specs.declared.vehicles.problem.JournalProblem.TheVariants.{Other}
 use Rattle.mds_commands.specs.JournalProblem.{TellsJournal, journal_status_of}
 use Rattle.mds_commands.specs.Problem.{written_problem}
-use Rattle.mds_city.specs.declared.compact.CompactProblem.{CompactProblem}
 use Rattle.mds_city.specs.declared.compact.CompactProblem.TheVariants.{Journal}
 use Rattle.mds_city.proofs.compact.compact_to.Goals as goal
 

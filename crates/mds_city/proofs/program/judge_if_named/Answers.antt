@@ -1,4 +1,4 @@
-use Rattle.std.proofs.Common.{◌≡◌, ℕ, List, Option, Some, None, refl, rules}
+use Rattle.std.proofs.Common.{◌≡◌, ℕ, List, Option, Some, None, rules}
 use Rattle.std.proofs.lemmas.Result.{IfErr-weaker, on_ok_weaker}
 use Rattle.std.specs.Option.{option_map}
 use Rattle.mds_core.specs.declared.request.Request.{Request}
