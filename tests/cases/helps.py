@@ -15,7 +15,7 @@ Commands:
   debug     Steps through the accepted events of a vehicle, as standard input says
   table     Prints the table of transitions, or each of several
   vehicles  Lists the vehicles of a journal
-  compact   Makes a new journal of an old one, without old events that no state needs
+  compact   Makes a new journal of an old one, without old events that no state needs, or events to be cut
   events    Prints the lines of a journal that tell an event of a vehicle
   help      Print this message or the help of the given subcommand(s)
 
@@ -85,18 +85,19 @@ Options:
       --check         Tells how many lines and groups there are, too
   -h, --help          Print help
 """
-COMPACT = """Makes a new journal of an old one, without old events that no state needs
+COMPACT = """Makes a new journal of an old one, without old events that no state needs, or events to be cut
 
-Usage: mds_city compact [OPTIONS] --before <TIME> <OLD> <NEW>
+Usage: mds_city compact [OPTIONS] <OLD> <NEW>
 
 Arguments:
   <OLD>  The journal, which stays as it is
   <NEW>  The file to make
 
 Options:
-      --before <TIME>  The time from which on all events stay, in milliseconds since 1970
-      --table <FILE>   A table of transitions, or several with times, by which OLD is judged first
-  -h, --help           Print help
+      --before <TIME>                The time from which on all events stay, in milliseconds since 1970; without it all do
+      --cut <PROVIDER> <DEVICE> <N>  A vehicle of which the first N events alone stay; may be given again
+      --table <FILE>                 A table of transitions, or several with times, by which OLD is judged first
+  -h, --help                         Print help
 """
 EVENTS = """Prints the lines of a journal that tell an event of a vehicle
 

@@ -73,7 +73,7 @@ compact_only values none (Serve port each workers table journal metrics) asks = 
 compact_only values none (Replay file table any lines unlimited workers) asks = let is = asks.0 in cc
 compact_only values none (Debug file provider device table) asks = let is = asks.0 in cc
 compact_only values none (Table table) asks = let is = asks.0 in cc
-compact_only values none (Vehicles file table) asks = let is = asks.0 in cc
+compact_only values none (Vehicles file table check) asks = let is = asks.0 in cc
 compact_only values none (Events file provider device) asks = let is = asks.0 in cc
 
 -- where a time is given that is none of its range, none is meant

@@ -1,32 +1,47 @@
 //! What words ask for.
 use mds_args::{Command, CutWords, WordsErrorKind, parse_words};
 use std::alloc::Global;
-use test_fixtures::{fence, rows};
+use test_fixtures::fence;
 
 /// Words, of which the first is the program's name, and the command that they ask for, or why they ask for none.
 type Case<'a> = (&'a [&'a str], Result<Command<'a>, WordsErrorKind>);
 
-const CASES: &[Case<'static>] = rows! {
-    (&["mds_city", "replay", "--workers=64", "F", "--any"], Ok(REPLAY)),
-    (&["mds_city", "table"], Ok(Command::Table { table: None })),
-    (&["mds_city", "replay", "-", "--workers=65"], MISTAKE),
-    (&["mds_city", "compact", "OLD", "NEW"], MISTAKE),
-    (&["mds_city", "compact", "OLD", "NEW", "--cut", "P", "D"], MISTAKE),
-    (&["mds_city", "compact", "OLD", "NEW", "--cut", "P", "D", "x"], MISTAKE),
-    (&[], MISTAKE),
-    (&["mds_city", "--help"], Err(WordsErrorKind::Help)),
-};
+fn cases() -> [Case<'static>; 8] {
+    [
+        (
+            &["mds_city", "replay", "--workers=64", "F", "--any"],
+            Ok(replay()),
+        ),
+        (&["mds_city", "table"], Ok(Command::Table { table: None })),
+        (&["mds_city", "replay", "-", "--workers=65"], mistake()),
+        (&["mds_city", "compact", "OLD", "NEW"], mistake()),
+        (
+            &["mds_city", "compact", "OLD", "NEW", "--cut", "P", "D"],
+            mistake(),
+        ),
+        (
+            &["mds_city", "compact", "OLD", "NEW", "--cut", "P", "D", "x"],
+            mistake(),
+        ),
+        (&[], mistake()),
+        (&["mds_city", "--help"], Err(WordsErrorKind::Help)),
+    ]
+}
 
-const REPLAY: Command<'static> = Command::Replay {
-    file: "F",
-    table: None,
-    any: true,
-    lines: false,
-    unlimited: false,
-    workers: 64,
-};
+fn replay() -> Command<'static> {
+    Command::Replay {
+        file: "F",
+        table: None,
+        any: true,
+        lines: false,
+        unlimited: false,
+        workers: 64,
+    }
+}
 
-const MISTAKE: Result<Command<'static>, WordsErrorKind> = Err(WordsErrorKind::Mistake);
+fn mistake() -> Result<Command<'static>, WordsErrorKind> {
+    Err(WordsErrorKind::Mistake)
+}
 
 /// The command that words ask for, or why they ask for none.
 fn command_of<'a>(alloc: Global, words: &'a [&'a str]) -> Result<Command<'a>, WordsErrorKind> {
@@ -79,7 +94,7 @@ fn cuts_are_read_after_a_refused_growth(rt: HostRuntime) {
 /// Growths are refused by `tests/refused-growths`.
 #[test]
 fn words_are_read_after_a_refused_growth(rt: HostRuntime) {
-    assert_eq!(rt; first_other(rt.alloc(), CASES), None);
+    assert_eq!(rt; first_other(rt.alloc(), &cases()), None);
 }
 
 #[test]
