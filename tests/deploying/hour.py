@@ -249,12 +249,17 @@ class Hour:
             yield f"the hostile one had only {hostile.statuses}"
 
 
+class Slower(str):
+    """That another provider reported less in a second beside the hostile one."""
+
+
 def slowed(others, told):
     """Which of the others reported less in a second beside the hostile one."""
     for provider in others:
         quiet, beside = (1 / statistics.mean(max(PACE, wait) for wait in provider.waits[turn]) for turn in (QUIET, BESIDE))
         if beside < LEAST * quiet:
-            yield f"provider {provider.number} made {beside:.2f} reports a second beside the hostile one, and {quiet:.2f} without it"
+            made = f"provider {provider.number} made {beside:.2f} reports a second beside the hostile one"
+            yield Slower(f"{made}, and {quiet:.2f} without it")
     for turn in (QUIET, BESIDE):
         waits = sorted(wait for provider in others for wait in provider.waits[turn])
         median, hundredth, longest = (1000 * it for it in (statistics.median(waits), waits[-len(waits) // 100], waits[-1]))
@@ -289,11 +294,17 @@ OWN_DISK = ("MdsCityDisk", "machine")
 """What Prometheus has of accepted events, and in how many seconds it has all of them."""
 TURNS, SECONDS, FACTOR = 2, 8, 15
 """How a short run goes: it has a turn so often, of so many seconds, and Prometheus asks each second."""
+SHORT_RUNS = 3
+"""How many short runs there are at most. Other work of the machine slows the providers of one; a hostile provider slows those of each."""
 
 
 def a_hostile_provider_beside_eleven(program):
     """Eleven providers report as a city does, and no less beside one that is hostile."""
-    yield from Hour(program, TURNS, SECONDS, FACTOR).complaints()
+    for _ in range(SHORT_RUNS):
+        amiss = list(Hour(program, TURNS, SECONDS, FACTOR).complaints())
+        if not amiss or not all(isinstance(it, Slower) for it in amiss):
+            break
+    yield from amiss
 
 
 HOURS = [a_hostile_provider_beside_eleven]
