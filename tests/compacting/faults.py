@@ -136,6 +136,9 @@ def no_words(program):
         f"@/old @/new --cut {P} {A} 1 --before x",
         f"@/old @/new --before 9 --cut {P} {A} 1 {P}",
         "@/old @/new --before 9 --cut",
+        "@/old @/new --follow",
+        "@/old @/new --before 9 --follow --follow",
+        f"@/old @/new --before 9 --follow --cut {P} {A} 1",
     ):
         with tempfile.TemporaryDirectory() as name:
             Path(name, "old").write_text(old)

@@ -1,21 +1,24 @@
-"""Journals of running servers, which `compact` makes small while their clients go on."""
+"""Journals of running servers: `compact` beside one, and `--follow`, whose clients go on over the change of files."""
 
 import json
 import random
 import re
+import signal
+import subprocess
 import tempfile
 import threading
 import time
+from contextlib import ExitStack
 from pathlib import Path
 
 from cases.vehicles import FORM
 from compacting.running import SECONDS, content_amiss, run, totals
 from crashing.files import counted
-from crashing.reports import FIRST_TIME, device_at, parts_of, registering, reporting, status_of
+from crashing.reports import FIRST_TIME, device_at, listed, listing, looking, parts_of, registering, reporting, status_of
 from harness.counting import Unwell
 from model.compaction import Line, staying
 from serving.http import done
-from serving.server import Server
+from serving.server import Server, numbered_port
 from serving.wire import ask, connect
 
 CLIENTS, DEVICES = 4, 3
@@ -28,6 +31,8 @@ ANSWERS = 150
 """To reports, before something happens."""
 PAUSE = 0.01
 """Seconds until a request is sent again that wasn't answered."""
+KILLS, MOST_WAIT = 8, 0.2
+"""Followers that are killed, and how many seconds behind their start at most."""
 
 
 class Client(threading.Thread):
@@ -108,6 +113,21 @@ class Crew:
         return [fault for client in self.clients for fault in client.faults]
 
 
+class Following:
+    """A compaction that follows a server, in its own process."""
+
+    def __init__(self, program, old, new):
+        words = [program, "compact", old, new, "--before", BEFORE, "--follow"]
+        self.child = subprocess.Popen([*map(str, words)], stdout=subprocess.PIPE, stderr=subprocess.PIPE, text=True)
+
+    def line(self):
+        return self.child.stdout.readline()
+
+    def ended(self):
+        out, faults = self.child.communicate(timeout=SECONDS)
+        return self.child.returncode, out, faults
+
+
 def begun(port):
     """Has a server know all vehicles, with their first events."""
     devices = [device_at(number) for number in range(CLIENTS * DEVICES)]
@@ -136,8 +156,94 @@ def left_of(content, count=None):
     return wanted.encode(), totals(lines, places)
 
 
+def kept_amiss(port, fronts):
+    """What is wrong with the events that a server lists: of TIME or later each vehicle has all, one time each and in order."""
+    for device, front in fronts.items():
+        events = parts_of(ask(port, listing(device)))[1]["events"]
+        numbers = [event["timestamp"] - FIRST_TIME for event in events]
+        if [number for number in numbers if number >= OLD_EVENTS] != list(range(OLD_EVENTS, front)):
+            yield f"{device} has the events {numbers}, of {front}"
+        if any(event != listed(device, number) for event, number in zip(events, numbers)):
+            yield f"{device} has an event that isn't as it was reported"
+        if len(numbers) >= front:
+            yield f"{device} has all {front} events still"
+
+
+def comes_meanwhile(port):
+    """Registers a vehicle with one event, while the file is followed."""
+    late = device_at(1000)
+    if ask(port, registering(late)) != done(1) or ask(port, reporting(late, 0, 1)) != done(1):
+        raise Unwell("a vehicle isn't accepted while the file is followed")
+    return late
+
+
+def made_of(following, old, new):
+    """What is wrong with what a follower has made of the old file, as it is at last."""
+    content, last = left_of(old.read_bytes())
+    ended = following.ended()
+    if ended != (0, last, ""):
+        raise Unwell(f"it ended with {ended}, in place of {last!r}")
+    yield from content_amiss(new.read_bytes(), content)
+
+
+def goes_on(crew, port, late):
+    """What is wrong with a server over the new file, to which the clients of the old one come."""
+    crew.work()
+    crew.__exit__()
+    yield from crew.faults()
+    yield from kept_amiss(port, crew.fronts())
+    if parts_of(ask(port, listing(late)))[1] != {"events": [listed(late, 0)]}:
+        yield "a vehicle that came while the file was followed has another event"
+    if not any(client.unanswered for client in crew.clients):
+        yield "no client met the change"
+
+
+def changed_over(program, number):
+    """What is wrong where a server is ended by a signal, and another goes on over the new file while its clients ask."""
+    port = numbered_port()
+    with tempfile.TemporaryDirectory() as name, ExitStack() as clients:
+        old, new = Path(name, "old"), Path(name, "new")
+        with Server(program, None, workers=CLIENTS, journal=old, port=port) as server:
+            begun(port)
+            crew = clients.enter_context(Crew(port))
+            crew.work()
+            following = Following(program, old, new)
+            if (line := following.line()) != "following\n":
+                raise Unwell(f"in place of `following` it printed {line!r}, and {following.ended()}")
+            late = comes_meanwhile(port)
+            crew.work()
+            if new.exists() or following.child.poll() is not None:
+                yield "the new file is there while the server runs"
+            server.child.send_signal(number)
+            server.ended()
+        yield from made_of(following, old, new)
+        with Server(program, None, workers=CLIENTS, journal=new, port=port):
+            yield from goes_on(crew, port, late)
+
+
+def followed_to_the_end(program):
+    """Clients report while a server's journal is followed, while it is stopped, and while another starts over the new file: nothing
+    that was answered is lost, and nothing counts twice. The new file has what stays of the old one, as it is at last."""
+    for number in (signal.SIGTERM, signal.SIGKILL):
+        yield from (f"{number.name}: {it}" for it in changed_over(program, number))
+
+
+def followed_without_a_server(program):
+    """Where no server has the file, what is there is all."""
+    with tempfile.TemporaryDirectory() as name:
+        old, new = Path(name, "old"), Path(name, "new")
+        with Server(program, None, journal=old) as server:
+            begun(server.port)
+        following = Following(program, old, new)
+        content, last = left_of(old.read_bytes())
+        if (ended := following.ended()) != (0, f"following\n{last}", ""):
+            yield f"it ended with {ended}, in place of {last!r}"
+        else:
+            yield from content_amiss(new.read_bytes(), content)
+
+
 def beside_a_server(program):
-    """A front of a running server's journal is made small, as it is at a moment, and the server isn't hindered."""
+    """Without the option a front of a running server's journal is made small, as it is at a moment, and the server isn't hindered."""
     with tempfile.TemporaryDirectory() as name:
         old, new = Path(name, "old"), Path(name, "new")
         with Server(program, None, workers=CLIENTS, journal=old) as server:
@@ -158,4 +264,26 @@ def beside_a_server(program):
             yield from crew.faults()
 
 
-FOLLOWING = [beside_a_server]
+def killed_while_it_follows(program):
+    """A follower that SIGKILL ends leaves no new file, as long as the server runs, and hinders neither that nor the next one."""
+    chance = random.Random("kills")
+    with tempfile.TemporaryDirectory() as name:
+        old, new = Path(name, "old"), Path(name, "new")
+        with Server(program, None, workers=CLIENTS, journal=old) as server:
+            begun(server.port)
+            for _ in range(KILLS):
+                following = Following(program, old, new)
+                time.sleep(chance.uniform(0, MOST_WAIT))
+                following.child.kill()
+                status, out, faults = following.ended()
+                if (status, faults) != (-signal.SIGKILL, "") or out not in ("", "following\n") or new.exists():
+                    yield f"{status}, {out!r}, {faults!r}, and the new file is there: {new.exists()}"
+            device = device_at(0)
+            if ask(server.port, reporting(device, FIRST, FIRST + 1)) != done(1):
+                yield f"the server says {ask(server.port, looking(device))!r}"
+            following = Following(program, old, new)
+            following.line()
+        yield from made_of(following, old, new)
+
+
+FOLLOWING = [followed_to_the_end, followed_without_a_server, beside_a_server, killed_while_it_follows]
