@@ -10,13 +10,18 @@ use Rattle.mds_http.specs.declared.request.head_status.HeadStatus.{HeadStatus}
 use Rattle.mds_http.specs.declared.request.head_status.HeadStatus.TheVariants.{Partial, Invalid, Rejected, Complete}
 use Rattle.mds_http.specs.Asked.{Asked}
 use Rattle.mds_http.specs.Plan.{IsPlan}
-use Rattle.mds_http.specs.HeadStatus.{IsHeadStatus}
+use Rattle.mds_http.specs.HeadStatus.{IsHeadStatus, IsInReach}
 use Rattle.mds_http.proofs.PlanLaws.{invalid_determines, partial_determines, rejected_determines, complete_determines, statuses_stay}
-use Rattle.mds_face.specs.Reading.{Grows, IsEnough, ReadsNoFurther, missing_bytes}
+use Rattle.mds_face.specs.Reading.{Grows, HasStatus, IsEnough, ReadsNoFurther, missing_bytes}
 
 -- some bytes have the status of the same bytes
 pub status_of_same : (a b : List ℕ) (status : HeadStatus) → a ≡ b → IsHeadStatus a status → IsHeadStatus b status
 status_of_same a b status same is = subst (λ bytes. IsHeadStatus bytes status) same is
+
+-- and their body is in reach where that of the same bytes is
+pub has_status : {a b : List ℕ} {status : HeadStatus} → a ≡ b → IsHeadStatus a status → IsInReach a status → HasStatus b status
+has_status {a} {b} {status} same is reach =
+    record { head = status_of_same a b status same is; in_reach = subst (λ bytes. IsInReach bytes status) same reach }
 
 -- nothing was read yet
 pub read_none : (a : Option (List ℕ)) (bytes : List ℕ) → bytes ≡ [] → Consumes a a bytes

@@ -4,16 +4,32 @@ use Rattle.std.specs.List.{All}
 use mathlib.Core.List.{IsPrefix}
 use Rattle.mds_table.specs.Tables.{Tables}
 use Rattle.mds_core.specs.declared.request.Request.{Request}
+use Rattle.mds_journal.specs.Lines.{recovered_texts}
 use Rattle.mds_log.specs.Log.{Acceptance, requests}
 use Rattle.mds_book.specs.Gathering.{Collected}
 use Rattle.mds_book.specs.Seats.{Seated, new_seat}
 use Rattle.mds_book.specs.Shards.{part}
+use Rattle.mds_follow.specs.Disk.{IsTold}
 use Rattle.mds_follow.specs.Parts.{Covers}
+use Rattle.mds_follow.specs.Reading.{IsJournalFault, IsStartFault}
 use Rattle.mds_follow.specs.Record.{IsDesk, IsSound}
 use Rattle.mds_follow.specs.Restart.{IsRefilled}
+use Rattle.mds_follow.specs.declared.start_fault.StartFault.{StartFault}
 use Rattle.mds_pool.specs.declared.recorded_book.RecordedStop.{RecordedStop}
 use Rattle.mds_pool.specs.declared.recorded_book.RecordedStop.TheVariants.{Serve, Journal}
 use Rattle.mds_pool.specs.Serving.{IsEnded}
+
+-- a log of what is recorded begins at this moment, and holds what this file tells then
+pub record BeginsOver (start : ℕ) (held : List Request → Type 0) (moment : ℕ) (file : List ℕ)
+    : Type 0 where
+  pub at_moment : start ≡ moment
+  pub holds : (told : List Request) → IsTold (recovered_texts file) told → held told
+
+-- why a book over these tables isn't open over the journal of this file, and what the file is then:
+-- the same, where the fault is the journal's
+pub record IsNotStarted (tables : Tables) (file left : List ℕ) (fault : StartFault) : Type 0 where
+  pub why : IsStartFault tables file fault
+  pub same : IsJournalFault fault → left ≡ file
 
 -- the first seat alone has asked what is recorded, and the others were told nothing
 pub record AreResumed (seats : List Seated) (told : List Acceptance) : Type 0 where

@@ -12,9 +12,9 @@ pub invariant_of-result : goal.invariant_of-result
 invariant_of-result g c =
     let many : c.in-Ok.opened.0.seats ≡ c.args.opening.seats = ap (λ (b : Opened). b.seats) c.in-Ok.ensures.book in (
       subst (λ (n : ℕ). AreWorkers n (slice_set c.in-Ok.opened.1.items 0 c.resume.new.seat)) (sym many)
-          (first_resumed c.args.opening.seats c.in-Ok.opened.1.items c.index_mut.result.now c.resume.new.seat c.requires.seats.0 c.in-Ok.ensures.seats
+          (first_resumed c.args.opening.seats c.in-Ok.opened.1.items c.index_mut.result.now c.resume.new.seat c.requires.fits.seats.0 c.in-Ok.ensures.seats
           c.index_mut.ensures.value c.resume.ensures.keep),
-      resumed c.args.opening.seats c.in-Ok.opened.1.items c.resume.new.seat _ c.requires.seats.0 c.in-Ok.ensures.seats c.in-Ok-resume.ensures.refilled,
+      resumed c.args.opening.seats c.in-Ok.opened.1.items c.resume.new.seat _ c.requires.fits.seats.0 c.in-Ok.ensures.seats c.in-Ok-resume.ensures.refilled,
     )
 
 -- nothing was done to the file
@@ -29,4 +29,7 @@ returns-in-Err-clause-any_moment_err g c =
 pub returns-in-Err-resume-clause-fault : goal.returns-in-Err-resume-clause-fault
 returns-in-Err-resume-clause-fault g c truth =
     let Fault : Tables → Type 0 = λ w. IsStartFault w (g.D.Device.seen c.args.reader.opening.device) c.in-Err-resume.error.0 in
-    subst Fault (ap (λ (b : Opened). b.tables) c.in-Ok.ensures.book) (c.in-Err-resume.ensures.fault truth)
+    record {
+      why = subst Fault (ap (λ (b : Opened). b.tables) c.in-Ok.ensures.book) (c.in-Err-resume.ensures.fault truth);
+      same = c.in-Err-resume.ensures.same truth;
+    }
