@@ -13,7 +13,7 @@ begin-requires-clause-read g c truth =
     let told = c.read_back.new.keeper in
     let opened = c.read_back.new.ahead.reader.opening.device in
     let At : ℕ → Type 0 = λ t. told ≡ recorded_at t (requests told) in
-    read_only g.D.Device.seen g.D.Device.moment g.D.Device.left_since opened c.in-Ok-into_disk.disk.journal.device told g.J.RecordLog.start (c.requires.start ∙ sym none.time)
+    read_only g.D.Device.seen g.D.Device.moment g.D.Device.left_since opened c.in-Ok-into_disk.disk.journal.device told g.J.RecordLog.start (c.requires.begins.at_moment ∙ sym none.time)
     (c.in-Ok.ensures.all.told then) (subst At (sym none.time) (c.in-Ok.ensures.at_start then)) (c.in-Ok-into_disk.ensures.any_moment truth)
 
 -- the file was read, and nothing else was done to it
