@@ -96,6 +96,7 @@ Arguments:
 Options:
       --before <TIME>                The time from which on all events stay, in milliseconds since 1970; without it all do
       --cut <PROVIDER> <DEVICE> <N>  A vehicle of which the first N events alone stay; may be given again
+      --follow                       Goes on with what comes meanwhile, until no server has OLD
       --table <FILE>                 A table of transitions, or several with times, by which OLD is judged first
   -h, --help                         Print help
 """

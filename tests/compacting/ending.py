@@ -1,11 +1,12 @@
-"""Compactions that end in their middle: at each call of the system, by a fault of one, on a full disk. The new file isn't there then,
-or is whole."""
+"""Compactions that end in their middle, also those that follow: at each call of the system, by a fault of one, on a full disk. The new
+file isn't there then, or is whole."""
 
 import errno
 import os
 import subprocess
 import tempfile
 from concurrent.futures import ThreadPoolExecutor
+from itertools import product
 from pathlib import Path
 
 from compacting.running import content_amiss, left_amiss, run, totals
@@ -17,6 +18,7 @@ from harness.running import outcome
 from model.compaction import staying
 
 BEFORE = 9
+WAYS = (), ("--follow",)
 EVENTS = ("1a 2n 3a 4r", "1a 2np 3a 4n 5a", "")
 WRITES, SYNCS, LINKS = {1, 18, 20, 77, 285, 296}, {74, 75}, {82, 86, 264, 265, 316}
 """Numbers of calls (syscalls(2)) that write or cut a file, that sync one, and that give it a name."""
@@ -41,20 +43,22 @@ class Call:
 
 
 class Folder:
-    """A folder with a journal that is to be made small, and what is to come of it."""
+    """A folder with a journal that is to be made small, in one of the ways, and what is to come of it."""
 
-    def __init__(self, name):
+    def __init__(self, name, way):
+        self.way = way
         self.path, self.making = Path(name), journal_of(*EVENTS)
         self.old, self.new, self.record = self.path / "old", self.path / "new", Path(f"{name}.record")
         self.content = self.making.content()
         self.old.write_bytes(self.content)
         self.places = staying(self.making.lines, BEFORE)
-        self.wanted = (0, totals(self.making.lines, self.places), "")
+        self.said = "following\n" if way else ""
+        self.wanted = (0, self.said + totals(self.making.lines, self.places), "")
 
     def traced(self, program, at=0, error=0):
         """Runs the program, which is ended at a call, or has that fail: its status and outputs, and the calls."""
         tool = built("trace-calls", "tests/trace-calls.c", "-O2")
-        words = [tool, self.record, at, error, program, "compact", self.old, self.new, "--before", BEFORE]
+        words = [tool, self.record, at, error, program, "compact", self.old, self.new, "--before", BEFORE, *self.way]
         ran = subprocess.run([*map(str, words)], capture_output=True, timeout=WITHIN)
         calls = [Call(line) for line in self.record.read_text().splitlines()]
         self.record.unlink()
@@ -72,16 +76,16 @@ class Folder:
     def again(self, program):
         """What is wrong with the next run: it has the new file made, or finds that it is there."""
         was_there = self.new.exists()
-        found = run(program, "compact", self.old, self.new, "--before", BEFORE)
+        found = run(program, "compact", self.old, self.new, "--before", BEFORE, *self.way)
         wanted = (3, "", f"mds_city: {self.new} is there\n") if was_there else self.wanted
         if found != wanted:
             yield f"the next run: {found}, in place of {wanted}"
         yield from self.amiss(is_there=True)
 
 
-def calls_of(program, name):
+def calls_of(program, name, way):
     """The calls of a run that nothing ends, from that one on which comes before the first one on the old file."""
-    folder = Folder(name)
+    folder = Folder(name, way)
     found, calls = folder.traced(program)
     if found != folder.wanted:
         raise AssertionError(f"{found}, in place of {folder.wanted}")
@@ -90,16 +94,22 @@ def calls_of(program, name):
 
 
 def each_call(program, ended, numbers=None):
-    """What is wrong with runs that each have another call made otherwise, as `ended` says, side by side: all, or those of these
+    """What is wrong with runs, in each way, that each have another call made otherwise, as `ended` says: all, or those of these
     numbers."""
+    for way in WAYS:
+        yield from (f"{' '.join(way)}: {it}" for it in each_call_by(program, way, ended, numbers))
+
+
+def each_call_by(program, way, ended, numbers):
+    """What is wrong with those in one way, side by side."""
     with tempfile.TemporaryDirectory() as name, ThreadPoolExecutor(AT_ONCE) as pool:
         (whole := Path(name, "whole")).mkdir()
-        calls, first = calls_of(program, str(whole))
+        calls, first = calls_of(program, str(whole), way)
 
         def one(at):
             (path := Path(name, str(at))).mkdir()
             changed = Call(f"{calls[at].number} {calls[at].first} 0 0 {calls[at].path.replace(str(whole), str(path), 1)}")
-            return [f"call {at}, {changed.number} of {changed.path}: {it}" for it in ended(Folder(str(path)), at + 1, changed)]
+            return [f"call {at}, {changed.number} of {changed.path}: {it}" for it in ended(Folder(str(path), way), at + 1, changed)]
 
         chosen = [at for at in range(first, len(calls)) if numbers is None or calls[at].number in numbers]
         for complaints in pool.map(one, chosen):
@@ -111,7 +121,7 @@ def killed_at_each_call(program):
 
     def ended(folder, at, _):
         found, _ = folder.traced(program, at)
-        if found[0] != 137 or found[1] not in ("", folder.wanted[1]):
+        if found[0] != 137 or found[1] not in ("", folder.said, folder.wanted[1]):
             yield f"{found}"
         yield from folder.amiss()
         yield from folder.again(program)
@@ -129,7 +139,7 @@ def each_call_fails(program):
             is_of_new = call.number in SYNCS or call.is_of(WRITES, folder.path)
             if found[0] == 0 and (found != folder.wanted or is_of_new):
                 yield f"error {number}: {found}"
-            if found[0] and (found[0] not in (3, 4, 127) or found[1] or not found[2]):
+            if found[0] and (found[0] not in (3, 4, 127) or found[1] not in ("", folder.said) or not found[2]):
                 yield f"error {number}: {found}"
             yield from folder.amiss(is_there=True if found[0] == 0 else None)
             yield from folder.again(program)
@@ -141,15 +151,21 @@ def each_call_fails(program):
 def synced_in_order(program):
     """All that is written is synced before it has the new name, and the folder before the run tells of it. So a power cut leaves no
     file of that name, or a whole one."""
+    for way in WAYS:
+        yield from (f"{' '.join(way)}: {it}" for it in order_amiss(program, way))
+
+
+def order_amiss(program, way):
+    """What is wrong with the order of the calls of a run."""
     with tempfile.TemporaryDirectory() as name:
-        calls, _ = calls_of(program, name)
+        calls, _ = calls_of(program, name, way)
         folder = os.path.realpath(name)
         wrote = [at for at, call in enumerate(calls) if call.is_of(WRITES, folder)]
         synced = [at for at, call in enumerate(calls) if call.is_of(SYNCS, folder)]
         named = [at for at, call in enumerate(calls) if call.number in LINKS]
         of_folder = [at for at, call in enumerate(calls) if call.number in SYNCS and call.path == folder]
         told = [at for at, call in enumerate(calls) if call.number in WRITES and call.first == 1]
-        order = [wrote[-1:], synced[-1:], named[:1], of_folder[-1:], told[:1]]
+        order = [wrote[-1:], synced[-1:], named[:1], of_folder[-1:], told[-1:]]
         if not all(order) or order != sorted(order):
             yield f"the last write, its sync, the name, the sync of the folder and the text stand at {order}"
         if any(calls[at].path == f"{folder}/new" for at in wrote):
@@ -163,11 +179,12 @@ def on_a_full_disk(program):
         (folder / "old").write_bytes(making.content())
         (folder / "filler").write_bytes(bytes(free_blocks(folder) * os.statvfs(folder).f_bsize - LEFT))
         free = free_blocks(folder)
-        status, out, faults = run(program, "compact", folder / "old", folder / "new", "--before", 0)
-        if (status, out) != (3, "") or not faults.startswith("mds_city: "):
-            yield f"without room: {status}, {out!r}, {faults!r}"
-        if sorted(os.listdir(folder)) != ["filler", "old"] or free_blocks(folder) != free:
-            yield f"without room: there are {os.listdir(folder)}, and {free_blocks(folder)} free blocks of {free}"
+        for way in WAYS:
+            status, out, faults = run(program, "compact", folder / "old", folder / "new", "--before", 0, *way)
+            if (status, out) not in ((3, ""), (3, "following\n" if way else "")) or not faults.startswith("mds_city: "):
+                yield f"without room: {status}, {out!r}, {faults!r}"
+            if sorted(os.listdir(folder)) != ["filler", "old"] or free_blocks(folder) != free:
+                yield f"without room: there are {os.listdir(folder)}, and {free_blocks(folder)} free blocks of {free}"
         (folder / "filler").unlink()
         yield from left_amiss(program, making, range(len(making.lines)), folder, "--before", 0)
 
@@ -178,8 +195,9 @@ def free_blocks(folder):
 
 def output_that_fails(program):
     """Standard output is closed, full, or a pipe that nobody reads: that is told, and what there is of the new file is whole."""
-    for stream in NO_STREAMS:
-        case = Case(f"compact old new --before {BEFORE}", files={"old": journal_of(*EVENTS).content()}, stdout=stream)
+    for stream, way in product(NO_STREAMS, WAYS):
+        words = ["compact", "old", "new", "--before", str(BEFORE), *way]
+        case = Case(words, files={"old": journal_of(*EVENTS).content()}, stdout=stream)
         status, _, faults = outcome(program, case)
         if str(status) not in ("3", "3 with other files, new") or faults.decode() != OUTPUT:
             yield f"{stream}: {status}, {faults!r}"

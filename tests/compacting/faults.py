@@ -2,16 +2,21 @@
 
 import os
 import tempfile
+from itertools import product
 from pathlib import Path
 
 from cases.replays import A, P
 from cases.tables import ONE_ROW, PROFILE, table_file
 from cases.vehicles import FAULTS, NEW, NO_FORM, WOKEN, journal, not_a_journal
 from compacting.running import content_amiss, run
-from harness.case import cannot_read, not_a_table, padded
+from harness.building import no_random_numbers
+from harness.case import RANDOM, cannot_read, not_a_table, padded, told
+from harness.running import differences, outcome
 from harness.texts import as_bytes
 
 BEFORE = ("--before", "9")
+WAYS = (BEFORE, (*BEFORE, "--follow"))
+"""Without a server the two tell the same."""
 
 
 def untouched(program, files, words, wanted):
@@ -34,13 +39,23 @@ def faulty_journals(program):
     faulty = [(journal(*texts), fault) for texts, fault in FAULTS] + [(text, "form") for text in NO_FORM]
     for text, fault in faulty:
         if not fault.startswith("refused"):
-            yield from untouched(program, {"old": text}, ["@/old", "@/new", *BEFORE], (3, "", not_a_journal(fault)))
+            for way in WAYS:
+                yield from untouched(program, {"old": text}, ["@/old", "@/new", *way], (3, "", not_a_journal(fault)))
 
 
 def judged_first(program):
     """With a table file the old journal is judged before all else is looked at, and each fault told as `vehicles` does. Where it's
     accepted the compaction is as without one."""
-    words, table = ["@/old", "@/new", *BEFORE, "--table", "@/table"], {"table": profile()}
+    for way in WAYS:
+        yield from judged_by(program, ["@/old", "@/new", *way, "--table", "@/table"])
+    old = journal(*NEW, WOKEN)
+    yield from accepted(program, old, BEFORE, "")
+    yield from accepted(program, old, [*BEFORE, "--follow"], "following\n")
+
+
+def judged_by(program, words):
+    """What is wrong with compactions by these words, of journals that are judged, and aren't taken."""
+    table = {"table": profile()}
     for texts, fault in FAULTS:
         for there in ({}, {"new": ""}):
             files = {"old": journal(*texts), **table, **there}
@@ -55,18 +70,17 @@ def judged_first(program):
     yield from untouched(program, {"old": old, "new": "", **table}, words, (3, "", "mds_city: @/new is there\n"))
     # by the one row of this table no vehicle is dropped off
     yield from untouched(program, {"old": old, "table": ONE_ROW}, words, (3, "", not_a_journal("refused 2")))
-    yield from accepted(program, old)
 
 
-def accepted(program, old):
+def accepted(program, old, way, printed):
     """What is wrong with the compaction of a journal of one event that the profile accepts, where it's judged."""
     with tempfile.TemporaryDirectory() as name:
         paths = [Path(name, file) for file in ("old", "new", "table")]
         paths[0].write_text(old)
         paths[2].write_text(profile())
-        found = run(program, "compact", *paths[:2], *BEFORE, "--table", paths[2])
-        if found != (0, "registrations 1 events 1 of 1\n", ""):
-            yield f"{found}"
+        found = run(program, "compact", *paths[:2], *way, "--table", paths[2])
+        if found != (0, f"{printed}registrations 1 events 1 of 1\n", ""):
+            yield f"{way}: {found}"
         else:
             yield from content_amiss(paths[1].read_bytes(), old.encode())
 
@@ -77,17 +91,19 @@ def profile():
 
 def no_old_file(program):
     """A file that isn't there, or is a folder."""
-    yield from untouched(program, {}, ["@/old", "@/new", *BEFORE], (3, "", cannot_read("@/old")))
-    yield from untouched(program, {}, ["@", "@/new", *BEFORE], (3, "", cannot_read("@")))
+    for way in WAYS:
+        yield from untouched(program, {}, ["@/old", "@/new", *way], (3, "", cannot_read("@/old")))
+        yield from untouched(program, {}, ["@", "@/new", *way], (3, "", cannot_read("@")))
 
 
 def a_new_file_that_is_there(program):
     """Nothing is written over a file, the old one, a folder or a link that leads nowhere."""
     there = (3, "", "mds_city: @/new is there\n")
     old = journal(*NEW, WOKEN)
-    for text in ("", "what was there", old):
-        yield from untouched(program, {"old": old, "new": text}, ["@/old", "@/new", *BEFORE], there)
-    yield from untouched(program, {"old": old}, ["@/old", "@/old", *BEFORE], (3, "", "mds_city: @/old is there\n"))
+    for way in WAYS:
+        for text in ("", "what was there", old):
+            yield from untouched(program, {"old": old, "new": text}, ["@/old", "@/new", *way], there)
+        yield from untouched(program, {"old": old}, ["@/old", "@/old", *way], (3, "", "mds_city: @/old is there\n"))
     with tempfile.TemporaryDirectory() as name:
         path = Path(name, "old")
         path.write_text(old)
@@ -110,6 +126,13 @@ def no_place_for_it(program):
         status, out, faults = run(program, "compact", path, Path(name, "nowhere/new"), *BEFORE)
         if (status, out) != (3, "") or not faults.startswith("mds_city: ") or os.listdir(name) != ["old"]:
             yield f"{status}, {out!r}, {faults!r}, and {os.listdir(name)}"
+
+
+def without_random_numbers(program):
+    """Where the system gives no random numbers that is told, before a file that isn't there, or one that is."""
+    for way, old, new in product(WAYS, ("old", "nowhere"), ("new", "old")):
+        case = told(["compact", old, new, *way], RANDOM, files={"old": journal(*NEW, WOKEN)}, env=no_random_numbers())
+        yield from (f"{old} {new} {way}: {it}" for it in differences(case, *outcome(program, case)))
 
 
 def no_words(program):
@@ -136,6 +159,9 @@ def no_words(program):
         f"@/old @/new --cut {P} {A} 1 --before x",
         f"@/old @/new --before 9 --cut {P} {A} 1 {P}",
         "@/old @/new --before 9 --cut",
+        "@/old @/new --follow",
+        "@/old @/new --before 9 --follow --follow",
+        f"@/old @/new --before 9 --follow --cut {P} {A} 1",
     ):
         with tempfile.TemporaryDirectory() as name:
             Path(name, "old").write_text(old)
@@ -164,6 +190,7 @@ FAULTY = [
     no_old_file,
     a_new_file_that_is_there,
     no_place_for_it,
+    without_random_numbers,
     no_words,
     long_lines,
 ]

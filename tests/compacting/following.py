@@ -1,21 +1,28 @@
-"""Journals of running servers, which `compact` makes small while their clients go on."""
+"""Journals of running servers: `compact` beside one, and `--follow`, whose clients go on over the change of files."""
 
+import fcntl
 import json
+import os
 import random
 import re
+import signal
+import subprocess
 import tempfile
 import threading
 import time
+from contextlib import ExitStack, contextmanager
 from pathlib import Path
 
-from cases.vehicles import FORM
+from cases.vehicles import FORM, not_a_journal
 from compacting.running import SECONDS, content_amiss, run, totals
+from compacting.worked import journal_of
 from crashing.files import counted
-from crashing.reports import FIRST_TIME, device_at, parts_of, registering, reporting, status_of
+from crashing.reports import FIRST_TIME, device_at, listed, listing, looking, parts_of, registering, reporting, status_of
+from harness.building import built
 from harness.counting import Unwell
 from model.compaction import Line, staying
 from serving.http import done
-from serving.server import Server
+from serving.server import Server, numbered_port
 from serving.wire import ask, connect
 
 CLIENTS, DEVICES = 4, 3
@@ -28,6 +35,13 @@ ANSWERS = 150
 """To reports, before something happens."""
 PAUSE = 0.01
 """Seconds until a request is sent again that wasn't answered."""
+KILLS, MOST_WAIT = 8, 0.2
+"""Followers that are killed, and how many seconds behind their start at most."""
+RIDES, SINCE, LATER = "1a 2n 3a 4r", "5n 6r 7n 8a 9r", 99
+"""Events of a vehicle that are there at first, of which a loop goes; those that come meanwhile, with loops of their own; and a TIME
+behind all of them."""
+LOOKS = 0.5
+"""Seconds in which a follower looks several times."""
 
 
 class Client(threading.Thread):
@@ -108,6 +122,22 @@ class Crew:
         return [fault for client in self.clients for fault in client.faults]
 
 
+class Following:
+    """A compaction that follows a server, in its own process."""
+
+    def __init__(self, program, old, new, before=BEFORE, **more):
+        words = [program, "compact", old, new, "--before", before, "--follow"]
+        pipes = {"stdout": subprocess.PIPE, "stderr": subprocess.PIPE, "text": True}
+        self.child = subprocess.Popen([*map(str, words)], env={**os.environ, **more}, **pipes)
+
+    def line(self):
+        return self.child.stdout.readline()
+
+    def ended(self):
+        out, faults = self.child.communicate(timeout=SECONDS)
+        return self.child.returncode, out, faults
+
+
 def begun(port):
     """Has a server know all vehicles, with their first events."""
     devices = [device_at(number) for number in range(CLIENTS * DEVICES)]
@@ -136,8 +166,194 @@ def left_of(content, count=None):
     return wanted.encode(), totals(lines, places)
 
 
+def kept_amiss(port, fronts):
+    """What is wrong with the events that a server lists: of TIME or later each vehicle has all, one time each and in order."""
+    for device, front in fronts.items():
+        events = parts_of(ask(port, listing(device)))[1]["events"]
+        numbers = [event["timestamp"] - FIRST_TIME for event in events]
+        if [number for number in numbers if number >= OLD_EVENTS] != list(range(OLD_EVENTS, front)):
+            yield f"{device} has the events {numbers}, of {front}"
+        if any(event != listed(device, number) for event, number in zip(events, numbers)):
+            yield f"{device} has an event that isn't as it was reported"
+        if len(numbers) >= front:
+            yield f"{device} has all {front} events still"
+
+
+def comes_meanwhile(port):
+    """Registers a vehicle with one event, while the file is followed."""
+    late = device_at(1000)
+    if ask(port, registering(late)) != done(1) or ask(port, reporting(late, 0, 1)) != done(1):
+        raise Unwell("a vehicle isn't accepted while the file is followed")
+    return late
+
+
+def made_of(following, old, new):
+    """What is wrong with what a follower has made of the old file, as it is at last."""
+    content, last = left_of(old.read_bytes())
+    ended = following.ended()
+    if ended != (0, last, ""):
+        raise Unwell(f"it ended with {ended}, in place of {last!r}")
+    yield from content_amiss(new.read_bytes(), content)
+
+
+def goes_on(crew, port, late):
+    """What is wrong with a server over the new file, to which the clients of the old one come."""
+    crew.work()
+    crew.__exit__()
+    yield from crew.faults()
+    yield from kept_amiss(port, crew.fronts())
+    if parts_of(ask(port, listing(late)))[1] != {"events": [listed(late, 0)]}:
+        yield "a vehicle that came while the file was followed has another event"
+    if not any(client.unanswered for client in crew.clients):
+        yield "no client met the change"
+
+
+def changed_over(program, number):
+    """What is wrong where a server is ended by a signal, and another goes on over the new file while its clients ask."""
+    port = numbered_port()
+    with tempfile.TemporaryDirectory() as name, ExitStack() as clients:
+        old, new = Path(name, "old"), Path(name, "new")
+        with Server(program, None, workers=CLIENTS, journal=old, port=port) as server:
+            begun(port)
+            crew = clients.enter_context(Crew(port))
+            crew.work()
+            following = Following(program, old, new)
+            if (line := following.line()) != "following\n":
+                raise Unwell(f"in place of `following` it printed {line!r}, and {following.ended()}")
+            late = comes_meanwhile(port)
+            crew.work()
+            if new.exists() or following.child.poll() is not None:
+                yield "the new file is there while the server runs"
+            server.child.send_signal(number)
+            server.ended()
+        yield from made_of(following, old, new)
+        with Server(program, None, workers=CLIENTS, journal=new, port=port):
+            yield from goes_on(crew, port, late)
+
+
+def followed_to_the_end(program):
+    """Clients report while a server's journal is followed, while it is stopped, and while another starts over the new file: nothing
+    that was answered is lost, and nothing counts twice. The new file has what stays of the old one, as it is at last."""
+    for number in (signal.SIGTERM, signal.SIGKILL):
+        yield from (f"{number.name}: {it}" for it in changed_over(program, number))
+
+
+@contextmanager
+def growing(making, count, old):
+    """The first lines of a journal, in a file that is locked as a server locks it, and a function that adds bytes behind them, before
+    it opens their gate."""
+    front = making.content(range(count))
+    old.write_bytes(front)
+    with open(old, "r+b", buffering=0) as file:
+        fcntl.flock(file, fcntl.LOCK_EX)
+
+        def add(lines, start=len(front) - 1):
+            here = max(start, len(counted(old.read_bytes())))
+            os.pwrite(file.fileno(), b"#" + lines[1:], here)
+            time.sleep(PAUSE)
+            os.pwrite(file.fileno(), lines[:1], here)
+
+        yield add
+
+
+def lines_that_come(program):
+    """Of what was there at first a loop goes. What comes while another process has the file stays as it stands, by and by, and the last
+    of it just before the file is left; half a line isn't one."""
+    making = journal_of(f"{RIDES} {SINCE}")
+    count = 1 + len(RIDES.split())
+    tail = [f" {text}\n".encode() for text in making.texts[count:]]
+    with tempfile.TemporaryDirectory() as name:
+        old, new = Path(name, "old"), Path(name, "new")
+        with growing(making, count, old) as add:
+            following = Following(program, old, new, LATER)
+            if following.line() != "following\n":
+                yield f"it ended with {following.ended()}"
+            for some in (tail[:2], tail[2:4]):
+                add(b"".join(some) + b"#")
+                time.sleep(LOOKS)
+            if new.exists() or following.child.poll() is not None:
+                yield "the new file is there while another process has the old one"
+            add(b"".join(tail[4:]) + b' {"half')
+        places = [0, 1, count - 1, *range(count, len(making.lines))]
+        if (ended := following.ended()) != (0, totals(making.lines, places), ""):
+            yield f"it ended with {ended}"
+        else:
+            yield from content_amiss(new.read_bytes(), making.content(places))
+
+
+def held_at_the_lock(folder):
+    """What has a follower wait at its next look at the lock, while `hold` is there; `held` is there once it waits."""
+    hold, held = folder / "hold", folder / "held"
+    shim = built("hold-lock.so", "tests/hold-lock.c", "-shared", "-fPIC", "-O1", "-ldl")
+    return hold, held, {"LD_PRELOAD": str(shim), "HOLD": str(hold), "HELD": str(held)}
+
+
+def comes(path):
+    """Waits until a file is there."""
+    end = time.monotonic() + SECONDS
+    while not path.exists():
+        if time.monotonic() > end:
+            raise Unwell(f"{path.name} isn't there after {SECONDS} seconds")
+        time.sleep(PAUSE)
+
+
+def the_last_look(program):
+    """What comes between a look at the file and the moment at which nobody has it is in the new file too."""
+    making = journal_of(f"{RIDES} {SINCE}")
+    count = 1 + len(RIDES.split())
+    since = "".join(f" {text}\n" for text in making.texts[count:]).encode()
+    with tempfile.TemporaryDirectory() as name:
+        old, new = Path(name, "old"), Path(name, "new")
+        hold, held, more = held_at_the_lock(Path(name))
+        with growing(making, count, old) as add:
+            following = Following(program, old, new, LATER, **more)
+            if following.line() != "following\n":
+                yield f"it ended with {following.ended()}"
+            hold.touch()
+            comes(held)
+            add(since + b"#")
+        hold.unlink()
+        places = [0, 1, count - 1, *range(count, len(making.lines))]
+        if (ended := following.ended()) != (0, totals(making.lines, places), ""):
+            yield f"it ended with {ended}"
+        else:
+            yield from content_amiss(new.read_bytes(), making.content(places))
+
+
+def a_fault_that_comes(program):
+    """A line that is none ends it, with its number in the whole file, and there is no new file."""
+    making = journal_of(f"{RIDES} {SINCE}")
+    count = 1 + len(RIDES.split())
+    since = "".join(f" {text}\n" for text in making.texts[count:]).encode()
+    with tempfile.TemporaryDirectory() as name:
+        old, new = Path(name, "old"), Path(name, "new")
+        with growing(making, count, old) as add:
+            following = Following(program, old, new, LATER)
+            said = following.line()
+            add(since + b" 7\n#")
+            ended = following.ended()
+        if (said, *ended) != ("following\n", 3, "", not_a_journal(f"bad_line {len(making.lines) + 1}")):
+            yield f"it said {said!r}, and ended with {ended}"
+        if os.listdir(name) != ["old"]:
+            yield f"there are {os.listdir(name)}"
+
+
+def followed_without_a_server(program):
+    """Where no server has the file, what is there is all."""
+    with tempfile.TemporaryDirectory() as name:
+        old, new = Path(name, "old"), Path(name, "new")
+        with Server(program, None, journal=old) as server:
+            begun(server.port)
+        following = Following(program, old, new)
+        content, last = left_of(old.read_bytes())
+        if (ended := following.ended()) != (0, f"following\n{last}", ""):
+            yield f"it ended with {ended}, in place of {last!r}"
+        else:
+            yield from content_amiss(new.read_bytes(), content)
+
+
 def beside_a_server(program):
-    """A front of a running server's journal is made small, as it is at a moment, and the server isn't hindered."""
+    """Without the option a front of a running server's journal is made small, as it is at a moment, and the server isn't hindered."""
     with tempfile.TemporaryDirectory() as name:
         old, new = Path(name, "old"), Path(name, "new")
         with Server(program, None, workers=CLIENTS, journal=old) as server:
@@ -158,4 +374,34 @@ def beside_a_server(program):
             yield from crew.faults()
 
 
-FOLLOWING = [beside_a_server]
+def killed_while_it_follows(program):
+    """A follower that SIGKILL ends leaves no new file, as long as the server runs, and hinders neither that nor the next one."""
+    chance = random.Random("kills")
+    with tempfile.TemporaryDirectory() as name:
+        old, new = Path(name, "old"), Path(name, "new")
+        with Server(program, None, workers=CLIENTS, journal=old) as server:
+            begun(server.port)
+            for _ in range(KILLS):
+                following = Following(program, old, new)
+                time.sleep(chance.uniform(0, MOST_WAIT))
+                following.child.kill()
+                status, out, faults = following.ended()
+                if (status, faults) != (-signal.SIGKILL, "") or out not in ("", "following\n") or new.exists():
+                    yield f"{status}, {out!r}, {faults!r}, and the new file is there: {new.exists()}"
+            device = device_at(0)
+            if ask(server.port, reporting(device, FIRST, FIRST + 1)) != done(1):
+                yield f"the server says {ask(server.port, looking(device))!r}"
+            following = Following(program, old, new)
+            following.line()
+        yield from made_of(following, old, new)
+
+
+FOLLOWING = [
+    followed_to_the_end,
+    lines_that_come,
+    the_last_look,
+    a_fault_that_comes,
+    followed_without_a_server,
+    beside_a_server,
+    killed_while_it_follows,
+]

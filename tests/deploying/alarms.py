@@ -68,6 +68,10 @@ def events(values, outcome="done"):
     return of_server("mds_city_requests_total", values, kind="event", outcome=outcome)
 
 
+def other_events(values):
+    return series("mds_city_requests_total", values, job="mds_city", instance="two", kind="event", outcome="done")
+
+
 def syncs(slow):
     """Twenty syncs each 15 seconds, of which so many take from 0.2 to 0.5 seconds."""
     counts = {"0.01": 20 - slow, "0.2": 20 - slow, "0.5": 20, "+Inf": 20}
@@ -92,6 +96,16 @@ def unit(values, state="failed", name="mds_city-ship@one.service"):
     return series("node_systemd_unit_state", values, job="machine", instance="machine", name=name, state=state)
 
 
+def restarts(values, name="mds_city@one.service"):
+    """How often systemd has started a unit again."""
+    return series("node_systemd_service_restart_total", values, job="machine", instance="machine", name=name)
+
+
+def clock(values):
+    """Whether the machine's clock is synchronized."""
+    return series("node_timex_sync_status", values, job="machine", instance="machine")
+
+
 def machine(values):
     """Whether the exporter of the machine answers."""
     return series("up", values, job="machine", instance="machine")
@@ -107,6 +121,8 @@ def refusals(refused):
     return [events("0+98x2000"), events(f"0+2x480 960+{refused}x1000", "late"), events("0+50x2000", "not_kept")]
 
 
+ALL = series("up", "1x9", instance="all")
+"""Says first of whom an alarm is that is of no instance."""
 CASES = [
     ("MdsCityDown", [series("up", "1x20 0x20", job="haproxy", instance="haproxy")], {"6m": 0, "7m30s": 1}),
     ("MdsCityDown", [of_server("up", "1x20 0x4 1x20")], {"7m30s": 0}),
@@ -119,18 +135,24 @@ CASES = [
     ("MdsCityDisk", disk("15x40"), {"8m": 0}),
     ("MdsCityDisk", disk("14x40", "/var/lib/mds_city_archive"), {"5m": 1}),
     ("MdsCityNotKept", [of_server("mds_city_journal_not_kept", "0x10 1 0x60")], {"2m30s": 0, "2m45s": 1, "7m30s": 1, "8m": 0}),
+    ("MdsCityNoEvents", [ALL, events("0+1x40 40x400"), other_events("7x440")], {"24m30s": 0, "25m30s": 1, "1h": 1}),
+    ("MdsCityNoEvents", [ALL, events("7x440"), other_events("0+1x440")], {"30m": 0}),
     ("MdsCitySilent", [events("0+1x40 40x400")], {"1h9m": 0, "1h11m": 1}),
     ("MdsCitySilent", [events("0+1x40 40x150 0+1x40")], {"1h20m": 0}),
     ("MdsCityRefusals", refusals(20), {"2h5m": 0, "2h25m": 1}),
     ("MdsCityRefusals", refusals(8), {"2h25m": 0}),
     ("MdsCityRestarts", [of_server("process_start_time_seconds", "1x20 2x20 3x400")], {"9m": 0, "10m30s": 1, "1h10m": 0}),
     ("MdsCityRestarts", [of_server("process_start_time_seconds", "1x20 2x20")], {"9m": 0}),
+    ("MdsCityEnded", [restarts("0x40 1x400")], {"9m45s": 0, "10m30s": 1, "1h15m": 0}),
+    ("MdsCityEnded", [restarts("3x40 0x40"), restarts("0+1x80", "cron.service")], {"15m": 0}),
     ("MdsCitySyncs", syncs(3), {"4m": 0, "6m": 1}),
     ("MdsCitySyncs", syncs(1), {"10m": 0}),
     ("MdsCityFewer", [vehicles("100x40 99x200")], {"14m45s": 0, "15m15s": 1, "50m": 1}),
     ("MdsCityFewer", [vehicles("100x40 0x8 100x40 101x40")], {"13m": 0, "30m": 0}),
     ("MdsCityAhead", [newest(5100)], {"4m45s": 0, "5m15s": 1}),
     ("MdsCityAhead", [newest(3600)], {"15m": 0}),
+    ("MdsCityClock", [clock("1x20 0x300")], {"1h4m45s": 0, "1h5m30s": 1}),
+    ("MdsCityClock", [clock("1x20 0x200 1x200")], {"1h30m": 0}),
     ("MdsCityWatch", [], {"0s": 1, "20m": 1}),
     # Each minute it fails for 45 seconds, and is tried for 15.
     ("MdsCityUnits", [unit("0x20" + " 1 1 1 0" * 60)], {"14m45s": 0, "15m30s": 1}),
@@ -139,7 +161,8 @@ CASES = [
     ("MdsCityUnits", [unit("1x100", name="mds_city-archive.service")], {"10m15s": 1}),
     ("MdsCityUnits", [unit("1x100", "active"), unit("1x100", name="cron.service")], {"20m": 0}),
     ("MdsCityNoUnits", [machine("1x60")], {"9m45s": 0, "10m15s": 1}),
-    ("MdsCityNoUnits", [machine("1x60"), unit("0x60")], {"15m": 0}),
+    ("MdsCityNoUnits", [machine("1x60"), unit("0x60")], {"10m15s": 1}),
+    ("MdsCityNoUnits", [machine("1x60"), restarts("0x60")], {"15m": 0}),
     ("MdsCityNoUnits", [machine("0x60")], {"15m": 0}),
 ]
 """Series of figures, and when the alarm fires over them, and when it doesn't."""
@@ -365,7 +388,7 @@ def haproxy_alone(folder, figures, queues):
 def exporter(folder, port):
     """The exporter of the machine, of its disks alone, and of a unit in place of systemd."""
     words = [installed("prometheus-node-exporter"), f"--web.listen-address=127.0.0.1:{port}", "--log.level=error"]
-    Path(folder, "units.prom").write_text('node_systemd_unit_state{name="cron.service",state="active"} 1\n')
+    Path(folder, "units.prom").write_text('node_systemd_service_restart_total{name="cron.service"} 0\n')
     words += ["--collector.disable-defaults", "--collector.filesystem", "--collector.textfile", f"--collector.textfile.directory={folder}"]
     return Proxy(words, folder, [port])
 

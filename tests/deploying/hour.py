@@ -4,6 +4,7 @@ provider is hostile by turns."""
 import contextlib
 import itertools
 import json
+import math
 import multiprocessing
 import os
 import statistics
@@ -11,6 +12,7 @@ import threading
 import time
 from collections import Counter, defaultdict
 
+from deploying import flooding
 from deploying.alarms import exporter
 from deploying.city_of_twelve import NAMES, CityOfTwelve
 from deploying.passing import padded, path_of, sent
@@ -28,12 +30,13 @@ AN_HOUR, EVENTS = 3600, 400000
 AT_ONCE, VEHICLES = 2, 200
 """How many events a report has, and how many vehicles a provider."""
 PACE = AT_ONCE * (HOSTILE - 1) * AN_HOUR / EVENTS
-"""How many seconds lie between two reports of one provider. One that waits for longer for its answer reports less."""
+"""How many seconds lie between two reports of one provider."""
+HASTE = 0.6
+"""Which part of its pace a provider leaves between two reports where it is late: what happened meanwhile is reported, too."""
 LEAST = 0.9
 """Which part of what another provider reports in a second it still reports beside the hostile one."""
-FLOODERS, PATIENCE, SLOW, JUNK = 160, 1.0, 100, 10000
-"""Connections of the hostile one that ask without a pause, for how many seconds each waits for an answer, connections that send a byte
-now and then, and the items of a long report."""
+SLOW, JUNK = 100, 10000
+"""Connections of the hostile one that send a byte now and then, and the items of a long report."""
 ENDING = 60
 """How many seconds a process of the hostile one may take to end."""
 NICE = 10
@@ -52,9 +55,9 @@ def exchange(connection, request):
 class Provider(threading.Thread):
     """A provider that reports its vehicles' events at its pace, and notes how long each report took, in which turn."""
 
-    def __init__(self, city, number, turn):
+    def __init__(self, city, number, reports, turn):
         super().__init__()
-        self.city, self.number, self.turn = city, number, turn
+        self.city, self.number, self.reports, self.turn = city, number, reports, turn
         self.owners = [vehicle(city.providers[number - 1], at) for at in range(VEHICLES)]
         self.waits, self.success, self.wrong = defaultdict(list), 0, []
         self.over = threading.Event()
@@ -77,11 +80,11 @@ class Provider(threading.Thread):
             yield [event(owner, number + at, types, state) for at, owner in enumerate(owners)]
 
     def run(self):
-        following = time.monotonic() + PACE * self.number / HOSTILE
-        for listed in self.batches():
+        due = following = time.monotonic() + PACE * self.number / HOSTILE
+        for listed in itertools.islice(self.batches(), self.reports):
             if self.over.wait(max(0, following - time.monotonic())) or self.wrong:
                 return
-            following = time.monotonic() + PACE
+            due, following = due + PACE, max(due + PACE, time.monotonic() + HASTE * PACE)
             self.report(listed)
 
     def report(self, listed):
@@ -102,13 +105,9 @@ class Provider(threading.Thread):
 
 
 def flood(city, is_on, told):
-    """Reports without a pause, on a connection that is kept."""
+    """Reports without a pause, on connections that are kept."""
     request = sent("POST", "/events", token_of(HOSTILE), b"[]").replace(b"Connection: close\r\n", b"")
-    with city.connect() as connection:
-        connection.settimeout(PATIENCE)
-        while is_on():
-            status, _, _ = exchange(connection, request)
-            told[status] = told.get(status, 0) + 1
+    flooding.flood(city, request, is_on, told)
 
 
 def fill(city, is_on, told, numbers=itertools.count()):
@@ -172,7 +171,7 @@ class Hostile:
     def __init__(self, city):
         of = multiprocessing.get_context("fork")
         self.turn_on, self.over, self.processes, self.statuses = of.Event(), of.Event(), [], Counter()
-        for kinds in ([flood] * FLOODERS, [fill, trickle, ask_of_others]):
+        for kinds in ([flood], [fill, trickle, ask_of_others]):
             ours, theirs = of.Pipe()
             words = (kinds, city, self.turn_on, self.over, theirs)
             self.processes.append((of.Process(target=be_hostile, args=words), ours))
@@ -212,7 +211,8 @@ class Hour:
             (machine,) = free_ports(1)
             stack.callback(exporter(city.folder, machine).stop)
             hostile = Hostile(city)
-            others = [Provider(city, number, lambda: self.turn) for number in range(1, HOSTILE)]
+            reports = math.ceil(2 * self.turns * self.seconds / PACE)
+            others = [Provider(city, number, reports, lambda: self.turn) for number in range(1, HOSTILE)]
             watch = stack.enter_context(Watch(dict(zip(NAMES, city.metrics)), city.figures, machine, factor=self.factor))
             for provider in others:
                 provider.register()
@@ -237,11 +237,11 @@ class Hour:
                 time.sleep(self.seconds)
                 hostile.turn_on.clear()
                 self.turn = QUIET
+            for provider in others:
+                provider.join()
         finally:
             for provider in others:
                 provider.over.set()
-            for provider in others:
-                provider.join()
 
     def hostile_amiss(self, hostile, told):
         told(f"the hostile one had {dict(sorted(hostile.statuses.items()))}")

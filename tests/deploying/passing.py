@@ -33,6 +33,8 @@ RESTARTS, MOST_GONE = 5, 3.0
 """How often a restart is tried, and how long a server may be gone so that no client sees it: haproxy tries for three seconds,
 and nginx has it try twice."""
 GONE = {"error": "unavailable"}
+LONG_ENOUGH = 1 << 20
+"""The bytes of a body that nginx doesn't keep in memory."""
 
 
 def sent(method, target, token, body=b"", fields=()):
@@ -398,6 +400,18 @@ def a_server_that_is_gone(city):
         yield f"haproxy told {told}"
 
 
+def no_room_for_a_body(city):
+    """Where nginx can't put a long body away, as on a full disk, its client is told to come again."""
+    place, aside = city.folder / "client_body", city.folder / "aside"
+    place.rename(aside)
+    city.faults_made.append(str(place))
+    try:
+        body = padded("[]", LONG_ENOUGH).encode()
+        yield from answered(city, sent("POST", "/events", TOKENS[1], body), 503, GONE, "retry-after: 5")
+    finally:
+        aside.rename(place)
+
+
 def lines_behind(proxy, before, count):
     """The lines that a proxy told behind so many; there are some more soon, or it is waited for them."""
     end = time.monotonic() + SECONDS
@@ -506,6 +520,7 @@ PASSING = [
     restart_during_load,
     a_restart_that_loses_nothing,
     a_server_that_is_gone,
+    no_room_for_a_body,
     an_answer_that_breaks_off,
     backup_by_way_of_nginx,
     closed_to_reports,

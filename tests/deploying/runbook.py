@@ -35,8 +35,11 @@ CURL = 'curl() { command curl -m 60 "$@"; }'
 """The steps say themselves what curl prints of a fault."""
 SETTLED = 60
 """How many seconds a server may take until it listens or has ended."""
-FOLDERS = ("/etc/mds_city", "/etc/systemd", "/var/lib/mds_city", "/var/lib/private", "/var/log/nginx", "/var/tmp", "/usr/local")
+STATES = ("/run/mds_city-ship", "/var/lib/mds_city", "/var/lib/private", "/var/log/nginx", "/var/tmp")
+FOLDERS = ("/etc/mds_city", "/etc/systemd", "/usr/local", *STATES)
 """What stands in the machine's folder in place of the root of a real one."""
+MENDED = "/usr/local/lib/mds_city/mended"
+"""Where `deploy/mended` of the runbook stands in the machine's folder."""
 SMALL_DISK, MOST_KEPT, AT_ONCE = "3M", 50000, 1000
 """How large a disk is that is full soon; more vehicles than it has room for, and how many are registered by one request."""
 MANY, LITTLE, FORM = 400000, 64, ' {"form":"mds_city","version":1}\n'
@@ -49,6 +52,8 @@ MICROSECONDS = 1796000000000000
 """A time that a client gives in microseconds."""
 OWNER = 1
 """Whose the folders of journals are where a disk was lost."""
+AUDITED, ONCE = r'''"^ .*\"device_id\":\"$A\",\"event_id\""''', "awk '!seen[$0]++'"
+"""Which lines an audit of a vehicle reads, and how it tells each once."""
 GREATEST = 9007199254740991
 """The greatest time that an event may have (docs/formats.md, `Members`)."""
 
@@ -115,6 +120,8 @@ class Machine:
         for job in JOBS:
             self.write(f"/usr/local/lib/mds_city/{job}", self.here(changed(job, {})))
             self.path(f"/usr/local/lib/mds_city/{job}").chmod(0o755)
+        self.write(MENDED, self.here(changed("mended", {})))
+        self.path(MENDED).chmod(0o755)
         shutil.copy(program, self.root / "usr/local/bin/mds_city")
         shutil.copy(program, self.root / "var/tmp/mds_city")
         self.shell = Shell(program)
@@ -133,6 +140,7 @@ class Machine:
 
     def here(self, text):
         """A text with the paths of the folder, which may be named in it."""
+        text = text.replace(f"deploy{MENDED[MENDED.rindex('/'):]} ", f"{self.path(MENDED)} ")
         return re.sub(rf"(?<![\w/])({'|'.join(map(re.escape, FOLDERS))})", rf"{self.root}\1", text)
 
     def path(self, name):
@@ -343,7 +351,7 @@ def one_goes_back_a_day(program):
         before = {name: machine.journal(name).read_bytes() for name in machine.ports}
         machine.path(f"{SECOND}/one.journal").write_bytes(b"")
         stops, restores, *_ = (step.command for step in sections()["A disk is lost"])
-        commands = [*(step.command for step in first_steps()[:3]), *words_of("damaged, or fewer vehicles than there were")]
+        commands = [*(step.command for step in first_steps()[:4]), *words_of("damaged, or fewer vehicles than there were")]
         for command in [*commands, stops, restores, restores]:
             told = machine.run(command)
         times = machine.path("/var/tmp/times").read_text().splitlines()
@@ -455,6 +463,19 @@ def unused_left_out(machine):
         yield "vehicles without events are there"
 
 
+def written_anew(machine):
+    """The journal is another file, with all that was accepted, and its owner has it."""
+    if machine.journal().samefile(machine.path("/var/tmp/before")) or machine.journal().stat().st_uid != machine.folder().stat().st_uid:
+        yield "the journal is the file that it was, or has another owner"
+    yield from all_of_it_there(machine)
+
+
+def with_a_second_name(machine):
+    """The journal's file has another name, too, by which it is known later."""
+    machine.fill()
+    machine.run(f"chown -R {OWNER} {machine.folder()}; ln {machine.journal()} {machine.path('/var/tmp/before')}")
+
+
 def with_copies(machine):
     """Steps at the machine that has the copies, with one of each of 14 days."""
     machine.fill()
@@ -487,6 +508,16 @@ def with_archives(machine):
             file.writelines([*kept, TORN])
     machine.path("/var/lib/mds_city_left_out").mkdir()
     machine.path("/var/lib/mds_city_left_out/one").write_bytes(out)
+
+
+def of_all_vehicles(machine):
+    """By the words behind the loop it tells the events of all vehicles, each once, and none that was taken out."""
+    (loop,) = (step.command for step in sections()["An audit of last year"] if AUDITED in step.command)
+    pattern, once = re.search(r"Of all vehicles have `(.*?)` as the pattern,.*? `(sort .*?)`", RUNBOOK.read_text(), re.DOTALL).groups()
+    machine.run(loop.replace(AUDITED, pattern).replace(ONCE, once))
+    told, wanted = machine.run("jq -r .event_id /var/tmp/lines"), [value["event_id"] for _, value in REQUESTS[2:]]
+    if sorted(told) != wanted or ONCE not in loop:
+        yield f"events {told}"
 
 
 def old_trips_left_out(machine):
@@ -548,6 +579,28 @@ def all_of_it_there(machine):
             yield f"{value}: {told}"
 
 
+def with_false_events(machine):
+    """An event of others was accepted behind the copy, and the last group is half written. The instance went on from the copy, and its
+    provider sent all again, and one more."""
+    machine.fill()
+    if success_of(machine.ask("/events", LATER)) != 1:
+        raise Unwell("the false event isn't accepted")
+    half_written(machine)
+    shutil.copy(machine.journal(), machine.path("/var/tmp/one.before"))
+    shutil.copy(machine.path(f"{SECOND}/one.journal"), machine.journal())
+    machine.run("systemctl start mds_city@one")
+    for target, value in [*REQUESTS, ("/events", event(B, 11, ["trip_start"], "on_trip", 4))]:
+        machine.ask(target, value)
+
+
+def false_one_kept(machine):
+    """An audit leaves the false event out, and no other."""
+    kept = machine.path("/var/lib/mds_city_left_out/one").read_text()
+    if LATER["event_id"] not in kept or kept.count("\n") != 1:
+        yield f"kept is {kept}"
+    yield from all_of_it_there(machine)
+
+
 def nothing_more(_):
     return ()
 
@@ -564,12 +617,14 @@ SECTIONS = {
     "A machine is lost": (without_its_disk, on_another_machine),
     "Another version of the program": (Machine.fill_by_own_table, all_of_it_there),
     "Other rules": (Machine.fill, for_all_to_read),
+    "A sync failed": (with_a_second_name, written_anew),
     "The journal has grown": (with_many_trips, old_trips_left_out),
     "An instance moves": (Machine.fill, copied_at_last),
     "A provider leaves": (with_two_journals, put_away_whole),
     "A vehicle that is stuck": (with_a_time_to_come, is_accepted),
     "Many vehicles are stuck": (with_others_stuck, all_accepted_again),
-    "An audit of last year": (with_archives, nothing_more),
+    "An audit of last year": (with_archives, of_all_vehicles),
+    "Many events are false": (with_false_events, false_one_kept),
 }
 """How a machine gets into the trouble of each section, and what holds behind its steps."""
 

@@ -8,38 +8,53 @@ import shutil
 import subprocess
 import tempfile
 import threading
+from concurrent.futures import ThreadPoolExecutor
 from pathlib import Path
 
 from deploying.journals import server_over
 from deploying.passing import sent
 from deploying.proxies import TOKENS, changed, installed
-from deploying.units import exec_start, variables, words_of
+from deploying.units import HOST, INSTANCE, exec_start, exec_starts, setting, variables, words_of
 from deploying.vehicles import PROVIDERS, event, vehicle
 from harness.counting import ROOT, Unwell
 from model.json_text import compact
 from serving.server import success_of
 from serving.wire import post
 
-UNIT = "mds_city-ship@.service"
+UNIT, REST = "mds_city-ship@.service", "mds_city-rest.service"
+NEVER_REMOVED = {"/var/lib/mds_city_left_out", "/var/lib/mds_city_archive"}
+"""What of the rest stays in the second place."""
 EACH, COPIES, SECONDS = 1000000, 8, 300
 COPIES_AT = "/var/lib/mds_city_copies"
 AT_ONCE, PACE = 25, 0.02
 """How many vehicles a batch registers, and how many seconds lie between two of them."""
+MANY = 12
+"""How many copies are made at once."""
 LOOKS = 40
 """How many requests come before the log is put away, and how many behind that."""
 
 
-def ship(journal, folder, **more):
-    """Runs the words of the unit over a journal, with a folder as the second place; `more`: changes of the words."""
-    names = dict.fromkeys(variables("ship.conf"), str(folder))
-    command = exec_start(UNIT, names).replace(words_of()[-1], str(journal))
-    for old, new in more.items():
-        command = command.replace(f"--{old}", new)
-    words = shlex.split(command)
-    ran = subprocess.run([installed(Path(words[0]).name), *words[1:]], capture_output=True, text=True, timeout=SECONDS)
-    if ran.returncode:
-        raise Unwell(f"{command}: {ran.returncode} {ran.stderr}")
-    return Path(folder, "one.journal")
+def commands_over(journal, place, run, name="one"):
+    """The commands of the unit for an instance, over a journal, with a place and a folder in place of /run."""
+    link, command = setting("ExecStartPre", UNIT), exec_start(UNIT, dict.fromkeys(variables("ship.conf"), str(place)))
+    changes = {words_of()[-1]: str(journal), "/run/": f"{run}/", f"{INSTANCE}.journal": f"{name}.journal"}
+    Path(run, setting("RuntimeDirectory", UNIT)).mkdir(exist_ok=True)
+    for old, new in changes.items():
+        link, command = link.replace(old, new), command.replace(old, new)
+    return link, command
+
+
+def ship(journal, place, **more):
+    """Runs the commands of the unit over a journal, with a second place; `more`: changes of the words."""
+    with tempfile.TemporaryDirectory() as run:
+        for command in commands_over(journal, place, run):
+            for old, new in more.items():
+                command = command.replace(f"--{old}", new)
+            words = shlex.split(command)
+            ran = subprocess.run([installed(Path(words[0]).name), *words[1:]], capture_output=True, text=True, timeout=SECONDS)
+            if ran.returncode:
+                raise Unwell(f"{command}: {ran.returncode} {ran.stderr}")
+    return Path(place, "one.journal")
 
 
 def lines_that_count(path):
@@ -134,12 +149,15 @@ def copies_by_a_key(program):
             if success_of(server.ask(post("/vehicles", compact(vehicle(PROVIDERS[0], 1))))) != 1:
                 yield "a vehicle isn't accepted"
             by_ssh = {"times": f"times {key_of_one_folder(second).removeprefix('rsync ')}"}
-            copy = ship(journal, place, **{name: f"--{words}" for name, words in by_ssh.items()})
-            if Path(second, copy.name).read_bytes() != journal.read_bytes():
-                yield "the copy is another"
+            for number in range(2, 4):
+                copy = ship(journal, place, **{name: f"--{words}" for name, words in by_ssh.items()})
+                if Path(second, copy.name).read_bytes() != journal.read_bytes():
+                    yield "the copy is another"
+                if success_of(server.ask(post("/vehicles", compact(vehicle(PROVIDERS[0], number))))) != 1:
+                    yield "a further vehicle isn't accepted"
         words = [*key_of_one_folder(second).split(), "--times", "--ignore-times"]
         run = lambda *more: subprocess.run([*words, *more], capture_output=True, timeout=SECONDS).returncode
-        if run(f"{place}/{copy.name}", f"{folder}/back") or told_of(program, Path(folder, "back")) != (1, 0):
+        if run(f"{place}/{copy.name}", f"{folder}/back") or told_of(program, Path(folder, "back")) != (2, 0):
             yield "the copy isn't got back"
         host = place.partition(":")[0]
         for other in (f"../{Path(folder).name}/out", f"{folder}/out"):
@@ -147,22 +165,85 @@ def copies_by_a_key(program):
                 yield f"{other} is written"
 
 
-def rest_by_the_key(_):
-    """By the same key the command of docs/operations.md copies all else that a machine has, and what was taken out of journals."""
+def copies_at_once(_):
+    """Copies of many instances that begin at one moment, by the same key, are all made."""
     for name in ("rsync", "rrsync"):
         installed(name)
-    shown = re.search(r"^rsync (-\w+) ((?:/|.*\n    /).*) (second\S+)$", (ROOT / "docs/operations.md").read_text(), re.MULTILINE)
-    options, paths, place = shown[1], shown[2].replace("\\\n", " ").split(), shown[3]
     with tempfile.TemporaryDirectory() as folder, tempfile.TemporaryDirectory() as second:
-        files = [Path(f"{folder}{path}", "file") for path in paths]
-        for file in files:
-            file.parent.mkdir(parents=True)
-            file.write_text(file.parent.name)
-        words = [*key_of_one_folder(second).split(), options, *(file.parent for file in files), place]
-        ran = subprocess.run(words, capture_output=True, text=True, timeout=SECONDS)
-        missing = [file for file in files if not Path(f"{second}/rest{file}").is_file()]
-    if ran.returncode or missing or "/var/lib/mds_city_left_out" not in paths:
-        yield f"{ran.returncode} {ran.stderr}, without {missing}"
+        journal = Path(folder, "random")
+        journal.write_bytes(os.urandom(EACH))
+        key, place = key_of_one_folder(second), variables("ship.conf")["TO"]
+
+        def run(number):
+            link, command = commands_over(journal, place, folder, number)
+            run_well(shlex.split(link))
+            words = [*key.split(), *shlex.split(command)[1:]]
+            return subprocess.run(words, capture_output=True, text=True, timeout=SECONDS)
+
+        with ThreadPoolExecutor(MANY) as pool:
+            ran = list(pool.map(run, range(MANY)))
+        for number, it in enumerate(ran):
+            copy = Path(second, f"{number}.journal")
+            if it.returncode or copy.read_bytes() != journal.read_bytes():
+                yield f"copy {number}: {it.returncode} {it.stderr}"
+
+
+def run_well(words):
+    """A command whose status has to be 0."""
+    ran = subprocess.run(words, capture_output=True, text=True, timeout=SECONDS)
+    if ran.returncode:
+        raise Unwell(f"{words}: {ran.returncode} {ran.stderr}")
+
+
+def copy_rest(rsync, folder):
+    """Runs the words of the unit over a folder in place of the root, of which `/./` says how much rsync leaves out of the names."""
+    for command in exec_starts(REST, variables("ship.conf")):
+        _, *shown, place = command.split()
+        run_well([*rsync, *(f"{folder}/.{word}" if word.startswith("/") else word for word in shown), place])
+
+
+def paths_of_the_rest():
+    """Of what the unit makes copies."""
+    commands = exec_starts(REST, variables("ship.conf"))
+    return [word for command in commands for word in command.split()[1:] if word.startswith("/")]
+
+
+def having(root, name="file"):
+    """The paths of which there is a file of this name."""
+    return {path for path in paths_of_the_rest() if Path(f"{root}{path}", name).is_file()}
+
+
+def with_files(root):
+    """Two files at each path."""
+    for path in paths_of_the_rest():
+        Path(f"{root}{path}").mkdir(parents=True)
+        for name in ("file", "removed"):
+            Path(f"{root}{path}", name).write_text(path)
+
+
+def rest_by_the_key(_):
+    """By the same key the unit copies all else that a machine has, beside that of others, and the runbook's words bring it back, but for
+    the lost key. What the machine removes is removed there, but never what was taken out of journals, or put away."""
+    for name in ("rsync", "rrsync"):
+        installed(name)
+    with tempfile.TemporaryDirectory() as folder, tempfile.TemporaryDirectory() as second, tempfile.TemporaryDirectory() as anew:
+        rsync, rest, other = key_of_one_folder(second).split(), f"{second}/rest-{HOST}", f"{second}/rest-other"
+        with_files(folder)
+        with_files(other)
+        copy_rest(rsync, folder)
+        for path in having(folder):
+            Path(f"{folder}{path}", "removed").unlink()
+        copy_rest(rsync, folder)
+        back = re.search(r"`rsync (-a [^`]*)`", (ROOT / "docs/runbook.md").read_text())[1]
+        *words, place = back.replace("TO", variables("ship.conf")["TO"]).replace("NAME", HOST).split()
+        run_well([*rsync, *words, f"{anew}{place}"])
+        there, whole = having(rest), set(paths_of_the_rest())
+        if there != whole or having(other) & having(other, "removed") != whole or not whole >= NEVER_REMOVED:
+            yield f"in the second place are {there}, and of the other machine {having(other)}"
+        if having(rest, "removed") != NEVER_REMOVED:
+            yield f"what was removed stays in {having(rest, 'removed')}"
+        if having(anew) != whole - {"/root/.ssh"}:
+            yield f"brought back are {having(anew)}"
 
 
 def copies_of_one_second(program):
@@ -210,5 +291,5 @@ def log_put_away(city):
         yield f"the new log has the mode {oct(log.stat().st_mode)}"
 
 
-SHIPPING = [copies_at_any_moment, copies_by_a_key, rest_by_the_key, copies_of_one_second]
+SHIPPING = [copies_at_any_moment, copies_by_a_key, copies_at_once, rest_by_the_key, copies_of_one_second]
 ROTATING = [log_put_away]

@@ -17,7 +17,8 @@ from serving.server import Server, success_of
 from serving.tools import body_of
 from serving.wire import ask, get, post
 
-NAME, INSTANCE = "mds_city@.service", "one"
+NAME, INSTANCE, HOST = "mds_city@.service", "one", "first"
+"""The unit of the servers, an instance, and the machine's name."""
 DROP_INS = ("memory.conf", "restart.conf")
 """Those of a proxy."""
 STATE = "/var/lib"
@@ -58,15 +59,27 @@ def proxies_that_end(_):
         yield f"{dict(found['Service'])}"
 
 
+def settings(name, unit=NAME):
+    """What a unit says of this name, for the instance, line by line."""
+    text = changed(unit, {}).replace("\\\n", "").replace("%i", INSTANCE).replace("%H", HOST)
+    return re.findall(rf"^{name}=(.*)$", text, re.MULTILINE)
+
+
 def setting(name, unit=NAME):
-    """What a unit says of this name, for the instance."""
-    text = changed(unit, {}).replace("\\\n", "")
-    return re.search(rf"^{name}=(.*)$", text, re.MULTILINE).group(1).replace("%i", INSTANCE)
+    """The only such line."""
+    (told,) = settings(name, unit)
+    return told
+
+
+def exec_starts(unit, names):
+    """The commands that a unit runs for the instance, with these variables."""
+    return [re.sub(r"\$\{?([A-Z]+)\}?", lambda found: names[found.group(1)], it) for it in settings("ExecStart", unit)]
 
 
 def exec_start(unit, names):
-    """The command that a unit runs for the instance, with these variables."""
-    return re.sub(r"\$\{?([A-Z]+)\}?", lambda found: names[found.group(1)], setting("ExecStart", unit))
+    """The only command that a unit runs."""
+    (command,) = exec_starts(unit, names)
+    return command
 
 
 def variables(name="one.env"):

@@ -5,7 +5,7 @@ their end, the condition stands in place of a call."""
 
 PASSED_ON = {
     "mds_book/book.rt": {"open_slot": ["Slot::open"]},
-    "mds_book/refilling.rt": {"ask_again": ["ask"], "Book::refill": ["seat.notes.reserve"]},
+    "mds_book/refilling.rt": {"ask_again": ["call_in"], "Book::refill": ["seat.notes.reserve"]},
     "mds_book/listing.rt": {"begin": ["start.events.checked_add"]},
     "mds_book/slot.rt": {"Slot::step": ["shard.step"]},
     "mds_city/compact.rt": {"tell_is_there": ["writeln!"], "tell_cannot_write": ["writeln!"]},

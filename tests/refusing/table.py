@@ -30,6 +30,7 @@ TESTED = {
         "marks_of",
         "kept_lines",
     ],
+    ("mds_retention", "mds_retention", "a_new_journal_is_ended_after_a_refused_growth"): ["begin_journal", "end_journal"],
     ("mds_retention", "mds_retention", "lines_are_drafted_after_a_refused_growth"): [
         "Draft::begin",
         "Draft::add_line",
@@ -136,6 +137,11 @@ TESTED = {
         "NewName::is_free",
         "NewName::draft",
         "NewName::link",
+    ],
+    ("mds_file", "test_journal", "a_file_is_followed_after_a_refused_growth"): [
+        "FollowedFile::open",
+        "Followed::rest",
+        "Followed::is_left",
     ],
     ("mds_entries", "test_journal", "lines_are_told_after_a_refused_growth"): [
         "EntryReader::read",

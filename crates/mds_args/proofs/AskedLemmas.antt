@@ -23,7 +23,7 @@ asked_count (Some found) (Replay file table any lines unlimited workers) asks = 
 asked_count (Some found) (Debug file provider device table) asks = tt
 asked_count (Some found) (Table table) asks = tt
 asked_count (Some found) (Vehicles file table check) asks = tt
-asked_count (Some found) (Compact old new before cuts table) asks = tt
+asked_count (Some found) (Compact old new before cuts follow table) asks = tt
 asked_count (Some found) (Events file provider device) asks = tt
 
 -- a command that the words ask for has such a number

@@ -1,5 +1,5 @@
 -- Lemmas on the cuts that words ask for.
-use Rattle.std.proofs.Common.{◌≡◌, ◌≢◌, ◌≤◌, ◌<◌, ◌-◌, ℕ, List, [], ◌∷◌, ◌++◌, map, take, drop, length, slice_index_or, Option, Some, None, Bor, codes, refl, sym, ◌∙◌, ap, subst, arith, append_assoc}
+use Rattle.std.proofs.Common.{◌≡◌, ◌≢◌, ◌≤◌, ◌<◌, ◌-◌, ℕ, List, [], ◌∷◌, ◌++◌, map, take, drop, length, slice_index_or, Option, Some, None, Bor, codes, refl, sym, ◌∙◌, ap, subst, arith, append_assoc, Bool}
 use Rattle.clap.specs.Words.{Row, Text, first_of}
 use Rattle.mds_args.specs.declared.cuts.CutWords.{CutWords}
 use Rattle.mds_args.specs.declared.words.Command.TheVariants.{Serve, Replay, Debug, Table, Vehicles, Compact, Events}
@@ -67,8 +67,8 @@ none_left words left some leaves none all are = let found = leaves all are in by
 
 -- only `compact` has its values
 pub compact_only : (values : List Row)
-    → ((old new : Bor Text) (before : Option ℕ) (cuts : _) (table : Option (Bor Text)) → HasValues values (Compact old new before cuts table) → ⊥) → AsksNothing (Some (codes "compact", values))
-compact_only values none (Compact old new before cuts table) asks = none old new before cuts table asks.1
+    → ((old new : Bor Text) (before : Option ℕ) (cuts : _) (follow : Bool) (table : Option (Bor Text)) → HasValues values (Compact old new before cuts follow table) → ⊥) → AsksNothing (Some (codes "compact", values))
+compact_only values none (Compact old new before cuts follow table) asks = none old new before cuts follow table asks.1
 compact_only values none (Serve port each workers table journal metrics) asks = let is = asks.0 in cc
 compact_only values none (Replay file table any lines unlimited workers) asks = let is = asks.0 in cc
 compact_only values none (Debug file provider device table) asks = let is = asks.0 in cc

@@ -114,8 +114,9 @@ cut_rule = record (long_rule (codes "cut")) { value_names = 3; action = Some App
 -- the command `compact`, with both files and the options
 abbrev pub compact_app : App
 compact_app =
-    with_rule (with_rule (with_rule (with_rule (with_rule (new_app (codes "compact"))
-    (word_rule (codes "OLD"))) (word_rule (codes "NEW"))) before_rule) cut_rule) table_rule
+    with_rule (with_rule (with_rule (with_rule (with_rule (with_rule (new_app (codes "compact"))
+    (word_rule (codes "OLD"))) (word_rule (codes "NEW"))) before_rule) cut_rule)
+    (flag_rule (codes "follow"))) table_rule
 
 -- the command `events`, with its file, and its vehicle's provider and device
 abbrev pub events_app : App
@@ -150,7 +151,7 @@ name_of (Replay file table any lines unlimited workers) = codes "replay"
 name_of (Debug file provider device table) = codes "debug"
 name_of (Table table) = codes "table"
 name_of (Vehicles file table check) = codes "vehicles"
-name_of (Compact old new before cuts table) = codes "compact"
+name_of (Compact old new before cuts follow table) = codes "compact"
 name_of (Events file provider device) = codes "events"
 
 -- the value is a text that is this number, one of this range
@@ -271,12 +272,14 @@ HasValues values (Vehicles file table check) =
     (first_of (codes "FILE") values ≡ Some file.now)
     × (first_of (codes "table") values ≡ option_map (λ path. path.now) table)
     × (IsTrue check ↔ IsSet (codes "check") values)
-HasValues values (Compact old new before cuts table) =
+HasValues values (Compact old new before cuts follow table) =
     (first_of (codes "OLD") values ≡ Some old.now)
     × (first_of (codes "NEW") values ≡ Some new.now)
     × IsBefore values before
     × HasCuts values cuts.items
     × (before ≡ None → cuts.items ≢ [])
+    × (IsTrue follow ↔ IsSet (codes "follow") values)
+    × (IsTrue follow → cuts.items ≡ [])
     × (first_of (codes "table") values ≡ option_map (λ path. path.now) table)
 HasValues values (Events file provider device) =
     (first_of (codes "FILE") values ≡ Some file.now)

@@ -7,7 +7,7 @@ ghost use Rattle.clap.specs.Words.{with_subcommand};
 ghost use Rattle.mds_args.specs.Error.{HasCause, IsCause, SaysMissing, missing_kind, words_kind};
 ghost use Rattle.mds_args.specs.Words.{Asks, AsksNothing, IsAskedBy, AreTaken};
 ghost use Rattle.mds_args.specs.Words.{HasNoNumber, HasValues, IsEach, IsMetrics, IsNumber, IsTold};
-ghost use Rattle.mds_args.specs.Words.{HasCuts, IsBefore, LacksBefore, LacksEach, LacksFileOrWorkers, LacksMetrics, LacksNumber, LacksOneOf};
+ghost use Rattle.mds_args.specs.Words.{HasCuts, IsBefore, IsSet, LacksBefore, LacksEach, LacksFileOrWorkers, LacksMetrics, LacksNumber, LacksOneOf};
 ghost use Rattle.mds_args.specs.Words.{name_of, before_rule, compact_app, cut_rule, debug_app, each_rule, events_app, flag_rule, long_rule, max_each, max_port, max_time, max_workers};
 ghost use Rattle.mds_args.specs.Words.{needed_number_rule, number_rule, option_rule, program_app, replay_app};
 ghost use Rattle.mds_args.specs.Words.{journal_rule, metrics_rule, serve_app, table_app, table_rule, vehicles_app, word_rule, workers_rule};
@@ -92,6 +92,8 @@ pub enum Command<'a> {
         before: Option<u64>,
         /// The vehicles of which the first events alone stay.
         cuts: Vec<CutWords<'a>>,
+        /// Whether what comes meanwhile is put behind, until no server has the old one. Then there is no cut.
+        follow: bool,
         /// The path of a table file by which the old one is judged first, or `None`: then it isn't judged. Here `-` is a file of
         /// that name.
         table: Option<&'a str>,
@@ -198,6 +200,7 @@ fn missing_option(name: &str, values: &ArgMatches<'_>) -> &'static str {
 
 fn missing_of_compact(values: &ArgMatches<'_>) -> &'static str {
     match values.get_str("cut") {
+        Some(_) if is_set(values, "follow") => "--follow and --cut don't go together",
         Some(_) => "the <N> of --cut <PROVIDER> <DEVICE> <N> is a number of events",
         None => "one of --before <TIME> and --cut <PROVIDER> <DEVICE> <N> is needed",
     }
@@ -432,13 +435,29 @@ fn compact_by<'a>(values: &ArgMatches<'a>, cuts: Vec<CutWords<'a>>) -> Option<Co
     if before.is_none() && cuts.is_empty() {
         return None;
     }
+    let follow = follow_of(values, &cuts)?;
     Some(Command::Compact {
         old,
         new,
         before,
         cuts,
+        follow,
         table: values.get_str("table"),
     })
+}
+
+/// Whether a server is followed. Nothing is cut then.
+fn follow_of(values: &ArgMatches<'_>, cuts: &[CutWords<'_>]) -> Option<bool>
+    ensures { MatchOption result
+        (IsSet (codes "follow") (rows_of (found_of values.now)) × (cuts.now ≢ []))
+        (λ follow. (IsTrue follow ↔ IsSet (codes "follow") (rows_of (found_of values.now)))
+        × (IsTrue follow → cuts.now ≡ [])) }
+{
+    let follow = is_set(values, "follow");
+    if follow && !cuts.is_empty() {
+        return None;
+    }
+    Some(follow)
 }
 
 /// The time before which events are old, if one is given.
@@ -606,7 +625,14 @@ fn compact_form<'a>(alloc: Global) -> Form<'a>
     );
     let with_old = with_word(alloc, bare, "OLD", "The journal, which stays as it is");
     let with_new = with_word(alloc, with_old, "NEW", "The file to make");
-    with_judge(alloc, with_cut(alloc, with_before(alloc, with_new)))
+    let with_cuts = with_cut(alloc, with_before(alloc, with_new));
+    let with_follow = with_flag(
+        alloc,
+        with_cuts,
+        "follow",
+        "Goes on with what comes meanwhile, until no server has OLD",
+    );
+    with_judge(alloc, with_follow)
 }
 
 fn events_form<'a>(alloc: Global) -> Form<'a>

@@ -8,7 +8,7 @@ use Rattle.mds_settle.specs.declared.note.Note.{Note}
 use Rattle.mds_log.specs.Log.{Acceptance, requests}
 use Rattle.mds_log.specs.Marks.{Has, HasNot}
 use Rattle.mds_book.specs.Seats.{Seated, accepted_in, seen_in}
-use Rattle.mds_book.specs.Sights.{AreTrue, Sighted}
+use Rattle.mds_book.specs.Sights.{AreTrue, Sighted, rules_in}
 use Rattle.mds_book.specs.Notes.{seen_by, told}
 use Rattle.mds_book.specs.Retired.{IsRetired, AreRetired}
 use Rattle.mds_settle.specs.Settled.{IsSettled}
@@ -17,12 +17,12 @@ use Rattle.mds_book.proofs.Retired.{retired_none, retired_more, settled}
 
 -- its mark is handed back, and its notes, true to what it saw of the log, are true to all of it
 pub retired_seat : (tables : Tables) (shard : ℕ) (log front : List Acceptance) (marks left : List ℕ) (mark count : ℕ) (seat : Seated) (notes : List Note) → HasNot marks mark
-    → Has left mark → IsPrefix marks left → IsPrefix front log → AreTrue tables shard front mark notes count → accepted_in seat shard ≡ count
-    → seen_in seat shard ≡ requests front → seat.notes ≡ notes → IsRetired tables shard log marks seat left
+    → Has left mark → IsPrefix marks left → IsPrefix front log → AreTrue (rules_in tables shard) front mark notes count → accepted_in seat shard ≡ count
+    → seen_in seat shard ≡ requests front → seat.notes ≡ notes → IsRetired (rules_in tables shard) log marks seat left
 retired_seat tables shard log front marks left mark count seat notes fresh here begins seen known counted saw told =
-    let Told : List Note → Type 0 = λ w. AreTrue tables shard front mark w count in
-    let are : AreTrue tables shard front mark seat.notes count = subst Told (sym told) known in
-    let TrueOf : ℕ → Type 0 = λ n. AreTrue tables shard log mark seat.notes n in
+    let Told : List Note → Type 0 = λ w. AreTrue (rules_in tables shard) front mark w count in
+    let are : AreTrue (rules_in tables shard) front mark seat.notes count = subst Told (sym told) known in
+    let TrueOf : ℕ → Type 0 = λ n. AreTrue (rules_in tables shard) log mark seat.notes n in
     let BeginsLog : List Request → Type 0 = λ w. IsPrefix w (requests log) in
     record {
       mark = mark;
@@ -35,7 +35,7 @@ retired_seat tables shard log front marks left mark count seat notes fresh here 
 
 -- the notes of seats that were handed back beside a whole log fit the history that it asks, where they counted as much
 pub fitting : (tables book : Tables) (shard : ℕ) (log : List Acceptance) (history : List Request) (marks : List ℕ) (seats : List Seated) → tables ≡ book → requests log ≡ history
-    → AreRetired tables shard log marks seats → length history ≡ sum_by (λ seat. accepted_in seat shard) seats → IsSettled book shard history (λ (seat : Seated). seat.notes) seats
+    → AreRetired (rules_in tables shard) log marks seats → length history ≡ sum_by (λ seat. accepted_in seat shard) seats → IsSettled book shard history (λ (seat : Seated). seat.notes) seats
 fitting tables book shard log history marks seats same whole retired counted =
     let many : length log ≡ sum_by (λ seat. accepted_in seat shard) seats = sym (requests_length log) ∙ (ap length whole ∙ counted) in
     let FitsBy : Tables → Type 0 = λ t. IsSettled t shard history (λ (seat : Seated). seat.notes) seats in
@@ -44,23 +44,23 @@ fitting tables book shard log history marks seats same whole retired counted =
 
 -- what they saw is a beginning of it
 pub beginnings : (tables : Tables) (shard : ℕ) (log : List Acceptance) (history : List Request) (marks : List ℕ) (seats : List Seated) → requests log ≡ history
-    → AreRetired tables shard log marks seats → All (λ seat. IsPrefix (seen_in seat shard) history) seats
+    → AreRetired (rules_in tables shard) log marks seats → All (λ seat. IsPrefix (seen_in seat shard) history) seats
 beginnings tables shard log history marks seats whole retired =
     let BeginsIt : List Request → Type 0 = λ w. All (λ (seat : Seated). IsPrefix (seen_in seat shard) w) seats in
     subst BeginsIt whole retired.seen
 
 -- the seats so far with one more, which was put behind the others
-pub retired_next : (tables : Tables) (shard : ℕ) (log new_log : List Acceptance) (marks left : List ℕ) (seats new : List Seated) (seat : Seated) → AreRetired tables shard log marks seats
-    → IsRetired tables shard log marks seat left → new_log ≡ log → new ≡ seats ++ seat ∷ [] → AreRetired tables shard new_log left new
+pub retired_next : (tables : Tables) (shard : ℕ) (log new_log : List Acceptance) (marks left : List ℕ) (seats new : List Seated) (seat : Seated) → AreRetired (rules_in tables shard) log marks seats
+    → IsRetired (rules_in tables shard) log marks seat left → new_log ≡ log → new ≡ seats ++ seat ∷ [] → AreRetired (rules_in tables shard) new_log left new
 retired_next tables shard log new_log marks left seats new seat retired one same put =
-    let RetiredIn : List Acceptance → Type 0 = λ l. AreRetired tables shard l left new in
-    let Retired : List Seated → Type 0 = λ s. AreRetired tables shard log left s in
+    let RetiredIn : List Acceptance → Type 0 = λ l. AreRetired (rules_in tables shard) l left new in
+    let Retired : List Seated → Type 0 = λ s. AreRetired (rules_in tables shard) log left s in
     subst RetiredIn (sym same) (subst Retired (sym put) (retired_more tables shard log marks seats seat left retired one))
 
 -- no seat was handed back yet
-pub retired_yet : (tables : Tables) (shard : ℕ) (log : List Acceptance) (marks : List ℕ) (seats : List Seated) → seats ≡ [] → AreRetired tables shard log marks seats
+pub retired_yet : (tables : Tables) (shard : ℕ) (log : List Acceptance) (marks : List ℕ) (seats : List Seated) → seats ≡ [] → AreRetired (rules_in tables shard) log marks seats
 retired_yet tables shard log marks seats none =
-    let Retired : List Seated → Type 0 = λ s. AreRetired tables shard log marks s in
+    let Retired : List Seated → Type 0 = λ s. AreRetired (rules_in tables shard) log marks s in
     subst Retired (sym none) (retired_none tables shard log marks)
 
 -- a list of no length

@@ -7,12 +7,13 @@ use Rattle.mds_book.specs.Seats.{Seated}
 use Rattle.mds_book.specs.Gathering.{Collected, IsWhole}
 use Rattle.mds_book.specs.Settling.{AreBeginnings, IsSettledBook}
 use Rattle.mds_book.specs.Retired.{AreRetired}
+use Rattle.mds_book.specs.Sights.{rules_in}
 use Rattle.mds_book.proofs.Accounts.{fitting, beginnings}
 
 -- their notes fit the histories
 pub settled_book : (all : Collected) (first_tables second_tables : Tables) (first_log second_log : List Acceptance) (first_marks second_marks : List ℕ) → IsWhole all
     → first_tables ≡ all.tables → second_tables ≡ all.tables → requests first_log ≡ all.first → requests second_log ≡ all.second
-    → AreRetired first_tables 0 first_log first_marks all.seats → AreRetired second_tables 1 second_log second_marks all.seats → IsSettledBook all
+    → AreRetired (rules_in first_tables 0) first_log first_marks all.seats → AreRetired (rules_in second_tables 1) second_log second_marks all.seats → IsSettledBook all
 settled_book all first_tables second_tables first_log second_log first_marks second_marks whole first_same second_same first_whole second_whole first_retired second_retired = record {
   first = fitting first_tables all.tables 0 first_log all.first first_marks all.seats first_same first_whole first_retired whole.first_counted;
   second = fitting second_tables all.tables 1 second_log all.second second_marks all.seats second_same second_whole second_retired whole.second_counted;
@@ -21,7 +22,7 @@ settled_book all first_tables second_tables first_log second_log first_marks sec
 -- what they saw is a beginning of the histories
 pub begun_book : (all : Collected) (first_tables second_tables : Tables) (first_log second_log : List Acceptance) (first_marks second_marks : List ℕ)
     → requests first_log ≡ all.first → requests second_log ≡ all.second
-    → AreRetired first_tables 0 first_log first_marks all.seats → AreRetired second_tables 1 second_log second_marks all.seats → AreBeginnings all
+    → AreRetired (rules_in first_tables 0) first_log first_marks all.seats → AreRetired (rules_in second_tables 1) second_log second_marks all.seats → AreBeginnings all
 begun_book all first_tables second_tables first_log second_log first_marks second_marks first_whole second_whole first_retired second_retired = record {
   first = beginnings first_tables 0 first_log all.first first_marks all.seats first_whole first_retired;
   second = beginnings second_tables 1 second_log all.second second_marks all.seats second_whole second_retired;

@@ -1,11 +1,10 @@
 -- What kept notes tell where more was seen, and where a call was noted behind them.
-use Rattle.std.proofs.Common.{◌≡◌, ℕ, zero, suc, ◌+◌, ◌*◌, ◌/◌, ◌%◌, ◌<◌, ◌==◌, ◌||◌, List, [], ◌∷◌, ◌++◌, Bool, true, false, cond, Some, slice_get, length, map, get_or, refl, sym, ap, ◌∙◌, subst, arith, append-nil}
+use Rattle.std.proofs.Common.{◌≡◌, ℕ, zero, suc, ◌+◌, ◌*◌, ◌/◌, ◌%◌, ◌<◌, ◌==◌, ◌||◌, List, [], ◌∷◌, ◌++◌, Bool, true, false, cond, Some, slice_get, length, map, get_or, refl, sym, ap, ◌∙◌, subst, arith, append-nil, length-append}
 use Rattle.std.specs.List.{All}
 use Rattle.std.proofs.lemmas.List.{map-append, length-map}
 use Rattle.std.proofs.lemmas.List.Elements.{All-push, All-append, All-map}
 use Rattle.std.proofs.lemmas.Option.{get_or_from_slice_get, slice_get_within}
 use mathlib.Core.List.{IsPrefix}
-use Rattle.mds_table.specs.Tables.{Tables}
 use Rattle.mds_core.specs.declared.request.Request.{Request}
 use Rattle.mds_core.specs.declared.reply.Reply.{Reply}
 use Rattle.mds_core.specs.declared.reply.Outcome.{Outcome}
@@ -17,7 +16,8 @@ use Rattle.mds_log.specs.Log.{Acceptance, requests}
 use Rattle.mds_log.proofs.Lists.{get_last, prefix_self, prefix_trans}
 use Rattle.mds_book.specs.Shards.{shard_of}
 use Rattle.mds_book.specs.Seats.{notes_of_call}
-use Rattle.mds_book.specs.Sights.{IsStepped, log_after}
+use Rattle.mds_book.specs.Sights.{Parted, ShardRules, log_after}
+use Rattle.mds_book.specs.Turns.{IsStepped}
 use Rattle.mds_book.specs.Notes.{AreKept, AreWithin, IsNoted, IsSeen, SeesMore, TellMore, seen_by, told}
 use Rattle.mds_book.specs.NotePlaces.{is_at, no_request, note_at}
 use Rattle.mds_book.specs.Refilling.{AreKeptOf, AreNotesOf, told_of}
@@ -45,24 +45,26 @@ seen_both first longer second further begins begins_other number = by_first (num
   by_first false = begins_other
 
 -- after a call the log begins with all that was seen before it
-pub log_longer : (tables : Tables) (number : ℕ) (old : List Acceptance) (mark : ℕ) (request : Request) (reply : Reply) (new : List Acceptance)
-    → IsStepped tables number old mark request reply new → IsPrefix old new
-log_longer tables number old mark request reply new step =
+pub log_longer : {rules : ShardRules} {old new : Parted} {request : Request} {reply : Reply} → IsStepped rules old request reply new
+    → IsPrefix old.sight.seen new.sight.seen
+log_longer {rules} {old} {new} {request} {reply} step =
     let Longer : List Acceptance → Type 0 = λ w. IsPrefix step.log w in
-    prefix_trans old step.log new step.seen (subst Longer (sym step.goes_on) (after_longer step.log mark request (is_done reply.outcome)))
+    prefix_trans old.sight.seen step.log new.sight.seen step.called.seen
+    (subst Longer (sym step.called.goes_on) (after_longer step.log old.mark request (is_done reply.outcome)))
 
 -- and so does what it asks
-pub seen_longer : (tables : Tables) (number : ℕ) (old : List Acceptance) (mark : ℕ) (request : Request) (reply : Reply) (new : List Acceptance)
-    → IsStepped tables number old mark request reply new → IsPrefix (requests old) (requests new)
-seen_longer tables number old mark request reply new step = requests_prefix old new (log_longer tables number old mark request reply new step)
+pub seen_longer : {rules : ShardRules} {old new : Parted} {request : Request} {reply : Reply} → IsStepped rules old request reply new
+    → IsPrefix (requests old.sight.seen) (requests new.sight.seen)
+seen_longer {rules} {old} {new} step = requests_prefix old.sight.seen new.sight.seen (log_longer step)
 
 -- and what was accepted stands at its place
-pub stored_step : (tables : Tables) (number : ℕ) (old : List Acceptance) (mark : ℕ) (request : Request) (reply : Reply) (new : List Acceptance)
-    → IsStepped tables number old mark request reply new → is_done reply.outcome ≡ true → slice_get (requests new) reply.place ≡ Some request
-stored_step tables number old mark request reply new step done =
-    let whole : requests new ≡ requests step.log ++ request ∷ [] =
-    ap (λ (w : List Acceptance). requests w) step.goes_on
-    ∙ (ap (λ d. requests (log_after step.log mark request d)) done ∙ map-append (λ (one : Acceptance). one.request) step.log (record { tag = mark; request = request } ∷ [])) in
+pub stored_step : {rules : ShardRules} {old new : Parted} {request : Request} {reply : Reply} → IsStepped rules old request reply new
+    → is_done reply.outcome ≡ true → slice_get (requests new.sight.seen) reply.place ≡ Some request
+stored_step {rules} {old} {new} {request} {reply} step done =
+    let whole : requests new.sight.seen ≡ requests step.log ++ request ∷ [] =
+    ap (λ (w : List Acceptance). requests w) step.called.goes_on
+    ∙ (ap (λ d. requests (log_after step.log old.mark request d)) done
+    ∙ map-append (λ (one : Acceptance). one.request) step.log (record { tag = old.mark; request = request } ∷ [])) in
     rw (whole, step.answer.place) (get_last (requests step.log) request)
 
 -- what was accepted is seen in the first shard, if it is of it
@@ -141,6 +143,8 @@ module _ {N : Type 0} (number : N → ℕ) (tells : N → List Request → Note)
       subst Noted (sym same) (record {
         within = λ was seen more are stored. tell.within was seen more are;
         same = λ was seen more are stored. tell.same was seen more are ∙ none (told number tells was kept);
+        few = omega arith;
+        of_shard = λ of_shard. of_shard;
       })
 
   -- a call that is noted
@@ -165,16 +169,18 @@ module _ {N : Type 0} (number : N → ℕ) (tells : N → List Request → Note)
             map-append (λ n. tells n (seen (number n))) kept (note ∷ [])
             ∙ (ap (λ w. w ++ tells note (seen (number note)) ∷ []) (tell.same was seen more are)
             ∙ (ap (λ x. told number tells was kept ++ x ∷ []) one ∙ kept_one (told number tells was kept)));
+        few = omega (arith, length-append kept (note ∷ []));
+        of_shard = λ of_shard. All-push (λ n. number n ≡ shard_of (key_of request)) kept note of_shard here;
       })
 
   -- notes that are all of one shard tell what they tell of it alone
   pub told_one : (shard : ℕ) (seen : ℕ → List Request) (log : List Acceptance) (kept : List N) → All (λ note. number note ≡ shard) kept → seen shard ≡ requests log
-      → told number tells seen kept ≡ told_of number tells log kept
+      → told number tells seen kept ≡ told number tells (λ _. requests log) kept
   told_one shard seen log [] of_shard is = refl
   told_one shard seen log (note ∷ rest) of_shard is =
       let here : seen (number note) ≡ requests log = ap seen (of_shard 0 note (omega arith)) ∙ is in
       let head : tells note (seen (number note)) ≡ tells note (requests log) = ap (λ w. tells note w) here in
-      let behind : told number tells seen rest ≡ told_of number tells log rest = told_one shard seen log rest (λ k d within. of_shard (suc k) d (omega (arith, within))) is in
+      let behind : told number tells seen rest ≡ told number tells (λ _. requests log) rest = told_one shard seen log rest (λ k d within. of_shard (suc k) d (omega (arith, within))) is in
       λ i. head i ∷ behind i
 
   pub within_one : (shard : ℕ) (seen : ℕ → List Request) (log : List Acceptance) (kept : List N) → AreKeptOf number is_within shard log kept → seen shard ≡ requests log
@@ -184,16 +190,12 @@ module _ {N : Type 0} (number : N → ℕ) (tells : N → List Request → Note)
       subst Within (sym (ap seen (are.of_shard k d within) ∙ is)) (are.within k d within)
 
 -- a seat's notes after a call
-pub kept_call : {N : Type 0} {number : N → ℕ} {tells : N → List Request → Note} {is_within : N → List Request → Type 0} {notes_all : Bool} {old : List N} {all : Bool} {between new : List N}
-    {request : Request} {reply : Reply} (was seen : ℕ → List Request) → AreKept number is_within notes_all was old all → between ≡ old
-    → IsNoted number tells is_within all request reply between new → SeesMore was seen → IsSeen seen request reply
+pub kept_call : {N : Type 0} {number : N → ℕ} {tells : N → List Request → Note} {is_within : N → List Request → Type 0} {notes_all : Bool} {old new : List N} {all : Bool}
+    {request : Request} {reply : Reply} (was seen : ℕ → List Request) → AreKept number is_within notes_all was old all
+    → IsNoted number tells is_within all request reply old new → SeesMore was seen → IsSeen seen request reply
     → AreKept number is_within notes_all seen new all × (told number tells seen new ≡ told number tells was old ++ notes_of_call all request reply)
-kept_call {N} {number} {tells} {is_within} {notes_all} {old} {all} {between} {new} {request} {reply} was seen are same noted more stored =
-    let Within : List N → Type 0 = λ w. AreWithin number is_within was w in
-    let held : AreWithin number is_within was between = subst Within (sym same) are.within in (
-      record { within = noted.within was seen more held stored; may = are.may },
-      noted.same was seen more held stored ∙ ap (λ (w : List N). told number tells was w ++ notes_of_call all request reply) same,
-    )
+kept_call was seen are noted more stored =
+    (record { within = noted.within was seen more are.within stored; may = are.may }, noted.same was seen more are.within stored)
 
 -- a seat's notes where it has seen more
 pub kept_more : {N : Type 0} {number : N → ℕ} {tells : N → List Request → Note} {is_within : N → List Request → Type 0} {notes_all : Bool} {kept : List N} {all : Bool}
@@ -203,41 +205,39 @@ kept_more was seen are tell more = (record { within = tell.within was seen more 
 
 -- the notes of one shard after a call there
 pub kept_of_call : {N : Type 0} {number : N → ℕ} {tells : N → List Request → Note} {is_within : N → List Request → Type 0} {all : Bool} {request : Request} {reply : Reply}
-    {shard : ℕ} {kept between more : List N} {old new : List Acceptance} {tables : Tables} {mark : ℕ} → IsStepped tables shard old mark request reply new → between ≡ kept
-    → IsNoted number tells is_within all request reply between more → AreKeptOf number is_within shard old kept
-    → (All (λ note. number note ≡ shard) between → All (λ note. number note ≡ shard) more)
-    → AreKeptOf number is_within shard new more × (told_of number tells new more ≡ told_of number tells old kept ++ notes_of_call all request reply)
-kept_of_call {N} {number} {tells} {is_within} {all} {request} {reply} {shard} {kept} {between} {more} {old} {new} {tables} {mark} step same noted are of_shard =
-    let OfShard : List N → Type 0 = λ w. All (λ note. number note ≡ shard) w in
-    let Within : List N → Type 0 = λ w. AreWithin number is_within (λ _. requests old) w in
-    let was : ℕ → List Request = λ _. requests old in
-    let seen : ℕ → List Request = λ _. requests new in
-    let held : AreWithin number is_within was between = subst Within (sym same) are.within in
-    let longer : SeesMore was seen = λ _. seen_longer tables shard old mark request reply new step in
-    let stored : IsSeen seen request reply = stored_step tables shard old mark request reply new step in (
-      record { of_shard = of_shard (subst OfShard (sym same) are.of_shard); within = noted.within was seen longer held stored },
-      noted.same was seen longer held stored ∙ ap (λ (w : List N). told_of number tells old w ++ notes_of_call all request reply) same,
+    {rules : ShardRules} {kept more : List N} {old new : Parted} → IsStepped rules old request reply new → shard_of (key_of request) ≡ rules.number
+    → IsNoted number tells is_within all request reply kept more → AreKeptOf number is_within rules.number old.sight.seen kept
+    → AreKeptOf number is_within rules.number new.sight.seen more
+    × ((told_of number tells new more).notes ≡ (told_of number tells old kept).notes ++ notes_of_call all request reply)
+kept_of_call {N} {number} {tells} {is_within} {all} {request} {reply} {rules} {kept} {more} {old} {new} step here noted are =
+    let OfShard : ℕ → Type 0 = λ n. All (λ note. number note ≡ n) kept → All (λ note. number note ≡ n) more in
+    let was : ℕ → List Request = λ _. requests old.sight.seen in
+    let seen : ℕ → List Request = λ _. requests new.sight.seen in
+    let longer : SeesMore was seen = λ _. seen_longer step in
+    let stored : IsSeen seen request reply = stored_step step in (
+      record { of_shard = subst OfShard here noted.of_shard are.of_shard; within = noted.within was seen longer are.within stored },
+      noted.same was seen longer are.within stored,
     )
 
 -- a seat's notes with those of both shards behind them
 pub kept_three : {N : Type 0} {number : N → ℕ} {tells : N → List Request → Note} {is_within : N → List Request → Type 0} {notes_all : Bool} {kept : List N} {all : Bool}
-    {first second : List Acceptance} {ones others : List N} (was seen : ℕ → List Request) (total : List N) → AreKept number is_within notes_all was kept all
-    → TellMore number tells is_within kept → SeesMore was seen → AreKeptOf number is_within 0 first ones → AreKeptOf number is_within 1 second others
-    → seen 0 ≡ requests first → seen 1 ≡ requests second → total ≡ (kept ++ ones) ++ others
+    {ones others : List N} (first second : Parted) (was seen : ℕ → List Request) (total : List N) → AreKept number is_within notes_all was kept all
+    → TellMore number tells is_within kept → SeesMore was seen → AreKeptOf number is_within 0 first.sight.seen ones → AreKeptOf number is_within 1 second.sight.seen others
+    → seen 0 ≡ requests first.sight.seen → seen 1 ≡ requests second.sight.seen → total ≡ (kept ++ ones) ++ others
     → AreKept number is_within notes_all seen total all
-    × (told number tells seen total ≡ (told number tells was kept ++ told_of number tells first ones) ++ told_of number tells second others)
-kept_three {N} {number} {tells} {is_within} {notes_all} {kept} {all} {first} {second} {ones} {others} was seen total are tell more are_ones are_others is_first is_second same =
+    × (told number tells seen total ≡ (told number tells was kept ++ (told_of number tells first ones).notes) ++ (told_of number tells second others).notes)
+kept_three {N} {number} {tells} {is_within} {notes_all} {kept} {all} {ones} {others} first second was seen total are tell more are_ones are_others is_first is_second same =
     let P : N → Type 0 = λ n. is_within n (seen (number n)) in
     let Within : List N → Type 0 = λ w. AreWithin number is_within seen w in
-    let Told : List N → Type 0 = λ w. told number tells seen w ≡ (told number tells was kept ++ told_of number tells first ones) ++ told_of number tells second others in
+    let Told : List N → Type 0 = λ w. told number tells seen w ≡ (told number tells was kept ++ (told_of number tells first ones).notes) ++ (told_of number tells second others).notes in
     let still : AreWithin number is_within seen kept = tell.within was seen more are.within in
-    let one : told number tells seen ones ≡ told_of number tells first ones = told_one number tells is_within 0 seen first ones are_ones.of_shard is_first in
-    let other : told number tells seen others ≡ told_of number tells second others = told_one number tells is_within 1 seen second others are_others.of_shard is_second in (
+    let one : told number tells seen ones ≡ (told_of number tells first ones).notes = told_one number tells is_within 0 seen first.sight.seen ones are_ones.of_shard is_first in
+    let other : told number tells seen others ≡ (told_of number tells second others).notes = told_one number tells is_within 1 seen second.sight.seen others are_others.of_shard is_second in (
       record {
         within = subst Within (sym same)
             (All-append P (kept ++ ones) others
-            (All-append P kept ones still (within_one number tells is_within 0 seen first ones are_ones is_first))
-            (within_one number tells is_within 1 seen second others are_others is_second));
+            (All-append P kept ones still (within_one number tells is_within 0 seen first.sight.seen ones are_ones is_first))
+            (within_one number tells is_within 1 seen second.sight.seen others are_others is_second));
         may = are.may;
       },
       subst Told (sym same)
@@ -245,7 +245,7 @@ kept_three {N} {number} {tells} {is_within} {notes_all} {kept} {all} {first} {se
           ∙ (ap (λ w. w ++ told number tells seen others) (map-append (λ n. tells n (seen (number n))) kept ones)
           ∙ (ap (λ w. (w ++ told number tells seen ones) ++ told number tells seen others) (tell.same was seen more are.within)
           ∙ (ap (λ w. (told number tells was kept ++ w) ++ told number tells seen others) one
-          ∙ ap (λ w. (told number tells was kept ++ told_of number tells first ones) ++ w) other)))),
+          ∙ ap (λ w. (told number tells was kept ++ (told_of number tells first ones).notes) ++ w) other)))),
     )
 
 -- no notes are kept
@@ -256,19 +256,13 @@ kept_none {N} number is_within shard log kept none =
     subst Kept (sym none) (record { of_shard = λ k d within. absurd (omega (arith, within)); within = λ k d within. absurd (omega (arith, within)) })
 
 -- as many notes are told as are kept
-pub told_length : {N : Type 0} (number : N → ℕ) (tells : N → List Request → Note) (log : List Acceptance) (kept : List N) → length (told_of number tells log kept) ≡ length kept
-told_length number tells log kept = length-map kept (λ note. tells note (requests log))
-
--- where nothing was asked all is as it was
-pub kept_same : {N : Type 0} (number : N → ℕ) (is_within : N → List Request → Type 0) (shard : ℕ) (old new : List Acceptance) (kept more : List N) → new ≡ old → more ≡ kept
-    → AreKeptOf number is_within shard old kept → AreKeptOf number is_within shard new more
-kept_same {N} number is_within shard old new kept more seen same are =
-    let Seen : List Acceptance → Type 0 = λ w. AreKeptOf number is_within shard w more in
-    let Same : List N → Type 0 = λ w. AreKeptOf number is_within shard old w in
-    subst Seen (sym seen) (subst Same (sym same) are)
+pub told_length : {N : Type 0} (number : N → ℕ) (tells : N → List Request → Note) (part : Parted) (kept : List N) → length (told_of number tells part kept).notes ≡ length kept
+told_length number tells part kept = length-map kept (λ note. tells note (requests part.sight.seen))
 
 -- and they are of the shard
-pub told_shard : {N : Type 0} (number : N → ℕ) (tells : N → List Request → Note) (is_within : N → List Request → Type 0) (shard : ℕ) (log : List Acceptance) (kept : List N)
-    → ((note : N) (history : List Request) → (tells note history).shard ≡ number note) → AreKeptOf number is_within shard log kept → AreNotesOf shard (told_of number tells log kept)
-told_shard number tells is_within shard log kept law are =
-    All-map (λ (note : Note). note.shard ≡ shard) (λ note. tells note (requests log)) kept (λ k d within. law (get_or kept k d) (requests log) ∙ are.of_shard k d within)
+pub told_shard : {N : Type 0} {number : N → ℕ} {is_within : N → List Request → Type 0} {shard : ℕ} {kept : List N} (tells : N → List Request → Note) (part : Parted)
+    → ((note : N) (history : List Request) → (tells note history).shard ≡ number note) → AreKeptOf number is_within shard part.sight.seen kept
+    → AreNotesOf shard (told_of number tells part kept).notes
+told_shard {N} {number} {is_within} {shard} {kept} tells part law are =
+    All-map (λ (note : Note). note.shard ≡ shard) (λ note. tells note (requests part.sight.seen)) kept
+    (λ k d within. law (get_or kept k d) (requests part.sight.seen) ∙ are.of_shard k d within)

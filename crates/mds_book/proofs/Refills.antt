@@ -13,14 +13,18 @@ use Rattle.mds_core.specs.Answer.{MayBeDone, next}
 use Rattle.mds_core.proofs.Outcomes.{outcome_one}
 use Rattle.mds_settle.specs.declared.note.Note.{Note}
 use Rattle.mds_log.specs.Log.{Acceptance, requests}
-use Rattle.mds_log.proofs.Lists.{prefix_whole}
+use mathlib.Core.List.{IsPrefix}
+use Rattle.mds_log.proofs.Lists.{prefix_self, prefix_trans, prefix_whole}
 use Rattle.mds_book.specs.Shards.{shard_of, count_of, part}
 use Rattle.mds_book.specs.Seats.{notes_of_call}
-use Rattle.mds_book.specs.Sights.{AreTrue, IsStepped}
-use Rattle.mds_book.specs.Refilling.{AreNotesOf, IsAsked, IsRefusedIn, StayTrue}
+use Rattle.mds_book.specs.Notes.{IsNoted}
+use Rattle.mds_book.specs.Sights.{AreTrue, Parted, ShardRules, Sighted, rules_in}
+use Rattle.mds_book.specs.Turns.{IsStepped}
+use Rattle.mds_book.specs.Refilling.{AreAccepted, AreKeptOf, AreNotesOf, AreTrueBehind, Asks, IsAsked, IsRefusedIn, PartNotes, told_of}
 use Rattle.mds_book.specs.declared.refilling.RefillStop.{RefillStop}
-use Rattle.mds_book.proofs.Called.{seen_after_step, true_here}
-use Rattle.mds_book.proofs.Trues.{requests_length, true_past}
+use Rattle.mds_book.proofs.Called.{seen_after_step}
+use Rattle.mds_book.proofs.NotesTold.{kept_of_call, log_longer, told_length}
+use Rattle.mds_book.proofs.Trues.{requests_length, true_call, true_past}
 
 -- a request is all of its shard's part of it alone
 pub part_own : (number : ℕ) (request : Request) → shard_of (key_of request) ≡ number → part number (request ∷ []) ≡ request ∷ []
@@ -59,79 +63,87 @@ part_lengths (request ∷ rest) = by_case (shard_of (key_of request) == 0) (shar
   by_case false true one other few = omega (arith, few)
   by_case false false one other few = omega (arith, few)
 
--- the notes of a call in this shard are of it
-pub notes_of : (number : ℕ) (notes more : List Note) (all : Bool) (request : Request) (reply : Reply) → shard_of (key_of request) ≡ number
-    → more ≡ notes ++ notes_of_call all request reply → AreNotesOf number notes → AreNotesOf number more
-notes_of number notes more all request reply here written are = subst (AreNotesOf number) (sym written) (by_kept _) where
-  by_kept : (kept : Bool) → AreNotesOf number (notes ++ cond kept (record { shard = shard_of (key_of request); request = request; reply = reply } ∷ []) [])
-  by_kept true = All-push (λ (n : Note). n.shard ≡ number) notes (record { shard = shard_of (key_of request); request = request; reply = reply }) are here
-  by_kept false = subst (AreNotesOf number) (sym (append-nil notes)) are
+-- one of this shard is asked
+pub asks_one : {rules : ShardRules} {old new : PartNotes} {request : Request} {reply : Reply} (all : Bool) → shard_of (key_of request) ≡ rules.number
+    → IsStepped rules old.part request reply new.part → new.notes ≡ old.notes ++ notes_of_call all request reply → length new.notes ≤ length old.notes + 1
+    → Asks rules old (request ∷ []) new
+asks_one {rules} {old} {new} {request} {reply} all here step written few = record {
+  begins = log_longer step;
+  stay = λ before are.
+      true_call all are step here (ap (λ (w : List Note). before ++ w) written ∙ sym (append_assoc before old.notes (notes_of_call all request reply)));
+  few = omega (arith, few, ap (λ (w : List Request). length w) (part_own rules.number request here));
+}
 
--- and no more than one
-pub notes_few : (notes more : List Note) (all : Bool) (request : Request) (reply : Reply) → more ≡ notes ++ notes_of_call all request reply → length more ≤ length notes + 1
-notes_few notes more all request reply written = by_kept _ (ap (λ (w : List Note). length w) written) where
-  by_kept : (kept : Bool) → length more ≡ length (notes ++ cond kept (record { shard = shard_of (key_of request); request = request; reply = reply } ∷ []) []) → length more ≤ length notes + 1
-  by_kept true count = omega (arith, count, length-append notes (record { shard = shard_of (key_of request); request = request; reply = reply } ∷ []))
-  by_kept false count = omega (arith, count, ap (λ (w : List Note). length w) (append-nil notes))
+-- and its note is kept with the others
+pub asks_called : {N : Type 0} {number : N → ℕ} {tells : N → List Request → Note} {is_within : N → List Request → Type 0} {all : Bool} {rules : ShardRules} {old new : Parted}
+    {request : Request} {reply : Reply} {kept more : List N} → shard_of (key_of request) ≡ rules.number → IsStepped rules old request reply new
+    → IsNoted number tells is_within all request reply kept more → AreKeptOf number is_within rules.number old.sight.seen kept
+    → AreKeptOf number is_within rules.number new.sight.seen more × Asks rules (told_of number tells old kept) (request ∷ []) (told_of number tells new more)
+asks_called {N} {number} {tells} {is_within} {all} {rules} {old} {new} {request} {reply} {kept} {more} here step noted are =
+    let both = kept_of_call step here noted are in
+    (both.0, asks_one all here step both.1 (omega (arith, noted.few, told_length number tells old kept, told_length number tells new more)))
 
--- notes stay true where nothing was asked
-pub stay_same : (tables : Tables) (number mark : ℕ) (old new : List Acceptance) (count grown : ℕ) (ones more : List Note) → new ≡ old → grown ≡ count → more ≡ ones
-    → StayTrue tables number mark old count ones new grown more
-stay_same tables number mark old new count grown ones more seen counted noted before are =
-    let Seen : List Acceptance → Type 0 = λ w. AreTrue tables number w mark (before ++ more) grown in
-    let Counted : ℕ → Type 0 = λ n. AreTrue tables number old mark (before ++ more) n in
-    let Noted : List Note → Type 0 = λ w. AreTrue tables number old mark (before ++ w) count in
-    subst Seen (sym seen) (subst Counted (sym counted) (subst Noted (sym noted) are))
+-- a further request was asked behind others
+pub asks_more : {rules : ShardRules} {old mid new : PartNotes} {told longer : List Request} {request : Request}
+    → part rules.number longer ≡ part rules.number told ++ part rules.number (request ∷ []) → Asks rules old told mid → Asks rules mid (request ∷ []) new → Asks rules old longer new
+asks_more {rules} {old} {mid} {new} {told} {longer} {request} more first then = record {
+  begins = prefix_trans old.part.sight.seen mid.part.sight.seen new.part.sight.seen first.begins then.begins;
+  stay = λ before are. then.stay before (first.stay before are);
+  few = omega (arith, first.few, then.few, ap (λ (w : List Request). length w) more, length-append (part rules.number told) (part rules.number (request ∷ [])));
+}
 
--- and behind a call in their shard
-pub stay_called : (tables : Tables) (number mark : ℕ) (old new : List Acceptance) (count grown : ℕ) (ones more : List Note) (all : Bool) (request : Request) (reply : Reply)
-    → shard_of (key_of request) ≡ number → IsStepped tables number old mark request reply new → more ≡ ones ++ notes_of_call all request reply → grown ≡ count + count_of reply.outcome
-    → StayTrue tables number mark old count ones new grown more
-stay_called tables number mark old new count grown ones more all request reply here step written counted before are =
-    true_here tables number old new mark mark (before ++ ones) (before ++ more) count grown all request reply here are step refl
-    (ap (λ (w : List Note). before ++ w) written ∙ sym (append_assoc before ones (notes_of_call all request reply))) counted
+-- and of all those that it is one of no more was asked
+pub asks_all : {rules : ShardRules} {old new : PartNotes} {told : List Request} (count : ℕ) → Asks rules old (take count told) new → Asks rules old told new
+asks_all {rules} {old} {new} {told} count asks = record {
+  begins = asks.begins;
+  stay = asks.stay;
+  few = omega (arith, asks.few, part_take rules.number count told);
+}
 
--- and then behind what comes after it
-pub stay_then : (tables : Tables) (number mark same : ℕ) (old mid new : List Acceptance) (count between grown : ℕ) (ones more most : List Note) → same ≡ mark
-    → StayTrue tables number mark old count ones mid between more → StayTrue tables number same mid between more new grown most → StayTrue tables number mark old count ones new grown most
-stay_then tables number mark same old mid new count between grown ones more most is first second before are =
-    let Mid : ℕ → Type 0 = λ m. AreTrue tables number mid m (before ++ more) between in
-    let New : ℕ → Type 0 = λ m. AreTrue tables number new m (before ++ most) grown in
-    subst New is (second before (subst Mid (sym is) (first before are)))
+-- and it was accepted
+pub accepted_more : {number : ℕ} {old mid new : Parted} {told longer : List Request} {request : Request}
+    → part number longer ≡ part number told ++ part number (request ∷ []) → AreAccepted number old told mid → AreAccepted number mid (request ∷ []) new
+    → AreAccepted number old longer new
+accepted_more {number} {old} {mid} {new} {told} {longer} {request} more first then = record {
+  all = then.all;
+  seen = then.seen
+      ∙ (ap (λ (w : List Request). w ++ part number (request ∷ [])) first.seen
+      ∙ (append_assoc (requests old.sight.seen) (part number told) (part number (request ∷ [])) ∙ ap (λ (w : List Request). requests old.sight.seen ++ w) (sym more)));
+}
 
 -- notes of another shard don't matter
 pub past_others : (tables : Tables) (shard other : ℕ) (log : List Acceptance) (mark : ℕ) (notes more : List Note) (count : ℕ) → other ≢ shard → AreNotesOf other more
-    → AreTrue tables shard log mark notes count → AreTrue tables shard log mark (notes ++ more) count
+    → AreTrue (rules_in tables shard) log mark notes count → AreTrue (rules_in tables shard) log mark (notes ++ more) count
 past_others tables shard other log mark notes [] count different all are =
-    let Noted : List Note → Type 0 = λ w. AreTrue tables shard log mark w count in
+    let Noted : List Note → Type 0 = λ w. AreTrue (rules_in tables shard) log mark w count in
     subst Noted (sym (append-nil notes)) are
 past_others tables shard other log mark notes (note ∷ more) count different all are =
     let there : note.shard ≢ shard = λ same. different (sym (all 0 note (omega arith)) ∙ same) in
     let rest : AreNotesOf other more = λ k d within. all (suc k) d (omega (arith, within)) in
-    let Noted : List Note → Type 0 = λ w. AreTrue tables shard log mark w count in
+    let Noted : List Note → Type 0 = λ w. AreTrue (rules_in tables shard) log mark w count in
     subst Noted (append_assoc notes (note ∷ []) more) (past_others tables shard other log mark (notes ++ note ∷ []) more count different rest (true_past tables shard log mark notes count note are there))
 
 -- behind notes of the first shard and then of the second a seat's notes are true to the first
-pub true_first : (tables : Tables) (mark same : ℕ) (old : List Acceptance) (count : ℕ) (told : List Request) (new : List Acceptance) (grown : ℕ) (notes ones others total : List Note)
-    (asked : Result (Unit {0}) RefillStop) → same ≡ mark → AreTrue tables 0 old mark notes count → IsAsked tables 0 mark old count told new grown ones asked → AreNotesOf 1 others
-    → total ≡ (notes ++ ones) ++ others → AreTrue tables 0 new same total grown
-true_first tables mark same old count told new grown notes ones others total asked is are ask all written =
-    let None : List Note → Type 0 = λ w. AreTrue tables 0 old mark w count in
-    let Same : ℕ → Type 0 = λ m. AreTrue tables 0 new m total grown in
-    let Total : List Note → Type 0 = λ w. AreTrue tables 0 new mark w grown in
-    let own : AreTrue tables 0 new mark (notes ++ ones) grown = ask.stay notes (subst None (sym (append-nil notes)) are) in
-    subst Same (sym is) (subst Total (sym written) (past_others tables 0 1 new mark (notes ++ ones) others grown (λ same. absurd (omega (arith, same))) all own))
+pub true_first : {tables : Tables} {old : Parted} {new : PartNotes} {told : List Request} {notes total : List Note} {asked : Result (Unit {0}) RefillStop} (others : List Note)
+    → AreTrue (rules_in tables 0) old.sight.seen old.mark notes old.count → IsAsked (rules_in tables 0) old told new asked → AreNotesOf 1 others
+    → total ≡ (notes ++ new.notes) ++ others → AreTrue (rules_in tables 0) new.part.sight.seen new.part.mark total new.part.count
+true_first {tables} {old} {new} {told} {notes} {total} {asked} others are ask all written =
+    let None : List Note → Type 0 = λ w. AreTrue (rules_in tables 0) old.sight.seen old.mark w old.count in
+    let Total : List Note → Type 0 = λ w. AreTrue (rules_in tables 0) new.part.sight.seen new.part.mark w new.part.count in
+    let own : AreTrueBehind (rules_in tables 0) notes new = ask.asks.stay notes (subst None (sym (append-nil notes)) are) in
+    subst Total (sym written)
+    (past_others tables 0 1 new.part.sight.seen new.part.mark (notes ++ new.notes) others new.part.count (λ same. absurd (omega (arith, same))) all own)
 
 -- and to the second
-pub true_second : (tables : Tables) (mark same : ℕ) (old : List Acceptance) (count : ℕ) (told : List Request) (new : List Acceptance) (grown : ℕ) (notes ones others total : List Note)
-    (asked : Result (Unit {0}) RefillStop) → same ≡ mark → AreTrue tables 1 old mark notes count → IsAsked tables 1 mark old count told new grown others asked → AreNotesOf 0 ones
-    → total ≡ (notes ++ ones) ++ others → AreTrue tables 1 new same total grown
-true_second tables mark same old count told new grown notes ones others total asked is are ask all written =
-    let None : List Note → Type 0 = λ w. AreTrue tables 1 old mark w count in
-    let Same : ℕ → Type 0 = λ m. AreTrue tables 1 new m total grown in
-    let Total : List Note → Type 0 = λ w. AreTrue tables 1 new mark w grown in
-    let past : AreTrue tables 1 old mark (notes ++ ones) count = past_others tables 1 0 old mark notes ones count (λ same. absurd (omega (arith, same))) all are in
-    subst Same (sym is) (subst Total (sym written) (ask.stay (notes ++ ones) (subst None (sym (append-nil (notes ++ ones))) past)))
+pub true_second : {tables : Tables} {old : Parted} {new : PartNotes} {told : List Request} {notes total : List Note} {asked : Result (Unit {0}) RefillStop} (ones : List Note)
+    → AreTrue (rules_in tables 1) old.sight.seen old.mark notes old.count → IsAsked (rules_in tables 1) old told new asked → AreNotesOf 0 ones
+    → total ≡ (notes ++ ones) ++ new.notes → AreTrue (rules_in tables 1) new.part.sight.seen new.part.mark total new.part.count
+true_second {tables} {old} {new} {told} {notes} {total} {asked} ones are ask all written =
+    let None : List Note → Type 0 = λ w. AreTrue (rules_in tables 1) old.sight.seen old.mark w old.count in
+    let Total : List Note → Type 0 = λ w. AreTrue (rules_in tables 1) new.part.sight.seen new.part.mark w new.part.count in
+    let past : AreTrue (rules_in tables 1) old.sight.seen old.mark (notes ++ ones) old.count =
+    past_others tables 1 0 old.sight.seen old.mark notes ones old.count (λ same. absurd (omega (arith, same))) all are in
+    subst Total (sym written) (ask.asks.stay (notes ++ ones) (subst None (sym (append-nil (notes ++ ones))) past))
 
 -- what follows from two facts of a success
 pub on_both : (one other result : Result (Unit {0}) RefillStop) (P Q R : Type 0) → (P → Q → R) → OnOk result ((one ≡ result) × (other ≡ result)) → OnOk one P → OnOk other Q → OnOk result R
@@ -153,28 +165,37 @@ of_either one other (Err stop) P Q R first second (inr same) p q =
     second stop (subst Second (sym same) q)
 
 -- one request that was asked of a shard of which all was seen
-module _ (tables : Tables) (number : ℕ) (old : List Acceptance) (mark : ℕ) (request : Request) (reply : Reply) (new : List Acceptance) (count grown : ℕ)
-    (step : IsStepped tables number old mark request reply new) (all : count ≡ length old) (expected : reply.place ≡ count) where
+module _ {rules : ShardRules} {old new : Parted} {request : Request} {reply : Reply} (step : IsStepped rules old request reply new)
+    (all : old.count ≡ length old.sight.seen) (expected : reply.place ≡ old.count) where
   -- a reply at the place that is expected is the answer after what was seen
-  nothing_between : old ≡ step.log
-  nothing_between = prefix_whole old step.log step.seen (omega (arith, step.answer.place, requests_length step.log, all, expected))
+  nothing_between : old.sight.seen ≡ step.log
+  nothing_between = prefix_whole old.sight.seen step.log step.called.seen (omega (arith, step.answer.place, requests_length step.log, all, expected))
 
-  -- the request is seen behind it, where it was accepted
-  pub seen_again : reply.outcome ≡ Done → requests new ≡ requests old ++ request ∷ []
-  seen_again done =
-      seen_after_step tables number old mark request reply new step
-      ∙ (ap (λ (outcome : Outcome). next (requests step.log) request outcome) done ∙ ap (λ (w : List Acceptance). requests w ++ request ∷ []) (sym nothing_between))
-
-  -- and counted
-  pub counted_again : grown ≡ count + count_of reply.outcome → reply.outcome ≡ Done → grown ≡ length new
-  counted_again counted done =
-      omega (arith, counted, ap count_of done, all, requests_length new, requests_length old, ap (λ (w : List Request). length w) (seen_again done), length-append (requests old) (request ∷ []))
+  -- where it was accepted, it is counted, and seen behind the others
+  pub accepted_again : shard_of (key_of request) ≡ rules.number → reply.outcome ≡ Done → AreAccepted rules.number old (request ∷ []) new
+  accepted_again here done =
+      let seen : requests new.sight.seen ≡ requests old.sight.seen ++ request ∷ [] =
+      seen_after_step step
+      ∙ (ap (λ (outcome : Outcome). next (requests step.log) request outcome) done ∙ ap (λ (w : List Acceptance). requests w ++ request ∷ []) (sym nothing_between)) in
+      record {
+        all = omega (
+          arith,
+          step.called.count,
+          ap count_of done,
+          all,
+          requests_length new.sight.seen,
+          requests_length old.sight.seen,
+          ap (λ (w : List Request). length w) seen,
+          length-append (requests old.sight.seen) (request ∷ []),
+        );
+        seen = seen ∙ ap (λ (w : List Request). requests old.sight.seen ++ w) (sym (part_own rules.number request here));
+      }
 
   -- what wasn't accepted may not be
-  pub refused_again : (reply.outcome ≡ Done → ⊥) → MayBeDone tables (requests old) request → ⊥
+  pub refused_again : (reply.outcome ≡ Done → ⊥) → MayBeDone rules.tables (requests old.sight.seen) request → ⊥
   refused_again other may =
-      let Given : List Acceptance → Type 0 = λ w. MayBeDone tables (requests w) request in
-      other (outcome_one tables _ request reply.outcome Done step.answer.outcome (subst Given nothing_between may))
+      let Given : List Acceptance → Type 0 = λ w. MayBeDone rules.tables (requests w) request in
+      other (outcome_one rules.tables _ request reply.outcome Done step.answer.outcome (subst Given nothing_between may))
 
 -- a request that may not be done behind what was seen of its shard
 pub refused_alone : (tables : Tables) (number : ℕ) (seen : List Request) (request : Request) → shard_of (key_of request) ≡ number → (MayBeDone tables seen request → ⊥)

@@ -17,13 +17,13 @@ use Rattle.mds_log.specs.Log.{Acceptance, requests}
 use Rattle.mds_log.specs.Marks.{Has}
 use Rattle.mds_log.proofs.Lists.{prefix_get}
 use Rattle.mds_book.specs.Seats.{Seated, accepted_in, seen_in}
-use Rattle.mds_book.specs.Sights.{AreTrue, accepted_of}
+use Rattle.mds_book.specs.Sights.{AreTrue, accepted_of, rules_in}
 use Rattle.mds_book.specs.Retired.{IsRetired, HaveOtherPlaces, AreKnown, AreRetired}
 use Rattle.mds_book.proofs.Once.{each_has}
 use Rattle.mds_book.proofs.Trues.{requests_length}
 
 -- no seat was handed back
-pub retired_none : (tables : Tables) (shard : ℕ) (log : List Acceptance) (marks : List ℕ) → AreRetired tables shard log marks []
+pub retired_none : (tables : Tables) (shard : ℕ) (log : List Acceptance) (marks : List ℕ) → AreRetired (rules_in tables shard) log marks []
 retired_none tables shard log marks = record {
   fit = λ k d within. absurd (omega arith);
   apart = λ i j d less within. absurd (omega arith);
@@ -49,7 +49,7 @@ known_longer shard marks left log notes begins known k d within is =
     (found.0, found.1, has_longer marks left found.0.tag begins found.2)
 
 -- the accepted notes of a seat stand under its mark
-known_here : (tables : Tables) (shard : ℕ) (log : List Acceptance) (mark : ℕ) (notes : List Note) (count : ℕ) (left : List ℕ) → AreTrue tables shard log mark notes count
+known_here : (tables : Tables) (shard : ℕ) (log : List Acceptance) (mark : ℕ) (notes : List Note) (count : ℕ) (left : List ℕ) → AreTrue (rules_in tables shard) log mark notes count
     → Has left mark → AreKnown shard left log notes
 known_here tables shard log mark notes count left are has k d within is =
     let parts = accepted_parts shard (get_or notes k d) is in
@@ -57,7 +57,7 @@ known_here tables shard log mark notes count left are has k d within is =
 
 -- what stands under a mark that was handed back has another place than what stands under one that was not
 other_places : (tables : Tables) (shard : ℕ) (log : List Acceptance) (mark : ℕ) (notes : List Note) (count : ℕ) (marks : List ℕ) (others : List Note)
-    → AreTrue tables shard log mark notes count → (Has marks mark → ⊥) → AreKnown shard marks log others → HaveOtherPlaces shard others notes
+    → AreTrue (rules_in tables shard) log mark notes count → (Has marks mark → ⊥) → AreKnown shard marks log others → HaveOtherPlaces shard others notes
 other_places tables shard log mark notes count marks others are fresh known k d within l e under first second same =
     let parts = accepted_parts shard (get_or notes l e) second in
     let found = known k d within first in
@@ -69,11 +69,11 @@ other_places tables shard log mark notes count marks others are fresh known k d 
 
 -- one seat more was handed back
 pub retired_more : (tables : Tables) (shard : ℕ) (log : List Acceptance) (marks : List ℕ) (seats : List Seated) (seat : Seated) (left : List ℕ)
-    → AreRetired tables shard log marks seats → IsRetired tables shard log marks seat left → AreRetired tables shard log left (seats ++ seat ∷ [])
+    → AreRetired (rules_in tables shard) log marks seats → IsRetired (rules_in tables shard) log marks seat left → AreRetired (rules_in tables shard) log left (seats ++ seat ∷ [])
 retired_more tables shard log marks seats seat left before one =
     let count : ℕ = accepted_in seat shard in
     record {
-      fit = All-push (λ (s : Seated). (mark : ℕ) × AreTrue tables shard log mark s.notes (accepted_in s shard)) seats seat before.fit (one.mark, one.notes);
+      fit = All-push (λ (s : Seated). (mark : ℕ) × AreTrue (rules_in tables shard) log mark s.notes (accepted_in s shard)) seats seat before.fit (one.mark, one.notes);
       apart = all_pairs_push (λ (s other : Seated). HaveOtherPlaces shard s.notes other.notes) seats seat before.apart
           (λ k d within. other_places tables shard log one.mark seat.notes count marks (get_or seats k d).notes one.notes one.fresh (before.known k d within));
       known = All-push (λ (s : Seated). AreKnown shard left log s.notes) seats seat
@@ -164,7 +164,7 @@ apart_at shard place xs ys apart first second =
     (and_from (b.1.shard == shard) (is_done b.1.reply.outcome) (eq-eqb b.1.shard shard other.0) other.2) (one.1 ∙ sym other.1)
 
 -- no two accepted notes have one place
-pub once : (tables : Tables) (shard : ℕ) (log : List Acceptance) (marks : List ℕ) (seats : List Seated) → AreRetired tables shard log marks seats
+pub once : (tables : Tables) (shard : ℕ) (log : List Acceptance) (marks : List ℕ) (seats : List Seated) → AreRetired (rules_in tables shard) log marks seats
     → (place : ℕ) → notes_at shard place (λ (seat : Seated). seat.notes) seats ≤ 1
 once tables shard log marks seats retired place =
     sum_once (λ (seat : Seated). count_by (accepted_at shard place) seat.notes) seats
@@ -186,7 +186,7 @@ below_same shard end note within =
           absurd (omega (arith, under, ltb-false note.reply.place end l))
 
 -- each accepted note of a seat is below the end of the log
-counted_below : (tables : Tables) (shard : ℕ) (log : List Acceptance) (mark : ℕ) (notes : List Note) (count : ℕ) → AreTrue tables shard log mark notes count
+counted_below : (tables : Tables) (shard : ℕ) (log : List Acceptance) (mark : ℕ) (notes : List Note) (count : ℕ) → AreTrue (rules_in tables shard) log mark notes count
     → count_by (accepted_below shard (length log)) notes ≡ count
 counted_below tables shard log mark notes count are =
     sum_same (λ (n : Note). weight (accepted_below shard (length log) n)) (λ (n : Note). weight (accepted_of shard n)) notes
@@ -196,7 +196,7 @@ counted_below tables shard log mark notes count are =
     ∙ are.counted
 
 -- there are as many below the end of the log as the seats counted
-pub total : (tables : Tables) (shard : ℕ) (log : List Acceptance) (marks : List ℕ) (seats : List Seated) → AreRetired tables shard log marks seats
+pub total : (tables : Tables) (shard : ℕ) (log : List Acceptance) (marks : List ℕ) (seats : List Seated) → AreRetired (rules_in tables shard) log marks seats
     → notes_below shard (length log) (λ (seat : Seated). seat.notes) seats ≡ sum_by (λ seat. accepted_in seat shard) seats
 total tables shard log marks seats retired =
     sum_same (λ (seat : Seated). count_by (accepted_below shard (length log)) seat.notes) (λ (seat : Seated). accepted_in seat shard) seats
@@ -205,7 +205,7 @@ total tables shard log marks seats retired =
     counted_below tables shard log fit.0 (get_or seats k d).notes (accepted_in (get_or seats k d) shard) fit.1)
 
 -- so the notes of the seats fit the history of the shard
-pub settled : (tables : Tables) (shard : ℕ) (log : List Acceptance) (marks : List ℕ) (seats : List Seated) → AreRetired tables shard log marks seats
+pub settled : (tables : Tables) (shard : ℕ) (log : List Acceptance) (marks : List ℕ) (seats : List Seated) → AreRetired (rules_in tables shard) log marks seats
     → length log ≡ sum_by (λ seat. accepted_in seat shard) seats → IsSettled tables shard (requests log) (λ (seat : Seated). seat.notes) seats
 settled tables shard log marks seats retired counted = record {
   answered = λ k d within. (retired.fit k d within).1.answered;

@@ -1,5 +1,5 @@
 -- How the history of a shard of a book goes on, and its log with it.
-use Rattle.std.proofs.Common.{◌≡◌, ℕ, ◌+◌, List, [], ◌∷◌, length, refl, ap, sym, subst, ◌∙◌, arith, length-append}
+use Rattle.std.proofs.Common.{◌≡◌, ℕ, ◌+◌, List, [], ◌∷◌, length, refl, ap, sym, subst, ◌∙◌, arith, length-append, Result, Ok, Err, IfOk}
 use Rattle.std.proofs.lemmas.List.{map-append}
 use Rattle.std.proofs.lemmas.List.Elements.{All-push}
 use Rattle.mds_table.specs.Tables.{Tables}
@@ -10,10 +10,14 @@ use Rattle.mds_core.specs.declared.reply.Outcome.TheVariants.{Done, Seen, Refuse
 use Rattle.mds_core.specs.History.{key_of}
 use Rattle.mds_core.specs.Headline.{is_done}
 use Rattle.mds_core.specs.Machine.{Machine, Steps}
-use Rattle.mds_core.specs.Answer.{next}
+use Rattle.mds_core.specs.Answer.{Answers, next}
+use Rattle.mds_core.specs.Lawful.{IsLawful}
 use Rattle.mds_log.specs.Log.{Acceptance, requests}
 use Rattle.mds_book.specs.Shards.{shard_of, AreOfShard, count_of}
-use Rattle.mds_book.specs.Sights.{log_after}
+use Rattle.mds_book.specs.Books.{IsShardOf}
+use Rattle.mds_book.specs.Sights.{Parted, log_after, rules_in}
+use Rattle.mds_book.specs.Turns.{IsShown, IsStepped}
+use Rattle.std.specs.declared.alloc.AllocError.{AllocError}
 
 -- it is longer by one where a request was accepted
 pub length-next : (history : List Request) (request : Request) (outcome : Outcome) → length (next history request outcome) ≡ length history + count_of outcome
@@ -51,6 +55,29 @@ slot_next tables number old new total grown log longer mark request reply step i
       omega (arith, long, length-next old.history request reply.outcome),
       asked ∙ (same ∙ sym step.history),
     )
+
+-- what a slot's step tells is what the shard behind its lock answers
+stepped_of : {tables : Tables} {number : ℕ} {old new : Parted} {before after : Machine} {request : Request} {reply : Reply}
+    → IsShardOf tables number before → Steps before request reply after → IsShown old before.history request reply new
+    → IsStepped (rules_in tables number) old request reply new
+stepped_of {tables} {number} {old} {new} {before} {after} {request} {reply} is step shown =
+    let Lawful : Tables → Type 0 = λ t. IsLawful t before.history in
+    let Answer : Tables → Type 0 = λ t. Answers t before.history request reply in
+    let LawfulIn : List Request → Type 0 = λ w. IsLawful tables w in
+    let AnswerIn : List Request → Type 0 = λ w. Answers tables w request reply in
+    record {
+      log = shown.log;
+      lawful = subst LawfulIn (sym shown.whole) (subst Lawful is.over is.lawful);
+      of_shard = subst (AreOfShard number) (sym shown.whole) is.of_shard;
+      answer = subst AnswerIn (sym shown.whole) (subst Answer is.over step.answer);
+      called = shown.called;
+    }
+
+pub stepped_if : {tables : Tables} {number : ℕ} {before : Machine} (old new : Parted) (after : Machine) (request : Request) (result : Result Reply AllocError)
+    → IsShardOf tables number before → IfOk result (λ reply. Steps before request reply after) → IfOk result (λ reply. IsShown old before.history request reply new)
+    → IfOk result (λ reply. IsStepped (rules_in tables number) old request reply new)
+stepped_if old new after request (Ok reply) is step shown = stepped_of is step shown
+stepped_if old new after request (Err error) is step shown = tt
 
 -- the lemmas on the history, for a search
 pub ruleset slot_steps = (length-next, of_shard_next)

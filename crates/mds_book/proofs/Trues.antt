@@ -19,10 +19,11 @@ use Rattle.mds_log.specs.Log.{Acceptance, requests}
 use Rattle.mds_log.proofs.Lists.{prefix_length, prefix_get, get_last}
 use Rattle.mds_book.specs.Shards.{shard_of, count_of}
 use Rattle.mds_book.specs.Seats.{notes_of_call}
-use Rattle.mds_book.specs.Sights.{log_after, IsStepped, accepted_of, AreTrue}
+use Rattle.mds_book.specs.Sights.{AreTrue, Parted, ShardRules, accepted_of, log_after, rules_in}
+use Rattle.mds_book.specs.Turns.{IsStepped}
 
 -- nothing was noted, and nothing seen
-pub true_none : (tables : Tables) (shard mark : ℕ) → AreTrue tables shard [] mark [] 0
+pub true_none : (tables : Tables) (shard mark : ℕ) → AreTrue (rules_in tables shard) [] mark [] 0
 true_none tables shard mark = record {
   answered = λ k d within. absurd (omega arith);
   stored = λ k d within. absurd (omega arith);
@@ -52,7 +53,7 @@ right_longer tables history longer note begins right =
 
 -- notes that are true to a beginning of a log are true to the log
 pub true_longer : (tables : Tables) (shard : ℕ) (log longer : List Acceptance) (mark : ℕ) (notes : List Note) (count : ℕ) → IsPrefix log longer
-    → AreTrue tables shard log mark notes count → AreTrue tables shard longer mark notes count
+    → AreTrue (rules_in tables shard) log mark notes count → AreTrue (rules_in tables shard) longer mark notes count
 true_longer tables shard log longer mark notes count begins are = record {
   answered = λ k d within here. right_longer tables (requests log) (requests longer) (get_or notes k d) (requests_prefix log longer begins) (are.answered k d within here);
   stored = λ k d within here done.
@@ -94,12 +95,12 @@ own_weight shard note here = rw (eq-eqb note.shard shard here) refl
 
 -- the notes with that of a call in this shard, which was answered after all of the log
 pub true_noted : (tables : Tables) (shard : ℕ) (log : List Acceptance) (mark : ℕ) (notes : List Note) (count : ℕ) (note : Note)
-    → AreTrue tables shard log mark notes count → note.shard ≡ shard → Answers tables (requests log) note.request note.reply
-    → AreTrue tables shard (log_after log mark note.request (is_done note.reply.outcome)) mark (notes ++ note ∷ []) (count + count_of note.reply.outcome)
+    → AreTrue (rules_in tables shard) log mark notes count → note.shard ≡ shard → Answers tables (requests log) note.request note.reply
+    → AreTrue (rules_in tables shard) (log_after log mark note.request (is_done note.reply.outcome)) mark (notes ++ note ∷ []) (count + count_of note.reply.outcome)
 true_noted tables shard log mark notes count note are here answer =
     let new : List Acceptance = log_after log mark note.request (is_done note.reply.outcome) in
     let begins : IsPrefix log new = after_longer log mark note.request (is_done note.reply.outcome) in
-    let longer : AreTrue tables shard new mark notes count = true_longer tables shard log new mark notes count begins are in
+    let longer : AreTrue (rules_in tables shard) new mark notes count = true_longer tables shard log new mark notes count begins are in
     let asked : length (requests log) ≡ length log = requests_length log in
     let place : note.reply.place ≡ length log = answer.place ∙ asked in
     let AnswersAfter : List Request → Type 0 = λ before. Answers tables before note.request note.reply in
@@ -118,7 +119,7 @@ true_noted tables shard log mark notes count note are here answer =
 
 -- the notes with that of a call in another shard
 pub true_past : (tables : Tables) (shard : ℕ) (log : List Acceptance) (mark : ℕ) (notes : List Note) (count : ℕ) (note : Note)
-    → AreTrue tables shard log mark notes count → note.shard ≢ shard → AreTrue tables shard log mark (notes ++ note ∷ []) count
+    → AreTrue (rules_in tables shard) log mark notes count → note.shard ≢ shard → AreTrue (rules_in tables shard) log mark (notes ++ note ∷ []) count
 true_past tables shard log mark notes count note are other = record {
   answered = All-push (λ (n : Note). n.shard ≡ shard → HasRightReply tables (requests log) n) notes note are.answered (λ here. absurd (other here));
   stored = All-push (λ (n : Note). n.shard ≡ shard → is_done n.reply.outcome ≡ true → slice_get log n.reply.place ≡ Some (record { tag = mark; request = n.request })) notes note
@@ -128,28 +129,36 @@ true_past tables shard log mark notes count note are other = record {
 }
 
 -- the notes after a call in this shard
-pub true_call : (tables : Tables) (shard : ℕ) (old : List Acceptance) (mark : ℕ) (notes : List Note) (count : ℕ) (all : Bool) (request : Request) (reply : Reply)
-    (new : List Acceptance) → AreTrue tables shard old mark notes count → IsStepped tables shard old mark request reply new → shard_of (key_of request) ≡ shard
-    → AreTrue tables shard new mark (notes ++ notes_of_call all request reply) (count + count_of reply.outcome)
-true_call tables shard old mark notes count all request reply new are step here =
-    let seen : AreTrue tables shard step.log mark notes count = true_longer tables shard old step.log mark notes count step.seen are in
-    let TrueOf : List Acceptance → Type 0 = λ log. AreTrue tables shard log mark (notes ++ notes_of_call all request reply) (count + count_of reply.outcome) in
-    subst TrueOf (sym step.goes_on) (by_kept (all || is_done reply.outcome) refl step.log seen step.answer) where
-      by_kept : (kept : Bool) → (all || is_done reply.outcome) ≡ kept → (log : List Acceptance) → AreTrue tables shard log mark notes count
-          → Answers tables (requests log) request reply
-          → AreTrue tables shard (log_after log mark request (is_done reply.outcome)) mark
-          (notes ++ cond kept (record { shard = shard_of (key_of request); request = request; reply = reply } ∷ []) []) (count + count_of reply.outcome)
+pub true_call : {rules : ShardRules} {old new : Parted} {notes more : List Note} {request : Request} {reply : Reply} (all : Bool)
+    → AreTrue rules old.sight.seen old.mark notes old.count → (step : IsStepped rules old request reply new) → shard_of (key_of request) ≡ rules.number
+    → more ≡ notes ++ notes_of_call all request reply → AreTrue rules new.sight.seen new.mark more new.count
+true_call {rules} {old} {new} {notes} {more} {request} {reply} all are step here written =
+    let seen : AreTrue rules step.log old.mark notes old.count = true_longer rules.tables rules.number old.sight.seen step.log old.mark notes old.count step.called.seen are in
+    let count : ℕ = old.count + count_of reply.outcome in
+    let noted : List Note = notes ++ notes_of_call all request reply in
+    let TrueOf : List Acceptance → Type 0 = λ log. AreTrue rules log old.mark noted count in
+    let Marked : ℕ → Type 0 = λ m. AreTrue rules new.sight.seen m noted count in
+    let Written : List Note → Type 0 = λ w. AreTrue rules new.sight.seen new.mark w count in
+    let Counted : ℕ → Type 0 = λ n. AreTrue rules new.sight.seen new.mark more n in
+    subst Counted (sym step.called.count) (subst Written (sym written) (subst Marked (sym step.called.mark)
+    (subst TrueOf (sym step.called.goes_on) (by_kept (all || is_done reply.outcome) refl step.log seen step.answer)))) where
+      by_kept : (kept : Bool) → (all || is_done reply.outcome) ≡ kept → (log : List Acceptance) → AreTrue rules log old.mark notes old.count
+          → Answers rules.tables (requests log) request reply
+          → AreTrue rules (log_after log old.mark request (is_done reply.outcome)) old.mark
+          (notes ++ cond kept (record { shard = shard_of (key_of request); request = request; reply = reply } ∷ []) []) (old.count + count_of reply.outcome)
       by_kept true is log seen answer =
-          true_noted tables shard log mark notes count (record { shard = shard_of (key_of request); request = request; reply = reply }) seen here answer
+          true_noted rules.tables rules.number log old.mark notes old.count (record { shard = shard_of (key_of request); request = request; reply = reply }) seen here answer
       by_kept false is log seen answer =
           let not_done : is_done reply.outcome ≡ false = (or_parts all (is_done reply.outcome) is).1 in
-          let TrueWhere : Bool → Type 0 = λ done. AreTrue tables shard (log_after log mark request done) mark (notes ++ []) (count + cond done 1 0) in
-          subst TrueWhere (sym not_done) (rw (append-nil notes, add-zero count) seen)
+          let TrueWhere : Bool → Type 0 = λ done. AreTrue rules (log_after log old.mark request done) old.mark (notes ++ []) (old.count + cond done 1 0) in
+          subst TrueWhere (sym not_done) (rw (append-nil notes, add-zero old.count) seen)
 
 -- the notes after a call in another shard
-pub true_other : (tables : Tables) (shard : ℕ) (log : List Acceptance) (mark : ℕ) (notes : List Note) (count : ℕ) (all : Bool) (request : Request) (reply : Reply)
-    → AreTrue tables shard log mark notes count → shard_of (key_of request) ≢ shard → AreTrue tables shard log mark (notes ++ notes_of_call all request reply) count
-true_other tables shard log mark notes count all request reply are other = by_kept (all || is_done reply.outcome) where
-  by_kept : (kept : Bool) → AreTrue tables shard log mark (notes ++ cond kept (record { shard = shard_of (key_of request); request = request; reply = reply } ∷ []) []) count
-  by_kept true = true_past tables shard log mark notes count (record { shard = shard_of (key_of request); request = request; reply = reply }) are other
-  by_kept false = rw (append-nil notes) are
+pub true_other : {rules : ShardRules} {log : List Acceptance} {mark count : ℕ} {notes more : List Note} (all : Bool) (request : Request) (reply : Reply)
+    → AreTrue rules log mark notes count → shard_of (key_of request) ≢ rules.number → more ≡ notes ++ notes_of_call all request reply → AreTrue rules log mark more count
+true_other {rules} {log} {mark} {count} {notes} {more} all request reply are other written =
+    let Written : List Note → Type 0 = λ w. AreTrue rules log mark w count in
+    subst Written (sym written) (by_kept (all || is_done reply.outcome)) where
+      by_kept : (kept : Bool) → AreTrue rules log mark (notes ++ cond kept (record { shard = shard_of (key_of request); request = request; reply = reply } ∷ []) []) count
+      by_kept true = true_past rules.tables rules.number log mark notes count (record { shard = shard_of (key_of request); request = request; reply = reply }) are other
+      by_kept false = rw (append-nil notes) are

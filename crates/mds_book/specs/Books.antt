@@ -46,9 +46,14 @@ GivesEvents tables key found =
     (history : List Request)
     × IsLawful tables history × AreOfShard (shard_of key) history × (found ≡ events_in history key)
 
--- something is seen of the shard of this number: its history is lawful, and its vehicles have this
--- number
+-- the shard of this number in a book over these tables: its history is lawful, and its vehicles
+-- have this number
+pub record IsShardOf (tables : Tables) (number : ℕ) (shard : Machine) : Type 0 where
+  pub over : shard.tables ≡ tables
+  pub lawful : IsLawful shard.tables shard.history
+  pub of_shard : AreOfShard number shard.history
+
+-- something is seen of the shard of this number
 abbrev pub SeesShard : Tables → ℕ → (Machine → Type 0) → Type 0
 SeesShard tables number Sees =
-    (shard : Machine) × (shard.tables ≡ tables) × IsLawful shard.tables shard.history
-    × AreOfShard number shard.history × Sees shard
+    (shard : Machine) × IsShardOf tables number shard × Sees shard

@@ -10,6 +10,7 @@ pub mod Gathering
 pub mod Settling
 pub mod Reconciled
 pub mod Sights
+pub mod Turns
 pub mod Retired
 pub mod Refilling
 pub mod Laws

@@ -1,5 +1,5 @@
 -- The notes of a seat, by the form in which they are kept.
-use Rattle.std.specs.Prelude.{◌≡◌, ℕ, ◌==◌, ◌++◌, List, Bool, All, map, Some, slice_get, true}
+use Rattle.std.specs.Prelude.{◌≡◌, ◌≤◌, ◌+◌, ℕ, ◌==◌, ◌++◌, List, Bool, All, map, Some, slice_get, true, length}
 use Rattle.std.specs.Prelude.{if◌then◌else◌}
 use mathlib.Core.List.{IsPrefix}
 use Rattle.mds_core.specs.declared.request.Request.{Request}
@@ -58,6 +58,9 @@ pub record IsNoted {N : Type 0} (number : N → ℕ) (tells : N → List Request
   pub same : (was seen : ℕ → List Request) → SeesMore was seen
       → AreWithin number is_within was old → IsSeen seen request reply
       → told number tells seen new ≡ told number tells was old ++ notes_of_call all request reply
+  pub few : length new ≤ length old + 1
+  pub of_shard : All (λ note. number note ≡ shard_of (key_of request)) old
+      → All (λ note. number note ≡ shard_of (key_of request)) new
 
 -- a seat may keep its notes so: enough was seen to tell each, and all calls are noted only where
 -- the form can do it

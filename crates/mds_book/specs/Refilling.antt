@@ -1,5 +1,6 @@
 -- A book that is filled again with requests that were accepted before.
-use Rattle.std.specs.Prelude.{◌≡◌, ◌⊎◌, ◌≤◌, ◌++◌, ◌∷◌, [], ℕ, List, All, length, Result, OnOk, IfErr}
+use Rattle.std.specs.Prelude.{◌≡◌, ◌⊎◌, ◌≤◌, ◌+◌, ◌++◌, ◌∷◌, [], ℕ, List, All, length}
+use Rattle.std.specs.Prelude.{Result, OnOk, IfErr}
 use mathlib.Core.List.{IsPrefix}
 use Rattle.mds_table.specs.Tables.{Tables}
 use Rattle.mds_core.specs.declared.request.Request.{Request}
@@ -11,7 +12,7 @@ use Rattle.mds_book.specs.declared.refilling.RefillStop.{RefillStop}
 use Rattle.mds_book.specs.declared.refilling.RefillFault.TheVariants.{Refused}
 use Rattle.mds_book.specs.Shards.{shard_of, part}
 use Rattle.mds_book.specs.Seats.{Seated}
-use Rattle.mds_book.specs.Sights.{AreTrue}
+use Rattle.mds_book.specs.Sights.{AreTrue, Parted, ShardRules}
 use Rattle.mds_book.specs.Notes.{AreWithin, told}
 
 -- all that the seat has seen of the shards it asked itself
@@ -47,10 +48,16 @@ IsRefusedAt tables seat requests at =
 abbrev pub AreNotesOf : ℕ → List Note → Type 0
 AreNotesOf number notes = All (λ note. note.shard ≡ number) notes
 
--- what kept notes of one shard tell, beside what was seen of its log
-abbrev pub told_of : {N : Type 0} → (N → ℕ) → (N → List Request → Note) → List Acceptance → List N
-    → List Note
-told_of number tells log kept = told number tells (λ _. requests log) kept
+-- a seat's part of a shard, and notes of what was asked of it
+pub record PartNotes : Type 0 where
+  pub part : Parted
+  pub notes : List Note
+
+-- what kept notes of one shard tell, beside what their part has seen of its log
+abbrev pub told_of : {N : Type 0} → (N → ℕ) → (N → List Request → Note) → Parted → List N
+    → PartNotes
+told_of number tells one kept =
+    record { part = one; notes = told number tells (λ _. requests one.sight.seen) kept }
 
 -- kept notes are of the shard of this number, and what was seen of its log is enough to tell them
 pub record AreKeptOf {N : Type 0} (number : N → ℕ) (is_within : N → List Request → Type 0)
@@ -58,25 +65,32 @@ pub record AreKeptOf {N : Type 0} (number : N → ℕ) (is_within : N → List R
   pub of_shard : All (λ note. number note ≡ shard) kept
   pub within : AreWithin number is_within (λ _. requests log) kept
 
--- whatever was noted before: with `ones` behind it the notes were true to what was seen of a shard,
--- and with `more` they are true to what is seen now
-abbrev pub StayTrue : Tables → ℕ → ℕ → List Acceptance → ℕ → List Note → List Acceptance → ℕ
-    → List Note → Type 0
-StayTrue tables number mark old count ones new grown more =
-    (before : List Note) → AreTrue tables number old mark (before ++ ones) count
-    → AreTrue tables number new mark (before ++ more) grown
+-- the part with these notes behind others
+abbrev pub AreTrueBehind : ShardRules → List Note → PartNotes → Type 0
+AreTrueBehind rules before told =
+    AreTrue rules told.part.sight.seen told.part.mark (before ++ told.notes) told.part.count
 
--- what comes of asking a shard those of some requests that are of it: the seat had seen `old` of the
--- shard's log and counted so many, and has seen `new` and counts so many; these are the notes
-pub record IsAsked (tables : Tables) (number mark : ℕ) (old : List Acceptance) (count : ℕ)
-    (told : List Request) (new : List Acceptance) (grown : ℕ) (notes : List Note)
-    (asked : Result (Unit {0}) RefillStop) : Type 0 where
-  pub begins : IsPrefix old new
-  pub stay : StayTrue tables number mark old count [] new grown notes
-  pub of_shard : AreNotesOf number notes
-  pub few : length notes ≤ length (part number told)
-  pub all : OnOk asked (grown ≡ length new)
-  pub seen : OnOk asked (requests new ≡ requests old ++ part number told)
+-- requests were asked of a shard, those that are of it: at most so many notes stand behind the
+-- old ones, and whatever was noted before them, all are true still
+pub record Asks (rules : ShardRules) (old : PartNotes) (told : List Request)
+    (new : PartNotes) : Type 0 where
+  pub begins : IsPrefix old.part.sight.seen new.part.sight.seen
+  pub stay : (before : List Note) → AreTrueBehind rules before old → AreTrueBehind rules before new
+  pub few : length new.notes ≤ length old.notes + length (part rules.number told)
+
+-- they were all accepted, and nobody else has asked the shard
+pub record AreAccepted (number : ℕ) (old : Parted) (told : List Request) (new : Parted)
+    : Type 0 where
+  pub all : new.count ≡ length new.sight.seen
+  pub seen : requests new.sight.seen ≡ requests old.sight.seen ++ part number told
+
+-- what comes of asking a shard those of some requests that are of it, up to the first that isn't
+-- accepted, with the notes of what was
+pub record IsAsked (rules : ShardRules) (old : Parted) (told : List Request)
+    (new : PartNotes) (asked : Result (Unit {0}) RefillStop) : Type 0 where
+  pub asks : Asks rules (record { part = old; notes = [] }) told new
+  pub of_shard : AreNotesOf rules.number new.notes
+  pub accepted : OnOk asked (AreAccepted rules.number old told new.part)
   pub refused : IfErr asked (λ stop. stop.fault ≡ Refused
-      → IsRefusedIn tables number (requests old) told stop.at)
+      → IsRefusedIn rules.tables rules.number (requests old.sight.seen) told stop.at)
   pub within : IfErr asked (λ stop. stop.at ≤ length told)

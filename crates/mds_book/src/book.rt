@@ -4,9 +4,11 @@ ghost use Rattle.std.specs.Fn.{FnOnceReturnsAt};
 ghost use mathlib.Core.List.{IsPrefix};
 ghost use Rattle.mds_core.specs.History.{key_of, requests_of};
 ghost use Rattle.mds_core.specs.Headline.{is_done as outcome_is_done};
-ghost use Rattle.mds_book.specs.Shards.{shard_of as number_of, count_of};
+ghost use Rattle.mds_book.specs.Shards.{shard_of as number_of};
 ghost use Rattle.mds_book.specs.Seats.{new_seat, keeps_all, is_look, accepted_in, seen_in, notes_of_call, IsCalled, IsListed};
-ghost use Rattle.mds_book.specs.Sights.{IsSeenWhole, IsStepped, next_turn};
+ghost use Rattle.mds_book.specs.Sights.{rules_in};
+ghost use Rattle.mds_book.specs.Turns.{IsStepped};
+ghost use Rattle.mds_book.specs.Notes.{IsNoted};
 ghost use Rattle.mds_book.specs.Books.{IsBadCount, GivesEvents, SeesShard, open_fault_text};
 ghost use Rattle.mds_book.specs.Gathering.{IsGathered};
 ghost use Rattle.mds_book.specs.Settling.{AreBeginnings, IsSettledBook};
@@ -15,8 +17,8 @@ ghost use Rattle.mds_log.specs.Log.{requests};
 
 use crate::gathered::Account;
 use crate::listing::{events_in, list_in};
-use crate::notes::{make_room, note_call};
-use crate::seat::Parts;
+use crate::notes::{NoteForm, Notes, make_room, note_call};
+use crate::part::Parts;
 use crate::settling::{Closing, count_all, retire_all};
 use crate::slot::shard_of;
 use crate::{Blank, Copies, Gathered, Keep, Part, Progress, Seat, ShardLedger, Slot};
@@ -164,19 +166,40 @@ pub(crate) fn step_in<R: Wait, L: ShardLedger, const N: usize>(
     request: &Request,
 ) -> Result<Reply, AllocError>
     requires { number_of (key_of request.now) ≡ N }
-    ensures stepped { IfOk result (λ reply. IsStepped L.tables N part.old.sight.seen part.old.mark
-        request.now reply part.new.sight.seen) }
-    ensures turn { IfOk result (λ reply. part.new.sight.turns ≡ next_turn part.old.sight.turns) }
-    ensures count { IfOk result (λ reply.
-        part.new.count ≡ part.old.count + count_of reply.outcome) }
-    ensures place { IfOk result (λ reply. part.old.count ≤ reply.place) }
+    ensures stepped { IfOk result (λ reply.
+        IsStepped (rules_in L.tables N) part.old request.now reply part.new) }
     ensures room { IfOk result (λ reply. reply.place < 2 ^ 63) }
-    ensures mark { part.new.mark ≡ part.old.mark }
-    ensures count_unchanged { OnErr result (part.new.count ≡ part.old.count) }
-    ensures sight_unchanged { OnErr result (part.new.sight ≡ part.old.sight) }
+    ensures untold { OnErr result (part.new ≡ part.old) }
     ensures look { is_look request.now ≡ true → IsOk result }
 {
     slot.lock(rt).step(part, request)
+}
+
+/// Makes a call in its shard, and puts its note behind the others, if it is to be noted.
+pub(crate) fn call_in<R: Wait, L: ShardLedger, F: NoteForm, const N: usize>(
+    rt: &R,
+    slot: &Mutex<Slot<L, N>>,
+    part: &mut Part<L>,
+    notes: &mut Notes<F>,
+    keeps_all: bool,
+    request: &Request,
+) -> Result<Reply, AllocError>
+    requires number { number_of (key_of request.now) ≡ N }
+    requires shard { N < 2 }
+    requires may { keeps_all ≡ true → F.notes_all ≡ true }
+    ensures stepped { IfOk result (λ reply.
+        IsStepped (rules_in L.tables N) part.old request.now reply part.new) }
+    ensures noted { IfOk result (λ reply. IsNoted F.number F.tells F.is_within keeps_all
+        request.now reply notes.old.list notes.new.list) }
+    ensures untold { OnErr result (part.new ≡ part.old) }
+    ensures unnoted { OnErr result (notes.new.list ≡ notes.old.list) }
+    ensures look { is_look request.now ≡ true → keeps_all ≡ false → IsOk result }
+{
+    let may_note = keeps_all || !matches!(request, Request::Look(_));
+    make_room(notes, may_note)?;
+    let reply = step_in(rt, slot, part, request)?;
+    note_call(notes, keeps_all, N, request, &reply);
+    Ok(reply)
 }
 
 fn copy_in<R: Wait, L: ShardLedger, const N: usize>(
@@ -238,8 +261,8 @@ impl<L: ShardLedger, M: ShardLedger> Book<L, M> {
         requires first { (first.name ≡ L.name) × (first.parts ≡ L.parts) × (first.parts ≡ seats) }
         requires second { (second.name ≡ M.name) × (second.parts ≡ M.parts)
             × (second.parts ≡ seats) }
-        requires first_log { (first.log ≡ L.log) × (first.marks ≡ L.marks) }
-        requires second_log { (second.log ≡ M.log) × (second.marks ≡ M.marks) }
+        requires logs { (first.log ≡ L.log) × (first.marks ≡ L.marks) × (second.log ≡ M.log)
+            × (second.marks ≡ M.marks) }
         requires tables { (tables ≡ L.tables) × (tables ≡ M.tables) }
         requires keep { keeps_all keep ≡ true → L.Note.notes_all ≡ true }
         ensures book { IfOk result (λ opened.
@@ -269,8 +292,8 @@ impl<L: ShardLedger, M: ShardLedger> Book<L, M> {
         requires first { (first.name ≡ L.name) × (first.parts ≡ L.parts) × (first.parts ≡ seats) }
         requires second { (second.name ≡ M.name) × (second.parts ≡ M.parts)
             × (second.parts ≡ seats) }
-        requires first_log { (first.log ≡ L.log) × (first.marks ≡ L.marks) }
-        requires second_log { (second.log ≡ M.log) × (second.marks ≡ M.marks) }
+        requires logs { (first.log ≡ L.log) × (first.marks ≡ L.marks) × (second.log ≡ M.log)
+            × (second.marks ≡ M.marks) }
         requires tables { (tables ≡ L.tables) × (tables ≡ M.tables) }
         requires some { 0 < seats }
         requires keep { keeps_all keep ≡ true → L.Note.notes_all ≡ true }
@@ -399,10 +422,9 @@ impl<L: ShardLedger, M: ShardLedger> Book<L, M> {
         ensures unchanged { OnErr result (seat.new ≡ seat.old) }
         ensures look { is_look request.now ≡ true → seat.old.keeps_all ≡ false → IsOk result }
     {
-        let may_note = seat.may_note(request);
-        make_room(&mut seat.notes, may_note)?;
-        let reply = step_in(rt, &self.first, &mut seat.first, request)?;
-        note_call(&mut seat.notes, seat.keeps_all, 0, request, &reply);
+        let keeps_all = seat.keeps_all;
+        let (part, notes) = (&mut seat.first, &mut seat.notes);
+        let reply = call_in(rt, &self.first, part, notes, keeps_all, request)?;
         Ok(reply)
     }
 
@@ -419,10 +441,9 @@ impl<L: ShardLedger, M: ShardLedger> Book<L, M> {
         ensures unchanged { OnErr result (seat.new ≡ seat.old) }
         ensures look { is_look request.now ≡ true → seat.old.keeps_all ≡ false → IsOk result }
     {
-        let may_note = seat.may_note(request);
-        make_room(&mut seat.notes, may_note)?;
-        let reply = step_in(rt, &self.second, &mut seat.second, request)?;
-        note_call(&mut seat.notes, seat.keeps_all, 1, request, &reply);
+        let keeps_all = seat.keeps_all;
+        let (part, notes) = (&mut seat.second, &mut seat.notes);
+        let reply = call_in(rt, &self.second, part, notes, keeps_all, request)?;
         Ok(reply)
     }
 
@@ -606,7 +627,7 @@ impl<L: ShardLedger, M: ShardLedger> Book<L, M> {
         ensures { result ≡ true → IsPrefix (requests_of seat.now.first_seen key.now)
             (requests_of (copied_requests first.now) key.now) }
     {
-        has_copied_in(rt, &self.first, seat.first.sight.front(), first, key)
+        has_copied_in(rt, &self.first, seat.first.front(), first, key)
     }
 
     fn has_copied_second<R: Wait>(
@@ -619,7 +640,7 @@ impl<L: ShardLedger, M: ShardLedger> Book<L, M> {
         ensures { result ≡ true → IsPrefix (requests_of seat.now.second_seen key.now)
             (requests_of (copied_requests second.now) key.now) }
     {
-        has_copied_in(rt, &self.second, seat.second.sight.front(), second, key)
+        has_copied_in(rt, &self.second, seat.second.front(), second, key)
     }
 
     /// Opens the locks of a book all of whose seats are handed in, and takes the seats back.

@@ -8,8 +8,8 @@ pub fn sights_agree<L: ShardLedger, M: ShardLedger>(one: &Seat<L, M>, other: &Se
     ensures first { OneBegins one.now.first_seen other.now.first_seen }
     ensures second { OneBegins one.now.second_seen other.now.second_seen }
 {
-    one.first.sight.tell_order(&other.first.sight);
-    one.second.sight.tell_order(&other.second.sight);
+    one.first.tell_order(&other.first);
+    one.second.tell_order(&other.second);
 }
 
 /// In a settled book what two callers saw of a shard are beginnings of the shard's history, and so one begins the other.

@@ -1,14 +1,14 @@
 //! A list of a vehicle's events. It is copied in pieces, between which the shard's lock is free: a long one keeps no other caller
 //! waiting. A history only grows, so what is copied later is what was there when the list began.
 ghost use Rattle.std.specs.Prelude.{◌≡◌, ◌≤◌, ◌+◌, None, Some, length, IfOk, IfNone, IfSome, OnErr, option_map};
-ghost use mathlib.Core.List.{IsPrefix};
 ghost use Rattle.mds_core.specs.declared.key.Key.{Key as Told};
 ghost use Rattle.mds_core.specs.Lawful.{IsLawful};
 ghost use Rattle.mds_core.specs.Machine.{events_in as events_told};
 ghost use Rattle.mds_log.specs.Log.{requests};
 ghost use Rattle.mds_shard.specs.Walk.{IsWalkOf, steps_left};
 ghost use Rattle.mds_book.specs.Shards.{shard_of as number_of, AreOfShard};
-ghost use Rattle.mds_book.specs.Sights.{IsSeenWhole, next_turn};
+ghost use Rattle.mds_book.specs.Sights.{rules_in};
+ghost use Rattle.mds_book.specs.Turns.{HasLooked};
 ghost use Rattle.mds_book.specs.Books.{GivesEvents};
 ghost use Rattle.mds_book.specs.Listing.{IsBegun};
 
@@ -59,18 +59,13 @@ fn begin_seen<R: Wait, L: ShardLedger, E: TakesEvents, const N: usize>(
     part: &mut Part<L>,
     key: &Key,
 ) -> Result<Option<Listing<E>>, AllocError>
-    ensures seen { IfOk result (λ listing. IsPrefix part.old.sight.seen part.new.sight.seen) }
-    ensures lawful { IfOk result (λ listing. IsLawful L.tables (requests part.new.sight.seen)) }
-    ensures of_shard { IfOk result (λ listing. AreOfShard N (requests part.new.sight.seen)) }
+    ensures looked { IfOk result (λ listing.
+        HasLooked (rules_in L.tables N) part.old part.new) }
     ensures some { IfOk result (λ listing.
         IfSome listing (IsBegun E.events E.room (requests part.new.sight.seen) key.now)) }
     ensures none { IfOk result (λ listing.
         IfNone listing (events_told (requests part.new.sight.seen) key.now ≡ None)) }
-    ensures turn { IfOk result (λ listing.
-        part.new.sight.turns ≡ next_turn part.old.sight.turns) }
-    ensures count { part.new.count ≡ part.old.count }
-    ensures mark { part.new.mark ≡ part.old.mark }
-    ensures unchanged { OnErr result (part.new.sight ≡ part.old.sight) }
+    ensures untold { OnErr result (part.new ≡ part.old) }
 {
     let mut slot = slot.lock(rt);
     let listing = begin(alloc, slot.shard(), key)?;
@@ -161,15 +156,14 @@ pub(crate) fn list_in<R: Wait, L: ShardLedger, E: TakesEvents, const N: usize>(
     key: &Key,
 ) -> Result<Option<E>, AllocError>
     requires { number_of key.now ≡ N }
-    ensures listed { IfOk result (λ found. IsSeenWhole L.tables N part.old.sight.seen key.now
-        (option_map E.events found) part.new.sight.seen) }
-    ensures turn { IfOk result (λ found. part.new.sight.turns ≡ next_turn part.old.sight.turns) }
-    ensures count { part.new.count ≡ part.old.count }
-    ensures mark { part.new.mark ≡ part.old.mark }
-    ensures unchanged { OnErr result (part.new.sight ≡ part.old.sight) }
+    ensures looked { IfOk result (λ found.
+        HasLooked (rules_in L.tables N) part.old part.new) }
+    ensures events { IfOk result (λ found. option_map E.events found
+        ≡ events_told (requests part.new.sight.seen) key.now) }
+    ensures untold { OnErr result (part.new ≡ part.old) }
 {
     match begin_seen(rt, alloc, slot, part, key)? {
-        Some(listing) => Ok(Some(finish(rt, slot, part.sight.front(), listing))),
+        Some(listing) => Ok(Some(finish(rt, slot, part.front(), listing))),
         None => Ok(None),
     }
 }

@@ -200,9 +200,6 @@ pub(crate) fn note_call<N: NoteForm>(
     requires room { (keeps_all || outcome_is_done reply.now.outcome) ≡ true → 0 < notes.old.room }
     ensures noted { IsNoted N.number N.tells N.is_within keeps_all request.now reply.now
         notes.old.list notes.new.list }
-    ensures few { length notes.new.list ≤ length notes.old.list + 1 }
-    ensures of_shard { All (λ note. N.number note ≡ shard) notes.old.list
-        → All (λ note. N.number note ≡ shard) notes.new.list }
 {
     if !is_noted(keeps_all, reply) {
         return;

@@ -1,18 +1,15 @@
 //! A book that is filled again with requests that were accepted before.
-ghost use Rattle.std.specs.Prelude.{◌≡◌, ◌⊎◌, ◌<◌, ◌≤◌, ◌+◌, ◌++◌, ◌∷◌, [], length, Err, IfOk, IfErr, OnOk};
-ghost use mathlib.Core.List.{IsPrefix};
-ghost use Rattle.mds_core.specs.History.{key_of};
+ghost use Rattle.std.specs.Prelude.{◌≡◌, ◌⊎◌, ◌<◌, ◌≤◌, ◌∷◌, [], length, Err, IfErr, OnOk};
 ghost use Rattle.mds_log.specs.Log.{requests as requests_in};
-ghost use Rattle.mds_book.specs.Shards.{shard_of as number_of, count_of, part as part_of};
-ghost use Rattle.mds_book.specs.Sights.{IsStepped};
-ghost use Rattle.mds_book.specs.Refilling.{AreKeptOf, HasAll, IsAsked, IsFilled, IsRefusedAt, IsRefusedIn, StayTrue, told_of};
+ghost use Rattle.mds_book.specs.Sights.{rules_in};
+ghost use Rattle.mds_book.specs.Refilling.{AreAccepted, AreKeptOf, Asks, HasAll, IsAsked, IsFilled, IsRefusedAt, IsRefusedIn, told_of};
 
-use crate::book::step_in;
-use crate::notes::{Notes, make_room, note_call};
+use crate::book::call_in;
+use crate::notes::Notes;
 use crate::slot::shard_of;
 use crate::{Book, NoteForm, Part, Seat, ShardLedger, SharedLedger, Slot};
-use mds_core::{Outcome, Reply, Request};
-use std::alloc::{AllocError, Global};
+use mds_core::{Outcome, Request};
+use std::alloc::Global;
 use std::sync::{Mutex, Wait};
 use std::thread::{Threads, join_mut};
 
@@ -45,36 +42,6 @@ struct ShardNotes<F: NoteForm> {
     asked: Result<(), RefillStop>,
 }
 
-/// Asks one request, and notes it where it is accepted. Where there is no memory for it, nothing has changed.
-fn ask<R: Wait, L: ShardLedger, F: NoteForm, const N: usize>(
-    rt: &R,
-    slot: &Mutex<Slot<L, N>>,
-    part: &mut Part<L>,
-    notes: &mut Notes<F>,
-    request: &Request,
-) -> Result<Reply, AllocError>
-    requires number { number_of (key_of request.now) ≡ N }
-    requires shard { N < 2 }
-    requires kept { AreKeptOf F.number F.is_within N part.old.sight.seen notes.old.list }
-    ensures mark { part.new.mark ≡ part.old.mark }
-    ensures begins { IsPrefix part.old.sight.seen part.new.sight.seen }
-    ensures kept { AreKeptOf F.number F.is_within N part.new.sight.seen notes.new.list }
-    ensures stay { StayTrue L.tables N part.old.mark part.old.sight.seen part.old.count
-        (told_of F.number F.tells part.old.sight.seen notes.old.list)
-        part.new.sight.seen part.new.count
-        (told_of F.number F.tells part.new.sight.seen notes.new.list) }
-    ensures few { length notes.new.list ≤ length notes.old.list + 1 }
-    ensures stepped { IfOk result (λ reply. IsStepped L.tables N part.old.sight.seen part.old.mark
-        request.now reply part.new.sight.seen) }
-    ensures count { IfOk result (λ reply.
-        part.new.count ≡ part.old.count + count_of reply.outcome) }
-{
-    make_room(notes, true)?;
-    let reply = step_in(rt, slot, part, request)?;
-    note_call(notes, false, N, request, &reply);
-    Ok(reply)
-}
-
 /// Asks one request of a shard that nobody else asks, if it is of the shard. It has to be accepted.
 fn ask_again<R: Wait, L: ShardLedger, F: NoteForm, const N: usize>(
     rt: &R,
@@ -86,26 +53,18 @@ fn ask_again<R: Wait, L: ShardLedger, F: NoteForm, const N: usize>(
     requires all { part.old.count ≡ length part.old.sight.seen }
     requires shard { N < 2 }
     requires kept { AreKeptOf F.number F.is_within N part.old.sight.seen notes.old.list }
-    ensures mark { part.new.mark ≡ part.old.mark }
-    ensures begins { IsPrefix part.old.sight.seen part.new.sight.seen }
     ensures kept { AreKeptOf F.number F.is_within N part.new.sight.seen notes.new.list }
-    ensures stay { StayTrue L.tables N part.old.mark part.old.sight.seen part.old.count
-        (told_of F.number F.tells part.old.sight.seen notes.old.list)
-        part.new.sight.seen part.new.count
-        (told_of F.number F.tells part.new.sight.seen notes.new.list) }
-    ensures few { length notes.new.list
-        ≤ length notes.old.list + length (part_of N (request.now ∷ [])) }
-    ensures all { OnOk result (part.new.count ≡ length part.new.sight.seen) }
-    ensures seen { OnOk result (requests_in part.new.sight.seen
-        ≡ requests_in part.old.sight.seen ++ part_of N (request.now ∷ [])) }
+    ensures asks { Asks (rules_in L.tables N) (told_of F.number F.tells part.old notes.old.list)
+        (request.now ∷ []) (told_of F.number F.tells part.new notes.new.list) }
+    ensures accepted { OnOk result (AreAccepted N part.old (request.now ∷ []) part.new) }
     ensures refused { result ≡ Err RefillFault.Refused
         → IsRefusedIn L.tables N (requests_in part.old.sight.seen) (request.now ∷ []) 0 }
 {
     if shard_of(request.key()) != N {
         return Ok(());
     }
-    let expected = part.count;
-    let Ok(reply) = ask(rt, slot, part, notes, request) else {
+    let expected = part.count();
+    let Ok(reply) = call_in(rt, slot, part, notes, false, request) else {
         return Err(RefillFault::Memory);
     };
     if reply.place as u64 != expected {
@@ -127,11 +86,9 @@ fn ask_shard<R: Wait, L: ShardLedger, F: NoteForm, const N: usize>(
 ) -> ShardNotes<F>
     requires all { part.old.count ≡ length part.old.sight.seen }
     requires shard { N < 2 }
-    ensures mark { part.new.mark ≡ part.old.mark }
     ensures kept { AreKeptOf F.number F.is_within N part.new.sight.seen result.notes.list }
-    ensures asked { IsAsked L.tables N part.old.mark part.old.sight.seen part.old.count
-        requests.now part.new.sight.seen part.new.count
-        (told_of F.number F.tells part.new.sight.seen result.notes.list) result.asked }
+    ensures asked { IsAsked (rules_in L.tables N) part.old requests.now
+        (told_of F.number F.tells part.new result.notes.list) result.asked }
 {
     let mut notes = Notes::new(alloc);
     let mut at = 0;
@@ -218,19 +175,15 @@ impl<L: SharedLedger, M: SharedLedger> Book<L, M> {
         requires first { first.old.count ≡ length first.old.sight.seen }
         requires second { second.old.count ≡ length second.old.sight.seen }
         ensures tables { (self.now.tables ≡ L.tables) × (self.now.tables ≡ M.tables) }
-        ensures first_mark { first.new.mark ≡ first.old.mark }
-        ensures second_mark { second.new.mark ≡ second.old.mark }
         ensures first_kept { AreKeptOf L.SharedNote.number L.SharedNote.is_within 0 first.new.sight.seen
             result.0.notes.list }
         ensures second_kept { AreKeptOf L.SharedNote.number L.SharedNote.is_within 1 second.new.sight.seen
             result.1.notes.list }
-        ensures first { IsAsked L.tables 0 first.old.mark first.old.sight.seen first.old.count
-            requests.now first.new.sight.seen first.new.count
-            (told_of L.SharedNote.number L.SharedNote.tells first.new.sight.seen result.0.notes.list)
+        ensures first { IsAsked (rules_in L.tables 0) first.old requests.now
+            (told_of L.SharedNote.number L.SharedNote.tells first.new result.0.notes.list)
             result.0.asked }
-        ensures second { IsAsked M.tables 1 second.old.mark second.old.sight.seen
-            second.old.count requests.now second.new.sight.seen second.new.count
-            (told_of L.SharedNote.number L.SharedNote.tells second.new.sight.seen result.1.notes.list)
+        ensures second { IsAsked (rules_in M.tables 1) second.old requests.now
+            (told_of L.SharedNote.number L.SharedNote.tells second.new result.1.notes.list)
             result.1.asked }
     {
         let mut ask_first = || -> ShardNotes<L::SharedNote>

@@ -1,23 +1,19 @@
 //! What a caller holds: its part of each shard, and the notes of its calls.
-ghost use Rattle.std.specs.Prelude.{◌≡◌, ◌<◌, ◌≤◌, ◌+◌, ◌^◌, ◌||◌, [], length, not, true};
+ghost use Rattle.std.specs.Prelude.{◌≡◌, ◌≤◌, ◌+◌, length, true};
 ghost use mathlib.Core.List.{IsPrefix};
-ghost use Rattle.mds_core.specs.Headline.{is_done};
-ghost use Rattle.mds_book.specs.Shards.{count_of};
-ghost use Rattle.mds_book.specs.Seats.{accepted_in, is_look, new_seat, keeps_all};
-ghost use Rattle.mds_book.specs.Sights.{log_after, next_turn};
+ghost use Rattle.mds_book.specs.Seats.{accepted_in, new_seat, keeps_all};
+ghost use Rattle.mds_book.specs.Sights.{rules_in};
 ghost use Rattle.mds_book.specs.Copying.{copied_requests};
 ghost use Rattle.mds_book.specs.Retired.{IsRetired};
 
 use crate::gathered::Account;
 use crate::notes::Notes;
+use crate::part::Parts;
 use crate::settling::Closing;
-use crate::{Progress, ShardLedger, Sight};
-use mds_core::{Outcome, Request};
-use mds_log::{Front, Keeper, Mark, Marks};
+use crate::{Part, Progress, ShardLedger};
 use mds_settle::{Note, NoteList};
 use std::alloc::Global;
 use std::marker::Model;
-use std::sync::ledger::{Book, Share};
 
 /// Which of its calls a seat notes.
 #[derive(Clone, Copy, Debug, PartialEq, Eq)]
@@ -26,28 +22,6 @@ pub enum Keep {
     All,
     /// The calls that were accepted.
     Accepted,
-}
-
-/// What a seat has of one shard: a part of its ledger, the number that it stands for, what the seat saw of the log, and the
-/// seat's mark there.
-#[derive(Drop)]
-pub struct Part<L: ShardLedger> {
-    pub(crate) share: Share<L>,
-    pub(crate) count: u64,
-    pub(crate) sight: Sight<L>,
-    pub(crate) mark: Mark<L>,
-    ghost one_part: { share.parts ≡ 1 },
-    ghost counted: { share.amount ≡ count },
-}
-
-/// What the parts of a shard are made of: the share that has all parts left, a front that has seen nothing, and the marks.
-#[derive(Drop)]
-pub(crate) struct Parts<L: ShardLedger> {
-    pub(crate) share: Share<L>,
-    pub(crate) front: Front<L>,
-    pub(crate) marks: Marks<L>,
-    ghost amount: { share.amount ≡ 0 },
-    ghost unseen: { front ≡ [] },
 }
 
 /// What a caller holds of the book of its type: its part of each shard, and the notes of its calls in their order. Each note is
@@ -75,7 +49,7 @@ impl<L: ShardLedger, M: ShardLedger> Model for Seat<L, M> {
     ghost use Rattle.mds_log.specs.Log.{requests};
     ghost use Rattle.mds_book.specs.Seats.{Seated};
     ghost use Rattle.std.specs.Prelude.{◌≡◌, true};
-    ghost use Rattle.mds_book.specs.Sights.{AreTrue};
+    ghost use Rattle.mds_book.specs.Sights.{AreTrue, rules_in};
     ghost use Rattle.mds_book.specs.Notes.{AreKept, seen_by, told};
 
     ghost Value = { Seated };
@@ -94,78 +68,17 @@ impl<L: ShardLedger, M: ShardLedger> Model for Seat<L, M> {
     } };
 
     ghost invariant = { λ seat.
-        AreTrue L.tables 0 seat.first.sight.seen seat.first.mark
+        AreTrue (rules_in L.tables 0) seat.first.sight.seen seat.first.mark
         (told L.Note.number L.Note.tells
         (seen_by (requests seat.first.sight.seen) (requests seat.second.sight.seen))
         seat.notes.list) seat.first.count
-        × AreTrue M.tables 1 seat.second.sight.seen seat.second.mark
+        × AreTrue (rules_in M.tables 1) seat.second.sight.seen seat.second.mark
         (told L.Note.number L.Note.tells
         (seen_by (requests seat.first.sight.seen) (requests seat.second.sight.seen))
         seat.notes.list) seat.second.count
         × AreKept L.Note.number L.Note.is_within L.Note.notes_all
         (seen_by (requests seat.first.sight.seen) (requests seat.second.sight.seen))
         seat.notes.list seat.keeps_all };
-}
-
-impl<L: ShardLedger> Parts<L> {
-    pub(crate) fn cut(&mut self) -> Part<L>
-        requires { 1 ≤ self.old.share.parts }
-        ensures count { result.count ≡ 0 }
-        ensures sight { result.sight ≡ record { seen = []; turns = 0 } }
-        ensures parts { self.new.share.parts + 1 ≡ self.old.share.parts }
-    {
-        Part {
-            share: self.share.split_off(1, 0),
-            count: 0,
-            sight: Sight::new(self.front.again()),
-            mark: self.marks.mark(),
-        }
-    }
-}
-
-impl<L: ShardLedger> Part<L> {
-    /// For its contract alone: it changes nothing.
-    pub(crate) fn audit(&mut self, accepted: &mut Book<L>)
-        ensures count { self.new.count ≡ self.old.count }
-        ensures sight { self.new.sight ≡ self.old.sight }
-        ensures mark { self.new.mark ≡ self.old.mark }
-        ensures total { accepted.new.total ≡ accepted.old.total }
-        ensures bound { self.old.count ≤ accepted.old.total }
-    {
-        accepted.audit(&mut self.share);
-    }
-
-    pub(crate) fn keep(
-        &mut self,
-        accepted: &mut Book<L>,
-        keeper: &mut Keeper<L>,
-        request: &Request,
-        outcome: &Outcome,
-    )
-        requires room { length keeper.old < 2 ^ 63 }
-        requires bound { self.old.count ≤ length keeper.old }
-        ensures count { self.new.count ≡ self.old.count + count_of outcome.now }
-        ensures total { accepted.new.total ≡ accepted.old.total + count_of outcome.now }
-        ensures seen { IsPrefix self.old.sight.seen keeper.old }
-        ensures log { keeper.new
-            ≡ log_after keeper.old self.old.mark request.now (is_done outcome.now) }
-        ensures sight { self.new.sight
-            ≡ record { seen = keeper.new; turns = next_turn self.old.sight.turns } }
-        ensures mark { self.new.mark ≡ self.old.mark }
-    {
-        let Part {
-            share,
-            count,
-            sight,
-            mark,
-        } = self;
-        sight.look(keeper);
-        if let Outcome::Done = outcome {
-            accepted.add(share, 1);
-            sight.add(keeper, mark, request);
-            *count += 1;
-        }
-    }
 }
 
 impl<L: ShardLedger, M: ShardLedger> Seat<L, M> {
@@ -195,8 +108,8 @@ impl<L: ShardLedger, M: ShardLedger> Seat<L, M> {
         ensures { result ≡ accepted_in self.now shard }
     {
         match shard {
-            0 => self.first.count,
-            1 => self.second.count,
+            0 => self.first.count(),
+            1 => self.second.count(),
             _ => 0,
         }
     }
@@ -208,7 +121,7 @@ impl<L: ShardLedger, M: ShardLedger> Seat<L, M> {
         ensures second { result.1
             ≡ record { seen = self.now.second_seen; count = length self.now.second_seen } }
     {
-        (self.first.sight.progress(), self.second.sight.progress())
+        (self.first.progress(), self.second.progress())
     }
 
     /// Whether all that the seat has seen of both shards was copied.
@@ -217,13 +130,7 @@ impl<L: ShardLedger, M: ShardLedger> Seat<L, M> {
         ensures second { result ≡ true
             → IsPrefix self.now.second_seen (copied_requests second.now) }
     {
-        first.has(self.first.sight.front()) && second.has(self.second.sight.front())
-    }
-
-    pub(crate) fn may_note(&self, request: &Request) -> bool
-        ensures { result ≡ (self.now.keeps_all || not (is_look request.now)) }
-    {
-        self.keeps_all || !matches!(request, Request::Look(_))
+        first.has(self.first.front()) && second.has(self.second.front())
     }
 
     pub(crate) fn retire(
@@ -234,8 +141,8 @@ impl<L: ShardLedger, M: ShardLedger> Seat<L, M> {
         ensures slots { (first.new.slot ≡ first.old.slot) × (second.new.slot ≡ second.old.slot) }
         ensures logs { (first.new.log ≡ first.old.log) × (second.new.log ≡ second.old.log) }
         ensures account { result ≡ self }
-        ensures first { IsRetired L.tables 0 first.old.log first.old.marks result first.new.marks }
-        ensures second { IsRetired M.tables 1 second.old.log second.old.marks result
+        ensures first { IsRetired (rules_in L.tables 0) first.old.log first.old.marks result first.new.marks }
+        ensures second { IsRetired (rules_in M.tables 1) second.old.log second.old.marks result
             second.new.marks }
     {
         let Seat {

@@ -5,6 +5,7 @@ ghost use Rattle.mds_log.specs.Log.{requests};
 ghost use Rattle.mds_log.specs.Marks.{Has, HasNot};
 ghost use Rattle.mds_book.specs.Reconciled.{IsReconciled};
 ghost use Rattle.mds_book.specs.Retired.{AreRetired};
+ghost use Rattle.mds_book.specs.Sights.{rules_in};
 
 use crate::gathered::Account;
 use crate::{Book, Gathered, Part, Seat, Settled, ShardLedger, Sight, Slot};
@@ -167,8 +168,8 @@ pub(crate) fn retire_all<L: ShardLedger, M: ShardLedger>(
     ensures slots { (first.new.slot ≡ first.old.slot) × (second.new.slot ≡ second.old.slot) }
     ensures logs { (first.new.log ≡ first.old.log) × (second.new.log ≡ second.old.log) }
     ensures seats { result.items ≡ seats.items }
-    ensures first { AreRetired L.tables 0 first.new.log first.new.marks result.items }
-    ensures second { AreRetired M.tables 1 second.new.log second.new.marks result.items }
+    ensures first { AreRetired (rules_in L.tables 0) first.new.log first.new.marks result.items }
+    ensures second { AreRetired (rules_in M.tables 1) second.new.log second.new.marks result.items }
 {
     for seat in seats {
         let account = seat.retire(first, second);

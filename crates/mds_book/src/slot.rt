@@ -3,15 +3,16 @@ ghost use Rattle.std.specs.Prelude.{◌≡◌, [], Some, length, true, ◌<◌, 
 ghost use Rattle.mds_core.specs.declared.key.Key.{Key as Told};
 ghost use Rattle.mds_core.specs.History.{key_of, requests_of};
 ghost use Rattle.mds_core.specs.Machine.{Steps, LacksMemory};
-ghost use Rattle.mds_core.specs.Lawful.{IsLawful};
 ghost use mathlib.Core.List.{IsPrefix};
 ghost use Rattle.mds_log.specs.Log.{requests};
 ghost use Rattle.mds_shard.specs.Walk.{IsWalkOf, steps_left};
-ghost use Rattle.mds_book.specs.Shards.{shard_of as number_of, AreOfShard, count_of};
-ghost use Rattle.mds_book.specs.Sights.{IsShown, next_turn};
+ghost use Rattle.mds_book.specs.Shards.{shard_of as number_of};
+ghost use Rattle.mds_book.specs.Books.{IsShardOf};
+ghost use Rattle.mds_book.specs.Sights.{next_turn};
+ghost use Rattle.mds_book.specs.Turns.{IsShown};
 ghost use Rattle.mds_book.specs.Copying.{AddsPiece, copied_requests, max_piece};
 
-use crate::seat::Parts;
+use crate::part::Parts;
 use crate::{Blank, Copies, Part, Progress, ShardLedger};
 use mds_core::{Key, Reply, Request};
 use mds_log::{Front, Keeper};
@@ -134,9 +135,7 @@ impl<L: ShardLedger, const N: usize> Slot<L, N> {
     /// The shard.
     pub fn shard(&self) -> &Shard<L::Form>
         ensures shard { result.now ≡ self.now }
-        ensures tables { self.now.tables ≡ L.tables }
-        ensures lawful { IsLawful self.now.tables self.now.history }
-        ensures of_shard { AreOfShard N self.now.history }
+        ensures is_shard { IsShardOf L.tables N self.now }
     {
         &self.shard
     }
@@ -178,7 +177,7 @@ impl<L: ShardLedger, const N: usize> Slot<L, N> {
         ensures count { part.new.count ≡ part.old.count }
         ensures mark { part.new.mark ≡ part.old.mark }
     {
-        part.sight.look(&mut self.keeper);
+        part.look(&mut self.keeper);
     }
 
     /// At most [`MAX_PIECE`] requests.
@@ -256,21 +255,12 @@ impl<L: ShardLedger, const N: usize> Slot<L, N> {
     pub fn step(&mut self, part: &mut Part<L>, request: &Request) -> Result<Reply, AllocError>
         requires number { number_of (key_of request.now) ≡ N }
         ensures step { IfOk result (λ reply. Steps self.old request.now reply self.new) }
-        ensures tables { self.old.tables ≡ L.tables }
-        ensures lawful { IsLawful self.old.tables self.old.history }
-        ensures of_shard { AreOfShard N self.old.history }
-        ensures count { IfOk result (λ reply.
-            part.new.count ≡ part.old.count + count_of reply.outcome) }
-        ensures place { IfOk result (λ reply. part.old.count ≤ reply.place) }
-        ensures shown { IfOk result (λ reply. IsShown part.old.sight.seen
-            self.old.history part.old.mark request.now reply part.new.sight.seen) }
-        ensures turn { IfOk result (λ reply.
-            part.new.sight.turns ≡ next_turn part.old.sight.turns) }
-        ensures mark { part.new.mark ≡ part.old.mark }
+        ensures is_shard { IsShardOf L.tables N self.old }
+        ensures shown { IfOk result (λ reply.
+            IsShown part.old self.old.history request.now reply part.new) }
         ensures room { IfOk result (λ reply. reply.place < 2 ^ 63) }
         ensures memory { OnErr result (LacksMemory self.old request.now self.new) }
-        ensures count_unchanged { OnErr result (part.new.count ≡ part.old.count) }
-        ensures sight_unchanged { OnErr result (part.new.sight ≡ part.old.sight) }
+        ensures untold { OnErr result (part.new ≡ part.old) }
     {
         let Slot {
             shard,

@@ -6,4 +6,5 @@ pub mod Program
 pub mod Serve
 pub mod CompactText
 pub mod Compact
+pub mod Follow
 pub mod Cuts

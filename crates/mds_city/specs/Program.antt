@@ -34,6 +34,8 @@ use Rattle.mds_city.specs.declared.serve.ServeOptions.{ServeOptions}
 use Rattle.mds_city.specs.Host.{FileHost, HostFiles, ServerHost, StandardInput, TableFile}
 use Rattle.mds_city.specs.Compact.{CameToCompact}
 use Rattle.mds_city.specs.Cuts.{AreCutsOf, ExplainsCuts}
+use Rattle.mds_city.specs.Follow.{FollowHost, CameToFollow}
+use Rattle.mds_city.specs.declared.follow.FollowAsked.{FollowAsked}
 use Rattle.mds_city.specs.Outcome.{Outcome}
 use Rattle.mds_city.specs.Serve.{CameToServe}
 use Rattle.mds_city.specs.Journal.{CameToServeOver}
@@ -207,9 +209,20 @@ module _ {F N : Type 0} (all : HostFiles F N) where
       × Keeps outcome.out.before outcome.out.after × (outcome.ended ≡ debug_status_of problem)
       × TellsDebug outcome.faults.before outcome.faults.after problem)
 
+-- the files of a host, of which it also makes new ones, and journals of servers
+module _ {F N G : Type 0} (all : HostFiles F N) (journals : FollowHost G) where
+  -- a compaction beside a server came to these, where the old journal was judged by the table file
+  -- that is named, if one is; or there is none, and why was told
+  abbrev pub CarriesFollow : Option (List ℕ) → FollowAsked → Outcome → Type 0
+  CarriesFollow table asked outcome =
+      (IsJudged all.opener table asked.old.now × CameToFollow all journals asked outcome)
+      ⊎ ((problem : JournalProblem) × ExplainsJudged all.opener table asked.old.now problem
+      × Keeps outcome.out.before outcome.out.after × (outcome.ended ≡ journal_status_of problem)
+      × TellsJournal outcome.faults.before outcome.faults.after problem)
+
 -- of the program: the files of its host, what that gives a server, and standard input
-module _ {F N L J I : Type 0} (all : HostFiles F N) (host : ServerHost L J)
-    (input : StandardInput I) where
+module _ {F N G L J I : Type 0} (all : HostFiles F N) (journals : FollowHost G)
+    (host : ServerHost L J) (input : StandardInput I) where
   -- what a command did: it read the files that it names, and came to these
   abbrev pub Carries : Command → Outcome → Type 0
   Carries (Serve port each workers path journal metrics) outcome =
@@ -244,9 +257,11 @@ module _ {F N L J I : Type 0} (all : HostFiles F N) (host : ServerHost L J)
       × Debugs (files_of all.opener.bytes table all.opener.bytes events)
       (record { provider = provider; device = device }) outcome.ended
       (change_of (input.bytes input.reader) input_new) outcome.out outcome.faults
-  Carries (Compact old new before cuts path) outcome =
-      CarriesCuts all (option_map (λ named. named.now) path)
-      (record { old = old; new = new; before = first_kept before; words = cuts.items }) outcome
+  Carries (Compact old new before cuts follow path) outcome =
+      (follow ≡ false → CarriesCuts all (option_map (λ named. named.now) path)
+      (record { old = old; new = new; before = first_kept before; words = cuts.items }) outcome)
+      × (follow ≡ true → CarriesFollow all journals (option_map (λ named. named.now) path)
+      (record { old = old; new = new; before = first_kept before }) outcome)
   Carries (Events file provider device) outcome =
       CarriesEvents all.opener input file.now (record { provider = provider; device = device })
       outcome

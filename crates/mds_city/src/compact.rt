@@ -162,7 +162,7 @@ fn compact_file<'a, P: RandomSource, O: Opens + MakesFiles>(
 }
 
 /// The file of a path, opened once for each reading.
-fn readings_of<O: Opens>(files: &O, path: &str) -> Option<Readings<O::File>>
+pub(crate) fn readings_of<O: Opens>(files: &O, path: &str) -> Option<Readings<O::File>>
     ensures { MatchOption result (O.opens files.now path.now None) (λ readings.
         O.opens files.now path.now (Some readings.first)
         × O.opens files.now path.now (Some readings.second)
@@ -181,7 +181,8 @@ fn readings_of<O: Opens>(files: &O, path: &str) -> Option<Readings<O::File>>
     })
 }
 
-fn problem_of<'a>(error: CompactError, old: &'a str, new: &'a str) -> CompactProblem<'a>
+/// The problem that an error of a compaction is.
+pub(crate) fn problem_of<'a>(error: CompactError, old: &'a str, new: &'a str) -> CompactProblem<'a>
     ensures { IsProblemOf old.now new.now error result }
 {
     match error {
@@ -202,7 +203,7 @@ fn problem_of<'a>(error: CompactError, old: &'a str, new: &'a str) -> CompactPro
 
 /// Tells the problem in one line, and answers its status. Where there is no memory to lay the line out, the problem that is told is
 /// that.
-fn tell_compact_problem<E: Write>(
+pub(crate) fn tell_compact_problem<E: Write>(
     alloc: Global,
     faults: &mut E,
     problem: CompactProblem<'_>,

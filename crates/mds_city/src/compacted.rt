@@ -30,8 +30,9 @@ impl fmt::Display for CutLine {
 
 /// The line that says how many registrations there are, and how many events stay of how many.
 #[derive(Clone, Copy)]
-struct CompactLine {
-    totals: Totals,
+pub(crate) struct CompactLine {
+    /// What it says.
+    pub totals: Totals,
 }
 
 impl fmt::Display for CompactLine {

@@ -1,11 +1,10 @@
 //! The command that serves vehicles over a journal.
 ghost use Rattle.std.specs.Prelude.{◌≡◌, ◌⊎◌, ℕ, List, Result, ⊤, IfOk, IfErr};
-ghost use Rattle.mds_core.specs.declared.request.Request.{Request as Requested};
-ghost use Rattle.mds_journal.specs.Lines.{recovered_texts};
 ghost use Rattle.mds_file.specs.declared.fault.FileFault.{FileFault as Unopened};
 ghost use Rattle.mds_book.specs.Books.{IsSeatCount};
-ghost use Rattle.mds_follow.specs.Disk.{IsTold};
 ghost use Rattle.mds_follow.specs.Reading.{IsAtFirstRequest};
+ghost use Rattle.mds_follow.specs.Restart.{BeginsOver};
+ghost use Rattle.mds_pool.specs.Serving.{Fits, names_of};
 ghost use Rattle.mds_commands.specs.Change.{change_of};
 ghost use Rattle.mds_city.specs.Outcome.{outcome_of};
 ghost use Rattle.mds_city.specs.Journal.{CameToServeOver, HadJournal, IsFileProblem, IsJournalStop, IsListenProblem, IsServeTold, IsServingProblem, IsStartProblem, IsStopProblem};
@@ -237,20 +236,13 @@ fn serve_reader<
     asked: ServeOptions,
     out: &mut W,
 ) -> Result<(u128, H::Listening), (BookStop, Option<H::Listening>)>
-    requires first { (opening.first.name ≡ L.name) × (opening.first.parts ≡ L.parts) }
-    requires second { (opening.second.name ≡ M.name) × (opening.second.parts ≡ M.parts) }
-    requires first_log { (opening.first.log ≡ L.log) × (opening.first.marks ≡ L.marks) }
-    requires second_log { (opening.second.log ≡ M.log) × (opening.second.marks ≡ M.marks) }
-    requires parts { (opening.first.parts ≡ opening.seats)
-        × (opening.second.parts ≡ opening.seats) }
-    requires tables { (opening.tables ≡ L.tables) × (opening.tables ≡ M.tables) }
-    requires seats { IsSeatCount opening.seats }
+    requires fits { Fits (names_of L.name L.parts L.log L.marks L.tables)
+        (names_of M.name M.parts M.log M.marks M.tables) opening }
     requires at_first { IsAtFirstRequest H.Journal.seen H.Journal.may_leave H.Journal.may_be_used
         H.Journal.is_true reader.opening }
     requires log { log ≡ J.log }
-    requires start { J.start ≡ H.Journal.moment reader.opening.device }
-    requires held { (told : List Requested)
-        → IsTold (recovered_texts (H.Journal.seen reader.opening.device)) told → J.held told }
+    requires begins { BeginsOver J.start J.held (H.Journal.moment reader.opening.device)
+        (H.Journal.seen reader.opening.device) }
     ensures ok { IfOk result (λ served. ServedBook (H.listens host.now asked.port)
         opening.tables opening.seats asked.each
         (change_of (W.contents out.old) (W.contents out.new)) served.0) }

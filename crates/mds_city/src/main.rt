@@ -6,6 +6,7 @@ mod compact;
 mod compacted;
 mod cuts;
 mod figures;
+mod follow;
 mod journal;
 mod page;
 mod program;
@@ -16,13 +17,14 @@ mod watched_file;
 
 use crate::compact::MakesFiles;
 use crate::figures::FiguresPort;
+use crate::follow::FollowsJournals;
 use crate::journal::OpensJournals;
 use crate::program::{Opens, run, run_at_terminal, tell_words, words_of};
 use crate::progress::{Teller, ToldReader};
 use crate::serve::{ListenFault, Listens, ServeOptions};
 use crate::watched_file::WatchedFile;
 use mds_args::VERSION;
-use mds_file::{DiskFile, FileFault, NewFile, open_file};
+use mds_file::{DiskFile, FileFault, FollowedFile, NewFile, open_file};
 use mds_io::{MAX_CALLS, write_all_of};
 use mds_metrics::{Board, Gauge};
 use mds_pool::Held;
@@ -195,6 +197,14 @@ impl MakesFiles for Host<HostRuntime> {
 
     fn new_file(&self, alloc: Global, path: &str) -> Result<NewFile<Brand>, AllocError> {
         NewFile::at(self.rt, alloc, path)
+    }
+}
+
+impl FollowsJournals for Host<HostRuntime> {
+    type Followed = FollowedFile;
+
+    fn follow(&self, path: &str) -> Option<FollowedFile> {
+        FollowedFile::open(self.rt, path).ok()
     }
 }
 

@@ -1,5 +1,5 @@
 //! What the program does with the words of its command line, over any files and streams.
-ghost use Rattle.std.specs.Prelude.{◌≡◌, ◌≢◌, ◌↔◌, ℕ, List, Option, ⊤, Err, codes, map, option_map, false, IsTrue, IfOk, IfErr, OnOk};
+ghost use Rattle.std.specs.Prelude.{◌≡◌, ◌≢◌, ◌↔◌, ℕ, List, Option, ⊤, Err, codes, map, option_map, true, false, IsTrue, IfOk, IfErr, OnOk};
 ghost use Rattle.std.specs.IoError.{error_kind};
 ghost use Rattle.mds_args.specs.Error.{words_kind};
 ghost use Rattle.mds_book.specs.Books.{IsSeatCount};
@@ -10,11 +10,12 @@ ghost use Rattle.mds_commands.specs.Problem.{Tells};
 ghost use Rattle.mds_io.specs.Page.{AppendsUpTo, with_newline};
 ghost use Rattle.mds_trace.specs.WithFault.{IsWorkerCount};
 ghost use Rattle.mds_city.specs.Outcome.{outcome_of};
-ghost use Rattle.mds_city.specs.Program.{Carries, CarriesCompact, CarriesCuts, CarriesEvents, CarriesReplay, CarriesServe, CarriesVehicles, Explains, ExplainsJudged, HasWorkers, IsFileNamed, IsFileOf, IsJudged, Runs};
+ghost use Rattle.mds_city.specs.Program.{Carries, CarriesCompact, CarriesCuts, CarriesEvents, CarriesFollow, CarriesReplay, CarriesServe, CarriesVehicles, Explains, ExplainsJudged, HasWorkers, IsFileNamed, IsFileOf, IsJudged, Runs};
 ghost use Rattle.mds_city.specs.Program.{connections_each, first_kept, form_if, opening_if, options_of};
 
 use crate::compact::{CompactAsked, MakesFiles, compact_to};
 use crate::cuts::cuts_of;
+use crate::follow::{FollowAsked, FollowsJournals, follow_to};
 use crate::journal::{OpensJournals, serve_over};
 use crate::serve::{Listens, ServeOptions, serve_at};
 use mds_args::{Command, CutWords, WordsError, WordsErrorKind, parse_words};
@@ -99,7 +100,7 @@ pub fn tell_words<E: Write>(alloc: Global, faults: &mut E, fault: WordsFault) ->
 pub fn run<
     R: Threads + Wait + RandomSource + Copy + Send + Sync + 'static,
     S: AsStr,
-    O: Opens + Listens + OpensJournals + MakesFiles + Sync,
+    O: Opens + Listens + OpensJournals + MakesFiles + FollowsJournals + Sync,
     I: Read + Drop,
     W: Write,
     E: Write,
@@ -112,6 +113,7 @@ pub fn run<
         is_true = O.New.is_true;
       };
     })
+        (record { follows = O.follows files.now; content = O.Followed.content })
         (record { listens = O.listens files.now; opens_journal = O.opens_journal files.now })
         (record { bytes = I.remaining; reader = input }) (map S.text words.now)
         (outcome_of result
@@ -128,7 +130,7 @@ pub fn run<
 pub fn run_at_terminal<
     R: Threads + Wait + RandomSource + Copy + Send + Sync + 'static,
     S: AsStr,
-    O: Opens + Listens + OpensJournals + MakesFiles + Sync,
+    O: Opens + Listens + OpensJournals + MakesFiles + FollowsJournals + Sync,
     I: Read + Drop,
     W: Write,
     E: Write,
@@ -183,7 +185,7 @@ fn explain<W: Write, E: Write>(
 /// a replay is `input`; the table file is one of its name, whatever that is.
 fn carry_out<
     R: Threads + Wait + RandomSource + Copy + Send + Sync + 'static,
-    O: Opens + Listens + OpensJournals + MakesFiles + Sync,
+    O: Opens + Listens + OpensJournals + MakesFiles + FollowsJournals + Sync,
     I: Read + Drop,
     W: Write,
     E: Write,
@@ -205,6 +207,7 @@ fn carry_out<
         is_true = O.New.is_true;
       };
     })
+        (record { follows = O.follows files.now; content = O.Followed.content })
         (record { listens = O.listens files.now; opens_journal = O.opens_journal files.now })
         (record { bytes = I.remaining; reader = input }) command.entry
         (outcome_of result
@@ -260,11 +263,12 @@ fn carry_out<
             new,
             before,
             cuts,
+            follow,
             table,
         } => {
             let before = first_kept(before);
-            compact_cut(
-                rt, alloc, files, old, new, before, &cuts, table, out, faults,
+            compact_asked(
+                rt, alloc, files, old, new, before, &cuts, follow, table, out, faults,
             )
         }
         Command::Events {
@@ -439,6 +443,97 @@ fn list_vehicles<R: RandomSource, O: Opens, I: Read + Drop, W: Write, E: Write>(
         return vehicles_to(rt, alloc, table, file, check, out, faults);
     }
     vehicles_to(rt, alloc, table, file_of(files, path), check, out, faults)
+}
+
+/// Makes a new journal of an old one, beside a server or not.
+fn compact_asked<
+    R: Wait + RandomSource,
+    O: Opens + MakesFiles + FollowsJournals,
+    W: Write,
+    E: Write,
+>(
+    rt: &R,
+    alloc: Global,
+    files: &O,
+    old: &str,
+    new: &str,
+    before: u64,
+    words: &[CutWords<'_>],
+    follow: bool,
+    table: Option<&str>,
+    out: &mut W,
+    faults: &mut E,
+) -> Status
+    ensures cut { follow ≡ false → CarriesCuts (record {
+      opener = record { opens = O.opens files.now; bytes = O.File.remaining };
+      maker = record {
+        names = O.names_file files.now;
+        may_stand = O.New.may_stand;
+        is_true = O.New.is_true;
+      };
+    })
+        (option_map (λ named. named.now) table.entry)
+        (record { old = old.entry; new = new.entry; before = before; words = words.now })
+        (outcome_of result
+        (change_of (W.contents out.old) (W.contents out.new))
+        (change_of (E.contents faults.old) (E.contents faults.new))) }
+    ensures beside { follow ≡ true → CarriesFollow (record {
+      opener = record { opens = O.opens files.now; bytes = O.File.remaining };
+      maker = record {
+        names = O.names_file files.now;
+        may_stand = O.New.may_stand;
+        is_true = O.New.is_true;
+      };
+    })
+        (record { follows = O.follows files.now; content = O.Followed.content })
+        (option_map (λ named. named.now) table.entry)
+        (record { old = old.entry; new = new.entry; before = before })
+        (outcome_of result
+        (change_of (W.contents out.old) (W.contents out.new))
+        (change_of (E.contents faults.old) (E.contents faults.new))) }
+{
+    if follow {
+        let asked = FollowAsked { old, new, before };
+        return follow_judged(rt, alloc, files, asked, table, out, faults);
+    }
+    compact_cut(
+        rt, alloc, files, old, new, before, words, table, out, faults,
+    )
+}
+
+/// Makes a new journal of an old one beside a server. Where a table file is named, the old one is judged by its tables first.
+fn follow_judged<
+    R: Wait + RandomSource,
+    O: Opens + MakesFiles + FollowsJournals,
+    W: Write,
+    E: Write,
+>(
+    rt: &R,
+    alloc: Global,
+    files: &O,
+    asked: FollowAsked<'_>,
+    table: Option<&str>,
+    out: &mut W,
+    faults: &mut E,
+) -> Status
+    ensures { CarriesFollow (record {
+      opener = record { opens = O.opens files.now; bytes = O.File.remaining };
+      maker = record {
+        names = O.names_file files.now;
+        may_stand = O.New.may_stand;
+        is_true = O.New.is_true;
+      };
+    })
+        (record { follows = O.follows files.now; content = O.Followed.content })
+        (option_map (λ named. named.now) table.entry) asked.entry
+        (outcome_of result
+        (change_of (W.contents out.old) (W.contents out.new))
+        (change_of (E.contents faults.old) (E.contents faults.new))) }
+{
+    match judge_if_named(rt, alloc, files, table, asked.old) {
+        Ok(()) => follow_to(rt, alloc, files, asked, out, faults),
+        Err(problem) => tell_journal_problem(alloc, faults, problem),
+    }
 }
 
 /// Makes a new journal of an old one, with these cuts and an event's time from which on all stay that the cuts leave.

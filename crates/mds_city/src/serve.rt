@@ -1,6 +1,7 @@
 //! The command that serves vehicles at a port.
 ghost use Rattle.std.specs.Prelude.{◌≡◌, ℕ, ⊤, IfOk, IfErr};
 ghost use Rattle.mds_book.specs.Books.{IsSeatCount};
+ghost use Rattle.mds_pool.specs.Serving.{Fits, names_of};
 ghost use Rattle.mds_commands.specs.Change.{change_of};
 ghost use Rattle.mds_city.specs.Outcome.{outcome_of};
 ghost use Rattle.mds_city.specs.Serve.{CameToServe, IsSaid, Listened, SaysAccepted, Serves, StopsBefore};
@@ -209,14 +210,8 @@ fn serve_book<
 where
     P::In: Send,
     P::Out: Send,
-    requires first { (opening.first.name ≡ L.name) × (opening.first.parts ≡ L.parts) }
-    requires second { (opening.second.name ≡ M.name) × (opening.second.parts ≡ M.parts) }
-    requires first_log { (opening.first.log ≡ L.log) × (opening.first.marks ≡ L.marks) }
-    requires second_log { (opening.second.log ≡ M.log) × (opening.second.marks ≡ M.marks) }
-    requires parts { (opening.first.parts ≡ opening.seats)
-        × (opening.second.parts ≡ opening.seats) }
-    requires tables { (opening.tables ≡ L.tables) × (opening.tables ≡ M.tables) }
-    requires seats { IsSeatCount opening.seats }
+    requires fits { Fits (names_of L.name L.parts L.log L.marks L.tables)
+        (names_of M.name M.parts M.log M.marks M.tables) opening }
     ensures { Serves opening.tables opening.seats each
         (outcome_of result
         (change_of (W.contents out.old) (W.contents out.new))

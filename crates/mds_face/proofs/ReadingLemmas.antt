@@ -10,13 +10,18 @@ use Rattle.mds_http.specs.declared.request.head_status.HeadStatus.{HeadStatus}
 use Rattle.mds_http.specs.declared.request.head_status.HeadStatus.TheVariants.{Partial, Invalid, Rejected, Complete}
 use Rattle.mds_http.specs.Asked.{Asked}
 use Rattle.mds_http.specs.Plan.{IsPlan}
-use Rattle.mds_http.specs.HeadStatus.{IsHeadStatus}
+use Rattle.mds_http.specs.HeadStatus.{IsHeadStatus, IsInReach}
 use Rattle.mds_http.proofs.PlanLaws.{invalid_determines, partial_determines, rejected_determines, complete_determines, statuses_stay}
-use Rattle.mds_face.specs.Reading.{Grows, IsEnough, ReadsNoFurther, missing_bytes}
+use Rattle.mds_face.specs.Reading.{Grows, HasStatus, IsEnough, ReadsNoFurther, missing_bytes}
 
 -- some bytes have the status of the same bytes
 pub status_of_same : (a b : List ℕ) (status : HeadStatus) → a ≡ b → IsHeadStatus a status → IsHeadStatus b status
 status_of_same a b status same is = subst (λ bytes. IsHeadStatus bytes status) same is
+
+-- and their body is in reach where that of the same bytes is
+pub has_status : {a b : List ℕ} {status : HeadStatus} → a ≡ b → IsHeadStatus a status → IsInReach a status → HasStatus b status
+has_status {a} {b} {status} same is reach =
+    record { head = status_of_same a b status same is; in_reach = subst (λ bytes. IsInReach bytes status) same reach }
 
 -- nothing was read yet
 pub read_none : (a : Option (List ℕ)) (bytes : List ℕ) → bytes ≡ [] → Consumes a a bytes
@@ -62,6 +67,13 @@ complete_enough aim start len most a b held grown status gains end =
 pub complete_stays : (aim : Aim Key) (start len most : ℕ) (a b : Option (List ℕ)) (held grown : List ℕ) → IsHeadStatus held (Complete aim start len) → Gains most a b held grown
     → IsHeadStatus grown (Complete aim start len)
 complete_stays aim start len most a b held grown status gains = rw gains.2 ((statuses_stay held gains.0).2 aim start len status)
+
+-- and its body in reach
+pub reach_stays : (status : HeadStatus) (most : ℕ) (a b : Option (List ℕ)) (held grown : List ℕ) → IsInReach held status → Gains most a b held grown → IsInReach grown status
+reach_stays Partial most a b held grown reach gains = tt
+reach_stays Invalid most a b held grown reach gains = tt
+reach_stays (Rejected fault) most a b held grown reach gains = tt
+reach_stays (Complete aim start len) most a b held grown reach gains = (rw (gains.2, length-append) (omega (arith, reach.0)), reach.1, reach.2)
 
 -- where no body is announced, the bytes at which a head is no longer waited for are enough
 pub head_enough : (status : HeadStatus) (left : Option (List ℕ)) (bytes : List ℕ) → IsHeadStatus bytes status → (status ≡ Partial → length bytes < 16384 → IsAtEnd left)

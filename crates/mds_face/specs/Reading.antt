@@ -6,11 +6,16 @@ use Rattle.mds_http.specs.declared.request.aim.Aim.{Aim}
 use Rattle.mds_http.specs.declared.request.head_status.HeadStatus.{HeadStatus}
 use Rattle.mds_http.specs.declared.request.head_status.HeadStatus.TheVariants.{Complete}
 use Rattle.mds_http.specs.Head.{max_head}
-use Rattle.mds_http.specs.HeadStatus.{DeterminesPlan, IsHeadStatus}
+use Rattle.mds_http.specs.HeadStatus.{DeterminesPlan, IsHeadStatus, IsInReach}
 
 -- the bytes held grew by what the reader lost
 abbrev pub Grows : Option (List ℕ) → Option (List ℕ) → List ℕ → List ℕ → Type 0
 Grows old new held grown = (more : List ℕ) × (grown ≡ held ++ more) × Consumes old new more
+
+-- this is what the bytes read say of a head, and its body is in reach
+pub record HasStatus (bytes : List ℕ) (status : HeadStatus) : Type 0 where
+  pub head : IsHeadStatus bytes status
+  pub in_reach : IsInReach bytes status
 
 -- the bytes read say what the whole stream asks for: nothing is left of it, or what is left doesn't
 -- matter

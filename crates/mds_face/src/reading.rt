@@ -5,8 +5,7 @@ ghost use Rattle.mds_io.specs.Read.{ConsumesUpTo};
 ghost use Rattle.mds_http.specs.Asked.{asked_in};
 ghost use Rattle.mds_http.specs.Head.{max_head};
 ghost use Rattle.mds_http.specs.Plan.{IsPlan};
-ghost use Rattle.mds_http.specs.HeadStatus.{IsInReach, IsHeadStatus};
-ghost use Rattle.mds_face.specs.Reading.{Grows, IsEnough, ReadsNoFurther, missing_bytes};
+ghost use Rattle.mds_face.specs.Reading.{Grows, HasStatus, IsEnough, ReadsNoFurther, missing_bytes};
 
 use mds_http::{Face, HeadStatus, MAX_HEAD, Plan};
 use mds_io::{MAX_CALLS, ReadError, read_more, read_up_to};
@@ -74,8 +73,7 @@ fn read_head<R: Read>(
 ) -> Result<HeadStatus, ReadError>
     requires none { bytes.old.items ≡ [] }
     requires room { 0 < length room.old }
-    ensures status { IfOk result (λ status. IsHeadStatus bytes.new.items status) }
-    ensures in_reach { IfOk result (λ status. IsInReach bytes.new.items status) }
+    ensures status { IfOk result (HasStatus bytes.new.items) }
     ensures partial { IfOk result (λ status. status ≡ HeadStatus.Partial
         → length bytes.new.items < max_head → IsAtEnd (R.remaining reader.new)) }
     ensures taken { IfOk result (λ status.
@@ -104,13 +102,11 @@ fn read_body<R: Read>(
     room: &mut [u8],
     calls: &mut u32,
 ) -> Result<(), ReadError>
-    requires status { IsHeadStatus bytes.old.items status.now }
-    requires in_reach { IsInReach bytes.old.items status.now }
+    requires status { HasStatus bytes.old.items status.now }
     requires partial { status.now ≡ HeadStatus.Partial → length bytes.old.items < max_head
         → IsAtEnd (R.remaining reader.old) }
     requires room { 0 < length room.old }
-    ensures status { OnOk result (IsHeadStatus bytes.new.items status.now) }
-    ensures in_reach { OnOk result (IsInReach bytes.new.items status.now) }
+    ensures status { OnOk result (HasStatus bytes.new.items status.now) }
     ensures enough { OnOk result (IsEnough (R.remaining reader.new) bytes.new.items) }
     ensures grown { OnOk result (Grows (R.remaining reader.old) (R.remaining reader.new)
         bytes.old.items bytes.new.items) }

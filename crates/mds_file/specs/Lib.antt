@@ -2,3 +2,4 @@ pub mod Calls
 pub mod DiskFile
 pub mod Fault
 pub mod NewFile
+pub mod Followed

@@ -6,16 +6,18 @@
 //!
 //! What no proof shows stands in `disk_file.rt`, to be read: each method makes the call that it notes.
 //!
-//! [`open_file`] opens the file of a path, or makes it, and locks it.
+//! [`open_file`] opens the file of a path, or makes it, and locks it. [`FollowedFile`] reads one on that another process has.
 #![tactic(auto)]
 
 mod disk_file;
 mod fault;
+mod followed;
 mod lock;
 mod new_file;
 mod record;
 
 pub use disk_file::{DiskFile, Origin};
 pub use fault::FileFault;
+pub use followed::{Followed, FollowedFile};
 pub use lock::open_file;
 pub use new_file::{NewFile, NewFileFault, NewName};

@@ -38,7 +38,7 @@ piece_of_shard number from history piece is all =
 
 -- of a group the first shard's part is its first piece
 first_part : (tables : Tables) (first second : Progressed) (group : List Request) (new_first new_second : Progressed)
-    → (is : IsGroup tables first second group new_first new_second) → part 0 group ≡ is.ones
+    → (is : IsGroup tables (first, second) group (new_first, new_second)) → part 0 group ≡ is.ones
 first_part tables first second group new_first new_second is =
     let ones = piece_of_shard 0 first.count new_first.seen is.ones is.first_copied.next is.first_copied.of_shard in
     let others = piece_of_shard 1 second.count new_second.seen is.others is.second_copied.next is.second_copied.of_shard in
@@ -47,7 +47,7 @@ first_part tables first second group new_first new_second is =
 
 -- and the second's its second
 second_part : (tables : Tables) (first second : Progressed) (group : List Request) (new_first new_second : Progressed)
-    → (is : IsGroup tables first second group new_first new_second) → part 1 group ≡ is.others
+    → (is : IsGroup tables (first, second) group (new_first, new_second)) → part 1 group ≡ is.others
 second_part tables first second group new_first new_second is =
     let ones = piece_of_shard 0 first.count new_first.seen is.ones is.first_copied.next is.first_copied.of_shard in
     let others = piece_of_shard 1 second.count new_second.seen is.others is.second_copied.next is.second_copied.of_shard in
@@ -56,14 +56,14 @@ second_part tables first second group new_first new_second is =
 
 -- a group is recorded of the first shard
 pub follows_first : (tables : Tables) (first second : Progressed) (group : List Request) (new_first new_second : Progressed) (recorded : List Request)
-    → IsGroup tables first second group new_first new_second → Follows 0 recorded first → Follows 0 (recorded ++ group) new_first
+    → IsGroup tables (first, second) group (new_first, new_second) → Follows 0 recorded first → Follows 0 (recorded ++ group) new_first
 follows_first tables first second group new_first new_second recorded is follows =
     filter-append _ recorded group ∙ (ap (λ w. w ++ part 0 group) follows
     ∙ (ap (λ w. copied_requests first ++ w) (first_part tables first second group new_first new_second is) ∙ sym is.first_copied.copied))
 
 -- and of the second
 pub follows_second : (tables : Tables) (first second : Progressed) (group : List Request) (new_first new_second : Progressed) (recorded : List Request)
-    → IsGroup tables first second group new_first new_second → Follows 1 recorded second → Follows 1 (recorded ++ group) new_second
+    → IsGroup tables (first, second) group (new_first, new_second) → Follows 1 recorded second → Follows 1 (recorded ++ group) new_second
 follows_second tables first second group new_first new_second recorded is follows =
     filter-append _ recorded group ∙ (ap (λ w. w ++ part 1 group) follows
     ∙ (ap (λ w. copied_requests second ++ w) (second_part tables first second group new_first new_second is) ∙ sym is.second_copied.copied))

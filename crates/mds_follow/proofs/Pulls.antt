@@ -12,7 +12,7 @@ use Rattle.mds_follow.specs.Record.{IsBeforeOrAfter}
 use Rattle.mds_follow.proofs.Parts.{follows_first, follows_second, follows_still, recorded_begins, sound_more}
 
 module _ (tables : Tables) (first second : Progressed) (group : List Request) (new_first new_second : Progressed) (recorded now_recorded : List Request)
-    (is : IsGroup tables first second group new_first new_second) (follows : Follows 0 recorded first) (follows_other : Follows 1 recorded second) where
+    (is : IsGroup tables (first, second) group (new_first, new_second)) (follows : Follows 0 recorded first) (follows_other : Follows 1 recorded second) where
   -- the group is recorded
   pub followed : now_recorded ≡ recorded ++ group → Follows 0 now_recorded new_first × Follows 1 now_recorded new_second
   followed more =

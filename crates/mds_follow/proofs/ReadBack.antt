@@ -22,7 +22,7 @@ use Rattle.mds_follow.specs.Record.{recorded_at}
 use Rattle.mds_follow.specs.Disk.{IsTold, MayRead}
 use Rattle.mds_follow.specs.Reading.{HasNoMore, IsEndFault, IsEndOf, IsLineFault, IsReadTo, IsStartFault, TellsAll, TellsNext}
 use Rattle.mds_book.specs.Refilling.{HasAll, IsFilled, IsRefusedAt, IsRefusedIn}
-use Rattle.mds_follow.specs.Restart.{IsAhead, IsAskFault, IsRead, IsRefilled, IsRefused}
+use Rattle.mds_follow.specs.Restart.{IsAhead, IsAskFault, IsRead, IsRefilled, IsRefused, lines_of}
 use Rattle.mds_follow.specs.declared.start_fault.StartFault.{StartFault}
 use Rattle.mds_follow.specs.declared.start_fault.StartFault.TheVariants.{Memory, Device, Journal, Shared}
 use Rattle.mds_follow.proofs.Disks.{told_more}
@@ -78,22 +78,22 @@ before_end bytes left number told (Err fault) is = (is.0, is.1)
 
 -- nothing but the form is read, and what is left comes next
 pub read_none : (file left : List ℕ) (told : List Acceptance) (number : ℕ) (requests_ahead : List Request) (end : Result Bool StartFault) → told ≡ [] → requests_ahead ≡ [] → end ≡ Ok true
-    → recovered_texts file ≡ form_line ∷ recovered_texts left → IsAhead file left (requests told) number requests_ahead end
+    → recovered_texts file ≡ form_line ∷ recovered_texts left → IsAhead file left (requests told) (lines_of number requests_ahead end)
 read_none file left told number requests_ahead end none empty more form =
-    let Ends : Result Bool StartFault → Type 0 = λ w. IsAhead file left [] number [] w in
-    let Holds : List Request → Type 0 = λ w. IsAhead file left [] number w end in
-    let Told : List Acceptance → Type 0 = λ w. IsAhead file left (requests w) number requests_ahead end in
+    let Ends : Result Bool StartFault → Type 0 = λ w. IsAhead file left [] (lines_of number [] w) in
+    let Holds : List Request → Type 0 = λ w. IsAhead file left [] (lines_of number w end) in
+    let Told : List Acceptance → Type 0 = λ w. IsAhead file left (requests w) (lines_of number requests_ahead end) in
     subst Told (sym none) (subst Holds (sym empty) (subst Ends (sym more) (record { bytes = left; read = read_form file left form; end = refl })))
 
 -- where more may come behind a piece, its requests are read too
-pub read_piece : (file left : List ℕ) (recorded : List Request) (number : ℕ) (told : List Request) (end : Result Bool StartFault) → IsAhead file left recorded number told end → end ≡ Ok true
+pub read_piece : (file left : List ℕ) (recorded : List Request) (number : ℕ) (told : List Request) (end : Result Bool StartFault) → IsAhead file left recorded (lines_of number told end) → end ≡ Ok true
     → IsReadTo file (recorded ++ told) left
 read_piece file left recorded number told end ahead more =
     let End : Result Bool StartFault → Type 0 = λ w. IsEndOf ahead.bytes left number told w in
     read_many file ahead.bytes left recorded told ahead.read (subst End more ahead.end)
 
 -- behind the last one no more lines count, or its end says why
-pub read_last : (file left : List ℕ) (recorded : List Request) (number : ℕ) (told : List Request) (end : Result Bool StartFault) → IsAhead file left recorded number told end → end ≢ Ok true
+pub read_last : (file left : List ℕ) (recorded : List Request) (number : ℕ) (told : List Request) (end : Result Bool StartFault) → IsAhead file left recorded (lines_of number told end) → end ≢ Ok true
     → IfOk end (λ _. HasNoMore left × IsTold (recovered_texts file) (recorded ++ told))
 read_last file left recorded number told (Ok true) ahead last = absurd (last refl)
 read_last file left recorded number told (Ok false) ahead last =
@@ -200,7 +200,7 @@ line_start_fault tables file bytes told number (Journal (Refused line)) read cou
 line_start_fault tables file bytes told number (Journal Damaged) read count why = absurd why
 
 -- and so is that of a piece that was asked
-pub piece_fault : (tables : Tables) (file left : List ℕ) (recorded : List Request) (number : ℕ) (told : List Request) (fault : StartFault) → IsAhead file left recorded number told (Err fault)
+pub piece_fault : (tables : Tables) (file left : List ℕ) (recorded : List Request) (number : ℕ) (told : List Request) (fault : StartFault) → IsAhead file left recorded (lines_of number told (Err fault))
     → number ≡ length recorded + 1 → IsStartFault tables file fault
 piece_fault tables file left recorded number told fault ahead count =
     let end = ahead.end in
@@ -209,7 +209,7 @@ piece_fault tables file left recorded number told fault ahead count =
 
 -- and that of one which the tables refuse
 pub ask_fault : (tables : Tables) (file left : List ℕ) (recorded : List Request) (number : ℕ) (told : List Request) (end : Result Bool StartFault) (fault : StartFault)
-    → IsAhead file left recorded number told end → number ≡ length recorded + 1 → IsAskFault tables recorded number told fault → IsStartFault tables file fault
+    → IsAhead file left recorded (lines_of number told end) → number ≡ length recorded + 1 → IsAskFault tables recorded number told fault → IsStartFault tables file fault
 ask_fault tables file left recorded number told end Memory ahead count why = tt
 ask_fault tables file left recorded number told end Device ahead count why = tt
 ask_fault tables file left recorded number told end Shared ahead count why = tt

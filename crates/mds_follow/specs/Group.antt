@@ -5,10 +5,10 @@ use Rattle.mds_core.specs.declared.request.Request.{Request}
 use Rattle.mds_book.specs.Copying.{Progressed, IsCopied}
 
 -- a piece of the first shard's history, and behind it one of the second's
-pub record IsGroup (tables : Tables) (first second : Progressed) (group : List Request)
-    (new_first new_second : Progressed) : Type 0 where
+pub record IsGroup (tables : Tables) (old : Progressed × Progressed) (group : List Request)
+    (new : Progressed × Progressed) : Type 0 where
   pub ones : List Request
   pub others : List Request
   pub both : group ≡ ones ++ others
-  pub first_copied : IsCopied tables 0 first ones new_first
-  pub second_copied : IsCopied tables 1 second others new_second
+  pub first_copied : IsCopied tables 0 old.0 ones new.0
+  pub second_copied : IsCopied tables 1 old.1 others new.1

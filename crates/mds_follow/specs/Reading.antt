@@ -44,6 +44,11 @@ line_fault number opening.TooLong = Journal (TooLong number)
 line_fault number opening.Full = Device
 line_fault number opening.Damaged = Device
 
+-- what came back, whether it was made or not
+abbrev pub left_of : {X E D : Type 0} → Result X E → (X → D) → (E → D) → D
+left_of (Ok made) of_made of_error = of_made made
+left_of (Err error) of_made of_error = of_error error
+
 -- no line counts, and no more stands there than a crash leaves
 pub record IsBlank (file : List ℕ) : Type 0 where
   pub none : recovered_texts file ≡ []
@@ -223,3 +228,8 @@ IsStartFault tables file (Journal Form) = ⊥
 IsStartFault tables file Memory = Unit {0}
 IsStartFault tables file Device = Unit {0}
 IsStartFault tables file Shared = Unit {0}
+
+-- so it is, and the file has these bytes then: the same, where the fault is the journal's
+pub record IsNotStarted (tables : Tables) (file left : List ℕ) (fault : StartFault) : Type 0 where
+  pub why : IsStartFault tables file fault
+  pub same : IsJournalFault fault → left ≡ file

@@ -1,6 +1,6 @@
 -- What is recorded in a file, and what a restart reads of it after a crash.
 use Rattle.std.specs.Prelude.{◌≡◌, ◌⊎◌, ◌≤◌, ◌<◌, ◌^◌, ◌++◌, ℕ, suc}
-use Rattle.std.specs.Prelude.{List, length, take, map, Some, slice_get}
+use Rattle.std.specs.Prelude.{List, length, take, map, Some, slice_get, Result, Ok, Err}
 use mathlib.Core.List.{IsPrefix}
 use Rattle.mds_core.specs.declared.request.Request.{Request}
 use Rattle.mds_log.specs.Log.{Acceptance, requests}
@@ -24,6 +24,12 @@ abbrev pub HasSame : RecordFault → Type 0
 HasSame Memory = Unit {0}
 HasSame NotKept = Unit {0}
 HasSame Lost = ⊥
+
+-- whether a record may go on after an append, as it could before: one that recorded the group could,
+-- and one that didn't can where the fault says so
+abbrev pub GoesOn : Result (Unit {0}) RecordFault → Type 0 → Type 0 → Type 0
+GoesOn (Ok done) could can = could
+GoesOn (Err fault) could can = (can → could) × (can → HasSame fault) × (HasSame fault → could → can)
 
 -- requests that were recorded at this moment
 abbrev pub recorded_at : ℕ → List Request → List Acceptance

@@ -4,7 +4,7 @@ ghost use Rattle.mds_journal.specs.Device.{LeavesOnly, Untouched};
 ghost use Rattle.mds_journal.specs.Lines.{recovered_texts};
 ghost use Rattle.mds_entries.specs.Form.{form_line};
 ghost use Rattle.mds_follow.specs.Disk.{MayBeBegun};
-ghost use Rattle.mds_follow.specs.Reading.{IsBlank, IsNoJournalFault, KeepsOrBegins, StaysOrBegins};
+ghost use Rattle.mds_follow.specs.Reading.{IsBlank, IsNoJournalFault, KeepsOrBegins, StaysOrBegins, left_of};
 
 use crate::start_fault::call_fault;
 use crate::{Disk, StartFault};
@@ -86,14 +86,12 @@ pub(crate) fn with_form<D: Device>(alloc: Global, mut device: D) -> Result<D, (S
         → StaysOrBegins (D.seen device) (D.seen made)) }
     ensures empty { IfOk result (λ made. D.is_true made → D.seen device ≡ []
         → recovered_texts (D.seen made) ≡ form_line ∷ []) }
-    ensures any_moment { IfOk result (λ made. D.is_true made
-        → LeavesOnly D.moment D.left_since device made
-        (λ c. D.may_leave device c ⊎ KeepsOrBegins (D.seen device) c)) }
-    ensures any_moment_err { IfErr result (λ error. D.is_true error.1
-        → LeavesOnly D.moment D.left_since device error.1
-        (λ c. D.may_leave device c ⊎ KeepsOrBegins (D.seen device) c)) }
-    ensures was_true { IfOk result (λ made. D.is_true made → D.is_true device) }
-    ensures was_true_err { IfErr result (λ error. D.is_true error.1 → D.is_true device) }
+    ensures any_moment { D.is_true (left_of result (λ made. made) (λ error. error.1))
+        → LeavesOnly D.moment D.left_since device
+        (left_of result (λ made. made) (λ error. error.1))
+        (λ c. D.may_leave device c ⊎ KeepsOrBegins (D.seen device) c) }
+    ensures was_true { D.is_true (left_of result (λ made. made) (λ error. error.1))
+        → D.is_true device }
     ensures fault { IfErr result (λ error. IsNoJournalFault error.0) }
 {
     match is_blank(&mut device) {
@@ -114,14 +112,12 @@ fn make_form<D: Device>(alloc: Global, device: D) -> Result<D, (StartFault, D)>
     ensures usable { IfOk result D.may_be_used }
     ensures made { IfOk result (λ made. D.is_true made
         → recovered_texts (D.seen made) ≡ form_line ∷ []) }
-    ensures any_moment { IfOk result (λ made. D.is_true made
-        → LeavesOnly D.moment D.left_since device made
-        (λ c. D.may_leave device c ⊎ MayBeBegun c)) }
-    ensures any_moment_err { IfErr result (λ error. D.is_true error.1
-        → LeavesOnly D.moment D.left_since device error.1
-        (λ c. D.may_leave device c ⊎ MayBeBegun c)) }
-    ensures was_true { IfOk result (λ made. D.is_true made → D.is_true device) }
-    ensures was_true_err { IfErr result (λ error. D.is_true error.1 → D.is_true device) }
+    ensures any_moment { D.is_true (left_of result (λ made. made) (λ error. error.1))
+        → LeavesOnly D.moment D.left_since device
+        (left_of result (λ made. made) (λ error. error.1))
+        (λ c. D.may_leave device c ⊎ MayBeBegun c) }
+    ensures was_true { D.is_true (left_of result (λ made. made) (λ error. error.1))
+        → D.is_true device }
     ensures fault { IfErr result (λ error. IsNoJournalFault error.0) }
 {
     let opening = match Opening::start(alloc, device, MAX_BYTES) {

@@ -1,9 +1,9 @@
 //! A file, and the log of what is recorded in it.
-ghost use Rattle.std.specs.Prelude.{◌≡◌, ◌⊎◌, ◌<◌, ◌+◌, ◌^◌, ◌++◌, List, length, OnOk, OnErr, IfErr};
+ghost use Rattle.std.specs.Prelude.{◌≡◌, ◌⊎◌, ◌<◌, ◌+◌, ◌^◌, ◌++◌, List, length, OnOk, OnErr};
 ghost use mathlib.Core.List.{IsPrefix};
 ghost use Rattle.mds_core.specs.declared.request.Request.{Request as Requested};
 ghost use Rattle.mds_log.specs.Log.{requests};
-ghost use Rattle.mds_follow.specs.Record.{HasSame, IsBeforeOrAfter, IsDesk, recorded_at};
+ghost use Rattle.mds_follow.specs.Record.{GoesOn, IsBeforeOrAfter, IsDesk, recorded_at};
 
 use crate::{Record, RecordLog};
 use mds_book::RecordFault;
@@ -45,9 +45,7 @@ impl<F: Record, J: RecordLog> Desk<F, J> {
             ≡ requests self.old.keeper ++ group.now) }
         ensures begins { IsPrefix self.old.keeper self.new.keeper }
         ensures none { OnErr result (self.new.keeper ≡ self.old.keeper) }
-        ensures goes_on { IfErr result (λ fault. HasSame fault → F.may_go_on self.old.file
-            → F.may_go_on self.new.file) }
-        ensures lost { IfErr result (λ fault. F.may_go_on self.new.file → HasSame fault) }
+        ensures goes_on { GoesOn result (F.may_go_on self.old.file) (F.may_go_on self.new.file) }
         ensures was_true { F.is_true self.new.file → F.is_true self.old.file }
         // At any moment, also one within the call, a restart reads what it might have read before, or what is recorded and
         // all of the group or none.

@@ -6,6 +6,7 @@ ghost use Rattle.mds_journal.specs.Device.{LeavesOnly};
 ghost use Rattle.mds_journal.specs.Lines.{recovered_texts};
 ghost use Rattle.mds_journal.specs.Journal.{IsSound, MayGoOn};
 ghost use Rattle.mds_follow.specs.Disk.{MayBeBegun, Stands, fault_of};
+ghost use Rattle.mds_follow.specs.Reading.{left_of};
 ghost use Rattle.mds_follow.specs.Record.{HasSame};
 
 use crate::Record;
@@ -42,14 +43,13 @@ impl<D: Device> Disk<D> {
             IsSound D.seen D.may_leave D.may_be_used D.is_true disk.journal) }
         ensures stands { IfOk result (λ disk. MayGoOn disk.journal × (D.is_true disk.journal.device
             → Stands D.seen D.may_leave disk.journal.device [])) }
-        ensures any_moment { IfOk result (λ disk. D.is_true disk.journal.device
-            → LeavesOnly D.moment D.left_since journal.device disk.journal.device MayBeBegun) }
-        ensures was_true { IfOk result (λ disk. D.is_true disk.journal.device
-            → D.is_true journal.device) }
-        ensures any_moment_err { IfErr result (λ error. D.is_true error.1.device
-            → LeavesOnly D.moment D.left_since journal.device error.1.device MayBeBegun) }
-        ensures was_true_err { IfErr result (λ error. D.is_true error.1.device
-            → D.is_true journal.device) }
+        ensures any_moment { D.is_true
+            (left_of result (λ disk. disk.journal.device) (λ error. error.1.device))
+            → LeavesOnly D.moment D.left_since journal.device
+            (left_of result (λ disk. disk.journal.device) (λ error. error.1.device)) MayBeBegun }
+        ensures was_true { D.is_true
+            (left_of result (λ disk. disk.journal.device) (λ error. error.1.device))
+            → D.is_true journal.device }
     {
         let mut group = match Group::new(alloc) {
             Ok(group) => group,

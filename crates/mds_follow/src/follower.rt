@@ -68,7 +68,7 @@ fn next_group<L: ShardLedger, M: ShardLedger, R: Wait>(
     group: &mut Copies,
 ) -> Result<(), AllocError>
     ensures { OnOk result
-        (IsGroup book.now.tables first.old second.old group.new first.new second.new) }
+        (IsGroup book.now.tables (first.old, second.old) group.new (first.new, second.new)) }
 {
     group.clear();
     book.copy_first(rt, first, group)?;

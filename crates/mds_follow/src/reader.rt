@@ -1,12 +1,12 @@
 //! A journal that is read at a start.
 ghost use Rattle.std.specs.Prelude.{◌≡◌, ◌⊎◌, ◌+◌, ◌<◌, ◌≤◌, ◌∷◌, true, length, IfOk, IfErr, OnOk};
 ghost use Rattle.mds_table.specs.Json.{max_bytes};
-ghost use Rattle.mds_journal.specs.Device.{LeavesOnly, Untouched};
+ghost use Rattle.mds_journal.specs.Device.{LeavesOnly};
 ghost use Rattle.mds_journal.specs.Lines.{recovered_texts};
 ghost use Rattle.mds_journal.specs.Journal.{IsSound, MayGoOn, StandsFor};
-ghost use Rattle.mds_journal.specs.Opening.{IsReading, KeepsLines, limit_of, number_of, place_of, unread_bytes};
+ghost use Rattle.mds_journal.specs.Opening.{IsReading, KeepsLines, number_of, place_of, unread_bytes};
 ghost use Rattle.mds_entries.specs.Form.{form_line};
-ghost use Rattle.mds_follow.specs.Reading.{HasNoMore, IsAtFirstRequest, IsAtRequest, IsEndFault, IsFormFault, IsJournalFault, IsNextText, IsOpenFault, IsReadOn, KeepsOrBegins, StaysOrBegins, texts_given};
+ghost use Rattle.mds_follow.specs.Reading.{HasNoMore, IsAtFirstRequest, IsAtRequest, IsEndFault, IsFormFault, IsJournalFault, IsNextText, IsOpenFault, IsReadOn, KeepsOrBegins, StaysOrBegins, left_of, texts_given};
 
 use crate::blank::with_form;
 use crate::start_fault::{call_fault, line_fault};
@@ -23,20 +23,17 @@ use std::alloc::{AllocError, Global};
 ///
 /// `Form` where it names another or there is none, `TooLong`; `Device` and `Memory`.
 fn take_form<D: Device>(opening: &mut Opening<D>, line: &mut Vec<u8>) -> Result<(), StartFault>
-    requires reading { IsReading D.seen D.may_leave D.may_be_used D.is_true opening.old }
-    requires limit { limit_of opening.old ≡ max_bytes }
+    requires reading { IsAtRequest D.seen D.may_leave D.may_be_used D.is_true opening.old }
     requires number { number_of opening.old ≡ 0 }
-    ensures reading { IsReading D.seen D.may_leave D.may_be_used D.is_true opening.new }
-    ensures limit { limit_of opening.new ≡ max_bytes }
+    ensures reading { IsAtRequest D.seen D.may_leave D.may_be_used D.is_true opening.new }
     ensures form { OnOk result (D.is_true opening.new.device
         → recovered_texts (unread_bytes D.seen opening.old)
         ≡ form_line ∷ recovered_texts (unread_bytes D.seen opening.new)) }
     ensures number { OnOk result (number_of opening.new ≡ 1) }
     ensures fault { IfErr result (λ fault. D.is_true opening.new.device
         → IsFormFault (unread_bytes D.seen opening.old) fault) }
-    ensures untouched { D.is_true opening.new.device → Untouched D.seen D.may_leave D.moment
-        D.left_since opening.old.device opening.new.device }
-    ensures was_true { D.is_true opening.new.device → D.is_true opening.old.device }
+    ensures read_on { IsReadOn D.seen D.may_leave D.is_true D.moment D.left_since opening.old
+        opening.new }
 {
     let is_there = match opening.next_line(line) {
         Ok(is_there) => is_there,
@@ -76,19 +73,18 @@ impl<D: Device> RequestReader<D> {
         ensures kept { IfOk result (λ reader. D.is_true reader.opening.device
             → StaysOrBegins (D.seen device) (D.seen reader.opening.device)) }
         // A crash at any moment leaves what one before might have left, or the same lines, or the form in a file that had none.
-        ensures any_moment { IfOk result (λ reader. D.is_true reader.opening.device
-            → LeavesOnly D.moment D.left_since device reader.opening.device
-            (λ c. D.may_leave device c ⊎ KeepsOrBegins (D.seen device) c)) }
-        ensures was_true { IfOk result (λ reader. D.is_true reader.opening.device
-            → D.is_true device) }
+        ensures any_moment { D.is_true
+            (left_of result (λ reader. reader.opening.device) (λ error. error.1))
+            → LeavesOnly D.moment D.left_since device
+            (left_of result (λ reader. reader.opening.device) (λ error. error.1))
+            (λ c. D.may_leave device c ⊎ KeepsOrBegins (D.seen device) c) }
+        ensures was_true { D.is_true
+            (left_of result (λ reader. reader.opening.device) (λ error. error.1))
+            → D.is_true device }
         ensures fault { IfErr result (λ error. D.is_true error.1
             → IsOpenFault (D.seen device) error.0) }
         ensures same { IfErr result (λ error. D.is_true error.1 → IsJournalFault error.0
             → D.seen error.1 ≡ D.seen device) }
-        ensures any_moment_err { IfErr result (λ error. D.is_true error.1
-            → LeavesOnly D.moment D.left_since device error.1
-            (λ c. D.may_leave device c ⊎ KeepsOrBegins (D.seen device) c)) }
-        ensures was_true_err { IfErr result (λ error. D.is_true error.1 → D.is_true device) }
     {
         let group = match Group::new(alloc) {
             Ok(group) => group,
@@ -149,26 +145,23 @@ impl<D: Device> RequestReader<D> {
         requires reading { IsReading D.seen D.may_leave D.may_be_used D.is_true self.opening }
         requires done { D.is_true self.opening.device
             → HasNoMore (unread_bytes D.seen self.opening) }
-        ensures sound { IfOk result (λ disk.
-            IsSound D.seen D.may_leave D.may_be_used D.is_true disk.journal) }
-        ensures ready { IfOk result (λ disk. MayGoOn disk.journal) }
+        ensures sound { IfOk result (λ disk. MayGoOn disk.journal
+            × IsSound D.seen D.may_leave D.may_be_used D.is_true disk.journal) }
         ensures stands { IfOk result (λ disk. D.is_true disk.journal.device
             → StandsFor D.seen D.may_leave (recovered_texts (D.seen self.opening.device))
             disk.journal.device) }
-        ensures any_moment { IfOk result (λ disk. D.is_true disk.journal.device
-            → LeavesOnly D.moment D.left_since self.opening.device disk.journal.device
-            (KeepsLines (D.seen self.opening.device))) }
-        ensures was_true { IfOk result (λ disk. D.is_true disk.journal.device
-            → D.is_true self.opening.device) }
+        ensures any_moment { D.is_true
+            (left_of result (λ disk. disk.journal.device) (λ error. error.1))
+            → LeavesOnly D.moment D.left_since self.opening.device
+            (left_of result (λ disk. disk.journal.device) (λ error. error.1))
+            (KeepsLines (D.seen self.opening.device)) }
+        ensures was_true { D.is_true
+            (left_of result (λ disk. disk.journal.device) (λ error. error.1))
+            → D.is_true self.opening.device }
         ensures fault { IfErr result (λ error. D.is_true error.1
             → IsEndFault (D.seen self.opening.device) error.0) }
         ensures same { IfErr result (λ error. D.is_true error.1 → IsJournalFault error.0
             → D.seen error.1 ≡ D.seen self.opening.device) }
-        ensures any_moment_err { IfErr result (λ error. D.is_true error.1
-            → LeavesOnly D.moment D.left_since self.opening.device error.1
-            (KeepsLines (D.seen self.opening.device))) }
-        ensures was_true_err { IfErr result (λ error. D.is_true error.1
-            → D.is_true self.opening.device) }
     {
         let RequestReader {
             opening,

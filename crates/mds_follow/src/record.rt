@@ -1,7 +1,7 @@
 //! A file in which requests are recorded.
 ghost use Rattle.std.specs.Prelude.{◌≡◌, ◌++◌, ℕ, List, OnOk, IfErr};
 ghost use Rattle.mds_core.specs.declared.request.Request.{Request as Requested};
-ghost use Rattle.mds_follow.specs.Record.{HasSame, IsBeforeOrAfter, Passes};
+ghost use Rattle.mds_follow.specs.Record.{GoesOn, HasSame, IsBeforeOrAfter, Passes};
 
 use mds_book::RecordFault;
 use mds_core::Request;
@@ -38,15 +38,11 @@ pub trait Record: Tagged {
         requires { is_sound self.old }
         ensures sound { is_sound self.new }
         ensures was_true { is_true self.new → is_true self.old }
-        ensures could_go_on { may_go_on self.new → may_go_on self.old }
-        ensures usable { OnOk result (may_go_on self.old) }
+        ensures goes_on { GoesOn result (may_go_on self.old) (may_go_on self.new) }
         ensures appended { OnOk result (is_true self.new → (told : List Requested)
             → stands self.old told → stands self.new (told ++ group.now)) }
         ensures unchanged { IfErr result (λ fault. HasSame fault → is_true self.new
             → (told : List Requested) → stands self.old told → stands self.new told) }
-        ensures lost { IfErr result (λ fault. may_go_on self.new → HasSame fault) }
-        ensures goes_on { IfErr result (λ fault. HasSame fault → may_go_on self.old
-            → may_go_on self.new) }
         ensures any_moment { is_true self.new → (told : List Requested)
             → (may_go_on self.old → stands self.old told)
             → Passes Self.tag left_since self.old self.new

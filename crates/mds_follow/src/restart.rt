@@ -1,16 +1,13 @@
 //! A book that is filled again with what was recorded.
 ghost use Rattle.std.specs.Prelude.{◌≡◌, ◌≢◌, ◌+◌, ◌<◌, ◌≤◌, ◌^◌, ◌++◌, [], List, length, true, Ok, OnOk, IfOk, IfErr};
-ghost use Rattle.mds_core.specs.declared.request.Request.{Request as Requested};
 ghost use Rattle.mds_log.specs.Log.{Acceptance, requests as requests_of};
 ghost use Rattle.mds_journal.specs.Device.{LeavesOnly};
-ghost use Rattle.mds_journal.specs.Lines.{recovered_texts};
 ghost use Rattle.mds_journal.specs.Opening.{KeepsLines};
-ghost use Rattle.mds_follow.specs.Disk.{IsTold};
 ghost use Rattle.mds_follow.specs.Record.{recorded_at};
-ghost use Rattle.mds_follow.specs.Reading.{IsAtFirstRequest, IsAtRequest, IsJournalFault, IsReadOn, IsStartFault};
+ghost use Rattle.mds_follow.specs.Reading.{IsAtFirstRequest, IsAtRequest, IsNotStarted, IsReadOn, IsStartFault};
 ghost use Rattle.mds_book.specs.Refilling.{HasAll, IsFilled};
 ghost use Rattle.mds_follow.specs.Pieces.{IsFirstPiece, IsNext, requests_in};
-ghost use Rattle.mds_follow.specs.Restart.{IsAllTaken, IsAskFault, IsHalfway, IsRefilled, IsTaken};
+ghost use Rattle.mds_follow.specs.Restart.{BeginsOver, IsAllTaken, IsAskFault, IsHalfway, IsRefilled, IsTaken, MayBeAsked, resuming};
 
 use crate::ahead::Ahead;
 use crate::desk::note;
@@ -65,8 +62,7 @@ fn ask_piece<L: SharedLedger, M: SharedLedger, R: Threads + Wait + Sync>(
     piece: &Piece,
     seat: &mut Seat<L, M>,
 ) -> Result<(), StartFault>
-    requires all { HasAll seat.old }
-    requires short { piece.now.number + length (requests_in piece.now) ≤ 2 ^ 62 }
+    requires may { MayBeAsked seat.old piece.now }
     ensures keep { seat.new.keeps_all ≡ seat.old.keeps_all }
     ensures filled { OnOk result
         (HasAll seat.new × IsFilled seat.old (requests_in piece.now) seat.new) }
@@ -93,8 +89,7 @@ fn ask_and_read<'a, D: Device + Send, L: SharedLedger, M: SharedLedger, R: Threa
 ) -> Result<(), StartFault>
     requires reading { IsAtRequest D.seen D.may_leave D.may_be_used D.is_true
         ahead.old.reader.opening }
-    requires all { HasAll seat.old }
-    requires short { piece.now.number + length (requests_in piece.now) ≤ 2 ^ 62 }
+    requires may { MayBeAsked seat.old piece.now }
     ensures keep { seat.new.keeps_all ≡ seat.old.keeps_all }
     ensures filled { OnOk result
         (HasAll seat.new × IsFilled seat.old (requests_in piece.now) seat.new) }
@@ -120,8 +115,7 @@ fn ask_and_read<'a, D: Device + Send, L: SharedLedger, M: SharedLedger, R: Threa
             ahead.exit.now.reader.opening ahead.exit.now.next }
     { ahead.read(rt) };
     let mut ask = || -> Result<(), StartFault>
-        requires all { HasAll seat.now }
-        requires short { piece.now.number + length (requests_in piece.now) ≤ 2 ^ 62 }
+        requires may { MayBeAsked seat.now piece.now }
         ensures keep { seat.exit.now.keeps_all ≡ seat.entry.now.keeps_all }
         ensures filled { OnOk result (HasAll seat.exit.now
             × IsFilled seat.entry.now (requests_in piece.entry.now) seat.exit.now) }
@@ -164,16 +158,17 @@ fn take_piece<
 ) -> Result<(), StartFault>
     requires reading { IsAtRequest D.seen D.may_leave D.may_be_used D.is_true
         ahead.old.reader.opening }
-    requires halfway { IsHalfway D.seen D.is_true ahead.old.reader.opening seat.old keeper.old
-        piece.old }
+    requires halfway { IsHalfway D.seen D.is_true
+        (resuming ahead.old.reader.opening seat.old keeper.old piece.old) }
     requires more { piece.old.end ≡ Ok true }
     ensures keep { seat.new.keeps_all ≡ seat.old.keeps_all }
     ensures reading { IsAtRequest D.seen D.may_leave D.may_be_used D.is_true
         ahead.new.reader.opening }
     ensures read_on { IsReadOn D.seen D.may_leave D.is_true D.moment D.left_since
         ahead.old.reader.opening ahead.new.reader.opening }
-    ensures taken { OnOk result (IsTaken D.seen D.is_true D.moment ahead.old.reader.opening
-        ahead.new.reader.opening seat.new keeper.old keeper.new piece.old piece.new) }
+    ensures taken { OnOk result (IsTaken D.seen D.is_true D.moment
+        (resuming ahead.old.reader.opening seat.old keeper.old piece.old)
+        (resuming ahead.new.reader.opening seat.new keeper.new piece.new)) }
     ensures fault { IfErr result (λ fault. D.is_true ahead.new.reader.opening.device
         → IsStartFault book.now.tables (D.seen ahead.new.reader.opening.device) fault) }
 {
@@ -199,8 +194,8 @@ fn take_last<D: Device, L: SharedLedger, M: SharedLedger, J: RecordLog, R: Threa
     keeper: &mut Keeper<J>,
     last: &Piece,
 ) -> Result<(), StartFault>
-    requires halfway { IsHalfway D.seen D.is_true ahead.now.reader.opening seat.old keeper.old
-        last.now }
+    requires halfway { IsHalfway D.seen D.is_true
+        (resuming ahead.now.reader.opening seat.old keeper.old last.now) }
     requires end { last.now.end ≢ Ok true }
     ensures keep { seat.new.keeps_all ≡ seat.old.keeps_all }
     ensures noted { OnOk result (keeper.new ≡ keeper.old
@@ -291,22 +286,18 @@ pub fn resume<
     requires at_first { IsAtFirstRequest D.seen D.may_leave D.may_be_used D.is_true
         reader.opening }
     requires log { log ≡ J.log }
-    requires start { J.start ≡ D.moment reader.opening.device }
-    requires held { (told : List Requested)
-        → IsTold (recovered_texts (D.seen reader.opening.device)) told → J.held told }
+    requires begins { BeginsOver J.start J.held (D.moment reader.opening.device)
+        (D.seen reader.opening.device) }
     requires fresh { IsRefilled seat.old [] }
     ensures keep { seat.new.keeps_all ≡ seat.old.keeps_all }
     ensures refilled { IfOk result (λ follower. IsRefilled seat.new follower) }
     ensures fault { IfErr result (λ error. D.is_true error.1
-        → IsStartFault book.now.tables (D.seen reader.opening.device) error.0) }
-    ensures same { IfErr result (λ error. D.is_true error.1 → IsJournalFault error.0
-        → D.seen error.1 ≡ D.seen reader.opening.device) }
+        → D.is_true reader.opening.device × IsNotStarted book.now.tables
+        (D.seen reader.opening.device) (D.seen error.1) error.0) }
     // A crash at any moment leaves the same lines, also where the start fails.
     ensures any_moment_err { IfErr result (λ error. D.is_true error.1
         → LeavesOnly D.moment D.left_since reader.opening.device error.1
         (KeepsLines (D.seen reader.opening.device))) }
-    ensures was_true { IfErr result (λ error. D.is_true error.1
-        → D.is_true reader.opening.device) }
 {
     let Some((mut keeper, _front)) = log.with_name::<J>() else {
         return Err((StartFault::Shared, reader.into_device()));

@@ -1,15 +1,12 @@
 //! A book that is served over a journal, from its opening to its settling.
 ghost use Rattle.std.specs.Prelude.{◌≡◌, ℕ, List, IfOk, IfErr, Ok, vec_len};
 ghost use Rattle.mds_table.specs.Tables.{Tables as Timed};
-ghost use Rattle.mds_core.specs.declared.request.Request.{Request as Requested};
 ghost use Rattle.mds_journal.specs.Device.{LeavesOnly};
-ghost use Rattle.mds_journal.specs.Lines.{recovered_texts};
 ghost use Rattle.mds_journal.specs.Opening.{KeepsLines};
-ghost use Rattle.mds_book.specs.Books.{IsSeatCount};
-ghost use Rattle.mds_follow.specs.Disk.{IsTold};
-ghost use Rattle.mds_follow.specs.Reading.{IsAtFirstRequest, IsJournalFault, IsStartFault};
+ghost use Rattle.mds_follow.specs.Reading.{IsAtFirstRequest, IsNotStarted};
+ghost use Rattle.mds_follow.specs.Restart.{BeginsOver};
 ghost use Rattle.mds_pool.specs.Recording.{IsRecordOf, IsRecordedStop};
-ghost use Rattle.mds_pool.specs.Serving.{AreWorkers, IsEnded, IsSettledEnd};
+ghost use Rattle.mds_pool.specs.Serving.{AreWorkers, Fits, IsEnded, IsSettledEnd, names_of};
 
 use crate::pool::serve_round;
 use crate::recorder::Journal;
@@ -96,26 +93,17 @@ impl<D: Device + Send, L: SharedLedger, M: SharedLedger, J: RecordLog> RecordedB
         reader: RequestReader<D>,
         log: BlankLog,
     ) -> Result<RecordedBook<Disk<D>, L, M, J>, (StartFault, D)>
-        requires first { (opening.first.name ≡ L.name) × (opening.first.parts ≡ L.parts) }
-        requires second { (opening.second.name ≡ M.name) × (opening.second.parts ≡ M.parts) }
-        requires first_log { (opening.first.log ≡ L.log) × (opening.first.marks ≡ L.marks) }
-        requires second_log { (opening.second.log ≡ M.log) × (opening.second.marks ≡ M.marks) }
-        requires parts { (opening.first.parts ≡ opening.seats)
-            × (opening.second.parts ≡ opening.seats) }
-        requires tables { (opening.tables ≡ L.tables) × (opening.tables ≡ M.tables) }
-        requires seats { IsSeatCount opening.seats }
+        requires fits { Fits (names_of L.name L.parts L.log L.marks L.tables)
+            (names_of M.name M.parts M.log M.marks M.tables) opening }
         requires at_first { IsAtFirstRequest D.seen D.may_leave D.may_be_used D.is_true
             reader.opening }
         requires log { log ≡ J.log }
-        requires start { J.start ≡ D.moment reader.opening.device }
-        requires held { (told : List Requested)
-            → IsTold (recovered_texts (D.seen reader.opening.device)) told → J.held told }
+        requires begins { BeginsOver J.start J.held (D.moment reader.opening.device)
+            (D.seen reader.opening.device) }
         ensures opened { IfOk result (λ own. (own.tables ≡ opening.tables)
             × (own.seats ≡ opening.seats)) }
-        ensures fault { IfErr result (λ error. D.is_true error.1
-            → IsStartFault opening.tables (D.seen reader.opening.device) error.0) }
-        ensures same { IfErr result (λ error. D.is_true error.1 → IsJournalFault error.0
-            → D.seen error.1 ≡ D.seen reader.opening.device) }
+        ensures fault { IfErr result (λ error. D.is_true error.1 → IsNotStarted opening.tables
+            (D.seen reader.opening.device) (D.seen error.1) error.0) }
         ensures any_moment_err { IfErr result (λ error. D.is_true error.1
             → LeavesOnly D.moment D.left_since reader.opening.device error.1
             (KeepsLines (D.seen reader.opening.device))) }

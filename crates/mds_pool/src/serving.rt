@@ -1,8 +1,7 @@
 //! A book that serves a port, from its opening to its settling.
 ghost use Rattle.std.specs.Prelude.{◌≡◌, false, replicate, IfOk, vec_len};
-ghost use Rattle.mds_book.specs.Books.{IsSeatCount};
 ghost use Rattle.mds_book.specs.Seats.{new_seat};
-ghost use Rattle.mds_pool.specs.Serving.{IsEnded, IsSettledEnd};
+ghost use Rattle.mds_pool.specs.Serving.{Fits, IsEnded, IsSettledEnd, names_of};
 
 use crate::pool::serve_round;
 use crate::{AnswerCount, NoRecord, Port};
@@ -93,14 +92,8 @@ pub(crate) fn open_book<L: ShardLedger, M: ShardLedger>(
     alloc: Global,
     opening: NewBook,
 ) -> Result<(Book<L, M>, Vec<Seat<L, M>>), AllocError>
-    requires first { (opening.first.name ≡ L.name) × (opening.first.parts ≡ L.parts) }
-    requires second { (opening.second.name ≡ M.name) × (opening.second.parts ≡ M.parts) }
-    requires first_log { (opening.first.log ≡ L.log) × (opening.first.marks ≡ L.marks) }
-    requires second_log { (opening.second.log ≡ M.log) × (opening.second.marks ≡ M.marks) }
-    requires parts { (opening.first.parts ≡ opening.seats)
-        × (opening.second.parts ≡ opening.seats) }
-    requires tables { (opening.tables ≡ L.tables) × (opening.tables ≡ M.tables) }
-    requires seats { IsSeatCount opening.seats }
+    requires fits { Fits (names_of L.name L.parts L.log L.marks L.tables)
+        (names_of M.name M.parts M.log M.marks M.tables) opening }
     ensures book { IfOk result (λ opened.
         opened.0 ≡ record { tables = opening.tables; seats = opening.seats }) }
     ensures seats { IfOk result (λ opened.
@@ -137,14 +130,8 @@ pub fn serve_and_settle<R: Threads + Wait + Sync, P: Port + Sync, L: SharedLedge
 where
     P::In: Send,
     P::Out: Send,
-    requires first { (opening.first.name ≡ L.name) × (opening.first.parts ≡ L.parts) }
-    requires second { (opening.second.name ≡ M.name) × (opening.second.parts ≡ M.parts) }
-    requires first_log { (opening.first.log ≡ L.log) × (opening.first.marks ≡ L.marks) }
-    requires second_log { (opening.second.log ≡ M.log) × (opening.second.marks ≡ M.marks) }
-    requires parts { (opening.first.parts ≡ opening.seats)
-        × (opening.second.parts ≡ opening.seats) }
-    requires tables { (opening.tables ≡ L.tables) × (opening.tables ≡ M.tables) }
-    requires seats { IsSeatCount opening.seats }
+    requires fits { Fits (names_of L.name L.parts L.log L.marks L.tables)
+        (names_of M.name M.parts M.log M.marks M.tables) opening }
     ensures { IsEnded opening.tables opening.seats each result }
 {
     let (book, list) = match open_book::<L, M>(alloc, opening) {

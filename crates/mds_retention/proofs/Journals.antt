@@ -24,7 +24,7 @@ use Rattle.mds_retention.specs.Copying.{AreTotalsOf, IsMarkedBy, IsSurveyed, IsK
 use Rattle.mds_retention.proofs.Telling.{front_one, told_count, begins_again}
 
 -- what holds of all texts holds of those that are kept
-all_kept : (P : List ℕ → Type 0) (marks : List Bool) (texts : List (List ℕ)) → All P texts → All P (kept_of marks texts)
+pub all_kept : (P : List ℕ → Type 0) (marks : List Bool) (texts : List (List ℕ)) → All P texts → All P (kept_of marks texts)
 all_kept P [] texts every = All-nil P
 all_kept P (mark ∷ marks) [] every = All-nil P
 all_kept P (true ∷ marks) (text ∷ texts) every = All-cons P text (kept_of marks texts) (All-head P text texts every) (all_kept P marks texts (All-tail P text texts every))
@@ -63,6 +63,12 @@ journal_of from cuts bytes out history cut marks taken front marked kept =
       compaction = marked.compaction;
       thin = marked.thin;
     }
+
+-- it tells the same histories
+pub journal_made : (from : ℕ) (cuts : List Cut) (bytes out : List ℕ) (history cut : List Request) (marks : List Bool) (taken : IsTaken (Some bytes) history) → IsCutBy cuts history cut
+    → IsMarkedBy from cut history marks → IsKeptBy marks taken.0 out → (made : IsCompactedJournal from cuts bytes out) × (made.old ≡ history) × (made.new ≡ kept_of marks history)
+unfolding journal_of
+journal_made from cuts bytes out history cut marks taken front marked kept = (journal_of from cuts bytes out history cut marks taken front marked kept, refl, refl)
 
 -- the lines that were copied of bytes to which lines were added are those of the first bytes
 pub kept_first : (bytes again out : List ℕ) (known : Option (List ℕ)) (history : List Request) (marks : List Bool) (taken : IsTaken (Some bytes) history) → known ≡ Some again

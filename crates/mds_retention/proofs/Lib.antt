@@ -6,3 +6,5 @@ pub mod Drafts
 pub mod NewNames
 pub mod Events
 pub mod Left
+pub mod Places
+pub mod NewJournals

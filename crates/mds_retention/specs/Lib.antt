@@ -4,3 +4,5 @@ pub mod Lines
 pub mod Draft
 pub mod Compacting
 pub mod Events
+pub mod Place
+pub mod NewJournal

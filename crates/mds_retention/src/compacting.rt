@@ -150,5 +150,7 @@ fn write_kept<R: Read + Drop, D: Device + Drop>(
     ensures fault { IfErr result (IsWriteFault (R.remaining reader) (length marks.now)) }
 {
     draft.begin()?;
-    kept_lines(alloc, reader, marks, draft)
+    kept_lines(alloc, reader, marks, draft)?;
+    draft.flush()?;
+    Ok(())
 }

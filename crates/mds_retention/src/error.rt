@@ -1,7 +1,7 @@
 //! Why a journal isn't compacted.
 ghost use Rattle.std.specs.Prelude.{◌≡◌};
 
-use mds_file::NewFileFault;
+use mds_file::{FileFault, NewFileFault};
 use mds_journal::{JournalFault, StreamError};
 use std::alloc::{AllocError, AllocFailed};
 
@@ -113,5 +113,16 @@ impl From<StreamError> for CompactError {
 
     fn from(error: StreamError) -> CompactError {
         CompactError::Old(LinesError::from(error))
+    }
+}
+
+impl From<FileFault> for CompactError {
+    ghost use Rattle.mds_retention.specs.declared.error.LinesError.TheVariants.{Read};
+    ghost use Rattle.mds_retention.specs.declared.error.CompactError.TheVariants.{Old};
+
+    ghost from_gives = { λ _ error. error ≡ Old Read };
+
+    fn from(_fault: FileFault) -> CompactError {
+        CompactError::Old(LinesError::Read)
     }
 }

@@ -11,7 +11,9 @@ mod copying;
 mod draft;
 mod error;
 mod lines;
+mod new_journal;
 mod passes;
+mod place;
 #[cfg(test)]
 mod tests;
 mod vehicle_events;
@@ -21,5 +23,6 @@ pub use copying::kept_lines;
 pub use draft::Draft;
 pub use error::{CompactError, LinesError};
 pub use lines::RequestLines;
+pub use new_journal::{NewJournal, begin_journal, drop_journal, end_journal};
 pub use passes::{Marked, Surveyed, Totals, marks_of, survey_of, thinning_of};
 pub use vehicle_events::events_of;

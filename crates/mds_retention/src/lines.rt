@@ -1,5 +1,6 @@
 //! The requests that the lines of a journal tell, one after another.
 ghost use Rattle.std.specs.Prelude.{◌≡◌, ◌+◌, ◌<◌, ◌^◌, [], IfOk, IfErr, IfSome, IfNone, OnOk};
+ghost use Rattle.std.specs.Io.KnownBytes.{Keeps};
 ghost use Rattle.mds_table.specs.Json.{max_bytes};
 ghost use Rattle.mds_entries.specs.Form.{form_line};
 ghost use Rattle.mds_journal.specs.Stream.{IsStream, HandsOut, StandsForNothing, unread_of, lines_given, most_of};
@@ -44,6 +45,19 @@ impl<R: Read + Drop> RequestLines<R> {
             entries: EntryReader::new(alloc),
             line,
         })
+    }
+
+    /// The requests of what a reader gives, where the line of the form stands before it.
+    pub(crate) fn behind(alloc: Global, reader: R) -> RequestLines<R>
+        ensures lines { AreLines result }
+        ensures all { Keeps (R.remaining reader) (left_of R.remaining result) }
+        ensures number { number_of result ≡ 0 }
+    {
+        RequestLines {
+            lines: LineStream::new(alloc, reader, MAX_BYTES),
+            entries: EntryReader::new(alloc),
+            line: Vec::new(alloc),
+        }
     }
 
     /// How many requests were read.

@@ -58,7 +58,7 @@ pub struct Totals {
 
 impl Totals {
     /// Counts a request, and whether it stays.
-    fn count(&mut self, request: &Request, stays: bool)
+    pub(crate) fn count(&mut self, request: &Request, stays: bool)
         requires few { self.old.registrations + self.old.events < usize.MAX }
         requires within { self.old.kept ≤ self.old.events }
         ensures within { self.new.kept ≤ self.new.events }
@@ -178,6 +178,7 @@ pub fn marks_of<R: Read + Drop>(
         → IsMarkedBy from (kept_of stays.now history) history marked.marks.items
         × AreTotalsOf history (kept_of marked.marks.items history) marked.totals) }
     ensures count { IfOk result (λ marked. length marked.marks.items ≡ length stays.now) }
+    ensures within { IfOk result (λ marked. marked.totals.kept ≤ marked.totals.events) }
     ensures fault { IfErr result (IsAgainFault (R.remaining reader) (length stays.now)) }
 {
     let mut lines = RequestLines::open(alloc, reader)?;

@@ -1,16 +1,17 @@
 use crate::{
-    CompactError, Compacted, Draft, LinesError, Readings, RequestLines, Totals, compact, events_of,
-    kept_lines, marks_of, survey_of, thinning_of,
+    CompactError, Compacted, Draft, LinesError, Readings, RequestLines, Totals, begin_journal,
+    compact, drop_journal, end_journal, events_of, kept_lines, marks_of, survey_of, thinning_of,
 };
 use mds_compact::{Cut, Cutting};
 use mds_core::Key;
-use mds_file::{NewFileFault, NewName};
+use mds_file::{FileFault, Followed, NewFileFault, NewName};
 use mds_journal::{JournalFault, Memory};
 use std::alloc::{AllocError, AllocFailed, Global};
 use std::hash::RandomState;
 use std::io;
 use std::io::{ErrorKind, Read};
 use std::random::RandomSource;
+use std::sync::Wait;
 
 /// The first line.
 const FORM: &str = "{\"form\":\"mds_city\",\"version\":1}";
@@ -371,6 +372,7 @@ fn passes_leave_a_loop_out<R: RandomSource>(rt: &R, alloc: Global) -> Result<boo
     let mut draft = Draft::new(alloc, Memory::new(alloc, b"")?);
     draft.begin()?;
     kept_lines(alloc, old.as_slice(), &marked.marks, &mut draft)?;
+    draft.flush()?;
     Ok(draft.into_file().bytes() == new.as_slice())
 }
 
@@ -384,6 +386,110 @@ fn a_draft_has_its_lines(alloc: Global) -> Result<bool, Lack> {
     draft.add_line(REGISTRATION.as_bytes())?;
     draft.flush()?;
     Ok(draft.into_file().bytes() == wanted.as_slice())
+}
+
+/// The rides, and those behind them while another process goes on.
+const RIDES_SINCE: &[Told] = &[
+    ("1", "available"),
+    ("2", "on_trip"),
+    ("3", "available"),
+    ("4", "on_trip"),
+    ("5", "available"),
+    ("6", "on_trip"),
+];
+
+/// What stays of the rides, and those behind them.
+const WITHOUT_FIRST_LOOP: &[Told] = &[
+    ("1", "available"),
+    ("4", "on_trip"),
+    ("5", "available"),
+    ("6", "on_trip"),
+];
+
+/// A journal that another process goes on with: so many of its bytes are there, and all once it was asked whether it is left.
+#[derive(Drop)]
+struct Growing<'a> {
+    bytes: &'a [u8],
+    there: usize,
+}
+
+impl<'a> Followed for Growing<'a> {
+    ghost use Rattle.std.specs.Prelude.{None};
+
+    type Rest = &'a [u8];
+
+    ghost content = { λ _. None };
+
+    fn rest(&mut self, from: usize) -> Result<&'a [u8], FileFault> {
+        self.bytes
+            .get(from..self.there)
+            .ok_or(FileFault::CannotRead)
+    }
+
+    fn is_left(&mut self) -> Result<bool, FileFault> {
+        let is_left = self.there == self.bytes.len();
+        self.there = self.bytes.len();
+        Ok(is_left)
+    }
+}
+
+/// What a new journal of the rides comes to, where another process goes on with these bytes, and these are wanted; or where it is
+/// given up once it is begun.
+fn since_rides<R: RandomSource + Wait>(
+    rt: &R,
+    alloc: Global,
+    bytes: &[u8],
+    wanted: &[Told],
+    ends: bool,
+) -> Result<Came, Lack> {
+    let hasher = RandomState::new(rt).map_err(|_| Lack::Means)?;
+    let old = journal(alloc, FORM, RIDES)?;
+    let new = journal(alloc, FORM, wanted)?;
+    let old = old.as_slice();
+    let readings = Readings {
+        first: old,
+        second: old,
+        third: old,
+        fourth: old,
+    };
+    let there = old.len();
+    let mut followed = Growing { bytes, there };
+    let mut name = MemoryName {
+        alloc,
+        made: None,
+        is_taken: false,
+    };
+    let begun = begin_journal(alloc, readings, &mut followed, 10, hasher, &mut name)?;
+    if !ends {
+        drop_journal(begun, &mut name);
+        return Ok(Came::Otherwise);
+    }
+    match end_journal(rt, alloc, begun, &mut followed, &mut name) {
+        Ok(totals) if has_bytes(&name, &new) => Ok(Came::Made(totals)),
+        Ok(_) => Ok(Came::Otherwise),
+        Err(CompactError::Old(LinesError::Memory) | CompactError::New(NewFileFault::Memory)) => {
+            Err(Lack::Means)
+        }
+        Err(error) => Ok(Came::Failed(error)),
+    }
+}
+
+/// What one comes to where these events came since, and these are wanted.
+fn since_rides_told<R: RandomSource + Wait>(
+    rt: &R,
+    alloc: Global,
+    ends: bool,
+) -> Result<Came, Lack> {
+    let bytes = journal(alloc, FORM, RIDES_SINCE)?;
+    since_rides(rt, alloc, &bytes, WITHOUT_FIRST_LOOP, ends)
+}
+
+/// What one comes to where a line of another kind came since.
+fn since_rides_amiss<R: RandomSource + Wait>(rt: &R, alloc: Global) -> Result<Came, Lack> {
+    let mut bytes = journal(alloc, FORM, RIDES)?;
+    add_line(&mut bytes, REGISTRATION)?;
+    add_line(&mut bytes, "7")?;
+    since_rides(rt, alloc, &bytes, RIDES, true)
 }
 
 /// The totals of the rides, of whose events so many stay.
@@ -515,5 +621,31 @@ fn a_name_that_is_taken_is_told_first(rt: HostRuntime) {
     assert_eq!(rt;
         again().or_else(|_| again()),
         Ok(Came::Failed(CompactError::New(NewFileFault::IsThere)))
+    );
+}
+
+#[test]
+fn a_new_journal_is_ended_after_a_refused_growth(rt: HostRuntime) {
+    let again = || since_rides_told(&rt, rt.alloc(), true);
+    let totals = Totals {
+        registrations: 1,
+        events: 6,
+        kept: 4,
+    };
+    assert_eq!(rt; again().or_else(|_| again()), Ok(Came::Made(totals)));
+}
+
+#[test]
+fn a_new_journal_can_be_given_up(rt: HostRuntime) {
+    let again = || since_rides_told(&rt, rt.alloc(), false);
+    assert_eq!(rt; again().or_else(|_| again()), Ok(Came::Otherwise));
+}
+
+#[test]
+fn lines_that_came_meanwhile_have_their_numbers(rt: HostRuntime) {
+    let again = || since_rides_amiss(&rt, rt.alloc());
+    assert_eq!(rt;
+        again().or_else(|_| again()),
+        Ok(Came::Failed(CompactError::Old(LinesError::Fault(JournalFault::BadLine(7)))))
     );
 }

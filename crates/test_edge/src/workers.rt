@@ -4,7 +4,7 @@ mod journals;
 mod loopback;
 
 ghost use Rattle.std.specs.Prelude.{◌≡◌, IfOk};
-ghost use Rattle.mds_book.specs.Books.{IsSeatCount};
+ghost use Rattle.mds_pool.specs.Serving.{Fits, names_of};
 
 use mds_book::{
     Book, Gate, Keep, NamedLedger, OpenGate, Packed, Seat, ShardLedger, SharedLedger, reconcile,
@@ -367,14 +367,8 @@ fn ended<
 where
     P::In: Send,
     P::Out: Send,
-    requires first { (opening.first.name ≡ L.name) × (opening.first.parts ≡ L.parts) }
-    requires second { (opening.second.name ≡ M.name) × (opening.second.parts ≡ M.parts) }
-    requires first_log { (opening.first.log ≡ L.log) × (opening.first.marks ≡ L.marks) }
-    requires second_log { (opening.second.log ≡ M.log) × (opening.second.marks ≡ M.marks) }
-    requires parts { (opening.first.parts ≡ opening.seats)
-        × (opening.second.parts ≡ opening.seats) }
-    requires tables { (opening.tables ≡ L.tables) × (opening.tables ≡ M.tables) }
-    requires seats { IsSeatCount opening.seats }
+    requires fits { Fits (names_of L.name L.parts L.log L.marks L.tables)
+        (names_of M.name M.parts M.log M.marks M.tables) opening }
 {
     match serve_and_settle::<R, P, Packed<L>, Packed<M>>(rt, alloc, opening, port, 2) {
         Ok(book) => {

@@ -1,10 +1,8 @@
 //! What becomes of a journal in memory over which a book is opened and asked.
-ghost use Rattle.std.specs.Prelude.{◌≡◌, false, replicate, List};
-ghost use Rattle.mds_core.specs.declared.request.Request.{Request as Requested};
-ghost use Rattle.mds_journal.specs.Lines.{recovered_texts};
+ghost use Rattle.std.specs.Prelude.{◌≡◌, false, replicate};
 ghost use Rattle.mds_book.specs.Seats.{new_seat};
-ghost use Rattle.mds_follow.specs.Disk.{IsTold};
 ghost use Rattle.mds_follow.specs.Reading.{IsAtFirstRequest};
+ghost use Rattle.mds_follow.specs.Restart.{BeginsOver};
 
 use mds_book::{
     Blank, Book, Keep, NamedLedger, Packed, RecordFault, Seat, ShardLedger, SharedLedger, reconcile,
@@ -202,9 +200,8 @@ fn end_at<
     requires at_first { IsAtFirstRequest D.seen D.may_leave D.may_be_used D.is_true
         reader.opening }
     requires log { log ≡ J.log }
-    requires start { J.start ≡ D.moment reader.opening.device }
-    requires held { (told : List Requested)
-        → IsTold (recovered_texts (D.seen reader.opening.device)) told → J.held told }
+    requires begins { BeginsOver J.start J.held (D.moment reader.opening.device)
+        (D.seen reader.opening.device) }
 {
     if let Some(request) = requests_of(alloc, case.other)?.first() {
         book.call(rt, &mut seats[1], request)?;
@@ -241,9 +238,8 @@ fn end_in<
     requires at_first { IsAtFirstRequest D.seen D.may_leave D.may_be_used D.is_true
         reader.opening }
     requires log { log ≡ J.log }
-    requires start { J.start ≡ D.moment reader.opening.device }
-    requires held { (told : List Requested)
-        → IsTold (recovered_texts (D.seen reader.opening.device)) told → J.held told }
+    requires begins { BeginsOver J.start J.held (D.moment reader.opening.device)
+        (D.seen reader.opening.device) }
 {
     let keep = Keep::Accepted;
     match Book::<Packed<L>, Packed<M>>::open(alloc, tables, 2, keep, first, second, hashers) {

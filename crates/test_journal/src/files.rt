@@ -1,9 +1,10 @@
 //! Journals in files of the system. A test runs in a folder of its own.
 use crate::ahead::ROOM;
-use mds_file::{FileFault, NewFile, NewFileFault, NewName, open_file};
+use mds_file::{FileFault, Followed, FollowedFile, NewFile, NewFileFault, NewName, open_file};
 use mds_journal::{Device, Group, read_all};
 use std::alloc::Global;
 use std::fs;
+use std::io::Read;
 use std::marker::Brand;
 use std::os::unix::fs::symlink;
 use test_fixtures::room_behind;
@@ -153,5 +154,34 @@ fn a_file_in_work_is_left_after_a_refused_growth(rt: HostRuntime) {
     assert_eq!(rt;
         held(&rt).or_else(|| held(&rt)),
         Some((Some(NewFileFault::CannotWrite), true))
+    );
+}
+
+/// Whether a file is left while another one has it, whether once it hasn't, what is told then of who opens it, and whether it has
+/// what was added meanwhile.
+fn followed(rt: &HostRuntime) -> Option<(bool, bool, Option<FileFault>, bool)> {
+    let _ = fs::remove_file(rt, "followed");
+    let mut held = open_file::<Brand>(rt, "followed").ok()?;
+    held.write_at(0, b"one").ok()?;
+    let mut followed = FollowedFile::open(*rt, "followed").ok()?;
+    let was_left = followed.is_left().ok()?;
+    held.write_at(0, b"onetwo").ok()?;
+    drop(held);
+    let is_left = followed.is_left().ok()?;
+    let told = open_file::<Brand>(rt, "followed").err();
+    if told == Some(FileFault::Memory) {
+        return None;
+    }
+    let mut room = [0u8; 8];
+    let count = followed.rest(2).ok()?.read(&mut room).ok()?;
+    let rest = room.get(..count)?;
+    Some((was_left, is_left, told, rest == b"etwo".as_slice()))
+}
+
+#[test]
+fn a_file_is_followed_after_a_refused_growth(rt: HostRuntime) {
+    assert_eq!(rt;
+        followed(&rt).or_else(|| followed(&rt)),
+        Some((false, true, Some(FileFault::InUse), true))
     );
 }

@@ -1,10 +1,8 @@
 //! Books that are served over a journal in memory.
 ghost use Rattle.std.specs.Prelude.{◌≡◌, List};
-ghost use Rattle.mds_core.specs.declared.request.Request.{Request as Requested};
-ghost use Rattle.mds_journal.specs.Lines.{recovered_texts};
-ghost use Rattle.mds_book.specs.Books.{IsSeatCount};
-ghost use Rattle.mds_follow.specs.Disk.{IsTold};
 ghost use Rattle.mds_follow.specs.Reading.{IsAtFirstRequest};
+ghost use Rattle.mds_follow.specs.Restart.{BeginsOver};
+ghost use Rattle.mds_pool.specs.Serving.{Fits, names_of};
 
 use super::{Counts, Listed, TWICE, opening};
 use mds_book::{NamedLedger, Packed};
@@ -56,20 +54,13 @@ fn ended<
 where
     P::In: Send,
     P::Out: Send,
-    requires first { (opening.first.name ≡ L.name) × (opening.first.parts ≡ L.parts) }
-    requires second { (opening.second.name ≡ M.name) × (opening.second.parts ≡ M.parts) }
-    requires first_log { (opening.first.log ≡ L.log) × (opening.first.marks ≡ L.marks) }
-    requires second_log { (opening.second.log ≡ M.log) × (opening.second.marks ≡ M.marks) }
-    requires parts { (opening.first.parts ≡ opening.seats)
-        × (opening.second.parts ≡ opening.seats) }
-    requires tables { (opening.tables ≡ L.tables) × (opening.tables ≡ M.tables) }
-    requires seats { IsSeatCount opening.seats }
+    requires fits { Fits (names_of L.name L.parts L.log L.marks L.tables)
+        (names_of M.name M.parts M.log M.marks M.tables) opening }
     requires at_first { IsAtFirstRequest D.seen D.may_leave
         D.may_be_used D.is_true reader.opening }
     requires log { log ≡ J.log }
-    requires start { J.start ≡ D.moment reader.opening.device }
-    requires held { (told : List Requested)
-        → IsTold (recovered_texts (D.seen reader.opening.device)) told → J.held told }
+    requires begins { BeginsOver J.start J.held (D.moment reader.opening.device)
+        (D.seen reader.opening.device) }
 {
     let opened = RecordedBook::<Disk<D>, Packed<L>, Packed<M>, J>::open(
         rt, alloc, opening, reader, log,

@@ -7,22 +7,18 @@ use Rattle.mds_book.proofs.NotesTold.{noted_none, noted_one}
 use Rattle.mds_book.proofs.notes.note_call.Goals as goal
 
 -- a call that isn't noted
-pub returns-then-not-is_noted-clause-noted : goal.returns-then-not-is_noted-clause-noted
-returns-then-not-is_noted-clause-noted g c =
+pub returns-then-not-is_noted : goal.returns-then-not-is_noted
+returns-then-not-is_noted g c =
     let not : (c.args.keeps_all || is_done c.args.reply.now.outcome) ≡ false = cc in
-    noted_none g.N.NoteForm.number g.N.NoteForm.tells g.N.NoteForm.is_within c.args.keeps_all c.args.request.now c.args.reply.now c.args.notes.now.list _ g.met.N.NoteForm.stays not (λ i. c.args.notes.now.list)
+    record { noted = noted_none g.N.NoteForm.number g.N.NoteForm.tells g.N.NoteForm.is_within c.args.keeps_all c.args.request.now c.args.reply.now c.args.notes.now.list _ g.met.N.NoteForm.stays not (λ i. c.args.notes.now.list) }
 
 -- its note stands behind the others
-pub returns-clause-noted : goal.returns-clause-noted
-returns-clause-noted g c =
+pub returns : goal.returns
+returns g c =
     let With : ℕ → Note = λ n. record { shard = n; request = c.args.request.now; reply = c.args.reply.now } in
     let is : (c.args.keeps_all || is_done c.args.reply.now.outcome) ≡ true = cc in
-    noted_one g.N.NoteForm.number g.N.NoteForm.tells g.N.NoteForm.is_within c.args.keeps_all c.args.request.now c.args.reply.now c.args.notes.now.list _ c.put-note.result g.met.N.NoteForm.stays is
-    c.push.ensures (c.put-note.ensures.number ∙ c.requires.number) c.put-note.ensures.within
-    (λ history stored. c.put-note.ensures.told history stored ∙ ap With c.requires.number)
-
--- and is of the shard
-pub returns-clause-of_shard : goal.returns-clause-of_shard
-returns-clause-of_shard g c all =
-    let OfShard : List _ → Type 0 = λ w. All (λ note. g.N.NoteForm.number note ≡ c.args.shard) w in
-    subst OfShard (sym c.push.ensures) (All-push (λ note. g.N.NoteForm.number note ≡ c.args.shard) c.args.notes.now.list c.put-note.result all c.put-note.ensures.number)
+    record {
+      noted = noted_one g.N.NoteForm.number g.N.NoteForm.tells g.N.NoteForm.is_within c.args.keeps_all c.args.request.now c.args.reply.now c.args.notes.now.list _ c.put-note.result g.met.N.NoteForm.stays is
+          c.push.ensures (c.put-note.ensures.number ∙ c.requires.number) c.put-note.ensures.within
+          (λ history stored. c.put-note.ensures.told history stored ∙ ap With c.requires.number);
+    }

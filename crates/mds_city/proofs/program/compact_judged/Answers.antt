@@ -1,17 +1,10 @@
-use Rattle.std.proofs.Common.{ℕ, List, Option, Some, None, inl, inr}
+use Rattle.std.proofs.Common.{inl, inr}
 use Rattle.std.proofs.KnownBytes.{Keeps-refl}
 use Rattle.mds_commands.specs.declared.problem.Problem.TheVariants.{Memory}
-use Rattle.mds_commands.specs.declared.vehicles.problem.JournalProblem.{JournalProblem}
 use Rattle.mds_commands.specs.declared.vehicles.problem.JournalProblem.TheVariants.{Other}
 use Rattle.mds_city.specs.Host.{FileHost}
-use Rattle.mds_city.specs.Program.{ExplainsJudged}
+use Rattle.mds_city.proofs.ProgramLemmas.{memory_too}
 use Rattle.mds_city.proofs.program.compact_judged.Goals as goal
-
--- where memory is wanting to tell a problem, that is explained as well
-memory_too : {F : Type 0} (files : FileHost F) (path : Option (List ℕ)) (old : List ℕ) (problem : JournalProblem) → ExplainsJudged files path old problem
-    → ExplainsJudged files path old (Other Memory)
-memory_too files None old problem why = absurd why
-memory_too files (Some path) old problem why = (why.0, why.1, why.2, (tt, λ is. cc))
 
 pub returns-in-Ok : goal.returns-in-Ok
 returns-in-Ok g c = inl (c.in-Ok.ensures.ok, c.compact_to.ensures)

@@ -1,7 +1,7 @@
 use Rattle.std.proofs.Common.{rules}
 use Rattle.mds_io.specs.Read.{ConsumesUpTo}
 use Rattle.mds_io.proofs.ReadLemmas.{stop_loses}
-use Rattle.mds_face.proofs.ReadingLemmas.{gains_few, loses_next, read_next, status_of_same}
+use Rattle.mds_face.proofs.ReadingLemmas.{gains_few, has_status, loses_next, read_next}
 use Rattle.mds_face.proofs.reading.read_head.Goals as goal
 
 pub loop-reader-preserved : goal.loop-reader-preserved
@@ -18,7 +18,7 @@ returns-in_err-read_more-clause-lost g c =
     search rules
 
 pub returns-then-branch-clause-status : goal.returns-then-branch-clause-status
-returns-then-branch-clause-status g c = status_of_same _ _ _ c.deref.ensures.value c.head_status.ensures.status
+returns-then-branch-clause-status g c = has_status c.deref.ensures.value c.head_status.ensures.status c.head_status.ensures.in_reach
 
 pub returns-then-branch-clause-taken : goal.returns-then-branch-clause-taken
 returns-then-branch-clause-taken g c = read_next _ _ _ _ _ _ c.loop-reader.invariant.taken c.in_ok-read_more.ensures.ok
@@ -27,7 +27,7 @@ pub returns-then-branch-clause-few : goal.returns-then-branch-clause-few
 returns-then-branch-clause-few g c = gains_few _ _ _ _ _ c.loop-reader.invariant.few c.in_ok-read_more.ensures.ok
 
 pub returns-then-not-matches-clause-status : goal.returns-then-not-matches-clause-status
-returns-then-not-matches-clause-status g c = status_of_same _ _ _ c.deref-in-loop-reader.ensures.value c.head_status-status.ensures.status
+returns-then-not-matches-clause-status g c = has_status c.deref-in-loop-reader.ensures.value c.head_status-status.ensures.status c.head_status-status.ensures.in_reach
 
 pub returns-clause-status : goal.returns-clause-status
-returns-clause-status g c = status_of_same _ _ _ c.deref-2.ensures.value c.head_status-2.ensures.status
+returns-clause-status g c = has_status c.deref-2.ensures.value c.head_status-2.ensures.status c.head_status-2.ensures.in_reach

@@ -6,7 +6,7 @@ use Rattle.mds_log.specs.Log.{requests}
 use Rattle.mds_follow.specs.Disk.{IsTold}
 use Rattle.mds_follow.specs.Reading.{HasNoMore}
 use Rattle.mds_follow.specs.Pieces.{requests_in}
-use Rattle.mds_follow.specs.Restart.{IsAhead, IsAskFault}
+use Rattle.mds_follow.specs.Restart.{IsAhead, IsAskFault, lines_of}
 use Rattle.mds_follow.specs.declared.start_fault.StartFault.{StartFault}
 use Rattle.mds_follow.proofs.ReadBack.{ask_fault, asked_more, longer, piece_fault, read_last, refilled_more, requests_length}
 use Rattle.mds_follow.proofs.restart.take_last.Goals as goal
@@ -33,7 +33,7 @@ returns-in-Err-end-clause-fault g c truth =
     let opening = c.args.ahead.now.reader.opening in
     let file = g.D.Device.seen opening.device in
     let left = unread_bytes g.D.Device.seen opening in
-    let Ahead : Result Bool StartFault → Type 0 = λ w. IsAhead file left (requests told) last.number (requests_in last) w in
+    let Ahead : Result Bool StartFault → Type 0 = λ w. IsAhead file left (requests told) (lines_of last.number (requests_in last) w) in
     piece_fault c.args.book.now.tables file left (requests told) last.number (requests_in last) c.in-Err-end.fault (subst Ahead c.in-Err-end.is (halfway.ahead truth))
     (omega (arith, halfway.number, requests_length told))
 

@@ -4,7 +4,7 @@ use Rattle.mds_journal.specs.Opening.{number_of, unread_bytes}
 use Rattle.mds_log.specs.Log.{requests}
 use Rattle.mds_follow.specs.Reading.{IsEndOf, IsReadTo, IsStartFault}
 use Rattle.mds_follow.specs.Pieces.{requests_in}
-use Rattle.mds_follow.specs.Restart.{IsAskFault, IsTaken}
+use Rattle.mds_follow.specs.Restart.{IsAskFault, IsTaken, resuming}
 use Rattle.mds_follow.specs.declared.piece.Piece.{Piece}
 use Rattle.mds_follow.specs.declared.start_fault.StartFault.{StartFault}
 use Rattle.mds_follow.proofs.ReadBack.{ask_fault, asked_more, longer, read_piece, refilled_more, requests_length}
@@ -49,7 +49,7 @@ returns-clause-taken g c =
     let Told : List Request → Type 0 = λ w. IsReadTo (seen before.device) w bytes in
     let Read : List ℕ → Type 0 = λ w. IsReadTo w (requests new) bytes in
     let End : ℕ → Type 0 = λ w. IsEndOf bytes left w (requests_in then.next) then.next.end in
-    let Next : Piece → Type 0 = λ w. IsTaken seen g.D.Device.is_true g.D.Device.moment before opening seat told new piece w in
+    let Next : Piece → Type 0 = λ w. IsTaken seen g.D.Device.is_true g.D.Device.moment (resuming before c.args.seat.now told piece) (resuming opening seat new w) in
     subst Next (sym c.swap.ensures.x_after) (record {
       noted = noted;
       halfway = record {

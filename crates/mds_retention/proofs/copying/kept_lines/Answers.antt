@@ -7,7 +7,7 @@ use Rattle.mds_journal.specs.Stream.{IsStreamFault, HandsOut, unread_of, lines_g
 use Rattle.mds_retention.specs.Draft.{IsDraftOf}
 use Rattle.mds_retention.proofs.Telling.{gives_one, gives_more, handed_out, passed_on}
 use Rattle.mds_retention.proofs.Copied.{copied_if, copy_fault}
-use Rattle.mds_retention.proofs.Drafts.{all_written}
+use Rattle.mds_retention.proofs.Places.{bytes_more}
 use Rattle.mds_retention.proofs.copying.kept_lines.Goals as goal
 
 pub returns-in_err-next_line-clause-fault : goal.returns-in_err-next_line-clause-fault
@@ -23,9 +23,6 @@ returns-in_err-next_line-clause-fault g c =
 pub add_line_if-requires-clause-draft : goal.add_line_if-requires-clause-draft
 add_line_if-requires-clause-draft g c = (_, c.loop-mark.invariant.copied.3)
 
-pub flush-requires-clause-draft : goal.flush-requires-clause-draft
-flush-requires-clause-draft g c = (_, c.loop-mark.invariant.copied.3)
-
 pub loop-mark-init : goal.loop-mark-init
 loop-mark-init g c =
     let remaining = g.R.Read.remaining in
@@ -34,13 +31,21 @@ loop-mark-init g c =
     let form = handed_out known (unread_of remaining c.new-lines.result) left form_line c.new-lines.ensures.all c.in_ok-read_form.ensures.form in
     let Drafted : List ℕ → Type 0 = λ all. IsDraftOf g.D.Device.seen g.D.Device.may_leave g.D.Device.is_true all c.add_line.new.self in
     let Text : List ℕ → Type 0 = λ line. Drafted ([] ++ open_lines (line ∷ [])) in
-    let is : c.as_bytes.result.now ≡ form_line = search rules in
+    let is : c.as_bytes-form.result.now ≡ form_line = search rules in
+    let Bytes : List ℕ → Type 0 = λ line. c.in_ok-bytes.bytes ≡ 0 + length (open_lines (line ∷ [])) in
+    let none : 0 + length (open_lines (form_line ∷ [])) ≡ length (open_lines (form_line ∷ [])) = omega arith in
     record {
       stream = c.in_ok-read_form.ensures.stream;
       limit = c.in_ok-read_form.ensures.limit;
       number = c.in_ok-read_form.ensures.number;
       usable = c.in_ok-add_line.ensures.usable;
-      copied = ([], gives_one known left form_line form, refl, subst Text is (c.in_ok-add_line.ensures.draft [] c.requires.draft));
+      copied = (
+        [],
+        gives_one known left form_line form,
+        refl,
+        subst Text is (c.in_ok-add_line.ensures.draft [] c.requires.draft),
+        subst Bytes is c.in_ok-bytes.ensures.sum ∙ none,
+      );
     }
 
 pub loop-mark-preserved : goal.loop-mark-preserved
@@ -58,6 +63,7 @@ loop-mark-preserved g c =
     let out : HandsOut middle text left = c.in_ok-next_line.ensures.line more in
     let Drafted : List ℕ → Type 0 = λ all. IsDraftOf g.D.Device.seen g.D.Device.may_leave g.D.Device.is_true all c.add_line_if.new.self in
     let drafted = c.in_ok-add_line_if.ensures.draft (open_lines (form_line ∷ kept_of (take i marks) texts)) at.copied.3 in
+    let Bytes : List ℕ → Type 0 = λ line. c.in_ok-bytes-2.bytes ≡ c.loop-mark.bytes + length (open_lines (line ∷ [])) in
     let Number : Bool → Type 0 = λ b. lines_given c.next_line.new.self ≡ lines_given c.loop-mark.lines + lines_of_stream (Ok b) in
     let number = subst Number more c.in_ok-next_line.ensures.number in
     record {
@@ -70,6 +76,7 @@ loop-mark-preserved g c =
         gives_more known middle left (form_line ∷ texts) text at.copied.1 out,
         length_push texts text ∙ ap (λ n. n + 1) at.copied.2,
         subst Drafted (copied_if marks i _ texts text _ c.deref.ensures.value c.loop-mark-test.true at.copied.2) drafted,
+        bytes_more (form_line ∷ texts) text c.loop-mark.bytes c.in_ok-bytes-2.bytes at.copied.4 (subst Bytes c.deref-in-loop-mark.ensures.value c.in_ok-bytes-2.ensures.sum),
       );
     }
 
@@ -86,5 +93,6 @@ returns-clause-kept g c =
         (unread_of g.R.Read.remaining c.loop-mark.lines, at.copied.1),
         (count, ap (λ all. open_lines (form_line ∷ kept_of all texts)) (take_all c.loop-mark.mark-index marks c.loop-mark-test.false)),
       ),
-      all_written g.D.Device.seen g.D.Device.may_leave g.D.Device.is_true out c.flush.new.self c.in_ok-flush.ensures.page (c.in_ok-flush.ensures.draft out at.copied.3),
+      at.copied.4,
+      at.copied.3,
     )

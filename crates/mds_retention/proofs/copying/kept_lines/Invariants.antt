@@ -8,7 +8,7 @@ use Rattle.mds_retention.specs.Draft.{IsDraftOf}
 use Rattle.mds_retention.specs.Telling.{Gives}
 use Rattle.mds_retention.proofs.copying.kept_lines.Given as goal
 
--- a line was read for each mark so far, behind that of the form, and those were copied that the marks keep
+-- a line was read for each mark so far, behind that of the form, they have so many bytes, and those were copied that the marks keep
 abbrev pub invariant-loop-mark : goal.invariant-loop-mark
 invariant-loop-mark g l = record {
   stream : IsStream l.lines;
@@ -17,5 +17,6 @@ invariant-loop-mark g l = record {
   usable : g.D.Device.may_be_used l.draft.file;
   copied : (texts : List (List ℕ)) × Gives (g.R.Read.remaining l.fn.reader) (form_line ∷ texts) (unread_of g.R.Read.remaining l.lines)
       × (length texts ≡ l.mark-index)
-      × IsDraftOf g.D.Device.seen g.D.Device.may_leave g.D.Device.is_true (open_lines (form_line ∷ kept_of (take l.mark-index l.marks) texts)) l.draft;
+      × IsDraftOf g.D.Device.seen g.D.Device.may_leave g.D.Device.is_true (open_lines (form_line ∷ kept_of (take l.mark-index l.marks) texts)) l.draft
+      × (l.bytes ≡ length (open_lines (form_line ∷ texts)));
 }

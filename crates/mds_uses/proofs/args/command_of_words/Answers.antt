@@ -31,7 +31,7 @@ only_table (Debug file provider device table) named has = let bad : false ≡ tr
 only_table (Table None) named has = refl
 only_table (Table (Some path)) named has = absurd (cc has)
 only_table (Vehicles file table check) named has = let bad : false ≡ true = begins_alike _ named in absurd (cc bad)
-only_table (Compact old new before cuts table) named has = let bad : false ≡ true = begins_alike _ named in absurd (cc bad)
+only_table (Compact old new before cuts follow table) named has = let bad : false ≡ true = begins_alike _ named in absurd (cc bad)
 only_table (Events file provider device) named has = let bad : false ≡ true = begins_alike _ named in absurd (cc bad)
 
 asks_table : Asks (subcommand_of program_app words) (Table None)

@@ -28,8 +28,8 @@ add-requires g c =
     omega (
       arith,
       c.in-Ok.ensures.room,
-      told_length g.L.SharedNote.NoteForm.number g.L.SharedNote.NoteForm.tells asked.new.first.sight.seen asked.result.0.notes.list,
-      asked.ensures.first.few,
+      told_length g.L.SharedNote.NoteForm.number g.L.SharedNote.NoteForm.tells asked.new.first asked.result.0.notes.list,
+      asked.ensures.first.asks.few,
       part_lengths c.args.requests.now,
     )
 
@@ -39,10 +39,10 @@ add-requires-2 g c =
     omega (
       arith,
       c.in-Ok.ensures.room,
-      told_length g.L.SharedNote.NoteForm.number g.L.SharedNote.NoteForm.tells asked.new.first.sight.seen asked.result.0.notes.list,
-      told_length g.L.SharedNote.NoteForm.number g.L.SharedNote.NoteForm.tells asked.new.second.sight.seen asked.result.1.notes.list,
-      asked.ensures.first.few,
-      asked.ensures.second.few,
+      told_length g.L.SharedNote.NoteForm.number g.L.SharedNote.NoteForm.tells asked.new.first asked.result.0.notes.list,
+      told_length g.L.SharedNote.NoteForm.number g.L.SharedNote.NoteForm.tells asked.new.second asked.result.1.notes.list,
+      asked.ensures.first.asks.few,
+      asked.ensures.second.asks.few,
       part_lengths c.args.requests.now,
       c.add.ensures.room,
     )
@@ -55,17 +55,14 @@ invariant_of-seat-2 g c =
     let others = asked.result.1.notes.list in
     let listed : c.add-2.new.self.list ≡ (c.seat.inside.notes.list ++ ones) ++ others =
     c.add-2.ensures.list ∙ ap (λ w. w ++ others) (c.add.ensures.list ∙ ap (λ w. w ++ ones) c.reserve.ensures.list) in
-    let kept = kept_three (seen_by (requests c.seat.inside.first.sight.seen) (requests c.seat.inside.second.sight.seen))
+    let kept = kept_three asked.new.first asked.new.second (seen_by (requests c.seat.inside.first.sight.seen) (requests c.seat.inside.second.sight.seen))
     (seen_by (requests asked.new.first.sight.seen) (requests asked.new.second.sight.seen)) c.add-2.new.self.list c.seat.invariant.2 c.tell.ensures
     (seen_both (requests c.seat.inside.first.sight.seen) (requests asked.new.first.sight.seen) (requests c.seat.inside.second.sight.seen) (requests asked.new.second.sight.seen)
-    (requests_prefix c.seat.inside.first.sight.seen asked.new.first.sight.seen asked.ensures.first.begins)
-    (requests_prefix c.seat.inside.second.sight.seen asked.new.second.sight.seen asked.ensures.second.begins))
+    (requests_prefix c.seat.inside.first.sight.seen asked.new.first.sight.seen asked.ensures.first.asks.begins)
+    (requests_prefix c.seat.inside.second.sight.seen asked.new.second.sight.seen asked.ensures.second.asks.begins))
     asked.ensures.first_kept asked.ensures.second_kept refl refl listed in (
-      true_first g.L.NamedLedger.tables c.seat.inside.first.mark asked.new.first.mark c.seat.inside.first.sight.seen c.seat.inside.first.count c.args.requests.now asked.new.first.sight.seen
-          asked.new.first.count _ _ _ _ asked.result.0.asked asked.ensures.first_mark c.seat.invariant.0 asked.ensures.first asked.ensures.second.of_shard kept.1,
-      true_second g.M.NamedLedger.tables c.seat.inside.second.mark asked.new.second.mark c.seat.inside.second.sight.seen c.seat.inside.second.count c.args.requests.now
-          asked.new.second.sight.seen asked.new.second.count _ _ _ _ asked.result.1.asked asked.ensures.second_mark c.seat.invariant.1 asked.ensures.second
-          asked.ensures.first.of_shard kept.1,
+      true_first _ c.seat.invariant.0 asked.ensures.first asked.ensures.second.of_shard kept.1,
+      true_second _ c.seat.invariant.1 asked.ensures.second asked.ensures.first.of_shard kept.1,
       kept.0,
     )
 

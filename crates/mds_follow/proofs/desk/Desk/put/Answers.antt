@@ -9,7 +9,7 @@ pub returns-in_err-append-clause-desk : goal.returns-in_err-append-clause-desk
 returns-in_err-append-clause-desk g c =
     let after = c.in_err-append.ensures in
     not_put g.F.Record.is_sound g.F.Record.is_true g.F.Record.may_go_on g.F.Record.stands g.F.Tagged.tag g.F.Record.left_since g.J.RecordLog.start g.J.RecordLog.held c.args.self.now.file c.append.new.self
-    c.args.self.now.keeper c.args.group.now _ c.requires after.sound after.was_true after.could_go_on after.unchanged after.lost after.any_moment
+    c.args.self.now.keeper c.args.group.now _ c.requires after.sound after.was_true after.goes_on.0 after.unchanged after.goes_on.1 after.any_moment
 
 pub returns-in_err-append-clause-any_moment : goal.returns-in_err-append-clause-any_moment
 returns-in_err-append-clause-any_moment g c =
@@ -24,7 +24,7 @@ returns-clause-desk g c =
     let short : length c.args.self.now.keeper + length c.args.group.now < 2 ^ 63 =
     grind (arith, nat_tests, c.if-len-ge-MAX_RECORDED.false, c.if-group-ge-MAX_RECORDED.false, c.len-2.ensures, long) in
     put g.F.Record.is_sound g.F.Record.is_true g.F.Record.may_go_on g.F.Record.stands g.F.Tagged.tag g.F.Record.left_since g.J.RecordLog.start g.J.RecordLog.held c.args.self.now.file c.append.new.self
-    c.args.self.now.keeper c.args.group.now c.note.new.keeper c.requires after.sound after.was_true after.usable after.appended after.any_moment g.met.F.Record.only_now c.note.ensures short
+    c.args.self.now.keeper c.args.group.now c.note.new.keeper c.requires after.sound after.was_true after.goes_on after.appended after.any_moment g.met.F.Record.only_now c.note.ensures short
 
 pub returns-clause-recorded : goal.returns-clause-recorded
 returns-clause-recorded g c =

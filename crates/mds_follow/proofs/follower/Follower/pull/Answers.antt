@@ -12,7 +12,7 @@ pub invariant_of-self-in_err-put : goal.invariant_of-self-in_err-put
 invariant_of-self-in_err-put g c =
     let is = c.self.invariant in
     let put = c.in_err-put.ensures in
-    let group : IsGroup c.args.book.now.tables c.self.inside.first c.self.inside.second c.as_slice.result.now c.next_group.new.first c.next_group.new.second =
+    let group : IsGroup c.args.book.now.tables (c.self.inside.first, c.self.inside.second) c.as_slice.result.now (c.next_group.new.first, c.next_group.new.second) =
     rw (← c.again-first.ensures, ← c.again-second.ensures, c.as_slice.ensures) c.in-Ok.ensures in
     let same = ap (λ (w : List Acceptance). requests w) put.none in
     let first_is = c.with_count.ensures ∙ ap (λ n. record { seen = c.next_group.new.first.seen; count = n }) c.count.ensures.count in
@@ -35,7 +35,7 @@ pub invariant_of-self-2 : goal.invariant_of-self-2
 invariant_of-self-2 g c =
     let is = c.self.invariant in
     let put = c.in_ok-put.ensures in
-    let group : IsGroup c.args.book.now.tables c.self.inside.first c.self.inside.second c.as_slice.result.now c.next_group.new.first c.next_group.new.second =
+    let group : IsGroup c.args.book.now.tables (c.self.inside.first, c.self.inside.second) c.as_slice.result.now (c.next_group.new.first, c.next_group.new.second) =
     rw (← c.again-first.ensures, ← c.again-second.ensures, c.as_slice.ensures) c.in-Ok.ensures in
     let both = followed _ _ _ _ _ _ (requests c.self.inside.desk.keeper) (requests c.put.new.self.keeper) group is.1 is.2 put.recorded in (
       put.desk,

@@ -2,7 +2,7 @@ use Rattle.std.proofs.Common.{◌≡◌, ℕ, ap, subst, sym, slice_set}
 use Rattle.mds_table.specs.Tables.{Tables}
 use Rattle.mds_book.specs.Books.{Opened}
 use Rattle.mds_pool.specs.Serving.{AreWorkers}
-use Rattle.mds_follow.specs.Reading.{IsStartFault}
+use Rattle.mds_follow.specs.Reading.{IsNotStarted}
 use Rattle.mds_follow.proofs.Blanks.{keeps_all, untouched_self}
 use Rattle.mds_pool.proofs.EndLemmas.{first_resumed, resumed}
 use Rattle.mds_pool.proofs.recorded_book.RecordedBook+Disk+D+L+M+J.open.Goals as goal
@@ -12,9 +12,9 @@ pub invariant_of-result : goal.invariant_of-result
 invariant_of-result g c =
     let many : c.in-Ok.opened.0.seats ≡ c.args.opening.seats = ap (λ (b : Opened). b.seats) c.in-Ok.ensures.book in (
       subst (λ (n : ℕ). AreWorkers n (slice_set c.in-Ok.opened.1.items 0 c.resume.new.seat)) (sym many)
-          (first_resumed c.args.opening.seats c.in-Ok.opened.1.items c.index_mut.result.now c.resume.new.seat c.requires.seats.0 c.in-Ok.ensures.seats
+          (first_resumed c.args.opening.seats c.in-Ok.opened.1.items c.index_mut.result.now c.resume.new.seat c.requires.fits.seats.0 c.in-Ok.ensures.seats
           c.index_mut.ensures.value c.resume.ensures.keep),
-      resumed c.args.opening.seats c.in-Ok.opened.1.items c.resume.new.seat _ c.requires.seats.0 c.in-Ok.ensures.seats c.in-Ok-resume.ensures.refilled,
+      resumed c.args.opening.seats c.in-Ok.opened.1.items c.resume.new.seat _ c.requires.fits.seats.0 c.in-Ok.ensures.seats c.in-Ok-resume.ensures.refilled,
     )
 
 -- nothing was done to the file
@@ -28,5 +28,7 @@ returns-in-Err-clause-any_moment_err g c =
 -- the tables of the book are those that it was opened with
 pub returns-in-Err-resume-clause-fault : goal.returns-in-Err-resume-clause-fault
 returns-in-Err-resume-clause-fault g c truth =
-    let Fault : Tables → Type 0 = λ w. IsStartFault w (g.D.Device.seen c.args.reader.opening.device) c.in-Err-resume.error.0 in
-    subst Fault (ap (λ (b : Opened). b.tables) c.in-Ok.ensures.book) (c.in-Err-resume.ensures.fault truth)
+    let file = g.D.Device.seen c.args.reader.opening.device in
+    let left = g.D.Device.seen c.in-Err-resume.error.1 in
+    let Fault : Tables → Type 0 = λ w. IsNotStarted w file left c.in-Err-resume.error.0 in
+    subst Fault (ap (λ (b : Opened). b.tables) c.in-Ok.ensures.book) (c.in-Err-resume.ensures.fault truth).1

@@ -1,0 +1,218 @@
+//! A new journal that is made while another process adds lines to the old one.
+ghost use Rattle.std.specs.Prelude.{◌≡◌, ◌⊎◌, ◌≤◌, [], ℕ, List, length, Option, Some, IfOk, IfErr, OnOk};
+ghost use Rattle.mds_core.specs.declared.request.Request.{Request as Requested};
+ghost use Rattle.mds_compact.specs.Compaction.{kept_of};
+ghost use Rattle.mds_compact.specs.Cutting.{IsCutBy};
+ghost use Rattle.mds_retention.specs.Draft.{IsWritten};
+ghost use Rattle.mds_retention.specs.Compacting.{AreReadings, IsReadAgain, IsWriteFault, StandsWhole};
+ghost use Rattle.mds_retention.specs.Copying.{AreTotalsOf, IsMarkedBy};
+ghost use Rattle.mds_retention.specs.Telling.{IsTaken};
+ghost use Rattle.mds_retention.specs.NewJournal.{HasSince, IsBeginFault, IsEndFault, IsFollowed, IsFollowedTo, IsMarksFault, IsNewJournal, MayBeEnded};
+
+use crate::compacting::Readings;
+use crate::copying::kept_lines;
+use crate::draft::Draft;
+use crate::error::CompactError;
+use crate::passes::{Marked, Totals, marks_of, survey_of, thinning_of};
+use crate::place::{Place, read_on};
+use mds_compact::Cutting;
+use mds_file::{Followed, NewName};
+use mds_journal::Device;
+use std::alloc::Global;
+use std::hash::RandomState;
+use std::io::Read;
+use std::sync::Wait;
+
+/// A new journal that has no name yet: it has what stays of the first lines of the old one, and all lines behind them, as far
+/// as that was read.
+#[derive(Drop)]
+pub struct NewJournal<D: Device + Drop> {
+    draft: Draft<D>,
+    place: Place,
+}
+
+/// Begins a new journal: of the requests that the lines of an old one tell at first, those that stay in a compaction, and behind
+/// them all that came since. Each event of the time `from` or later stays.
+///
+/// # Errors
+///
+/// Those of [`compact`](crate::compact); the faults of the lines that came since are told in the same way. Nothing is left of the
+/// new file then.
+pub fn begin_journal<R: Read + Drop, F: Followed, N: NewName>(
+    alloc: Global,
+    old: Readings<R>,
+    followed: &mut F,
+    from: u64,
+    hasher: RandomState,
+    name: &mut N,
+) -> Result<NewJournal<N::File>, CompactError>
+    ensures open { IfOk result (MayBeEnded N.File.seen N.File.may_leave N.File.is_true N.File.may_be_used) }
+    ensures begun { IfOk result (λ journal. (first : List ℕ) → AreReadings R.remaining first old
+        → HasSince first (F.content followed.old) → IsNewJournal N.File.seen N.File.may_leave
+        N.File.is_true from first (F.content followed.new) journal) }
+    ensures stands { (found : Option (List ℕ)) → N.may_stand name.new found → N.may_stand name.old found }
+    ensures fault { IfErr result
+        (IsBeginFault R.remaining old (F.content followed.old) (F.content followed.new)) }
+{
+    name.is_free()?;
+    let marked = marked_by(alloc, old.first, old.second, old.third, from, hasher)?;
+    let file = name.draft()?;
+    let mut draft = Draft::new(alloc, file);
+    match begin_draft(alloc, old.fourth, marked, followed, &mut draft) {
+        Ok(place) => Ok(NewJournal { draft, place }),
+        Err(error) => {
+            name.discard(draft.into_file());
+            Err(error)
+        }
+    }
+}
+
+/// Which of the requests stay that the lines of an old journal tell, by three readings of it.
+fn marked_by<R: Read + Drop>(
+    alloc: Global,
+    first: R,
+    second: R,
+    third: R,
+    from: u64,
+    hasher: RandomState,
+) -> Result<Marked, CompactError>
+    ensures within { IfOk result (λ marked. marked.totals.kept ≤ marked.totals.events) }
+    ensures count { IfOk result (λ marked. (history : List Requested)
+        × IsTaken (R.remaining first) history × (length marked.marks.items ≡ length history)) }
+    ensures marks { IfOk result (λ marked. (bytes : List ℕ) → R.remaining first ≡ Some bytes
+        → IsReadAgain bytes (R.remaining second) → IsReadAgain bytes (R.remaining third)
+        → (history cut : List Requested) × IsTaken (Some bytes) history × IsCutBy [] history cut
+        × IsMarkedBy from cut history marked.marks.items
+        × AreTotalsOf history (kept_of marked.marks.items history) marked.totals) }
+    ensures fault { IfErr result
+        (IsMarksFault (R.remaining first) (R.remaining second) (R.remaining third)) }
+{
+    let cutting = Cutting::open(alloc, &[], hasher)?;
+    let surveyed = survey_of(alloc, first, cutting, hasher)?;
+    let survey = surveyed.survey;
+    let stays = surveyed.marks.as_slice();
+    let thinning = thinning_of(alloc, second, survey, stays, from)?;
+    let marked = marks_of(alloc, third, thinning, stays)?;
+    Ok(marked)
+}
+
+/// Writes the marked lines of a reader into an empty file, and all that came behind them.
+fn begin_draft<R: Read + Drop, F: Followed, D: Device + Drop>(
+    alloc: Global,
+    reader: R,
+    marked: Marked,
+    followed: &mut F,
+    draft: &mut Draft<D>,
+) -> Result<Place, CompactError>
+    requires usable { D.may_be_used draft.old.file }
+    requires start { draft.old.size ≡ 0 }
+    requires page { draft.old.page.items ≡ [] }
+    requires within { marked.totals.kept ≤ marked.totals.events }
+    ensures open { IfOk result (λ place. MayBeEnded D.seen D.may_leave D.is_true D.may_be_used
+        (record { draft = draft.new; place = place })) }
+    ensures begun { IfOk result (λ place. (from : ℕ) (first : List ℕ) (history cut : List Requested)
+        → IsTaken (Some first) history → IsReadAgain first (R.remaining reader)
+        → IsCutBy [] history cut → IsMarkedBy from cut history marked.marks.items
+        → AreTotalsOf history (kept_of marked.marks.items history) marked.totals
+        → HasSince first (F.content followed.old)
+        → IsNewJournal D.seen D.may_leave D.is_true from first (F.content followed.new)
+        (record { draft = draft.new; place = place })) }
+    ensures fault { IfErr result (λ error.
+        IsWriteFault (R.remaining reader) (length marked.marks.items) error
+        ⊎ ((first : List ℕ) (history : List Requested) → IsTaken (Some first) history
+        → IsReadAgain first (R.remaining reader) → length marked.marks.items ≡ length history
+        → AreTotalsOf history (kept_of marked.marks.items history) marked.totals
+        → HasSince first (F.content followed.old) → IsEndFault (F.content followed.new) error)) }
+{
+    draft.begin()?;
+    let bytes = kept_lines(alloc, reader, &marked.marks, draft)?;
+    let start = Place {
+        bytes,
+        lines: marked.marks.len() + 1,
+        totals: marked.totals,
+    };
+    let place = read_on(alloc, followed, start, draft)?;
+    Ok(place)
+}
+
+/// Reads the old journal on until no other process has it, and gives the new one its name. It answers how many requests the old
+/// one tells by then, and how many of them are in the new one.
+///
+/// # Errors
+///
+/// As [`begin_journal`].
+pub fn end_journal<R: Wait, F: Followed, N: NewName>(
+    rt: &R,
+    alloc: Global,
+    journal: NewJournal<N::File>,
+    followed: &mut F,
+    name: &mut N,
+) -> Result<Totals, CompactError>
+    requires { MayBeEnded N.File.seen N.File.may_leave N.File.is_true N.File.may_be_used journal }
+    ensures made { IfOk result (λ totals. (from : ℕ) (first : List ℕ)
+        → IsNewJournal N.File.seen N.File.may_leave N.File.is_true from first (F.content followed.old) journal
+        → N.is_true name.new → (found : Option (List ℕ)) → N.may_stand name.new found
+        → (last : List ℕ) × (F.content followed.new ≡ Some last)
+        × StandsWhole (IsFollowedTo from first last totals) found) }
+    // Whatever crash ends it, also before this returns.
+    ensures crash { (from : ℕ) (first : List ℕ)
+        → IsNewJournal N.File.seen N.File.may_leave N.File.is_true from first (F.content followed.old) journal
+        → N.is_true name.new → (found : Option (List ℕ)) → N.may_stand name.new found
+        → N.may_stand name.old found ⊎ ((last : List ℕ) × (F.content followed.new ≡ Some last)
+        × StandsWhole (IsFollowed from first last) found) }
+    ensures fault { IfErr result (λ error. (from : ℕ) (first : List ℕ)
+        → IsNewJournal N.File.seen N.File.may_leave N.File.is_true from first (F.content followed.old) journal
+        → IsEndFault (F.content followed.new) error) }
+{
+    let mut draft = journal.draft;
+    match read_to_end(rt, alloc, followed, journal.place, &mut draft) {
+        Ok(totals) => {
+            name.link(draft.into_file())?;
+            Ok(totals)
+        }
+        Err(error) => {
+            name.discard(draft.into_file());
+            Err(error)
+        }
+    }
+}
+
+/// Copies all lines behind a place until no other process has the journal, and puts them on the disk.
+fn read_to_end<R: Wait, F: Followed, D: Device + Drop>(
+    rt: &R,
+    alloc: Global,
+    followed: &mut F,
+    start: Place,
+    draft: &mut Draft<D>,
+) -> Result<Totals, CompactError>
+    requires { MayBeEnded D.seen D.may_leave D.is_true D.may_be_used
+        (record { draft = draft.old; place = start }) }
+    ensures written { IfOk result (λ totals. (from : ℕ) (first : List ℕ)
+        → IsNewJournal D.seen D.may_leave D.is_true from first (F.content followed.old)
+        (record { draft = draft.old; place = start })
+        → (last : List ℕ) × (F.content followed.new ≡ Some last) × (out : List ℕ)
+        × IsFollowedTo from first last totals out × IsWritten D.may_leave D.is_true out draft.new) }
+    ensures fault { IfErr result (λ error. (from : ℕ) (first : List ℕ)
+        → IsNewJournal D.seen D.may_leave D.is_true from first (F.content followed.old)
+        (record { draft = draft.old; place = start })
+        → IsEndFault (F.content followed.new) error) }
+{
+    let mut place = start;
+    for _ in rt.forever() {
+        // What is there once nobody has it is all that ever comes.
+        let is_left = followed.is_left()?;
+        place = read_on(alloc, followed, place, draft)?;
+        if is_left {
+            draft.flush()?;
+            return Ok(place.totals);
+        }
+    }
+    unreachable!()
+}
+
+/// Gives the new journal up.
+pub fn drop_journal<N: NewName>(journal: NewJournal<N::File>, name: &mut N)
+    ensures { (found : Option (List ℕ)) → N.may_stand name.new found → N.may_stand name.old found }
+{
+    name.discard(journal.draft.into_file());
+}
