@@ -55,6 +55,8 @@ SEVERAL_READS = 3000
 """Registrations of a file that a start doesn't read at once."""
 FEWEST_GROWTHS = 20
 """Of a start over a journal."""
+LITTLE = range(16_000, 64_000, 250)
+"""Kilobytes of address space, from too few for a start to more than it takes."""
 
 
 def answered(server, request, wanted, what):
@@ -455,6 +457,30 @@ def starts_without_memory(program):
         yield from starts_over_without(program, content)
 
 
+def outcome_in(program, limit):
+    """How a server ended that starts in so many kilobytes of address space, over no file, and takes one connection; and whether it
+    listened before."""
+    with tempfile.TemporaryDirectory() as folder:
+        try:
+            with Server(program, 1, journal=Path(folder, "journal"), address_space=limit) as server:
+                with contextlib.suppress(ConnectionResetError):
+                    server.ask(registering(DEVICE))
+                return server.ended()[0], True
+        except NotListening as fault:
+            return fault.ended, False
+
+
+def starts_in_little_space(program):
+    """The system ends no server whose stack has no room to grow (setrlimit(2), RLIMIT_AS): it listens, or says that it lacks memory."""
+    outcomes = [(limit, *outcome_in(program, limit)) for limit in LITTLE]
+    for limit, found, has_listened in outcomes:
+        if found not in ((0, 4) if has_listened else [(4, "", NO_MEMORY)]):
+            yield f"in {limit} kB it {'listened, and ' if has_listened else ''}ended with {found}"
+    listened = sum(has_listened for *_, has_listened in outcomes)
+    if listened in (0, len(outcomes)):
+        yield f"of {len(outcomes)} starts {listened} listened"
+
+
 def starts_without_threads(program):
     """Starts over a journal of several pieces where the system makes no thread, or no more than two: the first one does the work of
     those that are wanting."""
@@ -486,5 +512,6 @@ LACKING = [
     a_write_that_fails_once,
     starts_that_fail,
     starts_without_memory,
+    starts_in_little_space,
     starts_without_threads,
 ]

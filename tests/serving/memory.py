@@ -58,7 +58,7 @@ LISTED = 100_000
 """How many events of one vehicle are listed."""
 MOST_OF_LIST = 2.2
 """How many times as much memory as its text the list may take, until the last byte of it is sent."""
-LEAST_STACK = 256 * 2**10
+LEAST_STACK = 2**20
 """How many bytes of stack the first thread has at least once the server listens."""
 BUSY = 60
 """How many seconds the server may take to take in what was sent."""

@@ -30,18 +30,19 @@ pub struct FiguresPort {
     pub board: Arc<Board>,
 }
 
-/// Tells figures at a port of its own from now on, if that is asked for, by a thread of its own. What else is answered doesn't
-/// depend on it.
+/// Has the host ready to serve: with the stack that it takes, and with a thread that tells figures at a port of its own from now on, if
+/// that is asked for. What is answered doesn't depend on either.
 ///
 /// # Errors
 ///
-/// As [`Listens::figures_port`]; and `Memory` where no thread can be made.
-pub fn tell_figures<R: Threads + Wait + Copy + Send + 'static, H: Listens>(
+/// As [`Listens::grow_stack`] and [`Listens::figures_port`]; and `Memory` where no thread can be made.
+pub fn prepare<R: Threads + Wait + Copy + Send + 'static, H: Listens>(
     rt: &R,
     alloc: Global,
     host: &H,
     asked: ServeOptions,
 ) -> Result<(), ListenFault> {
+    host.grow_stack(alloc)?;
     match host.figures_port(alloc, asked) {
         Ok(Some(port)) => begin_telling(*rt, alloc, port),
         Ok(None) => Ok(()),

@@ -10,7 +10,7 @@ ghost use Rattle.mds_city.specs.Outcome.{outcome_of};
 ghost use Rattle.mds_city.specs.Journal.{CameToServeOver, HadJournal, IsFileProblem, IsJournalStop, IsListenProblem, IsServeTold, IsServingProblem, IsStartProblem, IsStopProblem};
 ghost use Rattle.mds_city.specs.Journal.{ServedBook, ServedOver, StopsBook, StopsOver};
 
-use crate::figures::tell_figures;
+use crate::figures::prepare;
 use crate::page::{ListeningLine, print_line};
 use crate::serve::{ListenFault, Listens, ServeOptions, say_accepted};
 use crate::start_room::StartRoom;
@@ -177,7 +177,7 @@ fn serve_to_end<
     let (Ok(first), Ok(second)) = (RandomState::new(rt), RandomState::new(rt)) else {
         return Err((ServeProblem::from(Problem::Random), None));
     };
-    match tell_figures(rt, alloc, host, asked) {
+    match prepare(rt, alloc, host, asked) {
         Ok(()) => {}
         Err(fault) => return Err((problem_of_listening(fault), None)),
     }

@@ -30,7 +30,7 @@ use mds_metrics::{Board, Gauge};
 use mds_pool::Held;
 use mds_socket::{Listening, SocketIn, SocketOut, SocketPort};
 use std::alloc::{AllocError, Global};
-use std::io::{self, ErrorKind, IsTerminal, Stderr};
+use std::io::{self, ErrorKind, IsTerminal, Read, Stderr};
 use std::marker::Brand;
 use std::net::Net;
 use std::process::ExitCode;
@@ -38,6 +38,9 @@ use std::sync::{Arc, OnceLock, Wait};
 use std::thread::Threads;
 use std::time::Clock;
 use std::{env, fs};
+
+/// How many bytes of stack a server finds in the first thread: more than it needs, which was 0.8 MB.
+const STACK_BYTES: usize = 1_048_576;
 
 /// What the program runs on: its files, its sockets and its standard streams. `main` alone has a runtime that may wait, so
 /// what listens is written for any that may.
@@ -118,6 +121,15 @@ impl<R: Net + Wait + Clock + Threads + Copy + Send + Sync + Drop + 'static> List
         Ok((port, number))
     }
 
+    fn grow_stack(&self, alloc: Global) -> Result<(), ListenFault> {
+        let mut room: Vec<u8> = Vec::new(alloc);
+        room.reserve(STACK_BYTES)?;
+        // The stack gets what this had.
+        drop(room);
+        touch_stack(&self.own);
+        Ok(())
+    }
+
     fn figures_port(
         &self,
         alloc: Global,
@@ -138,6 +150,13 @@ impl<R: Net + Wait + Clock + Threads + Copy + Send + Sync + Drop + 'static> List
             board,
         }))
     }
+}
+
+/// Uses so much of this thread's stack.
+fn touch_stack(rt: &HostRuntime) {
+    let mut room = [0u8; STACK_BYTES];
+    // This file has no bytes to give. To be handed the room, the system has to find it there.
+    let _ = fs::open(rt, "/dev/null").and_then(|mut file| file.read(&mut room));
 }
 
 impl From<AllocError> for ListenFault {

@@ -6,7 +6,7 @@ ghost use Rattle.mds_commands.specs.Change.{change_of};
 ghost use Rattle.mds_city.specs.Outcome.{outcome_of};
 ghost use Rattle.mds_city.specs.Serve.{CameToServe, IsSaid, Listened, SaysAccepted, Serves, StopsBefore};
 
-use crate::figures::{FiguresPort, tell_figures};
+use crate::figures::{FiguresPort, prepare};
 use crate::page::{AcceptedLine, ListeningLine, print_line};
 use mds_book::{NamedLedger, Packed, ShardLedger};
 use mds_commands::{Problem, Source, Status, tables_in, tell};
@@ -41,6 +41,16 @@ pub trait Listens {
     /// [`ListenFault`] says when each comes.
     fn listen(&self, alloc: Global, number: u16) -> Result<(Self::Listening, u16), ListenFault>
         ensures { IfOk result (λ had. listens self.now number had.0 had.1) };
+
+    /// Makes the stack of this thread as deep as serving needs it. That of a process's first thread grows, and where no memory is left
+    /// when it does, the system ends the process (setrlimit(2), RLIMIT_AS). A host whose stacks don't grow needs to do nothing.
+    ///
+    /// # Errors
+    ///
+    /// `Memory` where there isn't that much memory.
+    fn grow_stack(&self, _alloc: Global) -> Result<(), ListenFault> {
+        Ok(())
+    }
 
     /// A port of its own at which figures are to be told, if that is asked for. A host that tells none needs to do nothing.
     ///
@@ -146,7 +156,7 @@ fn begin<
     let (Ok(first), Ok(second)) = (RandomState::new(rt), RandomState::new(rt)) else {
         return Err(Problem::Random);
     };
-    match tell_figures(rt, alloc, host, asked) {
+    match prepare(rt, alloc, host, asked) {
         Ok(()) => {}
         Err(ListenFault::Refused) => return Err(Problem::Socket),
         Err(ListenFault::Memory) => return Err(Problem::Memory),

@@ -5,7 +5,7 @@ use crate::watch::{Socket, Watch};
 use mds_http::Face;
 use mds_waiting::Outgoing;
 use std::alloc::Global;
-use std::io::{self, ErrorKind, Read};
+use std::io::{self, ErrorKind};
 use std::net::{Ipv4Addr, Net, Shutdown, SocketAddr, SocketAddrV4, TcpListener, TcpStream};
 use std::os::fd::OwnedFd;
 use std::sync::Wait;
@@ -22,9 +22,6 @@ const MOMENT_MILLIS: u64 = 10;
 /// Of how many connections the first bytes aren't waited for, behind one whose didn't come: clients that send nothing keep a worker
 /// for a moment in so many, and no longer.
 const MAX_HASTE: u32 = 1_024;
-
-/// How many bytes of stack a worker finds: more than it needs, which was 140 kB.
-const STACK_BYTES: usize = 262_144;
 
 /// A listening socket, from which any number of workers take connections.
 pub type SocketPort<R> = WaitingPort<Sockets<R>, R>;
@@ -58,7 +55,6 @@ impl<R: Clock + Copy> Sockets<R> {
         socket.set_nodelay(true)?;
         // So long a call waits that takes a connection, while it may, and so long one that reads from it first.
         socket.set_read_timeout(Some(Duration::from_millis(MOMENT_MILLIS)))?;
-        grow_stack(&socket);
         let watch = Watch::new(net)?;
         watch.begin(&listener)?;
         Ok(Sockets {
@@ -69,15 +65,6 @@ impl<R: Clock + Copy> Sockets<R> {
             haste: AtomicU32::new(0),
         })
     }
-}
-
-/// Makes the stack of this thread as large as a worker needs it, while there is memory for that. The first thread of a process
-/// has a stack that grows, and where there is none left then, the system ends the process (setrlimit(2), RLIMIT_AS).
-#[inline(never)]
-fn grow_stack(socket: &TcpStream) {
-    let (mut room, mut listening) = ([0u8; STACK_BYTES], socket);
-    // A socket that listens has no bytes to give. To be handed the room, the system has to find it there.
-    let _ = listening.read(&mut room);
 }
 
 impl<R: Clock + Copy> System for Sockets<R> {

@@ -8,6 +8,6 @@ returns-in-Err-open_reader-clause-err g c =
     inr (inr (inr (inl ((c.in-Ok.tables, c.in-Ok.ensures.ok), c.in-Err-open_reader.ensures.err, Keeps-refl _))))
 
 -- nor before the port for figures
-pub returns-in-Err-tell_figures-clause-err : goal.returns-in-Err-tell_figures-clause-err
-returns-in-Err-tell_figures-clause-err g c =
-    inr (inr (inl ((c.in-Ok.tables, c.in-Ok.ensures.ok), (c.in-Err-tell_figures.fault, c.problem_of_listening.ensures), Keeps-refl _)))
+pub returns-in-Err-prepare-clause-err : goal.returns-in-Err-prepare-clause-err
+returns-in-Err-prepare-clause-err g c =
+    inr (inr (inl ((c.in-Ok.tables, c.in-Ok.ensures.ok), (c.in-Err-prepare.fault, c.problem_of_listening.ensures), Keeps-refl _)))
