@@ -1,16 +1,10 @@
 //! The words of the command line, read by `clap`.
 ghost use Rattle.std.specs.Prelude.{◌≡◌, ◌≢◌, ◌↔◌, ◌<◌, ◌^◌, ◌∷◌, [], None, Some, true, false};
 ghost use Rattle.std.specs.Prelude.{codes, map, IsTrue, IfOk, IfErr, MatchOption};
-ghost use Rattle.clap.specs.Words.{App, app_of, fault_of, first_of, found_of, kind_of, new_app, new_rule, rows_of};
-ghost use Rattle.clap.specs.Words.{rule_of, subcommand_of, subcommand_rows_of, takes, with_rule};
-ghost use Rattle.clap.specs.Words.{with_subcommand};
+ghost use Rattle.clap.specs.Words.{App, app_of, fault_of, first_of, found_of, kind_of, new_app, new_rule, rows_of, rule_of, subcommand_of, subcommand_rows_of, takes, with_rule, with_subcommand};
 ghost use Rattle.mds_args.specs.Error.{HasCause, IsCause, SaysMissing, missing_kind, words_kind};
-ghost use Rattle.mds_args.specs.Words.{Asks, AsksNothing, IsAskedBy, AreTaken};
-ghost use Rattle.mds_args.specs.Words.{HasNoNumber, HasValues, IsEach, IsMetrics, IsNumber, IsTold};
-ghost use Rattle.mds_args.specs.Words.{HasCuts, IsBefore, IsSet, LacksBefore, LacksEach, LacksFileOrWorkers, LacksMetrics, LacksNumber, LacksOneOf};
-ghost use Rattle.mds_args.specs.Words.{name_of, before_rule, compact_app, cut_rule, debug_app, each_rule, events_app, flag_rule, long_rule, max_each, max_port, max_time, max_workers};
-ghost use Rattle.mds_args.specs.Words.{needed_number_rule, number_rule, option_rule, program_app, replay_app};
-ghost use Rattle.mds_args.specs.Words.{journal_rule, metrics_rule, serve_app, table_app, table_rule, vehicles_app, word_rule, workers_rule};
+ghost use Rattle.mds_args.specs.Words.{Asks, AsksNothing, IsAskedBy, AreTaken, HasNoNumber, HasValues, IsEach, IsMetrics, IsNumber, IsTold, HasCuts, IsBefore, IsSet, LacksBefore, LacksEach, LacksFileOrWorkers, LacksMetrics, LacksNumber, LacksOneOf};
+ghost use Rattle.mds_args.specs.Words.{name_of, before_rule, compact_app, cut_rule, debug_app, each_rule, events_app, flag_rule, long_rule, max_each, max_port, max_time, max_workers, needed_number_rule, number_rule, option_rule, program_app, replay_app, journal_rule, metrics_rule, serve_app, table_app, table_rule, vehicles_app, word_rule, workers_rule};
 
 use crate::VERSION;
 use crate::cuts::{CutWords, cuts_of};
