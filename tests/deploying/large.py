@@ -2,7 +2,7 @@
 
 Each section that wants no second machine is tried, as it stands. What it shows are counts of a few lines, and the front has others, by the
 script that makes it (front.py): so they are compared by that difference. `tests/deploy --large` tries all sections, and tells how long each
-step takes. Without it those of `IN_GATE` are tried."""
+step takes: some minutes in all. Without it those of `IN_GATE` are tried, by which the gate is less than a minute longer."""
 
 import time
 
@@ -11,7 +11,8 @@ from deploying.runbook import SECTIONS, Machine, P, of_section
 
 TITLE = "runbook at 1,000,000 events"
 IN_GATE = ("damaged, or fewer vehicles than there were", "The journal has grown")
-"""Of each kind of a step one: a journal that is mended, line by line, and a small one that a unit makes and puts away."""
+"""Of each kind of step one: a journal that is mended, by a line of it, and one that units make small and put away. By both all scripts
+run over the whole journal that an operator's steps call, and starts, but for copies between machines."""
 SECONDS = 600
 """How long a step may take, on a busy machine."""
 TOLD = 1

@@ -25,6 +25,8 @@ SHORTER = 200
 """By how much all times of the alarms are shorter: an hour is 18 seconds."""
 USUAL, SOON, TRIES = 6, 60, 3
 """For how many seconds all is well at first, within how many an alarm fires or is over, and how often all is tried."""
+TOLD = 'count_over_time(node_systemd_service_restart_total{name=~"mds_city@.*"}[5s]) > 2'
+"""Asks Prometheus whether the exporter has told lately that the server didn't end."""
 RIGHT, WRONG = "clock@0", "clock@5"
 """The unit by which the exporter is told that the clock is synchronized, and that by which it isn't: what adjtimex(2) answers."""
 CLOCK = f"""[Service]
@@ -39,8 +41,8 @@ LASTING = {("MdsCityEnded", "machine")}
 """That is over after an hour."""
 LAST = ("MdsCityNoUnits", "machine")
 """Where it fires no other one of units can."""
-MAYBE = {("MdsCityDown", "one"), ("MdsCityDown", "machine")}
-"""A busy machine may take long for a restart."""
+MAYBE = {("MdsCityDown", "one"), ("MdsCityDown", "machine"), ("MdsCitySyncs", "one")}
+"""A busy machine may take long for a restart, an answer, or a sync."""
 
 
 def register(machine):
@@ -105,6 +107,7 @@ class Causes:
             self.machine.systemctl("daemon-reload")
             started(self.machine, ONE)
             register(self.machine)
+            self.machine.systemctl("start", NGINX, HAPROXY, EXPORTER)
             self.machine.systemctl("start", RIGHT, SHIP)
             self.thread.start()
             return self
@@ -171,7 +174,8 @@ def alarms_amiss(program):
         ports = causes.machine
         with Watch({"one": ports.metrics}, ports.haproxy, ports.exporter, factor=SHORTER) as watch:
             time.sleep(USUAL)
-            if watch.fired():
+            watch.wait_for(lambda: watch.query(TOLD), SOON)
+            if fired_by(watch):
                 yield f"before anything is wrong: {watch.fired()}"
                 return
             causes.make()
@@ -180,7 +184,7 @@ def alarms_amiss(program):
             if not watch.wait_for(lambda: fired_by(watch) == sorted(CAUSED), SOON):
                 yield f"fired {watch.fired()}, in place of {sorted(CAUSED)}"
             causes.end()
-            if not watch.wait_for(lambda: set(watch.firing()) <= LASTING, SOON):
+            if not watch.wait_for(lambda: set(watch.firing()) <= LASTING | MAYBE, SOON):
                 yield f"not over: {watch.firing()}"
             causes.forget_words()
             if not watch.wait_for(lambda: fired_by(watch) == sorted([*CAUSED, LAST]), SOON):
