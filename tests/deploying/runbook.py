@@ -294,7 +294,7 @@ def with_a_closed_gate(machine):
 
 def words_of(part):
     """What a part of the document has the reader say first, in its order: of which instances, and which copies are taken."""
-    text = RUNBOOK.read_text().partition(f"# {part}\n")[2].partition("\n#")[0]
+    text = HEADING.split(RUNBOOK.read_text().partition(f"# {part}\n")[2])[0]
     return [re.search(rf"`({name}=\S+)`", text)[1] for name in ("LOST", "COPY")]
 
 
