@@ -406,7 +406,7 @@ MAYBE = {("MdsCityDown", "restarts"), ("MdsCityDown", "fewer")}
 
 def each_alarm_fires(program):
     """Each alarm fires once its cause is made, of that instance alone; none fires before, or of an instance that is well. It is over
-    once its cause is. Each query of the dashboard is answered meanwhile. Left out are those of units and proxies: they want systemd."""
+    once its cause is. Each query of the dashboard is answered meanwhile. Those that want systemd are made in started.py."""
     for _ in range(TRIES):
         wrong = list(alarms_amiss(program))
         if not wrong:

@@ -13,12 +13,13 @@ import tempfile
 import time
 from pathlib import Path
 
+from deploying.front import EMPTY, FORM
 from deploying.passing import answered, sent
 from deploying.proxies import PROVIDERS, TOKENS, changed, free_ports, installed
 from deploying.vehicles import vehicle
 from harness.counting import ROOT, Skipped, Unwell
 from model.json_text import compact
-from serving.documents import Shell, steps_of, unlike
+from serving.documents import Shell, Step, steps_of, unlike
 from serving.server import success_of
 from serving.wire import ask, post
 
@@ -33,17 +34,19 @@ JOBS = ("compact", "archive", "days")
 UNITS = ("mds_city@", "mds_city-compact@", "mds_city-ship@", "mds_city-archive", "mds_city-days")
 CURL = 'curl() { command curl -m 60 "$@"; }'
 """The steps say themselves what curl prints of a fault."""
-SETTLED = 60
+SETTLED = 300
 """How many seconds a server may take until it listens or has ended."""
 STATES = ("/run/mds_city-ship", "/var/lib/mds_city", "/var/lib/private", "/var/log/nginx", "/var/tmp")
 FOLDERS = ("/etc/mds_city", "/etc/systemd", "/usr/local", *STATES)
 """What stands in the machine's folder in place of the root of a real one."""
 MENDED = "/usr/local/lib/mds_city/mended"
 """Where `deploy/mended` of the runbook stands in the machine's folder."""
-SMALL_DISK, MOST_KEPT, AT_ONCE = "3M", 50000, 1000
+SMALL_DISK, MOST_KEPT, AT_ONCE = 3 << 20, 50000, 1000
 """How large a disk is that is full soon; more vehicles than it has room for, and how many are registered by one request."""
-MANY, LITTLE, FORM = 400000, 64, ' {"form":"mds_city","version":1}\n'
-"""How many vehicles take more than so many MiB; and the first line of a journal (docs/formats.md, `Journal`)."""
+MANY, LITTLE = 400000, 64
+"""How many vehicles take more than so many MiB."""
+FAR = re.compile(r"mds_city: read [0-9]+ of [0-9]+ bytes")
+"""What a command tells while it goes on for long."""
 COPIED = 1746010000
 """When copies were made, in seconds."""
 TIME_COPIED = f" {time.strftime('%Y-%m-%d %H:%M:%S', time.localtime(COPIED))}."
@@ -99,7 +102,10 @@ def exported(names):
 
 
 class Machine:
-    """A folder in place of a machine, with two instances, and a shell on it. As a context it is taken down at its end."""
+    """A folder in place of a machine, with two instances, and a shell on it. Their journals begin with a front. As a context it is taken
+    down at its end."""
+
+    front = EMPTY
 
     def __init__(self, program):
         for name in ("curl", "jq", "numfmt", "rsync"):
@@ -127,6 +133,8 @@ class Machine:
         self.shell = Shell(program)
         self.shell.__enter__().run(exported({"MACHINE": self.root, "P": P, "A": A}))
         self.shell.ports |= {"8001": str(self.ports["one"]), "8201": str(self.figures["one"])}
+        for name in self.ports:
+            self.lay(name)
 
     def __enter__(self):
         return self
@@ -161,9 +169,24 @@ class Machine:
     def journal(self, name="one"):
         return self.path(f"/var/lib/mds_city/{name}/journal")
 
+    def lay(self, name="one"):
+        """Puts the front in the place of an instance's journal, where there is one."""
+        if self.front.path:
+            shutil.copy(self.front.path, self.folder(name) / "journal")
+
+    def parts(self):
+        """What the journal of `one` has before its own lines, and these."""
+        content = self.journal().read_bytes()
+        return content[: self.front.size], content[self.front.size :].splitlines(keepends=True)
+
     def run(self, command):
-        """What a command prints, with the paths of a real machine."""
-        return [line.replace(str(self.root), "").strip() for line in self.shell.run(self.here(command))]
+        """What a command prints, with the paths of a real machine, but for how far it is."""
+        printed = [line.replace(str(self.root), "").strip() for line in self.shell.run(self.here(command))]
+        return [line for line in printed if not FAR.fullmatch(line)]
+
+    def run_steps(self, steps):
+        """Runs steps, and says where they don't print what is shown, as it is behind the front."""
+        yield from run_steps((Step(it.command, list(map(self.front.shifted, it.wanted))) for it in steps), self.run)
 
     def settle(self):
         """Waits until each server that was started listens or has ended."""
@@ -187,13 +210,18 @@ class Machine:
 
     def fill_by_own_table(self):
         """The same, with a table file that has a row of the city's own, by which the last event is accepted."""
-        self.run("systemctl start mds_city@one")
-        rows = json.loads(self.run("curl -s http://127.0.0.1:8001/table")[0])["rows"]
-        own = {"from": "removed", "to": "available", "type": "wake"}
-        self.write("/etc/mds_city/table.json", compact({"rows": [*rows, own]}))
-        self.run("sed -i 's|^OPTIONS=.*|OPTIONS=--table /etc/mds_city/table.json|' /etc/mds_city/one.env")
-        self.run("systemctl stop mds_city@one")
+        self.have_table([*self.rows(), {"from": "removed", "to": "available", "type": "wake"}])
         self.fill(WOKEN)
+
+    def rows(self):
+        """Those of the profile."""
+        lines = [line.split() for line in self.run("mds_city table")[:-1]]
+        return [{"from": start, "to": end, "type": kind} for kind, start, end in lines]
+
+    def have_table(self, rows):
+        """The instance has a table file with these rows from its next start on."""
+        self.write("/etc/mds_city/table.json", compact({"rows": rows}))
+        self.run("sed -i 's|^OPTIONS=.*|OPTIONS=--table /etc/mds_city/table.json|' /etc/mds_city/one.env")
 
     def copy_journal(self, name="one"):
         """Copies a journal to the second machine, with its time."""
@@ -202,11 +230,11 @@ class Machine:
         os.utime(copy, (COPIED, COPIED))
 
     def change(self, line, old, new):
-        """Stops the instance, and changes a line of its journal, from 0."""
+        """Stops the instance, and changes a line of its journal, from 0, the front's left out."""
         self.run("systemctl stop mds_city@one")
-        lines = self.journal().read_bytes().splitlines(keepends=True)
-        lines[line] = lines[line].replace(old, new, 1)
-        self.journal().write_bytes(b"".join(lines))
+        front, lines = self.parts()
+        lines[line - 1] = lines[line - 1].replace(old, new, 1)
+        self.journal().write_bytes(b"".join([front, *lines]))
 
 
 def device_of(number):
@@ -214,27 +242,29 @@ def device_of(number):
 
 
 def without_memory(machine):
-    """The instance may have less address space than its start wants: its vehicles take some 300 bytes each. A program that can't
+    """The instance may have less address space than its start wants: by a front, or by vehicles, some 300 bytes each. A program that can't
     run in that at all, as one that checks its memory, isn't tried."""
     if machine.run(f"(ulimit -v {LITTLE * 1024}; mds_city --version > /dev/null 2>&1); echo $?") != ["0"]:
         raise Skipped(f"the program doesn't run in {LITTLE} MiB")
-    text = compact(registration("%s"))
-    lines = [f' {text.replace("%s", device_of(number))}\n' for number in range(MANY)]
-    (machine.folder() / "journal").write_text("".join([FORM, *lines]))
+    if not machine.front.path:
+        text = compact(registration("%s"))
+        lines = [f' {text.replace("%s", device_of(number))}\n' for number in range(MANY)]
+        (machine.folder() / "journal").write_text("".join([FORM, *lines]))
     machine.path("/etc/systemd/system/mds_city@one.service.d").mkdir()
     machine.write("/etc/systemd/system/mds_city@one.service.d/override.conf", f"[Service]\nLimitAS={LITTLE}M\n")
     machine.run("systemctl start mds_city@one")
 
 
 def on_a_full_disk(machine):
-    """The instance's folder is a small disk, which a copy fills, and then the journal all that it took as room."""
-    folder = machine.folder()
-    if subprocess.run(["mount", "-t", "tmpfs", "-o", f"size={SMALL_DISK}", "none", folder], capture_output=True).returncode:
+    """The instance's folder is a small disk, which a copy of a journal fills, and then the journal all that it took as room."""
+    folder, size = machine.folder(), SMALL_DISK + 2 * machine.front.size
+    if subprocess.run(["mount", "-t", "tmpfs", "-o", f"size={size}", "none", folder], capture_output=True).returncode:
         raise Skipped("nothing can be mounted here")
+    machine.lay()
     machine.run("systemctl start mds_city@one")
     if success_of(machine.ask("/vehicles", registration(A))) != 1:
         raise Unwell("a vehicle isn't accepted")
-    machine.run(f"head -c {SMALL_DISK} /dev/zero > {folder}/copy-of-last-year")
+    machine.run(f"head -c {size} /dev/zero > {folder}/copy-of-last-year")
     for number in range(0, MOST_KEPT, AT_ONCE):
         told = machine.ask("/vehicles", [registration(device_of(number + more)) for more in range(AT_ONCE)])
         if b'{"error":"not_kept"}' in told:
@@ -243,10 +273,9 @@ def on_a_full_disk(machine):
 
 
 def refused_by_a_table(machine):
-    """Another table is in force for all events, and lacks the rows by which they were accepted."""
+    """Another table is in force for all events, and lacks a row by which they were accepted."""
     machine.fill()
-    machine.write("/etc/mds_city/table.json", '{"rows":[{"from":"removed","to":"available","type":"wake"}]}')
-    machine.run("sed -i 's|^OPTIONS=.*|OPTIONS=--table /etc/mds_city/table.json|' /etc/mds_city/one.env")
+    machine.have_table([row for row in machine.rows() if row["type"] != "provider_drop_off"])
     machine.run("systemctl restart mds_city@one")
 
 
@@ -265,7 +294,7 @@ def with_a_closed_gate(machine):
 
 def words_of(part):
     """What a part of the document has the reader say first, in its order: of which instances, and which copies are taken."""
-    text = RUNBOOK.read_text().partition(f"# {part}\n")[2].partition("\n#")[0]
+    text = HEADING.split(RUNBOOK.read_text().partition(f"# {part}\n")[2])[0]
     return [re.search(rf"`({name}=\S+)`", text)[1] for name in ("LOST", "COPY")]
 
 
@@ -317,7 +346,7 @@ def copied_again(machine):
 def on_another_machine(machine):
     """Nothing starts there by itself. Then what is done behind a lost disk puts all in its place."""
     yield from kept_over_a_boot(machine)
-    yield from run_steps(sections()["A disk is lost"][1:], machine.run)
+    yield from machine.run_steps(sections()["A disk is lost"][1:])
     machine.settle()
     yield from sent_again_since(machine)
 
@@ -375,11 +404,11 @@ def with_others_stuck(machine):
 def half_written(machine):
     """Stops the instance, and puts two events behind the lines that count. The first one's gate isn't open, and its line is no text."""
     machine.run("systemctl stop mds_city@one")
-    lines = machine.journal().read_bytes().splitlines(keepends=True)
+    front, lines = machine.parts()
     count = next((at for at, line in enumerate(lines) if not line.startswith(b" ")), len(lines))
     texts = [compact(event(A, 12 + number, [kind], state, 5 + number)) for number, (kind, state) in enumerate(ONE_TRIP)]
     group = f"#\0{texts[0]}\n {texts[1]}\n".encode()
-    machine.journal().write_bytes(b"".join([*lines[:count], group, b"\n" * LITTLE]))
+    machine.journal().write_bytes(b"".join([front, *lines[:count], group, b"\n" * LITTLE]))
 
 
 def all_accepted_again(machine):
@@ -403,15 +432,15 @@ def copied_at_last(machine):
 def with_two_journals(machine):
     """Two instances have journals, and the one that leaves has an old one, too, of this very day."""
     machine.fill()
-    (machine.folder("two") / "journal").write_bytes(b"the last one")
+    (machine.folder("two") / "journal").write_bytes(machine.front.content() + b"the last one")
     (machine.folder("two") / f"journal.{time.strftime('%Y-%m-%d')}").write_bytes(b"an old one")
 
 
 def put_away_whole(machine):
     """An audit finds all files of the one that left, and its folder is gone. The other one goes on."""
     found = sorted(gzip.open(path).read() for path in machine.path("/var/lib/mds_city_archive").glob("two.journal.*.gz"))
-    if found != [b"an old one", b"the last one"] or os.path.lexists(machine.path("/var/lib/mds_city/two")):
-        yield f"put away is {found}"
+    if found != [machine.front.content() + b"the last one", b"an old one"] or os.path.lexists(machine.path("/var/lib/mds_city/two")):
+        yield f"put away is {[it[-100:] for it in found]}"
     yield from all_of_it_there(machine)
 
 
@@ -422,7 +451,7 @@ def leaves_without_an_archive(program):
         machine.path("/var/lib/mds_city_archive").rmdir()
         for step in sections()["A provider leaves"]:
             machine.run(step.command)
-        if machine.journal("two").read_bytes() != b"the last one":
+        if not machine.journal("two").read_bytes().endswith(b"the last one"):
             yield "the journal is lost"
 
 
@@ -481,9 +510,7 @@ def with_copies(machine):
     machine.fill()
     shutil.copytree(machine.path(SECOND), machine.path("/var/lib/mds_city_copies"))
     for day in range(14):
-        kept = machine.path(f"/var/lib/mds_city_days/one.journal.2025-04-{10 + day}")
-        shutil.copy(machine.path(f"{SECOND}/one.journal"), kept)
-        os.utime(kept, (COPIED, COPIED))
+        os.link(machine.path(f"{SECOND}/one.journal"), machine.path(f"/var/lib/mds_city_days/one.journal.2025-04-{10 + day}"))
 
 
 def fourteen_days(machine):
@@ -500,12 +527,12 @@ def with_archives(machine):
     """Three files were put away: they overlap, the last one lacks the first event, none has that of the last trip's end, and the first one
     has an event that was taken out later. Each has a torn end."""
     machine.fill()
-    lines = machine.journal().read_bytes().splitlines(keepends=True)[: len(REQUESTS) + 1]
+    lines = machine.parts()[1][: len(REQUESTS)]
     number, taken = REQUESTS[3][1]["event_id"].encode(), b"00000000-0000-4000-8000-0000000000e9"
-    out = lines[4].replace(number, taken)
-    for day, kept in (("2025-05-01", [*lines[:4], out]), ("2025-06-01", lines[:5]), ("2025-07-01", lines[:3] + lines[4:5])):
-        with gzip.open(machine.path(f"/var/lib/mds_city_archive/one.journal.{day}.gz"), "wb") as file:
-            file.writelines([*kept, TORN])
+    out = lines[3].replace(number, taken)
+    for day, kept in (("2025-05-01", [*lines[:3], out]), ("2025-06-01", lines[:4]), ("2025-07-01", lines[:2] + lines[3:4])):
+        packed = machine.front.packed + gzip.compress(b"".join([*kept, TORN]))
+        machine.path(f"/var/lib/mds_city_archive/one.journal.{day}.gz").write_bytes(packed)
     machine.path("/var/lib/mds_city_left_out").mkdir()
     machine.path("/var/lib/mds_city_left_out/one").write_bytes(out)
 
@@ -515,16 +542,17 @@ def of_all_vehicles(machine):
     (loop,) = (step.command for step in sections()["An audit of last year"] if AUDITED in step.command)
     pattern, once = re.search(r"Of all vehicles have `(.*?)` as the pattern,.*? `(sort .*?)`", RUNBOOK.read_text(), re.DOTALL).groups()
     machine.run(loop.replace(AUDITED, pattern).replace(ONCE, once))
-    told, wanted = machine.run("jq -r .event_id /var/tmp/lines"), [value["event_id"] for _, value in REQUESTS[2:]]
-    if sorted(told) != wanted or ONCE not in loop:
-        yield f"events {told}"
+    (count,), wanted = machine.run("wc -l < /var/tmp/lines"), [value["event_id"] for _, value in REQUESTS[2:]]
+    told = machine.run(f"grep -v '{machine.front.pattern}' /var/tmp/lines | jq -r .event_id")
+    if sorted(told) != wanted or int(count) != len(wanted) + machine.front.events or ONCE not in loop:
+        yield f"{count} events, among them {told}"
 
 
 def old_trips_left_out(machine):
     """Of what was accepted all is known, or late; and the file that was put away has all of it."""
     (archive,) = machine.path("/var/lib/mds_city_archive").glob("one.journal.20*.gz")
     events = gzip.open(archive).read().count(b"\n ")
-    if events != len(REQUESTS) + 2 * TRIPS:
+    if events != len(REQUESTS) + 2 * TRIPS + machine.front.lines:
         yield f"{archive.name} has {events} lines"
     for target, value in REQUESTS:
         told = machine.ask(target, value)
@@ -645,20 +673,20 @@ def run_steps(steps, run):
         yield from unlike(step, run(step.command))
 
 
-def of_section(name):
-    """The subject that runs the steps of a section."""
+def of_section(name, kind=Machine, title="runbook"):
+    """The subject that runs the steps of a section, over a machine of this kind."""
 
     def section(program):
         prepare, check = SECTIONS[name]
-        with Machine(program) as machine:
+        with kind(program) as machine:
             prepare(machine)
             machine.run("export IS_SLOW=1")
-            yield from run_steps([*first_steps(), *sections()[name]], machine.run)
+            yield from machine.run_steps([*first_steps(), *sections()[name]])
             machine.run("unset IS_SLOW")
             machine.settle()
             yield from check(machine)
 
-    section.__name__ = f"runbook, {name}"
+    section.__name__ = f"{title}, {name}"
     return section
 
 

@@ -32,7 +32,7 @@ ASSIGNS = re.compile(r"[A-Za-z_]+=\S+")
 MARK = "-- the end of a command --"
 CURL = "curl() { command curl -sS -m 60 \"$@\"; }"
 SECONDS = 60
-"""How long a command may take, and a server to end."""
+"""How long a command may take where nothing else is said, and a server to end."""
 LEAST_PAIRS = 5
 
 
@@ -127,6 +127,9 @@ def unlike(step, found):
 class Shell:
     """A shell at the top of the repository, to which commands are given one by one. It finds the program as `mds_city`."""
 
+    seconds = SECONDS
+    """How long a command may take."""
+
     def __init__(self, program):
         self.folder = tempfile.TemporaryDirectory()
         os.symlink(program, Path(self.folder.name, "mds_city"))
@@ -172,12 +175,12 @@ class Shell:
     def printed(self, command):
         """What comes up to the mark behind the command."""
         found, mark = b"", f"\n{MARK}\n".encode()
-        end, coming = time.monotonic() + SECONDS, select.poll()
+        end, coming = time.monotonic() + self.seconds, select.poll()
         coming.register(self.child.stdout, select.POLLIN)
         while not found.endswith(mark):
             left = max(end - time.monotonic(), 0)
             if not coming.poll(1000 * left):
-                raise Unwell(f"`{command}` didn't end in {SECONDS} s; so far it printed {found[-500:]!r}")
+                raise Unwell(f"`{command}` didn't end in {self.seconds} s; so far it printed {found[-500:]!r}")
             piece = os.read(self.child.stdout.fileno(), 1 << 16)
             if not piece:
                 raise Unwell(f"`{command}` ended the shell, which printed {found[-500:]!r}")
