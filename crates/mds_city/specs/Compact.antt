@@ -19,7 +19,8 @@ use Rattle.mds_retention.specs.declared.error.CompactError.TheVariants.{Old, New
 use Rattle.mds_retention.specs.declared.error.LinesError.TheVariants as lines
 use Rattle.mds_retention.specs.declared.compacting.Compacted.{Compacted}
 use Rattle.mds_retention.specs.Copying.{IsCompactedJournal}
-use Rattle.mds_retention.specs.Compacting.{AreReadings, IsCompactFault, IsCompactedTo, StandsWhole}
+use Rattle.mds_retention.specs.Compacting.{AreReadings, IsCompactFault, IsCompactedTo, IsOfNew}
+use Rattle.mds_retention.specs.Compacting.{StandsWhole}
 use Rattle.mds_city.specs.declared.compact.CompactAsked.{CompactAsked}
 use Rattle.mds_city.specs.declared.compact.CompactProblem.{CompactProblem}
 use Rattle.mds_city.specs.declared.compact.CompactProblem.TheVariants.{IsThere, CannotWrite}
@@ -72,11 +73,18 @@ module _ {F N : Type 0} (host : HostFiles F N) (asked : CompactAsked) where
       → (found : Option (List ℕ)) → host.maker.may_stand name found
       → StandsWhole (IsCompactedTo asked.before asked.cuts.now first compacted) found
 
-  -- under a new name stands the compaction of the old journal, which came to this
+  -- nothing that had the name lost it; and if something has it from the start, this holds
+  abbrev pub Spares : N → N → Type 0 → Type 0
+  Spares was name Taken =
+      host.maker.keeps name → (host.maker.is_over name → host.maker.is_over was)
+      × (host.maker.is_taken was → Taken)
+
+  -- under a new name, which nothing had, stands the compaction of the old journal, which came to this
   abbrev pub Compacts : Compacted → Type 0
   Compacts compacted =
       (readings : Readings F) × AreOpened readings × (was name : N)
       × host.maker.names asked.new.now was × StandsCompacted readings name compacted
+      × Spares was name ⊥
 
   -- whatever crash comes, what stood under the name stands there, or all of a compaction
   abbrev pub LeavesWhole : Readings F → N → N → Type 0
@@ -86,12 +94,14 @@ module _ {F N : Type 0} (host : HostFiles F N) (asked : CompactAsked) where
       → host.maker.may_stand was found
       ⊎ StandsWhole (IsCompactedJournal asked.before asked.cuts.now first) found
 
-  -- the readings have this fault, or there is no new file; and what stands under its name
+  -- the readings have this fault, or there is no new file, as where its name is taken; and what
+  -- stands under that
   abbrev pub Fails : CompactError → Type 0
   Fails error =
       (readings : Readings F) × AreOpened readings
       × IsCompactFault host.opener.bytes readings asked.cuts.now error
       × (was name : N) × host.maker.names asked.new.now was × LeavesWhole readings was name
+      × Spares was name (IsOfNew error)
 
   -- why the journal wasn't compacted
   abbrev pub ExplainsCompact : CompactProblem → Type 0

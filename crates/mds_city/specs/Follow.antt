@@ -9,7 +9,7 @@ use Rattle.mds_retention.specs.declared.error.CompactError.{CompactError}
 use Rattle.mds_retention.specs.declared.error.CompactError.TheVariants.{Old}
 use Rattle.mds_retention.specs.declared.error.LinesError.TheVariants as lines
 use Rattle.mds_retention.specs.declared.passes.Totals.{Totals}
-use Rattle.mds_retention.specs.Compacting.{AreReadings, StandsWhole}
+use Rattle.mds_retention.specs.Compacting.{AreReadings, IsOfNew, StandsWhole}
 use Rattle.mds_retention.specs.NewJournal.{HasSince, IsBeginFault, IsFollowed, IsFollowedTo}
 use Rattle.mds_city.specs.declared.compact.CompactProblem.{CompactProblem}
 use Rattle.mds_city.specs.declared.compact.CompactProblem.TheVariants.{Journal}
@@ -26,6 +26,8 @@ pub record FollowHost (G : Type 0) : Type 1 where
   pub follows : List ℕ → Option G → Type 0
   -- the known bytes that a journal had at the last look
   pub content : G → Option (List ℕ)
+  -- no other process had it then
+  pub is_all : G → Type 0
 
 -- the line that says that the new journal has what stays of the old one
 abbrev pub following_line : List ℕ
@@ -51,6 +53,14 @@ pub record Known (F N G : Type 0) : Type 1 where
   pub may_stand : N → Option (List ℕ) → Type 0
   -- all answers of the file that was given the name were those of a disk that keeps what it is given
   pub is_true : N → Type 0
+  -- no other process had a journal at the last look
+  pub is_all : G → Type 0
+  -- all answers of a name were those of a system that keeps what has it
+  pub keeps : N → Type 0
+  -- something has the name
+  pub is_taken : N → Type 0
+  -- it was given to a file in place of what had it
+  pub is_over : N → Type 0
 
 -- of that, and what is asked for
 module _ {F N G : Type 0} (known : Known F N G) (asked : FollowAsked) where
@@ -60,8 +70,14 @@ module _ {F N G : Type 0} (known : Known F N G) (asked : FollowAsked) where
       AreReadings known.bytes first opened.readings
       × HasSince first (known.content opened.followed)
 
-  -- under a new name stands what stays of the old journal and all that came since, up to the last
-  -- look, with these totals
+  -- nothing that had the name lost it; and if something has it from the start, this holds
+  abbrev pub SparesName : N → N → Type 0 → Type 0
+  SparesName was name Taken =
+      known.keeps name → (known.is_over name → known.is_over was)
+      × (known.is_taken was → Taken)
+
+  -- under a new name, which nothing had, stands what stays of the old journal and all that came
+  -- since, up to the last look, when no other process had it, with these totals
   abbrev pub Follows : Opened F G N → Totals → Type 0
   Follows opened totals =
       (after : G) × (name : N)
@@ -69,6 +85,7 @@ module _ {F N G : Type 0} (known : Known F N G) (asked : FollowAsked) where
       → (found : Option (List ℕ)) → known.may_stand name found
       → (last : List ℕ) × (known.content after ≡ Some last)
       × StandsWhole (IsFollowedTo asked.before first last totals) found)
+      × known.is_all after × SparesName opened.name name ⊥
 
   -- whatever crash comes, what stood under the name stands there, or all of the new journal
   abbrev pub LeavesFollowed : Opened F G N → G → N → Type 0
@@ -79,13 +96,14 @@ module _ {F N G : Type 0} (known : Known F N G) (asked : FollowAsked) where
       ⊎ ((last : List ℕ) × (known.content after ≡ Some last)
       × StandsWhole (IsFollowed asked.before first last) found)
 
-  -- the journal has this fault, or there is no new file; and what stands under its name
+  -- the journal has this fault, or there is no new file, as where its name is taken; and what stands
+  -- under that
   abbrev pub FailsToFollow : Opened F G N → CompactError → Type 0
   FailsToFollow opened error =
       (after : G) × (name : N)
       × IsBeginFault known.bytes opened.readings (known.content opened.followed)
       (known.content after) error
-      × LeavesFollowed opened after name
+      × LeavesFollowed opened after name × SparesName opened.name name (IsOfNew error)
 
   -- why there is no new journal
   abbrev pub ExplainsFollow : Opened F G N → CompactProblem → Type 0
@@ -145,5 +163,9 @@ module _ {F N G : Type 0} (host : HostFiles F N) (journals : FollowHost G) (aske
           content = journals.content;
           may_stand = host.maker.may_stand;
           is_true = host.maker.is_true;
+          is_all = journals.is_all;
+          keeps = host.maker.keeps;
+          is_taken = host.maker.is_taken;
+          is_over = host.maker.is_over;
         }) asked opened outcome)
         ⊎ (Keeps outcome.out.before outcome.out.after × TellsOf IsNotOpened outcome)

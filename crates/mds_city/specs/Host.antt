@@ -32,6 +32,12 @@ pub record FileMaker (N : Type 0) : Type 1 where
   pub may_stand : N → Option (List ℕ) → Type 0
   -- all answers of the file that was given the name were those of a disk that keeps what it is given
   pub is_true : N → Type 0
+  -- all answers of a name were those of a system that keeps what has it
+  pub keeps : N → Type 0
+  -- something has the name
+  pub is_taken : N → Type 0
+  -- it was given to a file in place of what had it
+  pub is_over : N → Type 0
 
 -- what a host gives of its files
 pub record HostFiles (F N : Type 0) : Type 1 where

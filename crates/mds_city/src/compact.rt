@@ -105,6 +105,9 @@ pub fn compact_to<P: RandomSource, O: Opens + MakesFiles, W: Write, E: Write>(
             names = O.names_file files.now;
             may_stand = O.New.may_stand;
             is_true = O.New.is_true;
+            keeps = O.New.keeps;
+            is_taken = O.New.is_taken;
+            is_over = O.New.is_over;
           };
         })
         asked.entry
@@ -135,6 +138,9 @@ fn compact_file<'a, P: RandomSource, O: Opens + MakesFiles>(
             names = O.names_file files.now;
             may_stand = O.New.may_stand;
             is_true = O.New.is_true;
+            keeps = O.New.keeps;
+            is_taken = O.New.is_taken;
+            is_over = O.New.is_over;
           };
         }) asked.entry) }
     ensures err { IfErr result (ExplainsCompact
@@ -144,6 +150,9 @@ fn compact_file<'a, P: RandomSource, O: Opens + MakesFiles>(
             names = O.names_file files.now;
             may_stand = O.New.may_stand;
             is_true = O.New.is_true;
+            keeps = O.New.keeps;
+            is_taken = O.New.is_taken;
+            is_over = O.New.is_over;
           };
         }) asked.entry) }
 {

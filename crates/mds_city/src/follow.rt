@@ -1,8 +1,8 @@
 //! The command that makes a new journal while a server goes on with the old one.
-ghost use Rattle.std.specs.Prelude.{◌≡◌, ◌⊎◌, ℕ, List, Option, Some, None, ⊤, IfOk, IfErr};
+ghost use Rattle.std.specs.Prelude.{◌≡◌, ◌⊎◌, ℕ, List, Option, Some, None, ⊤, IfOk, IfErr, OnOk};
 ghost use Rattle.mds_commands.specs.Change.{change_of};
 ghost use Rattle.mds_retention.specs.declared.error.CompactError.{CompactError as Error};
-ghost use Rattle.mds_retention.specs.Compacting.{AreReadings, StandsWhole};
+ghost use Rattle.mds_retention.specs.Compacting.{AreReadings, IsOfNew, StandsWhole};
 ghost use Rattle.mds_retention.specs.NewJournal.{HasSince, IsBeginFault, IsEndFault, IsFollowed, IsFollowedTo, IsNewJournal, MayBeEnded};
 ghost use Rattle.mds_city.specs.Compact.{IsProblemOf};
 ghost use Rattle.mds_city.specs.Follow.{CameFrom, CameToFollow, IsNotOpened, IsOpened, following_line};
@@ -86,9 +86,16 @@ pub fn follow_to<
             names = O.names_file files.now;
             may_stand = O.New.may_stand;
             is_true = O.New.is_true;
+            keeps = O.New.keeps;
+            is_taken = O.New.is_taken;
+            is_over = O.New.is_over;
           };
         })
-        (record { follows = O.follows files.now; content = O.Followed.content })
+        (record {
+          follows = O.follows files.now;
+          content = O.Followed.content;
+          is_all = O.Followed.is_all;
+        })
         asked.entry
         (outcome_of result
         (change_of (W.contents out.old) (W.contents out.new))
@@ -114,9 +121,16 @@ fn open_all<'a, P: RandomSource, O: Opens + MakesFiles + FollowsJournals>(
             names = O.names_file files.now;
             may_stand = O.New.may_stand;
             is_true = O.New.is_true;
+            keeps = O.New.keeps;
+            is_taken = O.New.is_taken;
+            is_over = O.New.is_over;
           };
         })
-        (record { follows = O.follows files.now; content = O.Followed.content }) asked.entry) }
+        (record {
+          follows = O.follows files.now;
+          content = O.Followed.content;
+          is_all = O.Followed.is_all;
+        }) asked.entry) }
     ensures err { IfErr result (IsNotOpened
         (record {
           opener = record { opens = O.opens files.now; bytes = O.File.remaining };
@@ -124,9 +138,16 @@ fn open_all<'a, P: RandomSource, O: Opens + MakesFiles + FollowsJournals>(
             names = O.names_file files.now;
             may_stand = O.New.may_stand;
             is_true = O.New.is_true;
+            keeps = O.New.keeps;
+            is_taken = O.New.is_taken;
+            is_over = O.New.is_over;
           };
         })
-        (record { follows = O.follows files.now; content = O.Followed.content }) asked.entry) }
+        (record {
+          follows = O.follows files.now;
+          content = O.Followed.content;
+          is_all = O.Followed.is_all;
+        }) asked.entry) }
 {
     let Ok(hasher) = RandomState::new(rt) else {
         return Err(CompactProblem::from(Problem::Random));
@@ -167,6 +188,10 @@ fn follow_opened<
       content = G.content;
       may_stand = N.may_stand;
       is_true = N.is_true;
+      is_all = G.is_all;
+      keeps = N.keeps;
+      is_taken = N.is_taken;
+      is_over = N.is_over;
     })
         asked.entry opened
         (outcome_of result
@@ -206,8 +231,11 @@ fn begin_to_follow<'a, F: Read + Drop, G: Followed, N: NewName>(
         → HasSince first (G.content followed.old) → IsNewJournal N.File.seen N.File.may_leave
         N.File.is_true asked.entry.before first (G.content followed.new) journal) }
     ensures stands { (found : Option (List ℕ)) → N.may_stand name.new found → N.may_stand name.old found }
+    ensures over { N.is_over name.new → N.is_over name.old }
+    ensures free { OnOk result (N.keeps name.new → N.is_taken name.old → ⊥) }
     ensures err { IfErr result (λ problem. (error : Error)
         × IsBeginFault F.remaining readings (G.content followed.old) (G.content followed.new) error
+        × (N.keeps name.new → N.is_taken name.old → IsOfNew error)
         × IsProblemOf asked.entry.old.now asked.entry.new.now error problem) }
 {
     match begin_journal(alloc, readings, followed, asked.before, hasher, name) {
@@ -241,6 +269,9 @@ fn follow_to_end<'a, R: Wait, G: Followed, N: NewName>(
         → N.is_true name.new → (found : Option (List ℕ)) → N.may_stand name.new found
         → N.may_stand name.old found ⊎ ((last : List ℕ) × (G.content followed.new ≡ Some last)
         × StandsWhole (IsFollowed from first last) found) }
+    ensures all { OnOk result (G.is_all followed.new) }
+    ensures over { N.keeps name.new → N.is_over name.new → N.is_over name.old }
+    ensures kept { N.keeps name.new → N.keeps name.old }
 {
     match end_journal(rt, alloc, journal, followed, name) {
         Ok(totals) => Ok(totals),

@@ -111,9 +111,16 @@ pub fn run<
         names = O.names_file files.now;
         may_stand = O.New.may_stand;
         is_true = O.New.is_true;
+        keeps = O.New.keeps;
+        is_taken = O.New.is_taken;
+        is_over = O.New.is_over;
       };
     })
-        (record { follows = O.follows files.now; content = O.Followed.content })
+        (record {
+          follows = O.follows files.now;
+          content = O.Followed.content;
+          is_all = O.Followed.is_all;
+        })
         (record { listens = O.listens files.now; opens_journal = O.opens_journal files.now })
         (record { bytes = I.remaining; reader = input }) (map S.text words.now)
         (outcome_of result
@@ -205,9 +212,16 @@ fn carry_out<
         names = O.names_file files.now;
         may_stand = O.New.may_stand;
         is_true = O.New.is_true;
+        keeps = O.New.keeps;
+        is_taken = O.New.is_taken;
+        is_over = O.New.is_over;
       };
     })
-        (record { follows = O.follows files.now; content = O.Followed.content })
+        (record {
+          follows = O.follows files.now;
+          content = O.Followed.content;
+          is_all = O.Followed.is_all;
+        })
         (record { listens = O.listens files.now; opens_journal = O.opens_journal files.now })
         (record { bytes = I.remaining; reader = input }) command.entry
         (outcome_of result
@@ -470,6 +484,9 @@ fn compact_asked<
         names = O.names_file files.now;
         may_stand = O.New.may_stand;
         is_true = O.New.is_true;
+        keeps = O.New.keeps;
+        is_taken = O.New.is_taken;
+        is_over = O.New.is_over;
       };
     })
         (option_map (λ named. named.now) table.entry)
@@ -483,9 +500,16 @@ fn compact_asked<
         names = O.names_file files.now;
         may_stand = O.New.may_stand;
         is_true = O.New.is_true;
+        keeps = O.New.keeps;
+        is_taken = O.New.is_taken;
+        is_over = O.New.is_over;
       };
     })
-        (record { follows = O.follows files.now; content = O.Followed.content })
+        (record {
+          follows = O.follows files.now;
+          content = O.Followed.content;
+          is_all = O.Followed.is_all;
+        })
         (option_map (λ named. named.now) table.entry)
         (record { old = old.entry; new = new.entry; before = before })
         (outcome_of result
@@ -522,9 +546,16 @@ fn follow_judged<
         names = O.names_file files.now;
         may_stand = O.New.may_stand;
         is_true = O.New.is_true;
+        keeps = O.New.keeps;
+        is_taken = O.New.is_taken;
+        is_over = O.New.is_over;
       };
     })
-        (record { follows = O.follows files.now; content = O.Followed.content })
+        (record {
+          follows = O.follows files.now;
+          content = O.Followed.content;
+          is_all = O.Followed.is_all;
+        })
         (option_map (λ named. named.now) table.entry) asked.entry
         (outcome_of result
         (change_of (W.contents out.old) (W.contents out.new))
@@ -555,6 +586,9 @@ fn compact_cut<R: RandomSource, O: Opens + MakesFiles, W: Write, E: Write>(
         names = O.names_file files.now;
         may_stand = O.New.may_stand;
         is_true = O.New.is_true;
+        keeps = O.New.keeps;
+        is_taken = O.New.is_taken;
+        is_over = O.New.is_over;
       };
     })
         (option_map (λ named. named.now) table.entry)
@@ -600,6 +634,9 @@ fn compact_judged<R: RandomSource, O: Opens + MakesFiles, W: Write, E: Write>(
         names = O.names_file files.now;
         may_stand = O.New.may_stand;
         is_true = O.New.is_true;
+        keeps = O.New.keeps;
+        is_taken = O.New.is_taken;
+        is_over = O.New.is_over;
       };
     })
         (option_map (λ named. named.now) table.entry) asked.entry

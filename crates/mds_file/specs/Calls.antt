@@ -1,12 +1,12 @@
 -- The calls that were made of a file, with their answers, and a file that keeps what it is given:
 -- what it has after them, and what a crash may leave. Of some calls the newest comes first.
 use Rattle.std.specs.Prelude.{◌≡◌, ◌≢◌, ◌⊎◌, ℕ, ◌+◌, ◌≤◌, ◌==◌, Bool, true, false, cond}
-use Rattle.std.specs.Prelude.{List, [], ◌∷◌, ◌++◌, length, take, drop, slice_index, refl}
-use Rattle.std.specs.Coded.{Coded, code_by, coded×, coded_ℕ, coded_bool, coded_list}
+use Rattle.std.specs.Prelude.{List, [], ◌∷◌, ◌++◌, length, take, drop, slice_index}
 use Rattle.std.proofs.Common.{inl, inr, le_refl, le_trans, le-add_right, lt_irrefl, lt_of_lt_of_le}
 use Rattle.std.proofs.Math.Numerals.{lt-add-one}
 use Rattle.mds_journal.specs.Device.{Torn, TornFrom}
 use Rattle.mds_journal.specs.Device.{Cut as IsCut}
+use Rattle.mds_file.specs.Record.{Entry}
 
 -- a call, and first of all whether it was done
 pub data Call : Type 0 where
@@ -172,33 +172,7 @@ call_of numbers bytes =
     (cond (slice_index numbers 0 == 2) (Write done place bytes)
     (cond (slice_index numbers 0 == 3) (Cut done place) (Sync done))))
 
--- how the logic stores a call
-abbrev Stored : Type 0
-Stored = ℕ × (Bool × (ℕ × (ℕ × List ℕ)))
-
-abbrev call_stored : Call → Stored
-call_stored (Measure done size) = (0, (done, (size, (0, []))))
-call_stored (Read done at asked bytes) = (1, (done, (at, (asked, bytes))))
-call_stored (Write done at bytes) = (2, (done, (at, (0, bytes))))
-call_stored (Cut done size) = (3, (done, (size, (0, []))))
-call_stored (Sync done) = (4, (done, (0, (0, []))))
-
-abbrev call_from_stored : Stored → Call
-call_from_stored s =
-    cond (s.0 == 0) (Measure s.1.0 s.1.1.0) (cond (s.0 == 1)
-    (Read s.1.0 s.1.1.0 s.1.1.1.0 s.1.1.1.1)
-    (cond (s.0 == 2) (Write s.1.0 s.1.1.0 s.1.1.1.1)
-    (cond (s.0 == 3) (Cut s.1.0 s.1.1.0) (Sync s.1.0))))
-
-pub call_from_stored-call_stored : (call : Call) → call_from_stored (call_stored call) ≡ call
-call_from_stored-call_stored (Measure done size) = refl
-call_from_stored-call_stored (Read done at asked bytes) = refl
-call_from_stored-call_stored (Write done at bytes) = refl
-call_from_stored-call_stored (Cut done size) = refl
-call_from_stored-call_stored (Sync done) = refl
-
-abbrev pub calls_code : Coded (List Call)
-calls_code =
-    coded_list (code_by Stored
-    (coded× coded_ℕ (coded× coded_bool (coded× coded_ℕ (coded× coded_ℕ (coded_list coded_ℕ)))))
-    call_stored call_from_stored call_from_stored-call_stored)
+-- the calls that a record holds
+abbrev pub calls_in : List Entry → List Call
+calls_in [] = []
+calls_in (entry ∷ earlier) = call_of entry.0 entry.1 ∷ calls_in earlier

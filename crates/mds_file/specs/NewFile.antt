@@ -1,7 +1,8 @@
 -- What may stand under the name of a new file.
-use Rattle.std.specs.Prelude.{◌≡◌, ◌⊎◌, ℕ, List, Bool, false, Option, Some, None}
+use Rattle.std.specs.Prelude.{◌≡◌, ◌⊎◌, ℕ, List, length, Bool, true, false, Option, Some, None}
 use Rattle.mds_file.specs.Calls.{AreAnswers, Outcome}
 use Rattle.mds_file.specs.DiskFile.{calls_of}
+use Rattle.mds_file.specs.NameCalls.{NameCall, AreNameAnswers, IsOver, name_calls_in}
 use Rattle.mds_file.specs.declared.disk_file.DiskFile.{DiskFile}
 use Rattle.mds_file.specs.declared.new_file.NewFile.{NewFile}
 
@@ -28,3 +29,19 @@ AreAnswersOf first left (Some file) = AreAnswers first left (calls_of file)
 
 abbrev pub IsNamedTruly : {O : Type 0} → List ℕ → (ℕ → List ℕ) → NewFile O → Type 0
 IsNamedTruly first left name = AreAnswersOf first left name.named
+
+-- the calls that were made of the name
+abbrev pub name_calls_of : {O : Type 0} → NewFile O → List NameCall
+name_calls_of name = name_calls_in name.calls.made
+
+-- what these answered is what a system answers that keeps what has a name
+abbrev pub IsKeptTruly : {O : Type 0} → (ℕ → Bool) → NewFile O → Type 0
+IsKeptTruly taken name = AreNameAnswers taken (name_calls_of name)
+
+-- something has the name by now
+abbrev pub IsTaken : {O : Type 0} → (ℕ → Bool) → NewFile O → Type 0
+IsTaken taken name = taken (length (name_calls_of name)) ≡ true
+
+-- the name was given to a file in place of what had it
+abbrev pub WentOver : {O : Type 0} → (ℕ → Bool) → NewFile O → Type 0
+WentOver taken name = IsOver taken (name_calls_of name)

@@ -1,5 +1,5 @@
 //! A file of the system. Each method makes one call of it, and then notes that call with its answer.
-ghost use Rattle.std.specs.Prelude.{◌≡◌, ◌≤◌, ℕ, List, [], length, IfOk};
+ghost use Rattle.std.specs.Prelude.{◌≡◌, ◌≤◌, ℕ, Bool, false, List, [], length, IfOk};
 ghost use Rattle.mds_file.specs.Calls.{AreAnswers, IsSynced, LeftSince, Outcome};
 ghost use Rattle.mds_file.specs.Calls.{contents, failures, moment_of, left_now, left_last};
 
@@ -29,20 +29,25 @@ const DONE: u64 = 1;
 /// How often a read that is interrupted is tried.
 const MAX_TRIES: u32 = 5_000_000;
 
-/// What a file had when it was opened, and what its calls that failed have left. No code can read it. So what is proved of
-/// a file holds whatever these are.
+/// What a file had when it was opened, what its calls that failed have left, and what had the name of a new file. No code can
+/// read it. So what is proved of a file holds whatever these are.
 pub trait Origin {
     /// The bytes when it was opened, all of them on the disk.
     ghost first: { List ℕ };
 
     /// The bytes behind a write or a cut that failed, by the number of calls before it.
     ghost left: { ℕ → List ℕ };
+
+    /// Whether something has the name of a new file, by the number of calls of the name before.
+    ghost taken: { ℕ → Bool };
 }
 
 impl Origin for Brand {
     ghost first = { [] };
 
     ghost left = { λ _. [] };
+
+    ghost taken = { λ _. false };
 }
 
 /// An open file of the system.
@@ -68,23 +73,25 @@ impl<O: Origin> DiskFile<O> {
 }
 
 impl<O: Origin> Device for DiskFile<O> {
-    ghost seen = { λ f. contents O.first O.left f.calls.made };
+    ghost use Rattle.mds_file.specs.DiskFile.{calls_of};
 
-    ghost may_leave = { λ f. Outcome O.first O.left f.calls.made };
+    ghost seen = { λ f. contents O.first O.left (calls_of f) };
 
-    ghost moment = { λ f. moment_of f.calls.made };
+    ghost may_leave = { λ f. Outcome O.first O.left (calls_of f) };
 
-    ghost left_since = { λ f. LeftSince O.first O.left f.calls.made };
+    ghost moment = { λ f. moment_of (calls_of f) };
 
-    ghost faults = { λ f. failures f.calls.made };
+    ghost left_since = { λ f. LeftSince O.first O.left (calls_of f) };
 
-    ghost may_be_used = { λ f. IsSynced f.calls.made };
+    ghost faults = { λ f. failures (calls_of f) };
 
-    ghost is_true = { λ f. AreAnswers O.first O.left f.calls.made };
+    ghost may_be_used = { λ f. IsSynced (calls_of f) };
 
-    ghost counts_now = { λ f t c le now. left_now O.first O.left f.calls.made t c le now };
+    ghost is_true = { λ f. AreAnswers O.first O.left (calls_of f) };
 
-    ghost only_now = { λ f c was. left_last O.first O.left f.calls.made c was };
+    ghost counts_now = { λ f t c le now. left_now O.first O.left (calls_of f) t c le now };
+
+    ghost only_now = { λ f c was. left_last O.first O.left (calls_of f) c was };
 
     fn size(&mut self) -> Result<usize, DeviceError> {
         match self.file.metadata() {

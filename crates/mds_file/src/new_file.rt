@@ -2,10 +2,12 @@
 //!
 //! It is written under another name beside its own, that with `.part` behind it. Then it gets its name, by a call that never
 //! puts it over a file, and loses the other one. So a crash leaves nothing under its name, or all of it.
-ghost use Rattle.std.specs.Prelude.{◌≡◌, ◌⊎◌, ℕ, List, Option, None, IfOk, OnOk};
-ghost use Rattle.mds_file.specs.NewFile.{HasName, MayStand, IsNamedTruly};
+ghost use Rattle.std.specs.Prelude.{◌≡◌, ◌≢◌, ◌⊎◌, ◌∷◌, [], ℕ, Bool, List, Option, None, IfOk, IfErr, OnOk};
+ghost use Rattle.mds_file.specs.NameCalls.{Answer, Free, IsOver, Link, Taken, name_calls_in};
+ghost use Rattle.mds_file.specs.NewFile.{HasName, IsKeptTruly, IsNamedTruly, IsTaken, MayStand, WentOver, name_calls_of};
 
 use crate::lock::{above_streams, may_be_opened, stands_at, sync_folder};
+use crate::record::Record;
 use crate::{DiskFile, Origin};
 use mds_journal::{Device, DeviceError};
 use std::alloc::{AllocError, Global};
@@ -14,6 +16,18 @@ use std::io::{self, ErrorKind};
 
 /// What stands behind a new file's name as long as it isn't whole.
 const PART: &str = ".part";
+
+/// Which call was made of a name, in a record.
+const LOOK: u64 = 0;
+
+const LINK: u64 = 1;
+
+/// What was answered.
+const FREE: u64 = 0;
+
+const TAKEN: u64 = 1;
+
+const FAILED: u64 = 2;
 
 /// Why there is no new file.
 #[derive(Clone, Copy, Debug, PartialEq, Eq)]
@@ -46,9 +60,12 @@ impl From<DeviceError> for NewFileFault {
 }
 
 impl From<io::Error> for NewFileFault {
+    ghost use Rattle.mds_file.specs.declared.new_file.NewFileFault.TheVariants.{IsThere};
+
+    ghost from_gives = { λ _ fault. fault ≢ IsThere };
+
     fn from(error: io::Error) -> NewFileFault {
         match error.kind() {
-            ErrorKind::AlreadyExists => NewFileFault::IsThere,
             ErrorKind::OutOfMemory => NewFileFault::Memory,
             _ => NewFileFault::CannotWrite,
         }
@@ -67,24 +84,39 @@ impl From<TryLockError> for NewFileFault {
 /// The name of a file that is to be made.
 ///
 /// The clauses on what may stand under it hold as long as all answers of the file were those of a disk that keeps what it is
-/// given: `is_true` says so. It's the caller's to see that nobody else puts a file there.
+/// given: `is_true` says so. Those on what has it hold as long as all answers of the name were those of a system that keeps that:
+/// `keeps` says so. Others may put something there until it is given; from then on it's the caller's to see that nobody does.
 pub trait NewName {
     /// The file before it has the name.
     type File: Device + Drop;
 
-    /// What may stand under the name where a crash comes at whichever moment so far, or none does: nothing, or a file with
-    /// these bytes.
+    /// What may stand under the name where a crash comes at whichever moment so far, or none does: nothing of this process, or its
+    /// file with these bytes.
     ghost may_stand: { Self → Option (List ℕ) → Type 0 };
 
     /// All answers of the file that was given the name were those of such a disk.
     ghost is_true: { Self → Type 0 };
+
+    /// All answers of the name were those of such a system.
+    ghost keeps: { Self → Type 0 };
+
+    /// Something has the name by the next call of it.
+    ghost is_taken: { Self → Type 0 };
+
+    /// The name was given to a file in place of what had it.
+    ghost is_over: { Self → Type 0 };
 
     /// Sees that nothing stands under the name.
     ///
     /// # Errors
     ///
     /// `IsThere` where something does; `CannotWrite` where that isn't known; `Memory`.
-    fn is_free(&self) -> Result<(), NewFileFault>;
+    fn is_free(&mut self) -> Result<(), NewFileFault>
+        ensures free { OnOk result (keeps self.new → is_taken self.old → ⊥) }
+        ensures there { IfErr result (λ fault. fault ≡ NewFileFault.IsThere → keeps self.new → is_taken self.old) }
+        ensures stands { (found : Option (List ℕ)) → may_stand self.new found → may_stand self.old found }
+        ensures over { is_over self.new → is_over self.old }
+        ensures kept { keeps self.new → keeps self.old };
 
     /// Makes the file, under its other name. What an earlier process left there goes.
     ///
@@ -93,9 +125,11 @@ pub trait NewName {
     /// `CannotWrite` where it can't be made, or another process makes it; `Memory`.
     fn draft(&mut self) -> Result<Self::File, NewFileFault>
         ensures usable { IfOk result Self.File.may_be_used }
-        ensures stands { (found : Option (List ℕ)) → may_stand self.new found → may_stand self.old found };
+        ensures stands { (found : Option (List ℕ)) → may_stand self.new found → may_stand self.old found }
+        ensures over { is_over self.new → is_over self.old }
+        ensures kept { keeps self.new → keeps self.old };
 
-    /// Gives the file its name, which is on the disk then. It has no other one afterwards.
+    /// Gives the file its name, which is on the disk then. It has no other one afterwards. Nothing that has the name loses it.
     ///
     /// # Errors
     ///
@@ -106,11 +140,16 @@ pub trait NewName {
             → may_stand self.old found ⊎ HasName (Self.File.may_leave file) found }
         ensures done { OnOk result (is_true self.new → (found : Option (List ℕ))
             → may_stand self.new found → HasName (Self.File.may_leave file) found) }
-        ensures was_true { is_true self.new → Self.File.is_true file };
+        ensures there { IfErr result (λ fault. fault ≡ NewFileFault.IsThere → keeps self.new → is_taken self.old) }
+        ensures over { keeps self.new → is_over self.new → is_over self.old }
+        ensures was_true { is_true self.new → Self.File.is_true file }
+        ensures kept { keeps self.new → keeps self.old };
 
     /// Takes the file away.
     fn discard(&mut self, file: Self::File)
-        ensures stands { (found : Option (List ℕ)) → may_stand self.new found → may_stand self.old found };
+        ensures stands { (found : Option (List ℕ)) → may_stand self.new found → may_stand self.old found }
+        ensures over { is_over self.new → is_over self.old }
+        ensures kept { keeps self.new → keeps self.old };
 }
 
 /// The name of a file of the system that is to be made.
@@ -121,6 +160,7 @@ pub struct NewFile<O: Origin> {
     part: String,
     named: Option<DiskFile<O>>,
     is_kept: bool,
+    calls: Record,
 }
 
 impl<O: Origin> NewFile<O> {
@@ -130,8 +170,9 @@ impl<O: Origin> NewFile<O> {
     ///
     /// `AllocError` where there is no memory for the path.
     pub fn at(rt: HostRuntime, alloc: Global, path: &str) -> Result<NewFile<O>, AllocError>
-        ensures { IfOk result (λ name. (first : List ℕ) (left : ℕ → List ℕ)
+        ensures stands { IfOk result (λ name. (first : List ℕ) (left : ℕ → List ℕ)
             (found : Option (List ℕ)) → MayStand first left name found → found ≡ None) }
+        ensures over { IfOk result (λ name. (taken : ℕ → Bool) → WentOver taken name → ⊥) }
     {
         let mut own = String::new(alloc);
         own.push_str(path)?;
@@ -145,6 +186,7 @@ impl<O: Origin> NewFile<O> {
             part,
             named: None,
             is_kept: false,
+            calls: Record::new(),
         })
     }
 }
@@ -156,11 +198,26 @@ impl<O: Origin> NewName for NewFile<O> {
 
     ghost is_true = { λ name. IsNamedTruly O.first O.left name };
 
-    fn is_free(&self) -> Result<(), NewFileFault> {
+    ghost keeps = { λ name. IsKeptTruly O.taken name };
+
+    ghost is_taken = { λ name. IsTaken O.taken name };
+
+    ghost is_over = { λ name. WentOver O.taken name };
+
+    fn is_free(&mut self) -> Result<(), NewFileFault> {
         match fs::symlink_metadata(&self.rt, self.path.as_str()) {
-            Ok(_) => Err(NewFileFault::IsThere),
-            Err(error) if error.kind() == ErrorKind::NotFound => Ok(()),
-            Err(error) => Err(NewFileFault::from(error)),
+            Ok(_) => {
+                self.calls.note(&[LOOK, TAKEN], &[]);
+                Err(NewFileFault::IsThere)
+            }
+            Err(error) if error.kind() == ErrorKind::NotFound => {
+                self.calls.note(&[LOOK, FREE], &[]);
+                Ok(())
+            }
+            Err(error) => {
+                self.calls.note(&[LOOK, FAILED], &[]);
+                Err(NewFileFault::from(error))
+            }
         }
     }
 
@@ -172,20 +229,46 @@ impl<O: Origin> NewName for NewFile<O> {
     fn link(&mut self, file: DiskFile<O>) -> Result<(), NewFileFault> {
         // Nobody writes to it any more, and it stays locked until the process ends.
         self.named = Some(file);
-        let linked = fs::hard_link(&self.rt, self.part.as_str(), self.path.as_str());
-        let on_disk = match linked {
-            Ok(()) => sync_folder(&self.rt, self.path.as_str()),
-            Err(error) => Err(error),
-        };
+        let (part, path) = (self.part.as_str(), self.path.as_str());
+        let given = give_name(&self.rt, part, path, &mut self.calls);
         // It may stay where that fails: the next process that makes such a file takes it away.
         let _ = fs::remove_file(&self.rt, self.part.as_str());
-        on_disk?;
+        given?;
         self.is_kept = true;
         Ok(())
     }
 
     fn discard(&mut self, _file: DiskFile<O>) {
         let _ = fs::remove_file(&self.rt, self.part.as_str());
+    }
+}
+
+/// Gives a file another name, that of a path, by a call that never puts it over what has that, and notes the call. The name is on
+/// the disk then.
+fn give_name(
+    rt: &HostRuntime,
+    part: &str,
+    path: &str,
+    calls: &mut Record,
+) -> Result<(), NewFileFault>
+    ensures given { OnOk result (name_calls_in calls.new.made ≡ Link Free ∷ name_calls_in calls.old.made) }
+    ensures why { IfErr result (λ fault. (answer : Answer)
+        × (name_calls_in calls.new.made ≡ Link answer ∷ name_calls_in calls.old.made)
+        × (fault ≡ NewFileFault.IsThere → answer ≡ Taken)) }
+{
+    match fs::hard_link(rt, part, path) {
+        Ok(()) => {
+            calls.note(&[LINK, FREE], &[]);
+            Ok(sync_folder(rt, path)?)
+        }
+        Err(error) if error.kind() == ErrorKind::AlreadyExists => {
+            calls.note(&[LINK, TAKEN], &[]);
+            Err(NewFileFault::IsThere)
+        }
+        Err(error) => {
+            calls.note(&[LINK, FAILED], &[]);
+            Err(NewFileFault::from(error))
+        }
     }
 }
 

@@ -1,14 +1,14 @@
 //! A list of calls that only clauses read.
 ghost use Rattle.std.specs.Prelude.{◌≡◌, List, [], ◌∷◌};
-ghost use Rattle.mds_file.specs.Calls.{Call, calls_code, call_of};
+ghost use Rattle.mds_file.specs.Record.{Entry, entries_code};
 
 use std::marker::{Model, PhantomData};
 
-/// The calls that were made of a file, each with its answer, the newest first. It takes no memory.
+/// The calls that were made of a file or of a name, each with its answer, the newest first. It takes no memory.
 #[derive(Drop)]
 pub struct Record {
     marker: PhantomData<u8>,
-    pub ghost made: { List Call } by { calls_code },
+    pub ghost made: { List Entry } by { entries_code },
 }
 
 impl Model for Record {
@@ -26,9 +26,8 @@ impl Record {
         }
     }
 
-    /// Adds a call. The numbers say which it was, whether it was done, an offset or a size, and how many bytes were asked
-    /// for.
+    /// Adds a call: numbers that say which it was and how it ended, and its bytes.
     pub(crate) fn note(&mut self, _numbers: &[u64], _bytes: &[u8])
-        ensures { self.new.made ≡ call_of _numbers.now _bytes.now ∷ self.old.made }
+        ensures { self.new.made ≡ (_numbers.now, _bytes.now) ∷ self.old.made }
     {}
 }

@@ -44,6 +44,12 @@ IsWriteFault known count (Old error) = IsCopyFault count known error
 IsWriteFault known count (New fault) = Unit {0}
 IsWriteFault known count NotThere = ⊥
 
+-- there is no new file, whatever the old one tells
+abbrev pub IsOfNew : CompactError → Type 0
+IsOfNew (Old error) = ⊥
+IsOfNew (New fault) = Unit {0}
+IsOfNew NotThere = ⊥
+
 -- so many requests can't be read a second, a third or a fourth time for this
 abbrev pub IsFaultAgain : {R : Type 0} → (R → Option (List ℕ)) → Readings R → ℕ → LinesError
     → Type 0

@@ -4,7 +4,7 @@ ghost use Rattle.mds_core.specs.declared.request.Request.{Request as Requested};
 ghost use Rattle.mds_compact.specs.Cutting.{IsCuttingOf};
 ghost use Rattle.mds_retention.specs.Copying.{HasKept, IsCompactedJournal, cut_totals};
 ghost use Rattle.mds_retention.specs.Draft.{IsWritten};
-ghost use Rattle.mds_retention.specs.Compacting.{AreReadings, IsCompactFault, IsCompactedTo, IsCutFault, IsWriteFault, StandsWhole};
+ghost use Rattle.mds_retention.specs.Compacting.{AreReadings, IsCompactFault, IsCompactedTo, IsCutFault, IsOfNew, IsWriteFault, StandsWhole};
 
 use crate::copying::kept_lines;
 use crate::draft::Draft;
@@ -72,6 +72,10 @@ pub fn compact<R: Read + Drop, N: NewName>(
         → (found : Option (List ℕ)) → N.may_stand name.new found
         → N.may_stand name.old found ⊎ StandsWhole (IsCompactedJournal from cuts.now first) found }
     ensures fault { IfErr result (IsCompactFault R.remaining old cuts.now) }
+    // Nothing that had the name at any moment lost it; and where something has it from the start, that is told first.
+    ensures over { N.keeps name.new → N.is_over name.new → N.is_over name.old }
+    ensures free { OnOk result (N.keeps name.new → N.is_taken name.old → ⊥) }
+    ensures order { IfErr result (λ error. N.keeps name.new → N.is_taken name.old → IsOfNew error) }
 {
     name.is_free()?;
     let cutting = Cutting::open(alloc, cuts, hasher)?;
@@ -120,6 +124,8 @@ fn write_new<R: Read + Drop, N: NewName>(
     ensures crash { N.is_true name.new → (found : Option (List ℕ)) → N.may_stand name.new found
         → N.may_stand name.old found ⊎ StandsWhole (HasKept (R.remaining reader) marks.now) found }
     ensures fault { IfErr result (IsWriteFault (R.remaining reader) (length marks.now)) }
+    ensures over { N.keeps name.new → N.is_over name.new → N.is_over name.old }
+    ensures kept { N.keeps name.new → N.keeps name.old }
 {
     let file = name.draft()?;
     let mut draft = Draft::new(alloc, file);

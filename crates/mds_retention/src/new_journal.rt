@@ -4,7 +4,7 @@ ghost use Rattle.mds_core.specs.declared.request.Request.{Request as Requested};
 ghost use Rattle.mds_compact.specs.Compaction.{kept_of};
 ghost use Rattle.mds_compact.specs.Cutting.{IsCutBy};
 ghost use Rattle.mds_retention.specs.Draft.{IsWritten};
-ghost use Rattle.mds_retention.specs.Compacting.{AreReadings, IsReadAgain, IsWriteFault, StandsWhole};
+ghost use Rattle.mds_retention.specs.Compacting.{AreReadings, IsOfNew, IsReadAgain, IsWriteFault, StandsWhole};
 ghost use Rattle.mds_retention.specs.Copying.{AreTotalsOf, IsMarkedBy};
 ghost use Rattle.mds_retention.specs.Telling.{IsTaken};
 ghost use Rattle.mds_retention.specs.NewJournal.{HasSince, IsBeginFault, IsEndFault, IsFollowed, IsFollowedTo, IsMarksFault, IsNewJournal, MayBeEnded};
@@ -53,6 +53,11 @@ pub fn begin_journal<R: Read + Drop, F: Followed, N: NewName>(
     ensures stands { (found : Option (List ℕ)) → N.may_stand name.new found → N.may_stand name.old found }
     ensures fault { IfErr result
         (IsBeginFault R.remaining old (F.content followed.old) (F.content followed.new)) }
+    ensures over { N.is_over name.new → N.is_over name.old }
+    ensures kept { N.keeps name.new → N.keeps name.old }
+    // Where something has the name, that is told first.
+    ensures free { OnOk result (N.keeps name.new → N.is_taken name.old → ⊥) }
+    ensures order { IfErr result (λ error. N.keeps name.new → N.is_taken name.old → IsOfNew error) }
 {
     name.is_free()?;
     let marked = marked_by(alloc, old.first, old.second, old.third, from, hasher)?;
@@ -163,6 +168,11 @@ pub fn end_journal<R: Wait, F: Followed, N: NewName>(
     ensures fault { IfErr result (λ error. (from : ℕ) (first : List ℕ)
         → IsNewJournal N.File.seen N.File.may_leave N.File.is_true from first (F.content followed.old) journal
         → IsEndFault (F.content followed.new) error) }
+    // The last look came once no other process had the old journal: that is all that it ever has.
+    ensures all { OnOk result (F.is_all followed.new) }
+    // Nothing that had the name lost it.
+    ensures over { N.keeps name.new → N.is_over name.new → N.is_over name.old }
+    ensures kept { N.keeps name.new → N.keeps name.old }
 {
     let mut draft = journal.draft;
     match read_to_end(rt, alloc, followed, journal.place, &mut draft) {
@@ -196,6 +206,7 @@ fn read_to_end<R: Wait, F: Followed, D: Device + Drop>(
         → IsNewJournal D.seen D.may_leave D.is_true from first (F.content followed.old)
         (record { draft = draft.old; place = start })
         → IsEndFault (F.content followed.new) error) }
+    ensures all { OnOk result (F.is_all followed.new) }
 {
     let mut place = start;
     for _ in rt.forever() {
@@ -212,7 +223,8 @@ fn read_to_end<R: Wait, F: Followed, D: Device + Drop>(
 
 /// Gives the new journal up.
 pub fn drop_journal<N: NewName>(journal: NewJournal<N::File>, name: &mut N)
-    ensures { (found : Option (List ℕ)) → N.may_stand name.new found → N.may_stand name.old found }
+    ensures over { N.is_over name.new → N.is_over name.old }
+    ensures stands { (found : Option (List ℕ)) → N.may_stand name.new found → N.may_stand name.old found }
 {
     name.discard(journal.draft.into_file());
 }

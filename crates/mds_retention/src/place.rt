@@ -97,6 +97,7 @@ pub(crate) fn read_on<F: Followed, D: Device + Drop>(
     ensures draft { OnOk result (IsDraft D.seen D.may_leave D.is_true draft.new) }
     ensures within { IfOk result (λ next. next.totals.kept ≤ next.totals.events) }
     ensures grows { Grows (F.content followed.old) (F.content followed.new) }
+    ensures all { OnOk result (F.left followed.old → F.is_all followed.new) }
     ensures read { IfOk result (λ next. (texts : List (List ℕ)) (old new : List Requested)
         → Begins texts (F.content followed.new) → IsPlaceOf texts old new start
         → (on : HasReadOn (F.content followed.new) texts old new next)

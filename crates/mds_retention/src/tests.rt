@@ -144,7 +144,13 @@ impl NewName for MemoryName {
 
     ghost is_true = { λ _. ⊥ };
 
-    fn is_free(&self) -> Result<(), NewFileFault> {
+    ghost keeps = { λ _. ⊥ };
+
+    ghost is_taken = { λ _. ⊥ };
+
+    ghost is_over = { λ _. ⊥ };
+
+    fn is_free(&mut self) -> Result<(), NewFileFault> {
         if self.is_taken {
             return Err(NewFileFault::IsThere);
         }
@@ -414,11 +420,15 @@ struct Growing<'a> {
 }
 
 impl<'a> Followed for Growing<'a> {
-    ghost use Rattle.std.specs.Prelude.{None};
+    ghost use Rattle.std.specs.Prelude.{None, ⊤};
 
     type Rest = &'a [u8];
 
     ghost content = { λ _. None };
+
+    ghost left = { λ _. ⊤ };
+
+    ghost is_all = { λ _. ⊤ };
 
     fn rest(&mut self, from: usize) -> Result<&'a [u8], FileFault> {
         self.bytes

@@ -10,6 +10,7 @@ returns-in-Ok-compact-clause-ok g c =
       c.compact.new.name,
       c.in_ok-name.ensures.named,
       c.in-Ok-compact.ensures.made,
+      λ keeps. (c.in-Ok-compact.ensures.over keeps, c.in-Ok-compact.ensures.free keeps),
     )
 
 pub returns-clause-err : goal.returns-clause-err
@@ -25,6 +26,7 @@ returns-clause-err g c =
         c.compact.new.name,
         c.in_ok-name.ensures.named,
         c.in-Err.ensures.crash,
+        λ keeps. (c.in-Err.ensures.over keeps, c.in-Err.ensures.order keeps),
       ),
       c.problem_of.ensures,
     ))

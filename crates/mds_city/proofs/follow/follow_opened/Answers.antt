@@ -26,8 +26,14 @@ returns-in-Err g c =
           c.in-Err.problem,
           inr (
             why.0,
-            (c.begin_to_follow.new.followed, c.begin_to_follow.new.name, why.1, λ first known is found stands. inl (c.in-Err.ensures.stands found stands)),
-            why.2,
+            (
+              c.begin_to_follow.new.followed,
+              c.begin_to_follow.new.name,
+              why.1,
+              λ first known is found stands. inl (c.in-Err.ensures.stands found stands),
+              λ keeps. (c.in-Err.ensures.over, why.2 keeps),
+            ),
+            why.3,
           ),
           told.0,
           told.1,
@@ -60,7 +66,13 @@ returns-in-Ok-print_line g c =
       c.in_default.ensures.ok,
       inl (
         c.in-Ok-follow_to_end.totals,
-        (c.follow_to_end.new.followed, c.follow_to_end.new.name, λ first known is found stands. made c.args.asked.before first (begun first known.0 known.1) is found stands),
+        (
+          c.follow_to_end.new.followed,
+          c.follow_to_end.new.name,
+          λ first known is found stands. made c.args.asked.before first (begun first known.0 known.1) is found stands,
+          c.in-Ok-follow_to_end.ensures.all,
+          λ keeps. (λ over. c.in-Ok.ensures.over (c.in-Ok-follow_to_end.ensures.over keeps over), c.in-Ok.ensures.free (c.in-Ok-follow_to_end.ensures.kept keeps)),
+        ),
         refl,
         c.in-Ok-print_line.ensures.ok,
         Keeps-refl _,
@@ -81,7 +93,13 @@ returns-in-Ok-follow_to_end g c =
       c.in_default.ensures.ok,
       inr (inl (
         c.in-Ok-follow_to_end.totals,
-        (c.follow_to_end.new.followed, c.follow_to_end.new.name, λ first known is found stands. made c.args.asked.before first (begun first known.0 known.1) is found stands),
+        (
+          c.follow_to_end.new.followed,
+          c.follow_to_end.new.name,
+          λ first known is found stands. made c.args.asked.before first (begun first known.0 known.1) is found stands,
+          c.in-Ok-follow_to_end.ensures.all,
+          λ keeps. (λ over. c.in-Ok.ensures.over (c.in-Ok-follow_to_end.ensures.over keeps over), c.in-Ok.ensures.free (c.in-Ok-follow_to_end.ensures.kept keeps)),
+        ),
         c.in-Err-print_line-2.ensures.err,
         elim c.tell_journal_problem-in-Err-print_line-2.ensures [
           | inl told ↦
@@ -115,6 +133,10 @@ returns g c =
                   | inl was ↦ inl (c.in-Ok.ensures.stands found was)
                   | inr whole ↦ inr whole
                 ],
+                λ keeps. (
+                  λ over. c.in-Ok.ensures.over (c.in-Err-follow_to_end.ensures.over keeps over),
+                  λ taken. absurd (c.in-Ok.ensures.free (c.in-Err-follow_to_end.ensures.kept keeps) taken),
+                ),
               ),
               why.2,
             ),

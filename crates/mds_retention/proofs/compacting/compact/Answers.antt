@@ -67,7 +67,7 @@ returns-in_err-write_new-clause-crash g c = λ first readings is found stands.
     let mark = subst Mark c.deref-2.ensures.value c.in_ok-marked.ensures.marks in
     let Whole : List Bool → Type 0 = λ marks. StandsWhole (HasKept (known c.args.old.fourth) marks) found in
     elim (c.in_err-write_new.ensures.crash is found stands) [
-      | inl was ↦ inl was
+      | inl was ↦ inl (c.in_ok-is_free.ensures.stands found was)
       | inr whole ↦
           let made = compacted_to known c.args.old first c.args.from cuts survey.0 c.in_ok-surveyed.surveyed thinning marked.marks.items (record { cuts = c.in_ok-cut.cut; totals = marked.totals }) found
           readings survey.1 surveyed (λ bytes is_known begins. thin bytes survey.0 is_known begins survey.2 surveyed.survey)
