@@ -15,11 +15,11 @@ returns-in-Replay g c =
     let files : FileHost _ = record { opens = g.O.Opens.opens c.args.files.now; bytes = g.O.File.Read.remaining } in
     let all : HostFiles _ _ = record {
       opener = files;
-      maker = record { names = g.O.MakesFiles.names_file c.args.files.now; may_stand = g.O.New.NewName.may_stand; is_true = g.O.New.NewName.is_true };
+      maker = record { names = g.O.MakesFiles.names_file c.args.files.now; may_stand = g.O.New.NewName.may_stand; is_true = g.O.New.NewName.is_true; keeps = g.O.New.NewName.keeps; is_taken = g.O.New.NewName.is_taken; is_over = g.O.New.NewName.is_over };
     } in
     let host : ServerHost _ _ = record { listens = g.O.Listens.listens c.args.files.now; opens_journal = g.O.OpensJournals.opens_journal c.args.files.now } in
     let input : StandardInput _ = record { bytes = g.I.Read.remaining; reader = c.args.input } in
-    let journals : FollowHost _ = record { follows = g.O.FollowsJournals.follows c.args.files.now; content = g.O.Followed.Followed.content } in
+    let journals : FollowHost _ = record { follows = g.O.FollowsJournals.follows c.args.files.now; content = g.O.Followed.Followed.content; is_all = g.O.Followed.Followed.is_all } in
     let outcome : Outcome = outcome_of c.replay_asked.result
     (change_of (g.W.Write.contents c.args.out.now) (g.W.Write.contents c.replay_asked.new.out))
     (change_of (g.E.Write.contents c.args.faults.now) (g.E.Write.contents c.replay_asked.new.faults)) in
@@ -35,11 +35,11 @@ returns-in-Vehicles g c =
     let files : FileHost _ = record { opens = g.O.Opens.opens c.args.files.now; bytes = g.O.File.Read.remaining } in
     let all : HostFiles _ _ = record {
       opener = files;
-      maker = record { names = g.O.MakesFiles.names_file c.args.files.now; may_stand = g.O.New.NewName.may_stand; is_true = g.O.New.NewName.is_true };
+      maker = record { names = g.O.MakesFiles.names_file c.args.files.now; may_stand = g.O.New.NewName.may_stand; is_true = g.O.New.NewName.is_true; keeps = g.O.New.NewName.keeps; is_taken = g.O.New.NewName.is_taken; is_over = g.O.New.NewName.is_over };
     } in
     let host : ServerHost _ _ = record { listens = g.O.Listens.listens c.args.files.now; opens_journal = g.O.OpensJournals.opens_journal c.args.files.now } in
     let input : StandardInput _ = record { bytes = g.I.Read.remaining; reader = c.args.input } in
-    let journals : FollowHost _ = record { follows = g.O.FollowsJournals.follows c.args.files.now; content = g.O.Followed.Followed.content } in
+    let journals : FollowHost _ = record { follows = g.O.FollowsJournals.follows c.args.files.now; content = g.O.Followed.Followed.content; is_all = g.O.Followed.Followed.is_all } in
     let outcome : Outcome = outcome_of c.list_vehicles.result
     (change_of (g.W.Write.contents c.args.out.now) (g.W.Write.contents c.list_vehicles.new.out))
     (change_of (g.E.Write.contents c.args.faults.now) (g.E.Write.contents c.list_vehicles.new.faults)) in
@@ -50,11 +50,11 @@ returns-in-Debug g c =
     let files : FileHost _ = record { opens = g.O.Opens.opens c.args.files.now; bytes = g.O.File.Read.remaining } in
     let all : HostFiles _ _ = record {
       opener = files;
-      maker = record { names = g.O.MakesFiles.names_file c.args.files.now; may_stand = g.O.New.NewName.may_stand; is_true = g.O.New.NewName.is_true };
+      maker = record { names = g.O.MakesFiles.names_file c.args.files.now; may_stand = g.O.New.NewName.may_stand; is_true = g.O.New.NewName.is_true; keeps = g.O.New.NewName.keeps; is_taken = g.O.New.NewName.is_taken; is_over = g.O.New.NewName.is_over };
     } in
     let host : ServerHost _ _ = record { listens = g.O.Listens.listens c.args.files.now; opens_journal = g.O.OpensJournals.opens_journal c.args.files.now } in
     let input : StandardInput _ = record { bytes = g.I.Read.remaining; reader = c.args.input } in
-    let journals : FollowHost _ = record { follows = g.O.FollowsJournals.follows c.args.files.now; content = g.O.Followed.Followed.content } in
+    let journals : FollowHost _ = record { follows = g.O.FollowsJournals.follows c.args.files.now; content = g.O.Followed.Followed.content; is_all = g.O.Followed.Followed.is_all } in
     let outcome : Outcome = outcome_of c.debug_file.result
     (change_of (g.W.Write.contents c.args.out.now) (g.W.Write.contents c.debug_file.new.out))
     (change_of (g.E.Write.contents c.args.faults.now) (g.E.Write.contents c.debug_file.new.faults)) in
@@ -65,11 +65,11 @@ returns-in-Compact g c =
     let files : FileHost _ = record { opens = g.O.Opens.opens c.args.files.now; bytes = g.O.File.Read.remaining } in
     let all : HostFiles _ _ = record {
       opener = files;
-      maker = record { names = g.O.MakesFiles.names_file c.args.files.now; may_stand = g.O.New.NewName.may_stand; is_true = g.O.New.NewName.is_true };
+      maker = record { names = g.O.MakesFiles.names_file c.args.files.now; may_stand = g.O.New.NewName.may_stand; is_true = g.O.New.NewName.is_true; keeps = g.O.New.NewName.keeps; is_taken = g.O.New.NewName.is_taken; is_over = g.O.New.NewName.is_over };
     } in
     let host : ServerHost _ _ = record { listens = g.O.Listens.listens c.args.files.now; opens_journal = g.O.OpensJournals.opens_journal c.args.files.now } in
     let input : StandardInput _ = record { bytes = g.I.Read.remaining; reader = c.args.input } in
-    let journals : FollowHost _ = record { follows = g.O.FollowsJournals.follows c.args.files.now; content = g.O.Followed.Followed.content } in
+    let journals : FollowHost _ = record { follows = g.O.FollowsJournals.follows c.args.files.now; content = g.O.Followed.Followed.content; is_all = g.O.Followed.Followed.is_all } in
     let outcome : Outcome = outcome_of c.compact_asked.result
     (change_of (g.W.Write.contents c.args.out.now) (g.W.Write.contents c.compact_asked.new.out))
     (change_of (g.E.Write.contents c.args.faults.now) (g.E.Write.contents c.compact_asked.new.faults)) in
@@ -83,11 +83,11 @@ returns-in-Events g c =
     let files : FileHost _ = record { opens = g.O.Opens.opens c.args.files.now; bytes = g.O.File.Read.remaining } in
     let all : HostFiles _ _ = record {
       opener = files;
-      maker = record { names = g.O.MakesFiles.names_file c.args.files.now; may_stand = g.O.New.NewName.may_stand; is_true = g.O.New.NewName.is_true };
+      maker = record { names = g.O.MakesFiles.names_file c.args.files.now; may_stand = g.O.New.NewName.may_stand; is_true = g.O.New.NewName.is_true; keeps = g.O.New.NewName.keeps; is_taken = g.O.New.NewName.is_taken; is_over = g.O.New.NewName.is_over };
     } in
     let host : ServerHost _ _ = record { listens = g.O.Listens.listens c.args.files.now; opens_journal = g.O.OpensJournals.opens_journal c.args.files.now } in
     let input : StandardInput _ = record { bytes = g.I.Read.remaining; reader = c.args.input } in
-    let journals : FollowHost _ = record { follows = g.O.FollowsJournals.follows c.args.files.now; content = g.O.Followed.Followed.content } in
+    let journals : FollowHost _ = record { follows = g.O.FollowsJournals.follows c.args.files.now; content = g.O.Followed.Followed.content; is_all = g.O.Followed.Followed.is_all } in
     let outcome : Outcome = outcome_of c.print_events.result
     (change_of (g.W.Write.contents c.args.out.now) (g.W.Write.contents c.print_events.new.out))
     (change_of (g.E.Write.contents c.args.faults.now) (g.E.Write.contents c.print_events.new.faults)) in
@@ -98,11 +98,11 @@ returns-in-Serve g c =
     let files : FileHost _ = record { opens = g.O.Opens.opens c.args.files.now; bytes = g.O.File.Read.remaining } in
     let all : HostFiles _ _ = record {
       opener = files;
-      maker = record { names = g.O.MakesFiles.names_file c.args.files.now; may_stand = g.O.New.NewName.may_stand; is_true = g.O.New.NewName.is_true };
+      maker = record { names = g.O.MakesFiles.names_file c.args.files.now; may_stand = g.O.New.NewName.may_stand; is_true = g.O.New.NewName.is_true; keeps = g.O.New.NewName.keeps; is_taken = g.O.New.NewName.is_taken; is_over = g.O.New.NewName.is_over };
     } in
     let host : ServerHost _ _ = record { listens = g.O.Listens.listens c.args.files.now; opens_journal = g.O.OpensJournals.opens_journal c.args.files.now } in
     let input : StandardInput _ = record { bytes = g.I.Read.remaining; reader = c.args.input } in
-    let journals : FollowHost _ = record { follows = g.O.FollowsJournals.follows c.args.files.now; content = g.O.Followed.Followed.content } in
+    let journals : FollowHost _ = record { follows = g.O.FollowsJournals.follows c.args.files.now; content = g.O.Followed.Followed.content; is_all = g.O.Followed.Followed.is_all } in
     let outcome : Outcome = outcome_of c.serve_named.result
     (change_of (g.W.Write.contents c.args.out.now) (g.W.Write.contents c.serve_named.new.out))
     (change_of (g.E.Write.contents c.args.faults.now) (g.E.Write.contents c.serve_named.new.faults)) in
