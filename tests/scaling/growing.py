@@ -40,7 +40,7 @@ BODIES, MOST_OF_BODIES = 24, 40 << 20
 """Bodies of the longest that come at once, and the bytes that may be kept behind them."""
 MOST_OF_LIST = 10
 """How many times the bytes of its text a list may take of address space."""
-LINGERING, MOST_OF_LINGERING = 6, 2.5
+LINGERING, MOST_OF_LINGERING = 20, 2
 """Clients that stay behind a long list, and how many times its bytes may be held then for all of them."""
 MOST_BEHIND = 40 << 20
 """Bytes that a client may send behind its answer, with what the system takes in: the server reads 16 MiB."""
