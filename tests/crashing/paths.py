@@ -5,6 +5,7 @@ import socket
 import stat
 import tempfile
 import time
+from concurrent.futures import ThreadPoolExecutor
 from pathlib import Path
 
 from cases.calls import EVERY, MOST_CALLS, MOVED
@@ -12,10 +13,10 @@ from cases.replays import event
 from cases.tables import ONE_ROW
 from cases.vehicles import FORM, LONG, journal, not_a_journal, registered
 from crashing.files import AT_REST, counted, listed_by, vehicles_text
-from crashing.recording import Recording
+from crashing.recording import OPENED, Recording
 from crashing.reports import device_at, registering
 from crashing.resting import SLOW
-from harness.building import BY_BYTES, Counting, no_random_numbers
+from harness.building import BY_BYTES, Counting, built, no_random_numbers
 from harness.case import RANDOM, SOCKET, cannot_read, not_a_table
 from harness.counting import Skipped
 from harness.texts import differing
@@ -76,7 +77,7 @@ def begun(program, content, wanted, behind):
 
 
 def places_that_are_none(program):
-    """A folder, a pipe, a device, a link to a folder, and a file in a folder that isn't there."""
+    """A folder, a pipe, a device, a link to a folder, none of which is opened, and a file in a folder that isn't there."""
     with tempfile.TemporaryDirectory() as folder:
         places = [Path(folder, name) for name in ("folder", "pipe", "link", "loop", "nowhere/journal")]
         places[0].mkdir()
@@ -84,7 +85,10 @@ def places_that_are_none(program):
         places[2].symlink_to("folder")
         places[3].symlink_to("loop")
         for place in (*places, Path("/dev/null")):
-            yield from (f"{place.name}: {it}" for it in not_started(program, place, cannot_read(place)))
+            with Recording(place) as recording:
+                yield from (f"{place.name}: {it}" for it in not_started(program, place, cannot_read(place), env=recording.env))
+                if place.exists() and recording.count(OPENED):
+                    yield f"{place.name} was opened"
         if not stat.S_ISFIFO(places[1].stat().st_mode) or sorted(os.listdir(folder)) != ["folder", "link", "loop", "pipe"]:
             yield f"there are {os.listdir(folder)}"
 
@@ -151,6 +155,30 @@ def one_server_at_a_time(program):
         with Server(program, 1, journal=path) as server:
             server.success = 1
             yield from server.end()
+
+
+def another_at_its_path(program):
+    """A file that is put away while its server waits for its lock, and another in its place: that isn't locked, so none starts."""
+    with tempfile.TemporaryDirectory() as folder:
+        path, away, hold, held = (Path(folder, name) for name in ("journal", "away", "hold", "held"))
+        shim = built("hold-lock.so", "tests/hold-lock.c", "-shared", "-fPIC", "-O1", "-ldl")
+        env = {**os.environ, "LD_PRELOAD": str(shim), "HOLD": str(hold), "HELD": str(held)}
+        path.write_text(REGISTERED)
+        hold.touch()
+        with ThreadPoolExecutor(1) as pool:
+            pool.submit(put_away, path, away, hold, held)
+            yield from not_started(program, path, cannot_read(path), env=env)
+        if (path.read_text(), away.read_text()) != ("", REGISTERED):
+            yield f"the files have {path.read_bytes()[:200]!r} and {away.read_bytes()[:200]!r}"
+
+
+def put_away(path, away, hold, held):
+    end = time.monotonic() + SECONDS
+    while not held.exists() and time.monotonic() < end:
+        time.sleep(0.01)
+    path.rename(away)
+    path.touch()
+    hold.unlink()
 
 
 def files_that_are_none(program):
@@ -304,6 +332,7 @@ PATHS = [
     links,
     names_in_folders,
     one_server_at_a_time,
+    another_at_its_path,
     files_that_are_none,
     before_the_port,
     not_before_its_book,

@@ -14,6 +14,7 @@ from crashing.clients import report, side_by_side
 from crashing.files import AT_REST, Lines, behind, counted, listed_amiss, listed_by, vehicles_text
 from crashing.recording import Recording
 from crashing.reports import device_at, listed, listing, looking, registering, reporting, standing
+from harness.case import MAX_ITEMS
 from harness.counting import Unwell
 from harness.texts import differing
 from model.http import answer, error
@@ -31,6 +32,8 @@ SIZES = [1, 2, 4, 5]
 """Of the batches in which they are reported."""
 READINGS = 6
 """Of `vehicles`, at least, while clients report."""
+MANY = 70_000
+"""Events that are recorded before."""
 SLOW = 1.0
 """How long a sync of a slow disk takes, in seconds. A report waits for two."""
 
@@ -200,11 +203,14 @@ def slow_answers(server, recording, one, other):
         yield f"more of them took {ended - begun} s"
 
 
-def looks_beside(program, one, other):
-    """What is wrong with answers about these two vehicles over a slow disk."""
+def looks_beside(program, one, other, before=0):
+    """What is wrong with answers about these two vehicles over a slow disk, behind so many events of another one."""
     with tempfile.TemporaryDirectory() as folder:
         path = Path(folder, "journal")
         with Recording(path) as recording, Server(program, EACH, WORKERS, journal=path, env=recording.env) as server:
+            yield from differing(ask(server.port, registering(DEVICES[-1])), done(1), "the first registration")
+            for front in range(0, before, MAX_ITEMS):
+                yield from differing(ask(server.port, reporting(DEVICES[-1], front, front + MAX_ITEMS)), done(MAX_ITEMS), f"{front}")
             yield from differing(ask(server.port, registering(one, other)), done(2), "the registrations")
             recording.set(pause=int(SLOW * 1000000))
             yield from slow_answers(server, recording, one, other)
@@ -213,9 +219,9 @@ def looks_beside(program, one, other):
 def looks_while_others_report(program):
     """A look and a list of a vehicle don't wait for the disk where only others were reported, of its half or of the other one, nor do
     the table and a fault of a request; a look at the reported one does."""
-    for pair in ((0, 2), (1, 3), (0, 1), (1, 0)):
-        for wrong in looks_beside(program, *map(device_at, pair)):
-            yield f"vehicles {pair}: {wrong}"
+    for *pair, before in ((0, 2, 0), (1, 5, 0), (0, 1, 0), (1, 0, 0), (0, 2, MANY)):
+        for wrong in looks_beside(program, *map(device_at, pair), before):
+            yield f"vehicles {pair}, behind {before} events: {wrong}"
 
 
 def files_of(server):

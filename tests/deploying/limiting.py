@@ -37,6 +37,10 @@ ROWS = {
 }
 ROWS_AT_ONCE = {"reports_at_once": "its reports under way", "looks_at_once": "its looks and lists under way"}
 """The rows of docs/operations.md with the limits of each zone of nginx.conf."""
+OF_HAPROXY = {"timeout queue": "waiting for a worker", "timeout server": "an answer of the server"}
+PAUSE = "a pause within a body, or of a client that doesn't read"
+OF_NGINX = {"client_header_timeout": "a whole head", "client_body_timeout": PAUSE, "send_timeout": PAUSE}
+"""Those with seconds that a proxy waits."""
 REFUSED = '{"error":"too_many_requests"}'
 FIGURE = re.compile(r"haproxy_server_http_responses_total\{(.*)\} ([0-9]+)")
 
@@ -55,6 +59,24 @@ def limits_as_told(_):
         told = re.findall(rf"^\| {row} \| ([0-9]+) \|", rows, re.MULTILINE)
         if set(found) != set(told) or len(told) != 1:
             yield f"{zone}: {found}, in place of {told}"
+
+
+def seconds_of(word, name):
+    """The seconds that a file of deploy/ has for a word."""
+    (found,) = re.findall(rf"^ *{word} ([0-9]+)s;?$", changed(name, {}), re.MULTILINE)
+    return int(found)
+
+
+def seconds_as_told(_):
+    """docs/operations.md has the seconds that the proxies wait. nginx waits longer than haproxy does for a worker and for an answer:
+    else it would send a request again of which the first still waits."""
+    text = (ROOT / "docs/operations.md").read_text()
+    for names, rows in ((("haproxy.cfg", "kubernetes.yml"), OF_HAPROXY), (("nginx.conf",), OF_NGINX)):
+        for name, word in ((name, word) for name in names for word in rows):
+            if f"| {rows[word]} | {seconds_of(word, name)} seconds" not in text:
+                yield f"{name}, {word}: {seconds_of(word, name)}"
+    if seconds_of("proxy_read_timeout", "nginx.conf") <= sum(seconds_of(word, "haproxy.cfg") for word in OF_HAPROXY):
+        yield "nginx asks again before haproxy gives up"
 
 
 def padded(length):
@@ -241,5 +263,5 @@ def figures_of_haproxy(city):
         yield "there is no page of figures"
 
 
-LIMITS = [limits_as_told]
+LIMITS = [limits_as_told, seconds_as_told]
 LIMITING = [floods_of_reports, few_at_once, a_flood_of_looks, figures_of_haproxy]

@@ -59,6 +59,13 @@ def proxies_that_end(_):
         yield f"{dict(found['Service'])}"
 
 
+def servers_that_end(_):
+    """So is a server, behind its last connection too."""
+    found = setting("Restart"), setting("StartLimitIntervalSec")
+    if found != ("always", "0"):
+        yield f"{found}"
+
+
 def settings(name, unit=NAME):
     """What a unit says of this name, for the instance, line by line."""
     text = changed(unit, {}).replace("\\\n", "").replace("%i", INSTANCE).replace("%H", HOST)
@@ -157,4 +164,4 @@ def a_restart(program):
             yield f"vehicles: {ran.returncode} {ran.stdout[-200:]!r} {ran.stderr!r}"
 
 
-UNITS = [the_units, proxies_that_end, timers_that_catch_up, words_of_the_unit, folder_of_the_unit, a_restart]
+UNITS = [the_units, proxies_that_end, servers_that_end, timers_that_catch_up, words_of_the_unit, folder_of_the_unit, a_restart]

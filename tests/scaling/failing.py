@@ -67,6 +67,8 @@ OF_A_CLIENT = (RECEIVED, SENT, ASKED)
 OF_A_START = (READ, CUT, OPENED, FOUND, LOCKED, ADVISED, SETTLED, SYNC, WRITE, ASKED)
 """Whose failures end a start, with status 3, or 4 where there is no memory. The first that is asked of the system's queue is the
 port itself."""
+OF_AN_OPENING = (OPENED, LOCKED, ADVISED, SETTLED)
+"""Those of which each that fails ends it: a server doesn't listen then."""
 OF_THE_FILE = (WRITE, SYNC)
 """Whose failures may end a server that listens, with status 3."""
 
@@ -109,6 +111,8 @@ class Trial:
         with Recording(self.path, failing=self.kind, first=self.number, many=1, how=self.how) as recording:
             try:
                 with Server(self.program, None, WORKERS, journal=self.path, env=recording.env) as server:
+                    if self.kind in OF_AN_OPENING and not self.is_harmless():
+                        yield "it listens all the same"
                     yield from self.served(server)
             except NotListening as fault:
                 yield from self.not_started(fault.ended)

@@ -40,10 +40,12 @@ BODIES, MOST_OF_BODIES = 24, 40 << 20
 """Bodies of the longest that come at once, and the bytes that may be kept behind them."""
 MOST_OF_LIST = 10
 """How many times the bytes of its text a list may take of address space."""
-LINGERING, MOST_OF_LINGERING = 6, 2.5
+LINGERING, MOST_OF_LINGERING = 20, 2
 """Clients that stay behind a long list, and how many times its bytes may be held then for all of them."""
 MOST_BEHIND = 40 << 20
 """Bytes that a client may send behind its answer, with what the system takes in: the server reads 16 MiB."""
+MANY, MOST_SLOWER, SLACK = 6, 4, 0.1
+"""The largest batches, each of other vehicles; how many times longer the last ones may take than the first, and seconds more."""
 DEVICE, LONG, UNKNOWN = device_at(2), device_at(4), device_at(99)
 FACES = ("memory", "files", "mappings", "threads")
 
@@ -219,6 +221,23 @@ def long_list(server):
         yield f"a list of {size} bytes takes {taken} of address space"
 
 
+def first_events(*devices):
+    return post("/events", batch(it for device in devices for it in history(device, 0, 1)))
+
+
+def many_vehicles(server):
+    """How long a server works for batches of one provider's vehicles, and of their events, all of one identifier."""
+    for request_for in (registering, first_events):
+        took = []
+        for front in range(100_000, 100_000 + MANY * MAX_ITEMS, MAX_ITEMS):
+            before = server.processor_time()
+            if ask(server.port, request_for(*map(device_at, range(front, front + MAX_ITEMS)))) != done(MAX_ITEMS):
+                yield f"{request_for.__name__} from {front} on wasn't accepted"
+            took.append(server.processor_time() - before)
+        if min(took[-2:]) > MOST_SLOWER * min(took[:2]) + SLACK:
+            yield f"{request_for.__name__}: {' '.join(f'{it:.2f}' for it in took)} s for {MAX_ITEMS} each"
+
+
 def nothing_grows(program, times, told=lambda text: None):
     """What a server over a journal holds behind each kind."""
     env = {**os.environ, **AS_THE_UNIT}
@@ -230,6 +249,7 @@ def nothing_grows(program, times, told=lambda text: None):
             yield from lingering(server)
             yield from bodies_at_once(server)
             yield from endless(server)
+            yield from many_vehicles(server)
             jobs = list(jobs_of(times))
             for name, job in jobs:
                 yield from (f"{name}, at first: {it}" for it in job(server, BEFORE))

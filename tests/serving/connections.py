@@ -31,6 +31,8 @@ TRIES = 5
 SILENT = 600
 AT_ONCE = 3
 """Within how many seconds a client is answered behind so many silent ones. Each of them would keep a worker for 0.01 seconds."""
+MOMENT = 0.5
+"""Within how many seconds one is answered behind one of them."""
 PAUSE = 0.3
 """For how many seconds a client that read its answer does nothing before each piece that it sends then."""
 LET_GO = 10
@@ -348,6 +350,19 @@ def behind_silent(program):
         yield from server.end()
 
 
+def behind_one_silent(program):
+    """One silent client keeps the only worker for a moment, too. It is tried again, as a busy machine may be too slow."""
+    waited = []
+    while min(waited, default=MOMENT) >= MOMENT and len(waited) < TRIES:
+        with Server(program, 1) as server, connect(server.port):
+            start = time.monotonic()
+            yield from talk_over(server, registered(A))
+            waited.append(time.monotonic() - start)
+            yield from server.end()
+    if min(waited) >= MOMENT:
+        yield f"answered so many seconds behind a silent client: {waited}"
+
+
 def answers_of(connections):
     """What is wrong with the answers to silent clients that went on, and looked."""
     for connection in connections:
@@ -369,4 +384,5 @@ CONNECTIONS = [
     hanging_up_amid_its_answer,
     silent_beside_working,
     behind_silent,
+    behind_one_silent,
 ]

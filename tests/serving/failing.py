@@ -38,8 +38,8 @@ FILES = [errno.EMFILE, errno.ENFILE]
 """What it says where open files are lacking, of the process or of the system."""
 AT_FAULT = [errno.EBADF, errno.EINVAL, errno.ENOTSOCK, errno.ENOTTY]
 """What it says of a listening socket that is none any more."""
-PAUSES, OFTEN = 400, 100_000
-"""More pauses than a lack of open files is waited for, and more than 16 bits count."""
+PAUSES, SOME, OFTEN = 400, 200, 100_000
+"""More pauses than a lack of open files is waited for, fewer, and more than 16 bits count."""
 STOPPED = 1.5
 """For how many seconds a server is stopped: longer than one wait."""
 LONGER = 12
@@ -83,6 +83,16 @@ def connections_that_are_hindered(program):
 def connections_without_a_file(program):
     """Nor does one for which no file can be opened for a moment."""
     return answers_two(program, failing(FILES, 3))
+
+
+def short_lacks(program):
+    """Lacks of open files don't add up, neither with other hindrances, nor over a client whose request isn't whole."""
+    yield from answers_two(program, failing([errno.ENOMEM, errno.EMFILE], SOME))
+    lack = [errno.EMFILE] * SOME
+    with Server(program, 1, env=failing([*lack, 0, *lack])) as server, connect(server.port) as slow:
+        slow.sendall(b"G")
+        yield from talk_over(server, registered(A))
+        yield from server.end()
 
 
 def files_that_are_lacking_for_good(program):
@@ -245,6 +255,7 @@ FAILING = [
     connections_that_are_lost,
     connections_that_are_hindered,
     connections_without_a_file,
+    short_lacks,
     files_that_are_lacking_for_good,
     sockets_at_fault,
     others_beside_one_at_fault,
