@@ -6,13 +6,13 @@ from pathlib import Path
 from cases.largest import LONG_TYPES
 from cases.replays import P, history
 from cases.tables import table_file
-from cases.timed import MOST_TIME
 from cases.vehicles import journal, registered
 from crashing.files import behind, listed_by, vehicles_text
 from crashing.paths import begun
 from crashing.reports import device_at, listing, looking, registering
 from harness.case import MAX_BYTES, MAX_ITEMS, padded
 from harness.texts import differing
+from model.fleet import FAR_FUTURE
 from model.http import answer
 from model.json_text import compact
 from serving.http import done, vehicle
@@ -38,7 +38,7 @@ def event(device, number, types):
         "event_types": types,
         "location_e7": PLACE,
         "provider_id": P,
-        "timestamp": MOST_TIME,
+        "timestamp": FAR_FUTURE - 1,
         "vehicle_state": STATE,
     }
 
@@ -62,7 +62,7 @@ def events_of(device):
 def told_of(server, device):
     """What is wrong with what the server tells of a vehicle."""
     events = events_of(device)
-    last = {"events": len(events), "last": MOST_TIME, "location_e7": PLACE, "vehicle_state": STATE}
+    last = {"events": len(events), "last": FAR_FUTURE - 1, "location_e7": PLACE, "vehicle_state": STATE}
     yield from differing(server.ask(looking(device)), answer(200, {**vehicle(device), **last}), "a look")
     yield from differing(server.ask(listing(device)), answer(200, {"events": events}), "a list")
 

@@ -6,6 +6,8 @@ from model.chains import stuck_at
 from model.items import VEHICLE, event_of, fault_of, key_of
 from model.tables import Tables
 
+FAR_FUTURE = 4102444800000
+
 
 @dataclass
 class Vehicle:
@@ -78,6 +80,8 @@ def refusal_by(tables, vehicle, event):
     """Why a registered vehicle doesn't accept an event, or None."""
     if event["event_id"] in vehicle.identifiers:
         return {"error": "repeated"}
+    if event["timestamp"] >= FAR_FUTURE:
+        return {"error": "far_future"}
     if vehicle.events and event["timestamp"] < vehicle.events[-1]["timestamp"]:
         return {"error": "late", "last": vehicle.events[-1]["timestamp"]}
     table = tables.at(event["timestamp"])

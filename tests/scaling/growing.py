@@ -16,6 +16,7 @@ from crashing.filling import AS_THE_UNIT
 from crashing.reports import device_at, listing, looking, registering, reporting
 from harness.building import loading_client
 from harness.case import MAX_BYTES, MAX_ITEMS, padded
+from model.fleet import FAR_FUTURE
 from scaling.lives import unclosed
 from serving.http import done, head
 from serving.server import Server
@@ -83,6 +84,7 @@ def short_kinds():
     yield "there already", reporting(DEVICE, 3, 4)
     yield "many that are there", reporting(DEVICE, 0, EVENTS)
     yield "late", post("/events", event(DEVICE, "fffe", "battery_low", "non_operational", 1))
+    yield "too far ahead", post("/events", event(DEVICE, "fffd", "battery_low", "non_operational", FAR_FUTURE))
     yield "no chain", post("/events", last)
     yield "unregistered", post("/events", batch(history(UNKNOWN, 0, 50)))
     yield "registered", registering(DEVICE, LONG)
