@@ -2,8 +2,8 @@
 
 import json
 
+from cases.tables import FAR_FUTURE
 from harness.case import MAX_ITEMS, Case
-from model.fleet import FAR_FUTURE
 
 
 def identifier(group, number):

@@ -4,11 +4,10 @@ import json
 
 from cases.debugging import debugged
 from cases.replays import A, B, P, batch, event, identifier, replayed
-from cases.tables import BAD, MOST_ROWS, MOST_TYPES, ONE_MORE, ONE_ROW, ONE_ROW_PRINTED, PROFILE, WAKE
+from cases.tables import BAD, FAR_FUTURE, MOST_ROWS, MOST_TYPES, ONE_MORE, ONE_ROW, ONE_ROW_PRINTED, PROFILE, WAKE
 from cases.tables import entry, table_printed
 from cases.vehicles import journal, listed, not_a_journal, registered
 from harness.case import MAX_BYTES, Case, lists, not_a_table, padded, started, told
-from model.fleet import FAR_FUTURE
 
 MOST_TABLES = 64
 MOST_TIME = 9007199254740991

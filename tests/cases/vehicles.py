@@ -3,11 +3,10 @@
 import zlib
 
 from cases.replays import A, B, P, event
-from cases.tables import ONE_ROW, ONE_ROW_PRINTED
+from cases.tables import FAR_FUTURE, ONE_ROW, ONE_ROW_PRINTED
 from harness.building import no_random_numbers
 from harness.case import CLOSED, FOLDER, MAX_BYTES, NO_STREAMS, OUTPUT, RANDOM
 from harness.case import Case, cannot_read, not_a_table, padded, told
-from model.fleet import FAR_FUTURE
 
 FORM = '{"form":"mds_city","version":1}'
 """The first line of a journal whose lines stand alone, as older versions made it."""

@@ -5,14 +5,13 @@ from pathlib import Path
 
 from cases.largest import LONG_TYPES
 from cases.replays import P, history
-from cases.tables import table_file
+from cases.tables import FAR_FUTURE, table_file
 from cases.vehicles import journal, registered
 from crashing.files import behind, listed_by, vehicles_text
 from crashing.paths import begun
 from crashing.reports import device_at, listing, looking, registering
 from harness.case import MAX_BYTES, MAX_ITEMS, padded
 from harness.texts import differing
-from model.fleet import FAR_FUTURE
 from model.http import answer
 from model.json_text import compact
 from serving.http import done, vehicle

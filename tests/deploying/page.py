@@ -7,12 +7,11 @@ import re
 from datetime import datetime, timezone
 
 from cases.replays import identifier
-from cases.tables import PROFILE, PROFILE_ROWS, STATES
+from cases.tables import FAR_FUTURE, PROFILE, PROFILE_ROWS, STATES
 from deploying.passing import NOBODY, path_of, sent
 from deploying.proxies import CITY, PROVIDERS, TOKENS
 from deploying.vehicles import event, short_events, vehicle
 from harness.counting import ROOT, Unwell
-from model.fleet import FAR_FUTURE
 from model.json_text import compact
 
 PAGE = ROOT / "deploy/page/index.html"

@@ -2,11 +2,10 @@
 
 from dataclasses import dataclass, field
 
+from cases.tables import FAR_FUTURE
 from model.chains import stuck_at
 from model.items import VEHICLE, event_of, fault_of, key_of
 from model.tables import Tables
-
-FAR_FUTURE = 4102444800000
 
 
 @dataclass

@@ -1,8 +1,8 @@
 """Replays of a file's items and sessions of the debugger, after docs/formats.md: what is printed of them."""
 
-from cases.tables import STATES
+from cases.tables import FAR_FUTURE, STATES
 from model.chains import in_order, least_chain, openings, reached, stuck_at
-from model.fleet import FAR_FUTURE, Vehicle, refusal_by
+from model.fleet import Vehicle, refusal_by
 from model.items import EVENT, event_of, fault_of, key_of
 
 

@@ -11,12 +11,12 @@ from pathlib import Path
 
 from cases.batches import FAULTY
 from cases.replays import batch, event, history, item
+from cases.tables import FAR_FUTURE
 from crashing.clients import side_by_side
 from crashing.filling import AS_THE_UNIT
 from crashing.reports import device_at, listing, looking, registering, reporting
 from harness.building import loading_client
 from harness.case import MAX_BYTES, MAX_ITEMS, padded
-from model.fleet import FAR_FUTURE
 from scaling.lives import unclosed
 from serving.http import done, head
 from serving.server import Server

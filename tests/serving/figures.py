@@ -10,11 +10,11 @@ import time
 from pathlib import Path
 
 from cases.replays import A, B, P, batch, event
+from cases.tables import FAR_FUTURE
 from crashing.recording import SYNC, WRITE, Recording
 from crashing.reports import NOT_KEPT, device_at, listing, looking, registering, reporting
 from crashing.resting import begins_to_write
 from harness.counting import Skipped
-from model.fleet import FAR_FUTURE
 from model.http import answer, error
 from serving.connections import SMALL_ROOM, long_list
 from serving.http import C, vehicle

@@ -50,16 +50,16 @@ refused_first tables event (Late last) is = absurd is
 refused_first tables event (NoChain state at) is = absurd is
 
 first_line : (tables : Tables) (event : Reported) (a b : Verdict) → IsFirst tables event a → IsFirst tables event b → a ≡ b
-first_line tables event (Accepted a) (Accepted b) is_a is_b = ap Accepted (is_a.1 ∙ sym is_b.1)
+first_line tables event (Accepted a) (Accepted b) is_a is_b = ap Accepted (is_a.0 ∙ sym is_b.0)
 first_line tables event (Accepted a) (NoOpening b) is_a is_b = absurd (is_b.1 is_a.2.0 is_a.2.1)
 first_line tables event (NoOpening a) (Accepted b) is_a is_b = absurd (is_a.1 is_b.2.0 is_b.2.1)
 first_line tables event (NoOpening a) (NoOpening b) is_a is_b = ap NoOpening (stuck_one (rows_at tables event.time) _ event.types a b is_a.2 is_b.2)
 first_line tables event (Refused a) (Refused b) is_a is_b = ap Refused ((refused_first tables event a is_a).0 ∙ sym (refused_first tables event b is_b).0)
-first_line tables event (Refused a) (Accepted b) is_a is_b = absurd (omega (arith, is_b.0, (refused_first tables event a is_a).1))
+first_line tables event (Refused a) (Accepted b) is_a is_b = absurd (omega (arith, is_b.1, (refused_first tables event a is_a).1))
 first_line tables event (Refused a) (NoOpening b) is_a is_b = absurd (omega (arith, is_b.0, (refused_first tables event a is_a).1))
 first_line tables event (Refused a) (Fault b) is_a is_b = absurd is_b
 first_line tables event (Fault a) b is_a is_b = absurd is_a
-first_line tables event (Accepted a) (Refused b) is_a is_b = absurd (omega (arith, is_a.0, (refused_first tables event b is_b).1))
+first_line tables event (Accepted a) (Refused b) is_a is_b = absurd (omega (arith, is_a.1, (refused_first tables event b is_b).1))
 first_line tables event (Accepted a) (Fault b) is_a is_b = absurd is_b
 first_line tables event (NoOpening a) (Refused b) is_a is_b = absurd (omega (arith, is_a.0, (refused_first tables event b is_b).1))
 first_line tables event (NoOpening a) (Fault b) is_a is_b = absurd is_b

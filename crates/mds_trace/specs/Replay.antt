@@ -63,7 +63,7 @@ IsOutcome tables requests event (Fault fault) = ⊥
 -- else gets stuck, from any state
 abbrev pub IsFirst : Tables → Reported → Verdict → Type 0
 IsFirst tables event (Accepted state) =
-    (event.time < far_future) × (state ≡ event.state)
+    (state ≡ event.state) × (event.time < far_future)
     × ((from : State) × IsOpening (rows_at tables event.time) event.types event.state from)
 IsFirst tables event (NoOpening at) =
     (event.time < far_future)
