@@ -3,7 +3,7 @@
 from cases.batches import batches, items
 from cases.calls import CALLS
 from cases.commands import commands, examples, orders, paths, spaced_paths, wrong_words
-from cases.debugging import answers_each_line_at_a_terminal, prints_the_same_at_a_terminal
+from cases.debugging import answers_each_line_at_a_terminal, goes_on_at_a_terminal, prints_the_same_at_a_terminal
 from cases.debugging import faults, holds_little, long_sessions, reads_its_script_before_it_prints
 from cases.debugging import reads_no_script_before_its_start, scripts, starts_before_its_script
 from cases.depot import depots
@@ -69,6 +69,7 @@ INTERPLAYS = [
     reads_no_script_before_its_start,
     reads_its_script_before_it_prints,
     answers_each_line_at_a_terminal,
+    goes_on_at_a_terminal,
     prints_the_same_at_a_terminal,
     holds_little,
     input_that_stays_open,

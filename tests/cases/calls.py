@@ -444,6 +444,12 @@ def come_by_bytes(program, words, on, text, out):
     return [f"{words}, byte by byte: {complaint}" for complaint in wrong]
 
 
+def long_line_by_bytes(program):
+    """Without a limit of lines, one that comes in thousands of pieces is read whole."""
+    case = replayed(padded(item(), 5000) + "\n", ["ok available"], [(A, "available", 1)], words="replay --lines --unlimited -")
+    yield from counted(program, case, INPUT, moves=1)[0]
+
+
 # What comes to an end before the file on a descriptor is looked at: that of a table is opened first.
 BEHIND = [
     (f"debug events.json {P} x", FILE, (2, "", BAD)),
@@ -574,6 +580,7 @@ CALLS = [
     texts_of_clap,
     read_so_far,
     read_by_bytes,
+    long_line_by_bytes,
     unread_files,
     threads_of_workers,
     threads_that_are_wanting,

@@ -249,6 +249,22 @@ def prints_the_same_at_a_terminal(program):
                     yield f"{script!r}: status {child.returncode}, {out!r} and {faults!r}, in place of {wanted!r}"
 
 
+MANY_MOVES = 300
+"""At a terminal there may be more lines than a session has steps."""
+
+
+def goes_on_at_a_terminal(program):
+    """Someone steps forth and back for long."""
+    with tempfile.TemporaryDirectory() as folder:
+        Path(folder, "events.json").write_text(EVENTS)
+        with at_a_terminal(program, WORDS, folder) as (child, typed):
+            os.write(typed, b"step\nback\n" * MANY_MOVES + b"\x04")
+            out, faults = child.communicate(timeout=SECONDS)
+            wanted = "events 2 refused 0\n" + START + (STEPPED + START) * MANY_MOVES
+            if (child.returncode, out.decode(), faults) != (0, wanted, b""):
+                yield f"status {child.returncode}, {len(out)} bytes and {faults!r}, in place of {len(wanted)}"
+
+
 MOST_GROWTHS = 1000
 """More growths of memory than the debugger makes over two events."""
 

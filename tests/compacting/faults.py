@@ -170,6 +170,22 @@ def no_words(program):
                 yield f"{words}: {status}, {out!r}, {faults!r}, and {os.listdir(name)}"
 
 
+TOLD = {
+    "@/old @/new --follow": "one of --before <TIME> and --cut <PROVIDER> <DEVICE> <N> is needed",
+    f"@/old @/new --before 9 --follow --cut {P} {A} 1": "--follow and --cut don't go together",
+    f"@/old @/new --cut {P} {A} x": "the <N> of --cut <PROVIDER> <DEVICE> <N> is a number of events",
+}
+"""What is told of words that don't go together, or are none."""
+
+
+def mistakes_by_name(program):
+    """What is wrong with the words is told in the first line."""
+    for words, text in TOLD.items():
+        found = run(program, "compact", *words.split())
+        if found[2].partition("\n")[0] != f"error: {text}":
+            yield f"{words}: {found}"
+
+
 def long_lines(program):
     """A line of the greatest length is copied as it stands."""
     text = padded(WOKEN, 4194304)
@@ -192,5 +208,6 @@ FAULTY = [
     no_place_for_it,
     without_random_numbers,
     no_words,
+    mistakes_by_name,
     long_lines,
 ]

@@ -276,6 +276,9 @@ def ready_once_it_listens(program):
                 wanted = {"mds_city_held_vehicles": 2, "mds_city_held_requests": 7, "mds_city_journal_lines": 8,
                           "mds_city_newest_event_timestamp_seconds": 1.004, **of_kind("event", done=0)}
                 yield from differing(figures_at(port), wanted, "over a journal")
+                ask(starting.port, reporting(device_at(2), 0, 1))
+                wanted = {"mds_city_newest_event_timestamp_seconds": 1.004, **of_kind("event", done=1)}
+                yield from differing(figures_at(port), wanted, "behind an older event of another vehicle")
 
 
 def answer_once_there(port, seconds=20):
