@@ -281,6 +281,28 @@ def lines_that_come(program):
             yield from content_amiss(new.read_bytes(), making.content(places))
 
 
+REST, BUSY = 1, 0.1
+"""For how many seconds nothing comes, and how many of a processor may be taken meanwhile."""
+
+
+def rests_between_looks(program):
+    """While nothing comes the old file is looked at a few times a second alone."""
+    making = journal_of(RIDES)
+    with tempfile.TemporaryDirectory() as name:
+        old, new = Path(name, "old"), Path(name, "new")
+        with growing(making, len(making.lines), old):
+            following = Following(program, old, new, LATER)
+            if following.line() != "following\n":
+                yield f"it ended with {following.ended()}"
+            clock = ~following.child.pid << 3 | 2
+            begun = time.clock_gettime(clock)
+            time.sleep(REST)
+            if (busy := time.clock_gettime(clock) - begun) > BUSY:
+                yield f"it took {busy:.2f} s of a processor in {REST} s"
+        if following.ended()[0]:
+            yield "it didn't end well"
+
+
 def held_at_the_lock(folder):
     """What has a follower wait at its next look at the lock, while `hold` is there; `held` is there once it waits."""
     hold, held = folder / "hold", folder / "held"
@@ -399,6 +421,7 @@ def killed_while_it_follows(program):
 FOLLOWING = [
     followed_to_the_end,
     lines_that_come,
+    rests_between_looks,
     the_last_look,
     a_fault_that_comes,
     followed_without_a_server,

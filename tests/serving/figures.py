@@ -309,6 +309,8 @@ def not_ready_while_nothing_is_kept(program):
                         yield "what can't be written is answered otherwise"
                 if told_at(port, READY) != answer(503, NOT_KEPT):
                     yield f"while nothing is kept: {told_at(port, READY)!r}"
+                if ask(server.port, registering(device_at(3 + turn))) != answer(503, NOT_KEPT):
+                    yield "a registration that can't be written is answered otherwise"
                 if ask(server.port, looking(device_at(2)))[:15] != b"HTTP/1.1 200 OK":
                     yield "a look that rests on nothing new isn't answered"
                 if told_at(port, READY) != answer(503, NOT_KEPT):
@@ -317,8 +319,8 @@ def not_ready_while_nothing_is_kept(program):
                 ask(server.port, listing(device_at(1)))
                 if told_at(port, READY) != READY_ANSWER:
                     yield f"once all is kept: {told_at(port, READY)!r}"
-            wanted = {**of_kind("event", not_kept=30, done=0), "mds_city_journal_not_kept": 0, "mds_city_held_requests": 12,
-                      'mds_city_http_responses_total{status="503"}': 6}
+            wanted = {**of_kind("event", not_kept=30, done=0), **of_kind("registration", not_kept=2, done=2),
+                      "mds_city_journal_not_kept": 0, "mds_city_held_requests": 14, 'mds_city_http_responses_total{status="503"}': 8}
             yield from differing(figures_at(port), wanted, "once all is kept")
             told = Path(server.folder.name, "faults").read_text()
             if told != 2 * KEPT_AGAIN:
