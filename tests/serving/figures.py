@@ -252,6 +252,13 @@ def figures_while_all_workers_wait(program):
                 yield f"the journal has {found['mds_city_journal_bytes']} bytes"
             if found['mds_city_journal_sync_seconds_bucket{le="1"}'] >= found["mds_city_journal_sync_seconds_count"]:
                 yield "a slow sync isn't told"
+            recording.set(pause=30000)
+            for number in range(2, 7):
+                ask(server.port, registering(device_at(number)))
+            found = figures_at(port)
+            slow, slower = (found[f'mds_city_journal_sync_seconds_bucket{{le="{most}"}}'] for most in ("0.02", "0.05"))
+            if slower <= slow:
+                yield f"{slow} syncs took 20 ms, and {slower} took 50, of some that took 30"
 
 
 def ready_once_it_listens(program):
