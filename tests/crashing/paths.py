@@ -1,5 +1,6 @@
 """What stands at the path of a journal when a server starts: what is told where it can't be taken, and that it stays as it was."""
 
+import errno
 import os
 import socket
 import stat
@@ -14,7 +15,7 @@ from cases.replays import event
 from cases.tables import ONE_ROW
 from cases.vehicles import FORM, LONG, journal, not_a_journal, registered
 from crashing.files import AT_REST, counted, listed_by, vehicles_text
-from crashing.recording import OPENED, Recording
+from crashing.recording import LOCKED, OPENED, Recording
 from crashing.reports import device_at, registering
 from crashing.resting import SLOW
 from harness.building import BY_BYTES, Counting, built, no_random_numbers
@@ -156,6 +157,15 @@ def one_server_at_a_time(program):
         with Server(program, 1, journal=path) as server:
             server.success = 1
             yield from server.end()
+
+
+def locks_that_are_refused(program):
+    """A lock that another has is told otherwise than one that the system refuses for a cause of its own (flock(2))."""
+    with tempfile.TemporaryDirectory() as folder:
+        path = Path(folder, "journal")
+        for how, told in ((errno.EWOULDBLOCK, IN_USE), (errno.ENOLCK, cannot_read(path))):
+            with Recording(path, failing=LOCKED, first=1, many=1, how=how) as recording:
+                yield from (f"{errno.errorcode[how]}: {it}" for it in not_started(program, path, told, env=recording.env))
 
 
 def another_at_its_path(program):
@@ -333,6 +343,7 @@ PATHS = [
     links,
     names_in_folders,
     one_server_at_a_time,
+    locks_that_are_refused,
     another_at_its_path,
     files_that_are_none,
     before_the_port,
