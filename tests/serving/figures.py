@@ -1,6 +1,7 @@
 """The port of figures: what it counts, whether the server is ready, and clients that are slow there."""
 
 import re
+import resource
 import shutil
 import socket
 import subprocess
@@ -261,6 +262,19 @@ def figures_while_all_workers_wait(program):
                 yield f"{slow} syncs took 20 ms, and {slower} took 50, of some that took 30"
 
 
+SOFT = 8 << 30
+"""Bytes of addresses, by a limit that the process may raise."""
+
+
+def the_limit_in_force(program):
+    """Of the limit of addresses it is told what counts: the soft one (getrlimit(2))."""
+    port = numbered_port()
+    with Server(program, None, metrics=port) as server:
+        _, hard = resource.prlimit(server.child.pid, resource.RLIMIT_AS)
+        resource.prlimit(server.child.pid, resource.RLIMIT_AS, (SOFT, hard))
+        yield from differing(figures_at(port), {"process_virtual_memory_max_bytes": SOFT}, "under a soft limit")
+
+
 def ready_once_it_listens(program):
     """While its journal is opened the server isn't ready, and says so; then it is, and tells what it held."""
     port = numbered_port()
@@ -366,6 +380,7 @@ FIGURES = [
     counts_where_a_client_goes,
     figures_beside_slow_clients,
     figures_while_all_workers_wait,
+    the_limit_in_force,
     ready_once_it_listens,
     not_ready_while_nothing_is_kept,
     figures_as_promtool_takes_them,
