@@ -7,6 +7,7 @@ import tempfile
 from concurrent.futures import ThreadPoolExecutor
 from pathlib import Path
 
+from cases.opened import BY_A_SERVER
 from crashing.killed import repeated
 from crashing.recording import (
     ADVISED,
@@ -127,7 +128,8 @@ class Trial:
             yield f"{self.lost} requests had no answer, and {self.not_kept} were not kept"
 
     def is_harmless(self):
-        return self.how in HARMLESS or self.kind in (TAKEN, WAITED)
+        is_its_own = self.kind == OPENED and self.number <= BY_A_SERVER
+        return is_its_own or self.how in HARMLESS or self.kind in (TAKEN, WAITED)
 
     def exchanged(self, server, request, wanted):
         """What is wrong with what is answered to a request, which is made again where it had no answer."""
