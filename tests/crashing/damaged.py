@@ -8,21 +8,17 @@ group is hurt it lists what the groups before it tell.
 import json
 import random
 import tempfile
-import zlib
 from pathlib import Path
 
 from cases.replays import A, B
 from cases.vehicles import CHECKED, ROOM, group, not_a_journal, registered
-from crashing.files import FORM_LINE, Lines, counted, listed_by, vehicles_text
+from crashing.files import Lines, counted, fault_of, listed_by, vehicles_text
 from crashing.reports import listed
 
 CHANGES, PIECES, SECTOR = 2000, 500, 512
 """How many files have one byte changed, and how many a piece of so many bytes that is old, zero or moved."""
 EVENTS = 12
 """How many events each vehicle of the file has."""
-CHECK_BYTES = 21
-"""Those of a line that is a check, with its gate."""
-CHECKED_LINE = b" " + CHECKED.encode()
 
 
 def groups(chance):
@@ -36,36 +32,12 @@ def groups(chance):
         del waiting[:size]
 
 
-def fault_of(front):
-    """What is wrong with the lines of a file that count, if anything is: the first fault, as docs/formats.md has it."""
-    lines = front.split(b"\n")[:-1]
-    if not lines or lines[0] not in (FORM_LINE, CHECKED_LINE):
-        return "form"
-    if lines[0] == FORM_LINE:
-        return "damaged 0"
-    state, first = 0, 0
-    for number, line in enumerate(lines):
-        if len(line) != CHECK_BYTES:
-            state = zlib.crc32(line + b"\n", state)
-        elif line == b' {"crc32":"%08x"}' % state:
-            state, first = 0, number + 1
-        else:
-            return f"damaged {first}"
-    return None if first == len(lines) else f"damaged {first}"
-
-
-def without_checks(front):
-    """The same requests in a file of version 1."""
-    lines = [line for line in front.split(b"\n")[1:-1] if len(line) != CHECK_BYTES]
-    return b"\n".join([FORM_LINE, *lines, b""])
-
-
 def amiss(program, path, content, lines):
     """What is wrong with what `vehicles` says of a file with this content."""
     path.write_bytes(content)
     front = counted(content)
     fault = fault_of(front)
-    wanted = (3, "", not_a_journal(fault)) if fault else (0, vehicles_text(lines.told(without_checks(front))), "")
+    wanted = (3, "", not_a_journal(fault)) if fault else (0, vehicles_text(lines.told(front)), "")
     found = listed_by(program, path)
     if found != wanted:
         yield f"`vehicles` said {str(found)[:300]}, in place of {str(wanted)[:300]}"

@@ -3,15 +3,18 @@
 import json
 import re
 import subprocess
+import zlib
 
 from cases.replays import P, turn
-from cases.vehicles import FORM, not_a_journal
+from cases.vehicles import CHECKED, FORM, not_a_journal
 from crashing.reports import listed
 from harness.case import HOW_FAR
 from harness.counting import Unwell
 
 COUNTED = re.compile(rb"(?: [^\n]*\n)*")
-FORM_LINE = b" " + FORM.encode()
+FORM_LINE, CHECKED_LINE = b" " + FORM.encode(), b" " + CHECKED.encode()
+CHECK_BYTES = 21
+"""Those of a line that is a check, with its gate."""
 GROUP_END = b"\n#"
 """How a group ends that is written, and so a file at rest, but for the room behind it: with its last line, and a closed gate."""
 AT_REST = FORM_LINE + GROUP_END
@@ -26,6 +29,25 @@ def counted(content):
 def behind(content):
     """What stands behind the lines that count, but for the room that was made."""
     return content[len(counted(content)) :].rstrip(b"\n")
+
+
+def fault_of(front):
+    """What is wrong with the lines of a file that count, but for what they tell, if anything is: the first fault, as docs/formats.md
+    has it."""
+    lines = front.split(b"\n")[:-1]
+    if not lines or lines[0] not in (FORM_LINE, CHECKED_LINE):
+        return "form"
+    if lines[0] == FORM_LINE:
+        return "damaged 0" if any(len(line) == CHECK_BYTES for line in lines) else None
+    state, first = 0, 0
+    for number, line in enumerate(lines):
+        if len(line) != CHECK_BYTES:
+            state = zlib.crc32(line + b"\n", state)
+        elif line == b' {"crc32":"%08x"}' % state:
+            state, first = 0, number + 1
+        else:
+            return f"damaged {first}"
+    return None if first == len(lines) else f"damaged {first}"
 
 
 class Lines:
@@ -46,14 +68,16 @@ class Lines:
         """What lines that count tell: the devices in the order of registration, each with how many events it has. What can't be
         there is told: a line that isn't as it was sent, or not where it fits."""
         if front not in self.fronts:
-            self.fronts[front] = self.read(front.split(b"\n")[:-1])
+            self.fronts[front] = self.read(front)
         return self.fronts[front]
 
-    def read(self, lines):
-        if lines and lines[0] != FORM_LINE:
-            raise Unwell(f"the first line is {lines[0][:200]!r}")
+    def read(self, front):
+        if front and (fault := fault_of(front)):
+            raise Unwell(f"the lines are no journal: {fault}, {front[:200]!r}")
         vehicles = {}
-        for number, line in enumerate(lines[1:], 1):
+        for number, line in enumerate(front.split(b"\n")[1:-1], 1):
+            if len(line) == CHECK_BYTES:
+                continue
             try:
                 device, event = self.value(line)
             except (ValueError, KeyError, TypeError) as fault:

@@ -13,7 +13,7 @@ from cases.calls import EVERY, MOST_CALLS, MOVED
 from cases.opened import BY_A_SERVER
 from cases.replays import event
 from cases.tables import ONE_ROW
-from cases.vehicles import FORM, LONG, journal, not_a_journal, registered
+from cases.vehicles import CHECKED, DAMAGED, FORM, GROUP_FAULTS, LONG, checked, journal, not_a_journal, registered
 from crashing.files import AT_REST, counted, listed_by, vehicles_text
 from crashing.recording import LOCKED, OPENED, Recording
 from crashing.reports import device_at, registering
@@ -203,7 +203,8 @@ def files_that_are_none(program):
         (f"#{FORM}\n {new}\n#", "form"),
         (f"#{FORM[:-1]}0}}\n#", "form"),
         (f"#{FORM}x", "form"),
-        (f"#{FORM[:-2]}2}}\n#", "form"),
+        (f"#{CHECKED}\n#", "form"),
+        (f" {FORM[:-2]}3}}\n#", "form"),
         ('#{"a":1}', "form"),
         ("# notes\n", "form"),
         ("\0\0\1\0icon", "form"),
@@ -235,6 +236,31 @@ def files_that_are_none(program):
         yield from refused(program, text.encode(), not_a_journal(fault))
     yield from refused(program, journal(new, DROPPED).encode(), not_a_journal("refused 2"), table=ONE_ROW)
     yield from refused(program, journal(new, WAKE).encode(), not_a_journal("refused 2"))
+
+
+def groups_that_are_none(program):
+    """Files with a group that isn't as it was written, or of whose groups one has a line that is none, or that isn't accepted."""
+    for groups, fault in GROUP_FAULTS:
+        yield from refused(program, checked(*groups).encode(), not_a_journal(fault))
+    for text, line in DAMAGED:
+        yield from refused(program, text.encode(), not_a_journal(f"damaged {line}"))
+
+
+def forms_that_stay(program):
+    """A server goes on with a file of either version in its own, and so does the next one."""
+    old, new = registered(DEVICE), registered(OTHER)
+    for before, behind in ((journal(old), journal(old, new)), (checked((old,)), checked((old,), (new,)))):
+        with tempfile.TemporaryDirectory() as folder:
+            path = Path(folder, "journal")
+            path.write_text(before)
+            with Server(program, 1, journal=path) as server:
+                server.success = 1
+                yield from differing(server.ask(registering(OTHER)), done(1))
+                yield from server.end()
+            # but for the room behind its lines
+            if (found := path.read_text().rstrip("\n")) != behind:
+                yield f"the file has {found[:400]!r}, in place of {behind!r}"
+            yield from begun(program, behind.encode(), 2, behind.encode())
 
 
 def before_the_port(program):
@@ -316,11 +342,12 @@ def too_much_behind_the_lines(program):
 
 
 def files_that_are_begun(program):
-    """No file, an empty one, and what a crash leaves of the first line: a server begins there. One at rest stays as it is, and so
-    does one with a line behind it that doesn't count, but for that."""
-    line = b"#" + AT_REST[1:]
+    """No file, an empty one, and what a crash leaves of the lines before the first group, of either version: a server begins there.
+    One at rest stays as it is, and so does one with a line behind it that doesn't count, but for that."""
+    line, lines = b"#" + AT_REST[1:], b"#" + checked().encode()[1:]
     yield from begun(program, None, 0, AT_REST)
-    for content in (b"", b"#", line, line[:-1], line[:9], line[:4] + bytes(20), bytes(len(line)), AT_REST):
+    torn = (lines, lines[:-1], lines[:-9], lines[:34], lines[:40] + bytes(9), bytes(len(lines)))
+    for content in (b"", b"#", line, line[:-1], line[:9], line[:4] + bytes(20), bytes(len(line)), AT_REST, *torn):
         yield from (f"{content[:50]!r}: {it}" for it in begun(program, content, 0, AT_REST))
     whole = REGISTERED.encode()
     for content in (whole, whole[:-1], whole + DROPPED.encode() + b"\n#", whole + b"\0" * 600, whole[:-1] + b" {"):
@@ -346,6 +373,8 @@ PATHS = [
     locks_that_are_refused,
     another_at_its_path,
     files_that_are_none,
+    groups_that_are_none,
+    forms_that_stay,
     before_the_port,
     not_before_its_book,
     behind_the_table,

@@ -203,7 +203,7 @@ fn open_reader<'a, H: OpensJournals>(
 ) -> Result<RequestReader<H::Journal>, ServeProblem<'a>>
     ensures ok { IfOk result (λ reader.
         IsAtFirstRequest H.Journal.seen H.Journal.may_leave H.Journal.may_be_used H.Journal.is_true
-        reader.opening) }
+        reader) }
     ensures had { IfOk result (λ _. HadJournal (H.opens_journal host.now) path.now) }
     ensures err { IfErr result (IsJournalStop (H.opens_journal host.now) path.now) }
 {
@@ -239,7 +239,7 @@ fn serve_reader<
     requires fits { Fits (names_of L.name L.parts L.log L.marks L.tables)
         (names_of M.name M.parts M.log M.marks M.tables) opening }
     requires at_first { IsAtFirstRequest H.Journal.seen H.Journal.may_leave H.Journal.may_be_used
-        H.Journal.is_true reader.opening }
+        H.Journal.is_true reader }
     requires log { log ≡ J.log }
     requires begins { BeginsOver J.start J.held (H.Journal.moment reader.opening.device)
         (H.Journal.seen reader.opening.device) }

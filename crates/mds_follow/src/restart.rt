@@ -12,6 +12,7 @@ ghost use Rattle.mds_follow.specs.Restart.{BeginsOver, IsAllTaken, IsAskFault, I
 use crate::ahead::Ahead;
 use crate::desk::note;
 use crate::piece::Piece;
+use crate::start_fault::of_journal;
 use crate::{Disk, Follower, RecordLog, RequestReader, StartFault};
 use mds_book::{Book, RefillFault, Seat, SharedLedger};
 use mds_core::Request;
@@ -22,7 +23,7 @@ use std::mem::swap;
 use std::sync::Wait;
 use std::thread::{Threads, join_mut};
 
-/// Asks requests of a book that nobody else asks, of which the line of the first one has this number. Each has to be accepted.
+/// Asks requests of a book that nobody else asks. Their lines have these numbers, and maybe more. Each has to be accepted.
 ///
 /// # Errors
 ///
@@ -32,24 +33,23 @@ fn ask_portion<L: SharedLedger, M: SharedLedger, R: Threads + Wait + Sync>(
     rt: &R,
     alloc: Global,
     book: &Book<L, M>,
-    number: usize,
+    numbers: &[usize],
     requests: &[Request],
     seat: &mut Seat<L, M>,
 ) -> Result<(), StartFault>
     requires all { HasAll seat.old }
-    requires short { number + length requests.now ≤ 2 ^ 62 }
+    requires numbered { length requests.now ≤ length numbers.now }
     ensures keep { seat.new.keeps_all ≡ seat.old.keeps_all }
     ensures filled { OnOk result (HasAll seat.new × IsFilled seat.old requests.now seat.new) }
     ensures fault { (told : List Acceptance) → IsRefilled seat.old told
-        → IfErr result (IsAskFault book.now.tables (requests_of told) number requests.now) }
+        → IfErr result (IsAskFault book.now.tables (requests_of told) numbers.now requests.now) }
 {
     let Err(stop) = book.refill(rt, alloc, seat, requests) else {
         return Ok(());
     };
-    let line = number + stop.at;
     Err(match stop.fault {
         RefillFault::Memory => StartFault::Memory,
-        RefillFault::Refused => StartFault::Journal(JournalFault::Refused(line)),
+        RefillFault::Refused => of_journal(JournalFault::Refused(numbers[stop.at])),
         RefillFault::Shared => StartFault::Shared,
     })
 }
@@ -67,16 +67,17 @@ fn ask_piece<L: SharedLedger, M: SharedLedger, R: Threads + Wait + Sync>(
     ensures filled { OnOk result
         (HasAll seat.new × IsFilled seat.old (requests_in piece.now) seat.new) }
     ensures fault { (told : List Acceptance) → IsRefilled seat.old told
-        → IfErr result (IsAskFault book.now.tables (requests_of told) piece.now.number
+        → IfErr result (IsAskFault book.now.tables (requests_of told) piece.now.numbers.items
         (requests_in piece.now)) }
 {
     let first = piece.first.requests.as_slice();
-    match ask_portion(rt, alloc, book, piece.number, first, seat) {
+    match ask_portion(rt, alloc, book, &piece.numbers, first, seat) {
         Ok(()) => {}
         Err(fault) => return Err(fault),
     }
     let second = piece.second.requests.as_slice();
-    ask_portion(rt, alloc, book, piece.number + first.len(), second, seat)
+    let behind = &piece.numbers[first.len()..];
+    ask_portion(rt, alloc, book, behind, second, seat)
 }
 
 /// Asks a piece, as [`ask_piece`] does, while other threads read the next one.
@@ -94,14 +95,13 @@ fn ask_and_read<'a, D: Device + Send, L: SharedLedger, M: SharedLedger, R: Threa
     ensures filled { OnOk result
         (HasAll seat.new × IsFilled seat.old (requests_in piece.now) seat.new) }
     ensures fault { (told : List Acceptance) → IsRefilled seat.old told
-        → IfErr result (IsAskFault book.now.tables (requests_of told) piece.now.number
+        → IfErr result (IsAskFault book.now.tables (requests_of told) piece.now.numbers.items
         (requests_in piece.now)) }
     ensures reading { IsAtRequest D.seen D.may_leave D.may_be_used D.is_true
         ahead.new.reader.opening }
     ensures read_on { IsReadOn D.seen D.may_leave D.is_true D.moment D.left_since
         ahead.old.reader.opening ahead.new.reader.opening }
-    ensures next { IsNext D.seen D.is_true ahead.old.reader.opening ahead.new.reader.opening
-        ahead.new.next }
+    ensures next { IsNext D.seen D.is_true ahead.old.reader ahead.new.reader ahead.new.next }
 {
     let alloc = ahead.reader.alloc;
     let mut read = ||
@@ -111,8 +111,8 @@ fn ask_and_read<'a, D: Device + Send, L: SharedLedger, M: SharedLedger, R: Threa
             ahead.exit.now.reader.opening }
         ensures read_on { IsReadOn D.seen D.may_leave D.is_true D.moment D.left_since
             ahead.entry.now.reader.opening ahead.exit.now.reader.opening }
-        ensures next { IsNext D.seen D.is_true ahead.entry.now.reader.opening
-            ahead.exit.now.reader.opening ahead.exit.now.next }
+        ensures next { IsNext D.seen D.is_true ahead.entry.now.reader ahead.exit.now.reader
+            ahead.exit.now.next }
     { ahead.read(rt) };
     let mut ask = || -> Result<(), StartFault>
         requires may { MayBeAsked seat.now piece.now }
@@ -121,7 +121,7 @@ fn ask_and_read<'a, D: Device + Send, L: SharedLedger, M: SharedLedger, R: Threa
             × IsFilled seat.entry.now (requests_in piece.entry.now) seat.exit.now) }
         ensures fault { (told : List Acceptance) → IsRefilled seat.entry.now told
             → IfErr result (IsAskFault book.entry.now.tables (requests_of told)
-            piece.entry.now.number (requests_in piece.entry.now)) }
+            piece.entry.now.numbers.items (requests_in piece.entry.now)) }
     { ask_piece(rt, alloc, book, piece, seat) };
     let ((), asked) = join_mut(rt, &mut read, &mut ask);
     asked
@@ -159,7 +159,7 @@ fn take_piece<
     requires reading { IsAtRequest D.seen D.may_leave D.may_be_used D.is_true
         ahead.old.reader.opening }
     requires halfway { IsHalfway D.seen D.is_true
-        (resuming ahead.old.reader.opening seat.old keeper.old piece.old) }
+        (resuming ahead.old.reader seat.old keeper.old piece.old) }
     requires more { piece.old.end ≡ Ok true }
     ensures keep { seat.new.keeps_all ≡ seat.old.keeps_all }
     ensures reading { IsAtRequest D.seen D.may_leave D.may_be_used D.is_true
@@ -167,8 +167,8 @@ fn take_piece<
     ensures read_on { IsReadOn D.seen D.may_leave D.is_true D.moment D.left_since
         ahead.old.reader.opening ahead.new.reader.opening }
     ensures taken { OnOk result (IsTaken D.seen D.is_true D.moment
-        (resuming ahead.old.reader.opening seat.old keeper.old piece.old)
-        (resuming ahead.new.reader.opening seat.new keeper.new piece.new)) }
+        (resuming ahead.old.reader seat.old keeper.old piece.old)
+        (resuming ahead.new.reader seat.new keeper.new piece.new)) }
     ensures fault { IfErr result (λ fault. D.is_true ahead.new.reader.opening.device
         → IsStartFault book.now.tables (D.seen ahead.new.reader.opening.device) fault) }
 {
@@ -195,12 +195,12 @@ fn take_last<D: Device, L: SharedLedger, M: SharedLedger, J: RecordLog, R: Threa
     last: &Piece,
 ) -> Result<(), StartFault>
     requires halfway { IsHalfway D.seen D.is_true
-        (resuming ahead.now.reader.opening seat.old keeper.old last.now) }
+        (resuming ahead.now.reader seat.old keeper.old last.now) }
     requires end { last.now.end ≢ Ok true }
     ensures keep { seat.new.keeps_all ≡ seat.old.keeps_all }
     ensures noted { OnOk result (keeper.new ≡ keeper.old
         ++ recorded_at (D.moment ahead.now.reader.opening.device) (requests_in last.now)) }
-    ensures all { OnOk result (IsAllTaken D.seen D.is_true ahead.now.reader.opening seat.new
+    ensures all { OnOk result (IsAllTaken D.seen D.is_true ahead.now.reader seat.new
         keeper.new) }
     ensures fault { IfErr result (λ fault. D.is_true ahead.now.reader.opening.device
         → IsStartFault book.now.tables (D.seen ahead.now.reader.opening.device) fault) }
@@ -237,14 +237,14 @@ fn read_back<
     mut piece: Piece,
 ) -> Result<(), StartFault>
     requires at_first { IsAtFirstRequest D.seen D.may_leave D.may_be_used D.is_true
-        ahead.old.reader.opening }
+        ahead.old.reader }
     requires none { (keeper.old ≡ []) × IsRefilled seat.old [] × IsFirstPiece piece }
     ensures keep { seat.new.keeps_all ≡ seat.old.keeps_all }
     ensures reading { IsAtRequest D.seen D.may_leave D.may_be_used D.is_true
         ahead.new.reader.opening }
     ensures read_on { IsReadOn D.seen D.may_leave D.is_true D.moment D.left_since
         ahead.old.reader.opening ahead.new.reader.opening }
-    ensures all { OnOk result (IsAllTaken D.seen D.is_true ahead.new.reader.opening seat.new
+    ensures all { OnOk result (IsAllTaken D.seen D.is_true ahead.new.reader seat.new
         keeper.new) }
     ensures at_start { OnOk result (D.is_true ahead.new.reader.opening.device
         → keeper.new
@@ -267,8 +267,8 @@ fn read_back<
 /// # Errors
 ///
 /// [`StartFault::Journal`], with the number of the line, where a line tells no request, has too many bytes, or tells one that
-/// the tables don't accept behind those before it, and where more stands behind the lines than a crash leaves: the file is as it
-/// was. `Device` where a call of the device failed, `Memory`; and `Shared` where another seat has asked the book. The device
+/// the tables don't accept behind those before it, where a group isn't as it was written, and where more stands behind the lines
+/// than a crash leaves: the file is as it was. `Device` where a call of the device failed, `Memory`; and `Shared` where another seat has asked the book. The device
 /// comes back.
 pub fn resume<
     D: Device + Send,
@@ -283,8 +283,7 @@ pub fn resume<
     reader: RequestReader<D>,
     log: BlankLog,
 ) -> Result<Follower<Disk<D>, L, M, J>, (StartFault, D)>
-    requires at_first { IsAtFirstRequest D.seen D.may_leave D.may_be_used D.is_true
-        reader.opening }
+    requires at_first { IsAtFirstRequest D.seen D.may_leave D.may_be_used D.is_true reader }
     requires log { log ≡ J.log }
     requires begins { BeginsOver J.start J.held (D.moment reader.opening.device)
         (D.seen reader.opening.device) }

@@ -11,6 +11,7 @@ use mds_core::Request;
 use mds_follow::{
     Disk, Follower, Receipt, Record, RecordLog, RequestReader, SharedFollower, StartFault, resume,
 };
+use mds_groups::GroupFault;
 use mds_journal::{Device, JournalFault, Memory};
 use mds_log::BlankLog;
 use mds_table::{State, Tables};
@@ -27,6 +28,9 @@ use test_steps::hasher;
 /// The line that names the form.
 const FORM: &str = " {\"form\":\"mds_city\",\"version\":1}\n";
 
+/// The lines before the first group, where groups are checked.
+const CHECKED: &str = " {\"form\":\"mds_city\",\"version\":2}\n {\"crc32\":\"033c3350\"}\n";
+
 /// The line of the registration of A.
 const A_LINE: &str =
     " {\"device_id\":\"00000000-0000-4000-8000-00000000000a\",\"provider_id\":\"00000000-0000-4000-8000-000000000001\"}\n";
@@ -38,6 +42,12 @@ const EVENT_LINE: &str =
 /// The line of the registration of B.
 const B_LINE: &str =
     " {\"device_id\":\"00000000-0000-4000-8000-00000000000b\",\"provider_id\":\"00000000-0000-4000-8000-000000000001\"}\n";
+
+/// The check of a group that has the registration of A alone.
+const A_CHECK: &str = " {\"crc32\":\"3b29ed11\"}\n";
+
+/// The same, of B.
+const B_CHECK: &str = " {\"crc32\":\"12d69bbd\"}\n";
 
 /// A book that is opened over a journal, and asked.
 struct Case {
@@ -86,25 +96,70 @@ const CASES: &[Case] = &[
         parts: &["#!/bin/sh\n"],
         other: &[],
         asked: &[],
-        end: Err(StartFault::Journal(JournalFault::Form)),
+        end: Err(StartFault::Journal(GroupFault::Journal(JournalFault::Form))),
     },
     Case {
-        parts: &[" {\"form\":\"mds_city\",\"version\":2}\n#"],
+        parts: &[" {\"form\":\"mds_city\",\"version\":3}\n#"],
         other: &[],
         asked: &[],
-        end: Err(StartFault::Journal(JournalFault::Form)),
+        end: Err(StartFault::Journal(GroupFault::Journal(JournalFault::Form))),
     },
     Case {
         parts: &[FORM, A_LINE, " {}\n", "#"],
         other: &[],
         asked: &[],
-        end: Err(StartFault::Journal(JournalFault::BadLine(2))),
+        end: Err(StartFault::Journal(GroupFault::Journal(JournalFault::BadLine(2)))),
     },
     Case {
         parts: &[FORM, A_LINE, A_LINE, "#"],
         other: &[],
         asked: &[],
-        end: Err(StartFault::Journal(JournalFault::Refused(2))),
+        end: Err(StartFault::Journal(GroupFault::Journal(JournalFault::Refused(2)))),
+    },
+    // A journal whose groups are checked is gone on with so. Of a group that was torn, or begun, nothing is left.
+    Case {
+        parts: &[CHECKED, A_LINE, A_CHECK, "#{\"device_id\":\"00000000-0000"],
+        other: &[],
+        asked: &[Register(A), Register(B)],
+        end: Ok(&[CHECKED, A_LINE, A_CHECK, B_LINE, B_CHECK, "#"]),
+    },
+    Case {
+        parts: &["#{\"form\":\"mds_city\",\"version\":2}\n {\"crc\0\0"],
+        other: &[],
+        asked: &[],
+        end: Ok(&[FORM, "#"]),
+    },
+    // A check that is another's, one that isn't there, and one where there are none.
+    Case {
+        parts: &[CHECKED, B_LINE, B_CHECK, A_LINE, B_CHECK, "#"],
+        other: &[],
+        asked: &[],
+        end: Err(StartFault::Journal(GroupFault::Damaged(4))),
+    },
+    Case {
+        parts: &[CHECKED, A_LINE, "#"],
+        other: &[],
+        asked: &[],
+        end: Err(StartFault::Journal(GroupFault::Damaged(2))),
+    },
+    Case {
+        parts: &[" {\"form\":\"mds_city\",\"version\":2}\n#"],
+        other: &[],
+        asked: &[],
+        end: Err(StartFault::Journal(GroupFault::Damaged(0))),
+    },
+    Case {
+        parts: &[FORM, A_LINE, A_CHECK, "#"],
+        other: &[],
+        asked: &[],
+        end: Err(StartFault::Journal(GroupFault::Damaged(0))),
+    },
+    // The number of a line counts the checks.
+    Case {
+        parts: &[CHECKED, A_LINE, A_CHECK, A_LINE, A_CHECK, "#"],
+        other: &[],
+        asked: &[],
+        end: Err(StartFault::Journal(GroupFault::Journal(JournalFault::Refused(4)))),
     },
     // Another seat asks meanwhile.
     Case {
@@ -197,8 +252,7 @@ fn end_at<
     case: &Case,
 ) -> Result<Result<Disk<D>, (StartFault, D)>, Lack>
     requires seats { seats.items ≡ replicate 2 (new_seat false) }
-    requires at_first { IsAtFirstRequest D.seen D.may_leave D.may_be_used D.is_true
-        reader.opening }
+    requires at_first { IsAtFirstRequest D.seen D.may_leave D.may_be_used D.is_true reader }
     requires log { log ≡ J.log }
     requires begins { BeginsOver J.start J.held (D.moment reader.opening.device)
         (D.seen reader.opening.device) }
@@ -235,8 +289,7 @@ fn end_in<
     requires first_log { (first.log ≡ L.log) × (first.marks ≡ L.marks) }
     requires second_log { (second.log ≡ M.log) × (second.marks ≡ M.marks) }
     requires tables { (tables ≡ L.tables) × (tables ≡ M.tables) }
-    requires at_first { IsAtFirstRequest D.seen D.may_leave D.may_be_used D.is_true
-        reader.opening }
+    requires at_first { IsAtFirstRequest D.seen D.may_leave D.may_be_used D.is_true reader }
     requires log { log ≡ J.log }
     requires begins { BeginsOver J.start J.held (D.moment reader.opening.device)
         (D.seen reader.opening.device) }

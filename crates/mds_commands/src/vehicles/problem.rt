@@ -41,6 +41,16 @@ impl From<JournalFault> for JournalProblem<'_> {
     }
 }
 
+impl From<GroupFault> for JournalProblem<'_> {
+    ghost use Rattle.mds_commands.specs.declared.vehicles.problem.JournalProblem.TheVariants.{NotAJournal};
+
+    ghost from_gives = { λ fault problem. problem ≡ NotAJournal fault };
+
+    fn from(fault: GroupFault) -> Self {
+        JournalProblem::NotAJournal(fault)
+    }
+}
+
 impl From<PrintError> for JournalProblem<'_> {
     ghost use Rattle.mds_commands.specs.Problem.{written_problem};
     ghost use Rattle.mds_commands.specs.declared.vehicles.problem.JournalProblem.TheVariants.{Other};

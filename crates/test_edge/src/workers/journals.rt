@@ -57,7 +57,7 @@ where
     requires fits { Fits (names_of L.name L.parts L.log L.marks L.tables)
         (names_of M.name M.parts M.log M.marks M.tables) opening }
     requires at_first { IsAtFirstRequest D.seen D.may_leave
-        D.may_be_used D.is_true reader.opening }
+        D.may_be_used D.is_true reader }
     requires log { log ≡ J.log }
     requires begins { BeginsOver J.start J.held (D.moment reader.opening.device)
         (D.seen reader.opening.device) }
