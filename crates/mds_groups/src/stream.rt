@@ -74,6 +74,19 @@ impl GroupStream {
         }
     }
 
+    /// The lines that are taken next come behind those of a journal of this form.
+    pub fn behind(alloc: Global, form: JournalForm) -> GroupStream
+        ensures { (lines : List (List ℕ)) (groups : List (List (List ℕ)))
+            → IsJournal form lines groups → HasTaken result lines groups }
+    {
+        GroupStream {
+            alloc,
+            stage: Stage::Groups(form),
+            check: GroupCheck::new(),
+            texts: Vec::new(alloc),
+        }
+    }
+
     /// Takes the line of this number, without its gate and its line feed, and hands on the group that it ends. The lines before the
     /// first group end none.
     ///
