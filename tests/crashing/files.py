@@ -50,6 +50,11 @@ def fault_of(front):
     return None if first == len(lines) else f"damaged {first}"
 
 
+def texts_in(front):
+    """The texts of the lines of a journal that count, of either version: without the line of the form, and without checks."""
+    return [line[1:] for line in front.split(b"\n")[1:-1] if len(line) != CHECK_BYTES]
+
+
 class Lines:
     """Lines that were read once, by their bytes: many files have the same."""
 

@@ -1,0 +1,12 @@
+pub mod Telling
+pub mod Fronts
+pub mod Reading
+pub mod Halfway
+pub mod Copied
+pub mod Journals
+pub mod Drafts
+pub mod NewNames
+pub mod Events
+pub mod Left
+pub mod Places
+pub mod NewJournals

@@ -57,13 +57,13 @@ impl<D: Device + Drop> Draft<D> {
         ensures usable { OnOk result (D.may_be_used self.new.file) }
         ensures draft { OnOk result (IsDraftOf D.seen D.may_leave D.is_true [] self.new) }
     {
-        self.file.cut(0)?;
-        self.file.sync()?;
+        self.clear()?;
         push_line(
             &mut self.group,
             JournalForm::Checked.first_line().as_bytes(),
         )?;
-        self.end_group()
+        self.end_group()?;
+        Ok(())
     }
 
     /// Adds a text.
@@ -91,7 +91,8 @@ impl<D: Device + Drop> Draft<D> {
         if self.page.len() < PAGE_BYTES {
             return Ok(());
         }
-        self.write()
+        self.write()?;
+        Ok(())
     }
 
     /// Adds a text where it stays.
@@ -131,7 +132,8 @@ impl<D: Device + Drop> Draft<D> {
         ensures group { OnOk result (self.new.group ≡ []) }
     {
         self.end_group()?;
-        self.write()
+        self.write()?;
+        Ok(())
     }
 
     /// The file.
@@ -139,6 +141,19 @@ impl<D: Device + Drop> Draft<D> {
         ensures { result ≡ self.file }
     {
         self.file
+    }
+
+    /// Leaves nothing of what the file had.
+    fn clear(&mut self) -> Result<(), NewFileFault>
+        requires usable { D.may_be_used self.old.file }
+        requires start { self.old.size ≡ 0 }
+        requires page { self.old.page.items ≡ [] }
+        ensures usable { OnOk result (D.may_be_used self.new.file) }
+        ensures bytes { OnOk result (HasBytes D.seen D.may_leave D.is_true [] self.new) }
+        ensures group { self.new.group ≡ self.old.group }
+    {
+        self.file.cut(0)?;
+        Ok(self.file.sync()?)
     }
 
     /// Ends the group that is begun, if one is. Its lines wait.

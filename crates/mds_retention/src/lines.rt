@@ -29,6 +29,7 @@ impl<R: Read + Drop> RequestLines<R> {
     pub fn open(alloc: Global, reader: R) -> RequestLines<R>
         ensures lines { IsReading result.texts }
         ensures told { HasTold R.remaining (R.remaining reader) result [] }
+        ensures count { result.texts.count ≡ 0 }
     {
         RequestLines {
             texts: TextLines::open(alloc, reader),
@@ -89,9 +90,7 @@ impl<R: Read + Drop> RequestLines<R> {
             (λ _. self.new.texts.count ≡ self.old.texts.count + 1)) }
         ensures done { IfOk result (λ next. IfNone next
             (ReadsAll R.remaining self.old.texts self.new.texts)) }
-        ensures stays { IfOk result (λ next. IfNone next
-            (self.new.texts.count ≡ self.old.texts.count)) }
-        ensures few { self.old.texts.count < 2 ^ 64 }
+        ensures few { IfOk result (λ next. IfSome next (λ _. self.new.texts.count < 2 ^ 64)) }
         ensures fault { IfErr result (StopsLines R.remaining self.old) }
     {
         if !self.texts.next()? {

@@ -65,7 +65,8 @@ pub(crate) fn read_on<F: Followed, D: Device + Drop>(
         → AllZip Tells (texts_in groups) history → IsEndFault (F.content followed.new) error) }
 {
     let rest = followed.rest(start.place.bytes)?;
-    copy_rest(alloc, rest, start, draft)
+    let next = copy_rest(alloc, rest, start, draft)?;
+    Ok(next)
 }
 
 /// Copies the texts of all lines of a reader, before which those up to a place stand, and answers how far that was.

@@ -1,5 +1,5 @@
 //! The texts of a journal's groups, one after another.
-ghost use Rattle.std.specs.Prelude.{◌≡◌, ◌+◌, ◌<◌, ◌≤◌, ◌^◌, ℕ, List, [], true, false, length, Option, IfOk, IfErr};
+ghost use Rattle.std.specs.Prelude.{◌≡◌, ◌+◌, ◌<◌, ◌≤◌, ◌^◌, ℕ, List, [], true, false, length, Option, IfOk, IfErr, OnOk};
 ghost use Rattle.std.specs.Io.KnownBytes.{Keeps};
 ghost use Rattle.mds_groups.specs.Form.{texts_in};
 ghost use Rattle.mds_journal.specs.Stream.{unread_of};
@@ -32,6 +32,7 @@ impl<R: Read + Drop> TextLines<R> {
     pub(crate) fn open(alloc: Global, reader: R) -> TextLines<R>
         ensures reading { IsReading result }
         ensures none { HasRead R.remaining (R.remaining reader) result [] }
+        ensures count { result.count ≡ 0 }
     {
         TextLines::with(alloc, reader, GroupStream::new(alloc), Place::start())
     }
@@ -56,7 +57,8 @@ impl<R: Read + Drop> TextLines<R> {
         ensures all { Keeps (R.remaining reader) (unread_of R.remaining result.lines) }
         ensures groups { result.groups ≡ groups }
         ensures place { result.place ≡ place }
-        ensures group { result.group.texts.items ≡ [] }
+        ensures none { result.group.texts.items ≡ [] }
+        ensures count { result.count ≡ 0 }
     {
         TextLines {
             lines: LineStream::new(alloc, reader, MAX_BYTES),
@@ -117,14 +119,32 @@ impl<R: Read> TextLines<R> {
         ensures next { IfOk result (λ more. more ≡ true → HandsOn R.remaining self.old self.new) }
         ensures out { IfOk result (λ more. more ≡ true → IsOut self.new) }
         ensures count { IfOk result (λ more. more ≡ true → self.new.count ≡ self.old.count + 1) }
+        ensures few { IfOk result (λ more. more ≡ true → self.new.count < 2 ^ 64) }
         ensures all { IfOk result (λ more. more ≡ false → ReadsAll R.remaining self.old self.new) }
-        ensures stays { IfOk result (λ more. more ≡ false → self.new.count ≡ self.old.count) }
-        ensures few { self.old.count < 2 ^ 64 }
         ensures fault { IfErr result (StopsTexts R.remaining self.old) }
     {
-        if self.next == self.group.texts.len() && !self.next_group()? {
-            return Ok(false);
+        if self.next < self.group.texts.len() {
+            return self.hand_out();
         }
+        if self.next_group()? {
+            self.hand_out()
+        } else {
+            Ok(false)
+        }
+    }
+
+    /// Hands out the next text of the last group.
+    fn hand_out(&mut self) -> Result<bool, LinesError>
+        requires reading { IsReading self.old }
+        requires within { self.old.next < length self.old.group.texts.items }
+        ensures reading { IsReading self.new }
+        ensures yes { IfOk result (λ more. more ≡ true) }
+        ensures next { OnOk result (HandsOn R.remaining self.old self.new) }
+        ensures out { OnOk result (IsOut self.new) }
+        ensures count { OnOk result (self.new.count ≡ self.old.count + 1) }
+        ensures few { OnOk result (self.new.count < 2 ^ 64) }
+        ensures cause { IfErr result (λ error. error ≡ LinesError.Read) }
+    {
         let Some(count) = self.count.checked_add(1) else {
             return Err(LinesError::Read);
         };
@@ -168,22 +188,29 @@ impl<R: Read> TextLines<R> {
         ensures read { IfOk result (λ more. more ≡ true → ReadsOn R.remaining self.old self.new) }
         ensures further { IfOk result (λ more. more ≡ true
             → self.new.place.lines ≡ self.old.place.lines + 1) }
+        ensures few { IfOk result (λ more. more ≡ true → self.new.place.lines < 2 ^ 64) }
         ensures end { IfOk result (λ more. more ≡ false → HasEnded R.remaining self.old self.new) }
+        ensures done { IfOk result (λ more. more ≡ false
+            → self.new.next ≡ length self.new.group.texts.items) }
         ensures count { self.new.count ≡ self.old.count }
         ensures fault { IfErr result (StopsTexts R.remaining self.old) }
     {
+        let number = self.place.lines;
         match self.lines.next_line(&mut self.line) {
             Ok(true) => {}
             Ok(false) => return Ok(false),
-            Err(error) => return Err(stream_fault(error, self.place.lines)),
+            Err(error) => return Err(stream_fault(error, number)),
         }
-        let place = self.place.behind(&self.line)?;
-        if let Some(group) = self.groups.take(self.place.lines, &self.line)? {
-            self.group = group;
-            self.next = 0;
+        self.place = self.place.behind(&self.line)?;
+        let group = self.groups.take(number, &self.line)?;
+        match group {
+            Some(group) => {
+                self.group = group;
+                self.next = 0;
+                Ok(true)
+            }
+            None => Ok(true),
         }
-        self.place = place;
-        Ok(true)
     }
 }
 

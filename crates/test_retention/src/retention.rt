@@ -1,114 +1,23 @@
-use crate::{
-    CompactError, Compacted, Draft, LinesError, Readings, RequestLines, Totals, begin_journal,
-    compact, drop_journal, end_journal, events_of, kept_lines, marks_of, survey_of, thinning_of,
+use crate::journals::{
+    ALL, CHECKED, FIRST_THREE, FIRST_TWO, FORM, Lack, NO_RIDE, REGISTRATION, RIDES, RIDES_SINCE,
+    SINCE, Told, WITHOUT_FIRST_LOOP, WITHOUT_LOOP, Wanted, add_check, add_events, add_line,
+    checked, event, journal,
 };
 use mds_compact::{Cut, Cutting};
 use mds_core::Key;
 use mds_file::{FileFault, Followed, NewFileFault, NewName};
-use mds_journal::{JournalFault, Memory};
-use std::alloc::{AllocError, AllocFailed, Global};
+use mds_groups::GroupFault;
+use mds_journal::{Group, JournalFault, Memory};
+use mds_retention::{
+    CompactError, Compacted, Draft, LinesError, Readings, RequestLines, Totals, begin_journal,
+    compact, drop_journal, end_journal, events_of, kept_lines, marks_of, survey_of, thinning_of,
+};
+use std::alloc::Global;
 use std::hash::RandomState;
 use std::io;
 use std::io::{ErrorKind, Read};
 use std::random::RandomSource;
 use std::sync::Wait;
-
-/// The first line.
-const FORM: &str = "{\"form\":\"mds_city\",\"version\":1}";
-
-/// The registration of the one vehicle.
-const REGISTRATION: &str =
-    "{\"device_id\":\"00000000-0000-4000-8000-00000000000a\",\"provider_id\":\"00000000-0000-4000-8000-000000000001\"}";
-
-/// The digit of an event, which is its time and the end of its identifier, and the state that it reports.
-type Told = (&'static str, &'static str);
-
-/// The vehicle is free again and again.
-const RIDES: &[Told] = &[
-    ("1", "available"),
-    ("2", "on_trip"),
-    ("3", "available"),
-    ("4", "on_trip"),
-];
-
-/// The rides that stay where all are old.
-const WITHOUT_LOOP: &[Told] = &[("1", "available"), ("4", "on_trip")];
-
-/// Why a test has nothing to compare.
-#[derive(Clone, Copy, Debug, PartialEq, Eq)]
-enum Lack {
-    /// There was no memory, or no random number.
-    Means,
-}
-
-impl From<AllocError> for Lack {
-    fn from(_error: AllocError) -> Lack {
-        Lack::Means
-    }
-}
-
-impl From<LinesError> for Lack {
-    fn from(_error: LinesError) -> Lack {
-        Lack::Means
-    }
-}
-
-impl From<CompactError> for Lack {
-    fn from(_error: CompactError) -> Lack {
-        Lack::Means
-    }
-}
-
-impl From<NewFileFault> for Lack {
-    fn from(_fault: NewFileFault) -> Lack {
-        Lack::Means
-    }
-}
-
-impl<T: Drop> From<AllocFailed<T>> for Lack {
-    fn from(_error: AllocFailed<T>) -> Lack {
-        Lack::Means
-    }
-}
-
-/// The line of an event.
-fn event(alloc: Global, told: &Told) -> Result<String, Lack> {
-    let (digit, state) = *told;
-    let pieces = [
-        "{\"device_id\":\"00000000-0000-4000-8000-00000000000a\",\"event_id\":\"00000000-0000-4000-8000-00000000000",
-        digit,
-        "\",\"event_types\":[\"provider_drop_off\"],\"provider_id\":\"00000000-0000-4000-8000-000000000001\",\"timestamp\":",
-        digit,
-        ",\"vehicle_state\":\"",
-        state,
-        "\"}",
-    ];
-    let mut text = String::new(alloc);
-    for piece in pieces {
-        text.push_str(piece)?;
-    }
-    Ok(text)
-}
-
-/// Adds an open line.
-fn add_line(bytes: &mut Vec<u8>, text: &str) -> Result<(), Lack> {
-    bytes.extend_from_slice(b" ")?;
-    bytes.extend_from_slice(text.as_bytes())?;
-    bytes.extend_from_slice(b"\n")?;
-    Ok(())
-}
-
-/// The bytes of a journal with this first line, the vehicle's registration and these events.
-fn journal(alloc: Global, form: &str, events: &[Told]) -> Result<Vec<u8>, Lack> {
-    let mut bytes = Vec::new(alloc);
-    add_line(&mut bytes, form)?;
-    add_line(&mut bytes, REGISTRATION)?;
-    for told in events {
-        let text = event(alloc, told)?;
-        add_line(&mut bytes, text.as_str())?;
-    }
-    Ok(bytes)
-}
 
 /// A reader that fails where its bytes end.
 #[derive(Drop)]
@@ -237,16 +146,28 @@ fn of_rides<R: RandomSource>(
     rt: &R,
     alloc: Global,
     from: u64,
-    wanted: &[Told],
+    wanted: Wanted,
 ) -> Result<Came, Lack> {
     let old = journal(alloc, FORM, RIDES)?;
-    let new = journal(alloc, FORM, wanted)?;
+    let new = checked(alloc, wanted)?;
+    comes_to(rt, alloc, &old, &old, (from, &[]), &new)
+}
+
+/// The same, where they stand in a group.
+fn of_a_group<R: RandomSource>(
+    rt: &R,
+    alloc: Global,
+    from: u64,
+    wanted: Wanted,
+) -> Result<Came, Lack> {
+    let old = checked(alloc, ALL)?;
+    let new = checked(alloc, wanted)?;
     comes_to(rt, alloc, &old, &old, (from, &[]), &new)
 }
 
 /// The vehicle of a journal.
 fn vehicle_of(alloc: Global, bytes: &[u8]) -> Result<Key, Lack> {
-    match RequestLines::open(alloc, bytes)?.next()? {
+    match RequestLines::open(alloc, bytes).next()? {
         Some(request) => Ok(*request.key()),
         None => Err(Lack::Means),
     }
@@ -258,10 +179,10 @@ fn of_first_rides<R: RandomSource>(
     alloc: Global,
     events: usize,
     from: u64,
-    wanted: &[Told],
+    wanted: Wanted,
 ) -> Result<Came, Lack> {
     let old = journal(alloc, FORM, RIDES)?;
-    let new = journal(alloc, FORM, wanted)?;
+    let new = checked(alloc, wanted)?;
     let key = vehicle_of(alloc, &old)?;
     comes_to(rt, alloc, &old, &old, (from, &[Cut { key, events }]), &new)
 }
@@ -292,7 +213,7 @@ fn of_events<R: RandomSource>(
 fn of_rides_then<R: RandomSource>(rt: &R, alloc: Global, events: &[Told]) -> Result<Came, Lack> {
     let old = journal(alloc, FORM, RIDES)?;
     let last = journal(alloc, FORM, events)?;
-    let new = journal(alloc, FORM, WITHOUT_LOOP)?;
+    let new = checked(alloc, WITHOUT_LOOP)?;
     comes_to(rt, alloc, &old, &last, (10, &[]), &new)
 }
 
@@ -342,75 +263,69 @@ fn of_a_name_that_is_taken<R: RandomSource>(rt: &R, alloc: Global) -> Result<Cam
 /// Whether the vehicle's registration is read, and nothing behind it.
 fn reads_a_registration(alloc: Global) -> Result<bool, Lack> {
     let bytes = journal(alloc, FORM, &[])?;
-    let mut lines = RequestLines::open(alloc, bytes.as_slice())?;
+    let mut lines = RequestLines::open(alloc, bytes.as_slice());
     let first = lines.next()?;
     let second = lines.next()?;
-    Ok(first.is_some() && second.is_none())
+    Ok(first.is_some() && second.is_none() && lines.count() == 1)
 }
 
-/// Whether the lines of the vehicle's rides are read.
-fn reads_its_events(alloc: Global) -> Result<bool, Lack> {
-    let bytes = journal(alloc, FORM, RIDES)?;
+/// Whether the lines of the vehicle's rides are read of these bytes.
+fn reads_its_events(alloc: Global, bytes: &[u8]) -> Result<bool, Lack> {
     let mut wanted = Vec::new(alloc);
     for told in RIDES {
         let text = event(alloc, told)?;
         wanted.extend_from_slice(text.as_bytes())?;
         wanted.push(b'\n')?;
     }
-    let mut lines = RequestLines::open(alloc, bytes.as_slice())?;
-    let Some(request) = lines.next()? else {
-        return Ok(false);
-    };
-    let found = events_of(alloc, bytes.as_slice(), *request.key())?;
+    let found = events_of(alloc, bytes, vehicle_of(alloc, bytes)?)?;
     Ok(found.is_some_and(|found| found.as_slice() == wanted.as_slice()))
+}
+
+/// Whether they are read of a journal of either version.
+fn reads_events_of_both(alloc: Global) -> Result<bool, Lack> {
+    let plain = journal(alloc, FORM, RIDES)?;
+    let groups = checked(alloc, ALL)?;
+    Ok(reads_its_events(alloc, &plain)? && reads_its_events(alloc, &groups)?)
 }
 
 /// Whether the passes, made one by one, leave the loop of the rides out.
 fn passes_leave_a_loop_out<R: RandomSource>(rt: &R, alloc: Global) -> Result<bool, Lack> {
     let hasher = RandomState::new(rt).map_err(|_| Lack::Means)?;
     let old = journal(alloc, FORM, RIDES)?;
-    let new = journal(alloc, FORM, WITHOUT_LOOP)?;
+    let new = checked(alloc, WITHOUT_LOOP)?;
     let cutting = Cutting::open(alloc, &[], hasher)?;
     let surveyed = survey_of(alloc, old.as_slice(), cutting, hasher)?;
     let stays = surveyed.marks;
     let thinning = thinning_of(alloc, old.as_slice(), surveyed.survey, &stays, 10)?;
     let marked = marks_of(alloc, old.as_slice(), thinning, &stays)?;
-    let mut draft = Draft::new(alloc, Memory::new(alloc, b"")?);
+    let mut draft = Draft::new(alloc, Group::new(alloc)?, Memory::new(alloc, b"")?);
     draft.begin()?;
     kept_lines(alloc, old.as_slice(), &marked.marks, &mut draft)?;
     draft.flush()?;
     Ok(draft.into_file().bytes() == new.as_slice())
 }
 
-/// Whether the lines of a draft are those that were added.
-fn a_draft_has_its_lines(alloc: Global) -> Result<bool, Lack> {
-    let wanted = journal(alloc, FORM, &[])?;
-    let mut draft = Draft::new(alloc, Memory::new(alloc, b"")?);
+/// Whether the texts of a draft are those that were added.
+fn a_draft_has_its_texts(alloc: Global) -> Result<bool, Lack> {
+    let mut wanted = checked(alloc, NO_RIDE)?;
+    let ride = event(alloc, &RIDES[0])?;
+    add_line(&mut wanted, ride.as_str())?;
+    add_check(alloc, &mut wanted, "b056d061")?;
+    let mut draft = Draft::new(alloc, Group::new(alloc)?, Memory::new(alloc, b"")?);
     draft.begin()?;
-    draft.add_line(FORM.as_bytes())?;
+    draft.add_text(REGISTRATION.as_bytes())?;
     draft.flush()?;
-    draft.add_line(REGISTRATION.as_bytes())?;
+    draft.add_text(ride.as_str().as_bytes())?;
     draft.flush()?;
     Ok(draft.into_file().bytes() == wanted.as_slice())
 }
 
-/// The rides, and those behind them while another process goes on.
-const RIDES_SINCE: &[Told] = &[
-    ("1", "available"),
-    ("2", "on_trip"),
-    ("3", "available"),
-    ("4", "on_trip"),
-    ("5", "available"),
-    ("6", "on_trip"),
-];
-
-/// What stays of the rides, and those behind them.
-const WITHOUT_FIRST_LOOP: &[Told] = &[
-    ("1", "available"),
-    ("4", "on_trip"),
-    ("5", "available"),
-    ("6", "on_trip"),
-];
+/// Whether a text that is as long as a check is refused.
+fn refuses_the_text_of_a_check(alloc: Global) -> Result<bool, Lack> {
+    let mut draft = Draft::new(alloc, Group::new(alloc)?, Memory::new(alloc, b"")?);
+    draft.begin()?;
+    Ok(draft.add_text(b"01234567890123456789") == Err(NewFileFault::CannotWrite))
+}
 
 /// A journal that another process goes on with: so many of its bytes are there, and all once it was asked whether it is left.
 #[derive(Drop)]
@@ -443,19 +358,18 @@ impl<'a> Followed for Growing<'a> {
     }
 }
 
-/// What a new journal of the rides comes to, where another process goes on with these bytes, and these are wanted; or where it is
-/// given up once it is begun.
-fn since_rides<R: RandomSource + Wait>(
+/// What a new journal of these bytes comes to, where another process goes on with others, and these are wanted; or where it is given
+/// up once it is begun.
+fn since_begun<R: RandomSource + Wait>(
     rt: &R,
     alloc: Global,
+    old: &[u8],
     bytes: &[u8],
-    wanted: &[Told],
+    wanted: Wanted,
     ends: bool,
 ) -> Result<Came, Lack> {
     let hasher = RandomState::new(rt).map_err(|_| Lack::Means)?;
-    let old = journal(alloc, FORM, RIDES)?;
-    let new = journal(alloc, FORM, wanted)?;
-    let old = old.as_slice();
+    let new = checked(alloc, wanted)?;
     let readings = Readings {
         first: old,
         second: old,
@@ -484,22 +398,57 @@ fn since_rides<R: RandomSource + Wait>(
     }
 }
 
-/// What one comes to where these events came since, and these are wanted.
+/// What one of the rides comes to where others came since.
 fn since_rides_told<R: RandomSource + Wait>(
     rt: &R,
     alloc: Global,
     ends: bool,
 ) -> Result<Came, Lack> {
+    let old = journal(alloc, FORM, RIDES)?;
     let bytes = journal(alloc, FORM, RIDES_SINCE)?;
-    since_rides(rt, alloc, &bytes, WITHOUT_FIRST_LOOP, ends)
+    since_begun(rt, alloc, &old, &bytes, WITHOUT_FIRST_LOOP, ends)
+}
+
+/// The same, where these and those stand in groups.
+fn since_a_group<R: RandomSource + Wait>(rt: &R, alloc: Global) -> Result<Came, Lack> {
+    let old = checked(alloc, ALL)?;
+    let mut bytes = checked(alloc, ALL)?;
+    add_events(alloc, &mut bytes, SINCE)?;
+    add_check(alloc, &mut bytes, "dd703660")?;
+    since_begun(rt, alloc, &old, &bytes, WITHOUT_FIRST_LOOP, true)
 }
 
 /// What one comes to where a line of another kind came since.
 fn since_rides_amiss<R: RandomSource + Wait>(rt: &R, alloc: Global) -> Result<Came, Lack> {
+    let old = journal(alloc, FORM, RIDES)?;
     let mut bytes = journal(alloc, FORM, RIDES)?;
     add_line(&mut bytes, REGISTRATION)?;
     add_line(&mut bytes, "7")?;
-    since_rides(rt, alloc, &bytes, RIDES, true)
+    since_begun(rt, alloc, &old, &bytes, ALL, true)
+}
+
+/// The same, where it came in a group.
+fn since_a_group_amiss<R: RandomSource + Wait>(rt: &R, alloc: Global) -> Result<Came, Lack> {
+    let old = checked(alloc, ALL)?;
+    let mut bytes = checked(alloc, ALL)?;
+    add_line(&mut bytes, REGISTRATION)?;
+    add_line(&mut bytes, "7")?;
+    add_check(alloc, &mut bytes, "03580a69")?;
+    since_begun(rt, alloc, &old, &bytes, ALL, true)
+}
+
+/// The same, where its check isn't that of its lines.
+fn since_a_damaged_group<R: RandomSource + Wait>(rt: &R, alloc: Global) -> Result<Came, Lack> {
+    let old = checked(alloc, ALL)?;
+    let mut bytes = checked(alloc, ALL)?;
+    add_line(&mut bytes, REGISTRATION)?;
+    add_check(alloc, &mut bytes, "03580a69")?;
+    since_begun(rt, alloc, &old, &bytes, ALL, true)
+}
+
+/// The old journal has this fault.
+fn failed(fault: GroupFault) -> Came {
+    Came::Failed(CompactError::Old(LinesError::Fault(fault)))
 }
 
 /// The totals of the rides, of whose events so many stay.
@@ -518,6 +467,12 @@ fn a_journal_is_compacted_after_a_refused_growth(rt: HostRuntime) {
 }
 
 #[test]
+fn a_journal_in_groups_is_compacted(rt: HostRuntime) {
+    let again = || of_a_group(&rt, rt.alloc(), 10, WITHOUT_LOOP);
+    assert_eq!(rt; again().or_else(|_| again()), Ok(Came::Made(totals(2))));
+}
+
+#[test]
 fn requests_are_read_after_a_refused_growth(rt: HostRuntime) {
     let again = || reads_a_registration(rt.alloc());
     assert_eq!(rt; again().or_else(|_| again()), Ok(true));
@@ -525,7 +480,7 @@ fn requests_are_read_after_a_refused_growth(rt: HostRuntime) {
 
 #[test]
 fn events_are_read_after_a_refused_growth(rt: HostRuntime) {
-    let again = || reads_its_events(rt.alloc());
+    let again = || reads_events_of_both(rt.alloc());
     assert_eq!(rt; again().or_else(|_| again()), Ok(true));
 }
 
@@ -537,26 +492,31 @@ fn passes_are_made_after_a_refused_growth(rt: HostRuntime) {
 
 #[test]
 fn lines_are_drafted_after_a_refused_growth(rt: HostRuntime) {
-    let again = || a_draft_has_its_lines(rt.alloc());
+    let again = || a_draft_has_its_texts(rt.alloc());
+    assert_eq!(rt; again().or_else(|_| again()), Ok(true));
+}
+
+#[test]
+fn no_text_is_taken_for_a_check(rt: HostRuntime) {
+    let again = || refuses_the_text_of_a_check(rt.alloc());
     assert_eq!(rt; again().or_else(|_| again()), Ok(true));
 }
 
 #[test]
 fn recent_events_stay(rt: HostRuntime) {
-    let again = || of_rides(&rt, rt.alloc(), 2, RIDES);
+    let again = || of_rides(&rt, rt.alloc(), 2, ALL);
     assert_eq!(rt; again().or_else(|_| again()), Ok(Came::Made(totals(4))));
 }
 
 #[test]
 fn a_vehicles_first_events_stay(rt: HostRuntime) {
-    let first = [("1", "available"), ("2", "on_trip"), ("3", "available")];
-    let again = || of_first_rides(&rt, rt.alloc(), 3, 0, &first);
+    let again = || of_first_rides(&rt, rt.alloc(), 3, 0, FIRST_THREE);
     assert_eq!(rt; again().or_else(|_| again()), Ok(Came::Made(totals(3))));
 }
 
 #[test]
 fn what_a_cut_leaves_is_thinned(rt: HostRuntime) {
-    let again = || of_first_rides(&rt, rt.alloc(), 2, 10, &RIDES[..2]);
+    let again = || of_first_rides(&rt, rt.alloc(), 2, 10, FIRST_TWO);
     assert_eq!(rt; again().or_else(|_| again()), Ok(Came::Made(totals(2))));
 }
 
@@ -574,12 +534,21 @@ fn another_form_is_refused(rt: HostRuntime) {
     let again = || of_events(
         &rt,
         rt.alloc(),
-        "{\"form\":\"mds_city\",\"version\":2}",
+        "{\"form\":\"mds_city\",\"version\":3}",
         RIDES,
     );
     assert_eq!(rt;
         again().or_else(|_| again()),
-        Ok(Came::Failed(CompactError::Old(LinesError::Fault(JournalFault::Form))))
+        Ok(failed(GroupFault::Journal(JournalFault::Form)))
+    );
+}
+
+#[test]
+fn a_group_without_its_check_is_told(rt: HostRuntime) {
+    let again = || of_events(&rt, rt.alloc(), CHECKED, RIDES);
+    assert_eq!(rt;
+        again().or_else(|_| again()),
+        Ok(failed(GroupFault::Damaged(0)))
     );
 }
 
@@ -589,7 +558,7 @@ fn a_line_that_tells_nothing_is_named(rt: HostRuntime) {
     let again = || of_events(&rt, rt.alloc(), FORM, &events);
     assert_eq!(rt;
         again().or_else(|_| again()),
-        Ok(Came::Failed(CompactError::Old(LinesError::Fault(JournalFault::BadLine(3)))))
+        Ok(failed(GroupFault::Journal(JournalFault::BadLine(3))))
     );
 }
 
@@ -646,6 +615,17 @@ fn a_new_journal_is_ended_after_a_refused_growth(rt: HostRuntime) {
 }
 
 #[test]
+fn groups_that_came_meanwhile_are_copied(rt: HostRuntime) {
+    let again = || since_a_group(&rt, rt.alloc());
+    let totals = Totals {
+        registrations: 1,
+        events: 6,
+        kept: 4,
+    };
+    assert_eq!(rt; again().or_else(|_| again()), Ok(Came::Made(totals)));
+}
+
+#[test]
 fn a_new_journal_can_be_given_up(rt: HostRuntime) {
     let again = || since_rides_told(&rt, rt.alloc(), false);
     assert_eq!(rt; again().or_else(|_| again()), Ok(Came::Otherwise));
@@ -656,6 +636,24 @@ fn lines_that_came_meanwhile_have_their_numbers(rt: HostRuntime) {
     let again = || since_rides_amiss(&rt, rt.alloc());
     assert_eq!(rt;
         again().or_else(|_| again()),
-        Ok(Came::Failed(CompactError::Old(LinesError::Fault(JournalFault::BadLine(7)))))
+        Ok(failed(GroupFault::Journal(JournalFault::BadLine(7))))
+    );
+}
+
+#[test]
+fn lines_of_groups_that_came_meanwhile_have_their_numbers(rt: HostRuntime) {
+    let again = || since_a_group_amiss(&rt, rt.alloc());
+    assert_eq!(rt;
+        again().or_else(|_| again()),
+        Ok(failed(GroupFault::Journal(JournalFault::BadLine(9))))
+    );
+}
+
+#[test]
+fn a_damaged_group_that_came_meanwhile_is_told(rt: HostRuntime) {
+    let again = || since_a_damaged_group(&rt, rt.alloc());
+    assert_eq!(rt;
+        again().or_else(|_| again()),
+        Ok(failed(GroupFault::Damaged(8)))
     );
 }

@@ -1,4 +1,4 @@
-use crate::{Cut, Cutting, Marking, Survey, Thinning, compaction};
+use mds_compact::{Cut, Cutting, Marking, Survey, Thinning, compaction};
 use mds_core::{Event, Key, Position, Request};
 use mds_table::{State, TypeName};
 use std::alloc::{AllocError, AllocFailed, Global};
