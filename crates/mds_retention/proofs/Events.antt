@@ -88,20 +88,28 @@ events_more key history texts request text old new own some same are vehicle the
       ∙ sym (lines_more key history texts request text true same (of_own key request own some) ∙ ap (λ one. event_lines key history texts ++ one) (append-nil (text ++ 10 ∷ [])));
 }
 
+-- what all lines tell
+abbrev taken_of : (known : Option (List ℕ)) (texts : List (List ℕ)) (history : List Request) (place : Place) → HasAll known texts place → AllZip Tells texts history → IsTaken known history
+taken_of known texts history place all told = record {
+  form = place.form;
+  lines = all.lines;
+  groups = all.groups;
+  counted = all.counted;
+  journal = all.is.journal;
+  told = subst (λ (w : List (List ℕ)). AllZip Tells w history) (sym all.told) told;
+}
+
 -- where no more lines count, what is kept is of all of them
 pub events_all : (known : Option (List ℕ)) (texts : List (List ℕ)) (history : List Request) (place : Place) (key : Key) (events : VehicleEvents) → HasAll known texts place → AllZip Tells texts history
     → AreEventsOf key history texts events → MatchBool events.is_there (HasEvents key known events.lines.items) (HasNothingOf key known)
 events_all known texts history place key events all told are =
     by_there events.is_there are.there where
-      abbrev taken : IsTaken known history
-      taken = record { form = place.form; lines = all.lines; groups = all.groups; counted = all.counted; journal = all.is.journal; told = subst (λ (w : List (List ℕ)). AllZip Tells w history) (sym all.told) told }
-
       lines : events.lines.items ≡ event_lines key history (texts_in all.groups)
       lines = are.lines ∙ ap (event_lines key history) (sym all.told)
 
       by_there : (there : Bool) → MatchBool there (requests_of history key ≢ []) (requests_of history key ≡ []) → MatchBool there (HasEvents key known events.lines.items) (HasNothingOf key known)
-      by_there true some = (history, taken, some, lines)
-      by_there false empty = (history, taken, empty)
+      by_there true some = (history, taken_of known texts history place all told, some, lines)
+      by_there false empty = (history, taken_of known texts history place all told, empty)
 
 -- what is found by whether it's there
 pub found_if : {A : Type 0} (there : Bool) (found : A) (P : Type 0) (Q : A → Type 0) → MatchBool there (Q found) P → MatchOption (cond there (Some found) None) P Q

@@ -24,7 +24,7 @@ use Rattle.mds_retention.proofs.Fronts.{texts_front}
 use Rattle.mds_retention.proofs.Telling.{told_count, begins_again}
 
 -- the texts that are kept tell the requests that are
-told_kept : (marks : List Bool) (entries : List (List ℕ)) (history : List Request) → AllZip Tells entries history → AllZip Tells (kept_of marks entries) (kept_of marks history)
+pub told_kept : (marks : List Bool) (entries : List (List ℕ)) (history : List Request) → AllZip Tells entries history → AllZip Tells (kept_of marks entries) (kept_of marks history)
 told_kept [] entries history told = tt
 told_kept (mark ∷ marks) [] [] told = tt
 told_kept (mark ∷ marks) [] (request ∷ history) told = absurd told

@@ -28,7 +28,7 @@ use Rattle.mds_retention.proofs.Journals.{compaction_of, file_taken, kept_first}
 use Rattle.mds_retention.proofs.Telling.{zip_append}
 
 -- where nothing is cut, a compaction of what the cuts leave is one of all
-uncut : (from : ℕ) (old cut new : List Request) → IsCutBy [] old cut → IsCompaction from cut new → IsCompaction from old new
+pub uncut : (from : ℕ) (old cut new : List Request) → IsCutBy [] old cut → IsCompaction from cut new → IsCompaction from old new
 uncut from old cut new front compaction = λ key. subst (λ all. IsCompacted from all (requests_of new key)) (front key) (compaction key)
 
 -- texts of a journal that tell a compaction, and those that came since

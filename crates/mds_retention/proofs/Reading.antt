@@ -4,7 +4,12 @@ use Rattle.std.proofs.Math.Seq.{drop-nil, drop-length}
 use Rattle.std.proofs.lemmas.List.{length-map}
 use Rattle.std.proofs.lemmas.List.Elements.{All-nil, All-cons, All-head, All-tail, All-push}
 use Rattle.std.specs.Io.KnownBytes.{Keeps}
+use Rattle.std.specs.List.{AllZip}
 use Rattle.mds_table.specs.Json.{max_bytes}
+use Rattle.mds_core.specs.declared.request.Request.{Request}
+use Rattle.mds_entries.specs.Entry.{IsFaultOfLine, Tells}
+use Rattle.mds_entries.specs.declared.entry.EntryFault.{EntryFault}
+use Rattle.mds_entries.specs.declared.entry.EntryFault.TheVariants as entry
 use Rattle.mds_groups.specs.Entries.{numbers_from, AreEntries, IsEntryAt}
 use Rattle.mds_groups.specs.Form.{check_of, group_lines, texts_in, IsJournal}
 use Rattle.mds_groups.specs.Stream.{texts_held, texts_of, HasTaken, IsEndFault, IsLineFault, Refuses, Takes}
@@ -28,7 +33,7 @@ use Rattle.mds_retention.specs.declared.error.LinesError.TheVariants.{Memory, Re
 use Rattle.mds_retention.specs.declared.place.Place.{Place}
 use Rattle.mds_retention.specs.declared.texts.TextLines.{TextLines}
 use Rattle.mds_retention.specs.Place.{HasAll, IsAt, IsPlaceOf}
-use Rattle.mds_retention.specs.Telling.{AreLines, Gives, HasOtherForm, HasTexts, IsReadTo, IsShort, StopsBehind, group_error, stream_error}
+use Rattle.mds_retention.specs.Telling.{AreLines, Gives, HasOtherForm, HasTexts, IsJournalFault, IsReadTo, IsShort, StopsBehind, entry_error, group_error, stream_error}
 use Rattle.mds_retention.specs.Texts.{text_of, number_of, to_come, HasRead, IsNext}
 use Rattle.mds_retention.proofs.Telling.{gives_all, gives_first, gives_kept, gives_more}
 
@@ -290,3 +295,11 @@ module _ {R : Type 0} (remaining : R → Option (List ℕ)) (known : Option (Lis
         },
         gives_all known (left old) read.lines read.given none,
       )
+
+-- a text that tells no request is why a journal isn't one
+pub entry_stops : (known : Option (List ℕ)) (texts : List (List ℕ)) (history : List Request) (number : ℕ) (text : List ℕ) (fault : EntryFault) → AllZip Tells texts history → IsNext known texts number text
+    → IsFaultOfLine text fault → IsJournalFault known (entry_error number fault)
+entry_stops known texts history number text entry.BadLine told next why =
+    record { lines = next.0; counted = next.1; before = texts; history = history; told = told; text = text; at = next.2; none = (next.3, why) }
+entry_stops known texts history number text entry.NoLine told next why = absurd why
+entry_stops known texts history number text entry.Memory told next why = tt

@@ -5,6 +5,8 @@ use Rattle.std.specs.List.{AllZip}
 use Rattle.mds_table.specs.Json.{max_bytes}
 use Rattle.mds_core.specs.declared.request.Request.{Request}
 use Rattle.mds_entries.specs.Entry.{Tells}
+use Rattle.mds_entries.specs.declared.entry.EntryFault.{EntryFault}
+use Rattle.mds_entries.specs.declared.entry.EntryFault.TheVariants as entry
 use Rattle.mds_groups.specs.Entries.{IsEntryAt}
 use Rattle.mds_groups.specs.Form.{first_line, texts_in, IsJournal}
 use Rattle.mds_groups.specs.Laws.{TellsTexts}
@@ -34,6 +36,12 @@ stream_error number stream.Full = Read
 abbrev pub group_error : GroupError → LinesError
 group_error group.Memory = Memory
 group_error (group.Fault fault) = Fault fault
+
+-- why the line of this number isn't read, where its text tells no request for this
+abbrev pub entry_error : ℕ → EntryFault → LinesError
+entry_error number entry.BadLine = Fault (Journal (BadLine number))
+entry_error number entry.NoLine = Fault (Journal (BadLine number))
+entry_error number entry.Memory = Memory
 
 -- of known bytes these lines count first, and what counts in the rest counts behind them
 abbrev pub Gives : Option (List ℕ) → List (List ℕ) → Option (List ℕ) → Type 0

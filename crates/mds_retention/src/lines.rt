@@ -2,7 +2,7 @@
 ghost use Rattle.std.specs.Prelude.{◌≡◌, ◌+◌, ◌<◌, ◌^◌, ℕ, List, [], Option, IfOk, IfErr, IfSome, IfNone};
 ghost use Rattle.mds_entries.specs.Entry.{Tells};
 ghost use Rattle.mds_groups.specs.Form.{texts_in};
-ghost use Rattle.mds_retention.specs.Telling.{Gives};
+ghost use Rattle.mds_retention.specs.Telling.{Gives, entry_error};
 ghost use Rattle.mds_retention.specs.Place.{IsPlaceOf};
 ghost use Rattle.mds_retention.specs.Texts.{HandsOn, HasRead, IsOut, IsReading, ReadsAll, number_of, text_of};
 ghost use Rattle.mds_retention.specs.Lines.{HasTold, StopsLines};
@@ -98,15 +98,19 @@ impl<R: Read + Drop> RequestLines<R> {
         }
         match self.entries.read(self.texts.text()) {
             Ok(request) => Ok(Some(request)),
-            Err(EntryFault::Memory) => Err(LinesError::Memory),
-            Err(_) => Err(bad_line(self.texts.number())),
+            Err(fault) => Err(entry_fault(fault, self.texts.number())),
         }
     }
 }
 
-/// The line of this number tells no request.
-fn bad_line(number: usize) -> LinesError
-    ensures { result ≡ LinesError.Fault (GroupFault.Journal (JournalFault.BadLine number)) }
+/// Why the text of the line of this number tells no request.
+fn entry_fault(fault: EntryFault, number: usize) -> LinesError
+    ensures { result ≡ entry_error number fault }
 {
-    LinesError::Fault(GroupFault::Journal(JournalFault::BadLine(number)))
+    match fault {
+        EntryFault::Memory => LinesError::Memory,
+        EntryFault::BadLine | EntryFault::NoLine => {
+            LinesError::Fault(GroupFault::Journal(JournalFault::BadLine(number)))
+        }
+    }
 }

@@ -39,7 +39,7 @@ pub returns-in_err-next-clause-fault : goal.returns-in_err-next-clause-fault
 returns-in_err-next-clause-fault g c =
     let known = g.R.Read.remaining c.args.reader in
     let at = c.loop-mark.invariant in
-    passed_on _ _ _ c.from_residual-in_err-next.ensures.1
+    passed_on _ _ _ c.from_residual.ensures.1
     (copy_fault (length c.args.marks.now) known at.copied.0 c.in_err-next.field-0.0 (c.in_err-next.ensures.fault known at.copied.0 at.copied.1))
 
 pub returns-then-not-branch-clause-fault : goal.returns-then-not-branch-clause-fault

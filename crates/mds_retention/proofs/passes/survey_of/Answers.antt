@@ -62,7 +62,7 @@ returns-in_default-clause-survey g c =
     let taken = told_all remaining known old new seen.0 seen.1 (subst Done none c.in_ok-request.ensures.done) in
     let Taken : Place → Type 0 = λ (place : Place). IsTakenTo known seen.0 place in (
       seen.0,
-      subst Taken (sym c.place.ensures) taken,
+      subst Taken (sym c.place-surveyed.ensures) taken,
       seen.3,
       λ cuts is.
           let all = seen.4 cuts is in
@@ -72,4 +72,4 @@ returns-in_default-clause-survey g c =
 pub returns-in_err-request-clause-fault : goal.returns-in_err-request-clause-fault
 returns-in_err-request-clause-fault g c =
     let seen = c.requests.invariant.seen in
-    passed_on _ _ _ c.from_residual-in_err-request.ensures.1 (c.in_err-request.ensures.fault (g.R.Read.remaining c.args.reader) seen.0 seen.1)
+    passed_on _ _ _ c.from_residual.ensures.1 (c.in_err-request.ensures.fault (g.R.Read.remaining c.args.reader) seen.0 seen.1)

@@ -96,6 +96,6 @@ returns-in_default-clause-copied g c =
 pub returns-in_err-request-clause-fault : goal.returns-in_err-request-clause-fault
 returns-in_err-request-clause-fault g c =
     let seen = c.lines.invariant.seen in
-    passed_on _ _ _ c.from_residual-in_err-request.ensures.1 (λ known lines groups history at gives told.
+    passed_on _ _ _ c.from_residual.ensures.1 (λ known lines groups history at gives told.
     c.in_err-request.ensures.fault known (history ++ seen.1)
     (texts_in groups ++ seen.0, seen.3 known lines groups at gives, zip_append (texts_in groups) seen.0 history seen.1 told seen.2))

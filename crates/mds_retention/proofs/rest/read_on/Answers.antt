@@ -28,4 +28,4 @@ returns-in_err-next-clause-fault g c =
     c.in_err-next.ensures.fault content lines groups history is (gives_behind content known lines begins (subst (λ n. IsRest n content known) is.at.bytes c.in_ok-rest.ensures.rest)) told)
 
 pub returns-in_err-rest-clause-fault : goal.returns-in_err-rest-clause-fault
-returns-in_err-rest-clause-fault g c = passed_on _ _ _ c.from_residual-in_err-rest.ensures.1 (λ lines groups history begins is told. tt)
+returns-in_err-rest-clause-fault g c = passed_on _ _ _ c.from_residual.ensures.1 (λ lines groups history begins is told. tt)

@@ -67,4 +67,4 @@ returns-in_default-clause-told g c =
 pub returns-in_err-request-clause-fault : goal.returns-in_err-request-clause-fault
 returns-in_err-request-clause-fault g c =
     let seen = c.requests.invariant.seen in
-    passed_on _ _ _ c.from_residual-in_err-request.ensures.1 (c.in_err-request.ensures.fault (g.R.Read.remaining c.args.reader) seen.0 seen.1)
+    passed_on _ _ _ c.from_residual.ensures.1 (c.in_err-request.ensures.fault (g.R.Read.remaining c.args.reader) seen.0 seen.1)
