@@ -1,9 +1,8 @@
 -- The texts that were copied, and how many there are.
-use Rattle.std.proofs.Common.{◌≡◌, ◌∙◌, ℕ, ◌+◌, ◌<◌, List, [], ◌∷◌, ◌++◌, length, take, get_or, cond, Bool, Option, refl, sym, ap, arith, length-take}
+use Rattle.std.proofs.Common.{◌≡◌, ◌∙◌, ℕ, ◌+◌, ◌<◌, List, [], ◌∷◌, ◌++◌, length, take, get_or, cond, Bool, Option, sym, ap, arith, length-take}
 use Rattle.std.proofs.lemmas.List.{take_more}
 use Rattle.mds_compact.specs.Compaction.{kept_of}
 use Rattle.mds_compact.proofs.Kept.{kept_more}
-use Rattle.mds_groups.specs.Form.{texts_in}
 use Rattle.mds_retention.specs.declared.place.Place.{Place}
 use Rattle.mds_retention.specs.Place.{HasAll}
 use Rattle.mds_retention.specs.Telling.{HasFewer}

@@ -1,5 +1,5 @@
 -- What lines that count first have in common, whoever reads how many of them.
-use Rattle.std.proofs.Common.{◌≡◌, ◌∙◌, ◌≤◌, ◌⊎◌, inl, inr, ℕ, ◌==◌, cond, List, [], ◌∷◌, ◌++◌, length, All, Option, Some, None, refl, sym, ap, subst, arith, append_assoc, append-nil}
+use Rattle.std.proofs.Common.{◌≡◌, ◌∙◌, ◌≤◌, ◌⊎◌, inl, inr, ℕ, ◌==◌, cond, List, [], ◌∷◌, ◌++◌, length, All, Option, Some, None, refl, sym, ap, arith, append_assoc, append-nil}
 use Rattle.std.proofs.lemmas.Bool.{ne_eqb, eq-eqb, cond-false, cond-true}
 use Rattle.std.proofs.lemmas.List.{append_cancel_left}
 use Rattle.std.proofs.lemmas.List.Elements.{All-nil, All-head, All-tail}
@@ -7,7 +7,7 @@ use Rattle.mds_journal.specs.Lines.{recovered_texts, open_lines}
 use Rattle.mds_check.specs.Crc.{crc32}
 use Rattle.mds_check.specs.Form.{check_text, laid_out, IsText}
 use Rattle.mds_check.proofs.FormLemmas.{check_text-length}
-use Rattle.mds_groups.specs.Form.{first_line, check_of, header, lines_of, texts_in, IsEntry, IsJournal}
+use Rattle.mds_groups.specs.Form.{header, lines_of, texts_in, IsJournal}
 use Rattle.mds_groups.specs.Stream.{lines_before, IsFront, MayHave}
 use Rattle.mds_groups.specs.declared.form.JournalForm.{JournalForm}
 use Rattle.mds_groups.specs.declared.form.JournalForm.TheVariants.{Plain, Checked}

@@ -1,15 +1,14 @@
 -- How a pass over known bytes goes on.
-use Rattle.std.proofs.Common.{◌≡◌, ◌∙◌, ◌<◌, ◌≤◌, ◌+◌, ℕ, List, [], ◌∷◌, ◌++◌, length, Option, Some, sym, ap, append_assoc, append-nil, subst, arith, refl, length-append}
+use Rattle.std.proofs.Common.{◌≡◌, ◌∙◌, ◌<◌, ◌≤◌, ℕ, List, [], ◌∷◌, ◌++◌, length, Option, Some, sym, ap, append_assoc, append-nil, subst, arith, refl, length-append}
 use Rattle.std.proofs.lemmas.List.{append_cancel_left, length_push}
 use Rattle.std.specs.List.{AllZip}
 use Rattle.mds_core.specs.declared.request.Request.{Request}
 use Rattle.mds_entries.specs.Entry.{Tells}
 use Rattle.mds_groups.specs.Form.{texts_in}
-use Rattle.mds_retention.specs.declared.error.LinesError.{LinesError}
 use Rattle.mds_retention.specs.declared.place.Place.{Place}
 use Rattle.mds_retention.specs.declared.lines.RequestLines.{RequestLines}
 use Rattle.mds_retention.specs.Lines.{HasTold}
-use Rattle.mds_retention.specs.Place.{HasAll, IsPlaceOf, IsTakenTo}
+use Rattle.mds_retention.specs.Place.{HasAll, IsTakenTo}
 use Rattle.mds_retention.specs.Telling.{BeginsWith, HasFewer, HasTexts}
 use Rattle.mds_retention.specs.Texts.{text_of, HandsOn, ReadsAll}
 use Rattle.mds_retention.proofs.Fronts.{texts_front}

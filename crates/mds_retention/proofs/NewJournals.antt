@@ -1,5 +1,5 @@
 -- What a new journal has of one to which lines were added.
-use Rattle.std.proofs.Common.{◌≡◌, ◌∙◌, ℕ, List, [], ◌∷◌, ◌++◌, length, Bool, Option, Some, None, inl, inr, refl, sym, ap, subst, append_assoc, append-nil}
+use Rattle.std.proofs.Common.{◌≡◌, ◌∙◌, ℕ, List, [], ◌++◌, length, Bool, Option, Some, None, inl, inr, refl, sym, ap, subst, append_assoc, append-nil}
 use Rattle.std.specs.List.{AllZip}
 use Rattle.mds_core.specs.declared.request.Request.{Request}
 use Rattle.mds_core.specs.History.{requests_of}

@@ -1,5 +1,5 @@
 -- How far the texts of a journal's groups were handed out.
-use Rattle.std.proofs.Common.{◌≡◌, ◌≢◌, ◌∙◌, inl, inr, ℕ, zero, suc, ◌+◌, ◌-◌, ◌<◌, ◌≤◌, add-one, List, [], ◌∷◌, ◌++◌, length, get_or, drop, drop-cons, All, Vec, Global, Option, Some, None, refl, sym, ap, subst, arith, append_assoc, append-nil, length-append}
+use Rattle.std.proofs.Common.{◌≡◌, ◌∙◌, inl, inr, ℕ, zero, suc, ◌+◌, ◌-◌, ◌<◌, add-one, List, [], ◌∷◌, ◌++◌, length, get_or, drop, drop-cons, All, Vec, Global, Option, Some, None, sym, ap, subst, arith, append_assoc, append-nil, length-append}
 use Rattle.std.proofs.Math.Seq.{drop-nil, drop-length}
 use Rattle.std.proofs.lemmas.List.{length-map}
 use Rattle.std.proofs.lemmas.List.Elements.{All-nil, All-cons, All-head, All-tail, All-push}
@@ -28,12 +28,11 @@ use Rattle.mds_journal.specs.declared.fault.JournalFault.TheVariants as journal
 use Rattle.mds_journal.specs.declared.stream.StreamError.{StreamError}
 use Rattle.mds_journal.specs.declared.stream.StreamError.TheVariants as stream
 use Rattle.mds_journal.proofs.LineLemmas.{open_lines-append}
-use Rattle.mds_retention.specs.declared.error.LinesError.{LinesError}
-use Rattle.mds_retention.specs.declared.error.LinesError.TheVariants.{Memory, Read, Fault, Changed}
+use Rattle.mds_retention.specs.declared.error.LinesError.TheVariants.{Fault}
 use Rattle.mds_retention.specs.declared.place.Place.{Place}
 use Rattle.mds_retention.specs.declared.texts.TextLines.{TextLines}
-use Rattle.mds_retention.specs.Place.{HasAll, IsAt, IsPlaceOf}
-use Rattle.mds_retention.specs.Telling.{AreLines, Gives, HasOtherForm, HasTexts, IsJournalFault, IsReadTo, IsShort, StopsBehind, entry_error, group_error, stream_error}
+use Rattle.mds_retention.specs.Place.{HasAll, IsAt}
+use Rattle.mds_retention.specs.Telling.{AreLines, Gives, HasTexts, IsJournalFault, IsReadTo, IsShort, StopsBehind, entry_error, group_error, stream_error}
 use Rattle.mds_retention.specs.Texts.{text_of, number_of, to_come, HasRead, IsNext}
 use Rattle.mds_retention.proofs.Telling.{gives_all, gives_first, gives_kept, gives_more}
 
@@ -299,7 +298,7 @@ module _ {R : Type 0} (remaining : R → Option (List ℕ)) (known : Option (Lis
 -- a text that tells no request is why a journal isn't one
 pub entry_stops : (known : Option (List ℕ)) (texts : List (List ℕ)) (history : List Request) (number : ℕ) (text : List ℕ) (fault : EntryFault) → AllZip Tells texts history → IsNext known texts number text
     → IsFaultOfLine text fault → IsJournalFault known (entry_error number fault)
-entry_stops known texts history number text entry.BadLine told next why =
-    record { lines = next.0; counted = next.1; before = texts; history = history; told = told; text = text; at = next.2; none = (next.3, why) }
-entry_stops known texts history number text entry.NoLine told next why = absurd why
-entry_stops known texts history number text entry.Memory told next why = tt
+entry_stops known texts history number line entry.BadLine told next why =
+    record { lines = next.0; counted = next.1; before = texts; history = history; told = told; text = line; at = next.2; none = (next.3, why) }
+entry_stops known texts history number line entry.NoLine told next why = absurd why
+entry_stops known texts history number line entry.Memory told next why = tt

@@ -1,12 +1,11 @@
 -- How the lines that were handed out add up, and what known bytes tell of them.
-use Rattle.std.proofs.Common.{◌≡◌, ◌∙◌, ◌≤◌, ◌<◌, ℕ, length, arith, inl, inr, List, [], ◌∷◌, ◌++◌, Option, Some, None, IfSome, Result, Ok, Err, IfErr, refl, sym, ap, append_assoc, append-nil, subst}
+use Rattle.std.proofs.Common.{◌≡◌, ◌∙◌, ℕ, length, arith, List, [], ◌∷◌, ◌++◌, Option, Some, None, Result, Ok, Err, IfErr, refl, sym, ap, append_assoc, append-nil, subst}
 use Rattle.std.specs.List.{AllZip}
 use Rattle.std.specs.Prelude.{IsErrAnd}
 use Rattle.std.specs.Io.KnownBytes.{Keeps}
 use Rattle.mds_core.specs.declared.request.Request.{Request}
 use Rattle.mds_entries.specs.Entry.{Tells}
 use Rattle.mds_entries.proofs.EntryLemmas.{lines_tell_one_request}
-use Rattle.mds_groups.specs.Form.{texts_in}
 use Rattle.mds_groups.specs.declared.fault.GroupFault.TheVariants.{Damaged, Journal}
 use Rattle.mds_journal.specs.Lines.{recovered_texts}
 use Rattle.mds_journal.specs.Stream.{HandsOut, StandsForNothing}

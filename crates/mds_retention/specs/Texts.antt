@@ -1,6 +1,6 @@
 -- What is known of the texts of a journal's groups while they are handed out.
 use Rattle.std.specs.Prelude.{◌≡◌, ◌≤◌, ◌<◌, ◌-◌, ◌+◌, ◌^◌, ℕ, List, [], ◌∷◌, ◌++◌, length, drop}
-use Rattle.std.specs.Prelude.{All, Option, slice_index_or}
+use Rattle.std.specs.Prelude.{Option, slice_index_or}
 use Rattle.mds_table.specs.Json.{max_bytes}
 use Rattle.mds_groups.specs.Entries.{numbers_from, AreEntries, IsEntryAt}
 use Rattle.mds_groups.specs.Form.{texts_in}

@@ -44,12 +44,7 @@ impl<R: Read + Drop> TextLines<R> {
             → IsPlaceOf lines groups place → Gives known lines (R.remaining reader)
             → HasRead R.remaining known result (texts_in groups) }
     {
-        TextLines::with(
-            alloc,
-            reader,
-            GroupStream::behind(alloc, place.form),
-            place,
-        )
+        TextLines::with(alloc, reader, GroupStream::behind(alloc, place.form), place)
     }
 
     fn with(alloc: Global, reader: R, groups: GroupStream, place: Place) -> TextLines<R>

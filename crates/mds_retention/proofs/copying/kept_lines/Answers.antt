@@ -55,8 +55,7 @@ returns-clause-kept g c =
     let marks = c.args.marks.now in
     let at = c.loop-mark.invariant in
     let texts = at.copied.0 in
-    let count : length texts ≡ length marks = omega (arith, at.copied.2, c.loop-mark-test.false, c.loop-mark.auto.mark-index-end) in
-    (
+    let count : length texts ≡ length marks = omega (arith, at.copied.2, c.loop-mark-test.false, c.loop-mark.auto.mark-index-end) in (
       kept_of (take c.loop-mark.mark-index marks) texts,
       (
         texts,

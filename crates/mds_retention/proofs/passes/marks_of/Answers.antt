@@ -75,7 +75,7 @@ loop-left-preserved g c =
 pub returns-in_err-request-clause-fault : goal.returns-in_err-request-clause-fault
 returns-in_err-request-clause-fault g c =
     let seen = c.loop-left.invariant.seen in
-    passed_on _ _ _ c.from_residual.ensures.1 (inl (c.in_err-request.ensures.fault (g.R.Read.remaining c.args.reader) seen.0 seen.1))
+    passed_on _ _ _ c.from_residual-in_err-request.ensures.1 (inl (c.in_err-request.ensures.fault (g.R.Read.remaining c.args.reader) seen.0 seen.1))
 
 pub returns-in_default-clause-fault : goal.returns-in_default-clause-fault
 returns-in_default-clause-fault g c =

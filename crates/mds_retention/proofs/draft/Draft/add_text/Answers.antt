@@ -1,4 +1,4 @@
-use Rattle.std.proofs.Common.{◌≡◌, ◌++◌, ◌∷◌, [], length, refl, rules}
+use Rattle.std.proofs.Common.{◌++◌, ◌∷◌, [], refl, rules}
 use Rattle.mds_check.specs.Form.{IsText}
 use Rattle.mds_retention.proofs.Drafts.{bytes_written, group_ended, text_more}
 use Rattle.mds_retention.proofs.draft.Draft.add_text.Goals as goal

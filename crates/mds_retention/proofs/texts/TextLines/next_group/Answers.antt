@@ -1,4 +1,4 @@
-use Rattle.std.proofs.Common.{◌≡◌, ◌∙◌, true, false, arith, rules, subst}
+use Rattle.std.proofs.Common.{◌≡◌, ◌∙◌, true, false, arith, rules}
 use Rattle.mds_retention.proofs.Reading.{end_stops, none_to_come, reads_all}
 use Rattle.mds_retention.proofs.Telling.{passed_on}
 use Rattle.mds_retention.proofs.texts.TextLines.next_group.Goals as goal

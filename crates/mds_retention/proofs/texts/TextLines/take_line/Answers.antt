@@ -1,9 +1,9 @@
-use Rattle.std.proofs.Common.{◌≡◌, ℕ, ◌≤◌, Option, true, false, length, refl, subst, rules}
+use Rattle.std.proofs.Common.{◌≡◌, ◌≤◌, Option, true, false, length, refl, subst, rules}
 use Rattle.mds_groups.specs.Stream.{Refuses, Takes}
 use Rattle.mds_groups.specs.declared.stream.WholeGroup.{WholeGroup}
 use Rattle.mds_journal.specs.Stream.{unread_of}
 use Rattle.mds_retention.specs.Telling.{IsShort}
-use Rattle.mds_retention.proofs.Reading.{at_next, ended, group_taken, line_stops, line_taken, none_to_come, stream_stops}
+use Rattle.mds_retention.proofs.Reading.{at_next, ended, group_taken, line_stops, line_taken, none_to_come}
 use Rattle.mds_retention.proofs.Telling.{passed_on}
 use Rattle.mds_retention.proofs.texts.TextLines.take_line.Goals as goal
 
