@@ -57,7 +57,7 @@ HasFront known lines = (left : Option (List ℕ)) × Gives known lines left
 abbrev pub AreLines : Option (List ℕ) → List (List ℕ) → Type 0
 AreLines known lines = IfSome known (λ bytes. recovered_texts bytes ≡ lines)
 
--- the lines that count are a journal, of either version, and its texts tell these requests, in order
+-- the lines that count are a journal, of either version, whose texts tell these requests, in order
 pub record IsTaken (known : Option (List ℕ)) (history : List Request) : Type 0 where
   pub form : JournalForm
   pub lines : List (List ℕ)
