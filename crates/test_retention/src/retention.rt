@@ -468,8 +468,10 @@ fn a_journal_is_compacted_after_a_refused_growth(rt: HostRuntime) {
 
 #[test]
 fn a_journal_in_groups_is_compacted(rt: HostRuntime) {
-    let again = || of_a_group(&rt, rt.alloc(), 10, WITHOUT_LOOP);
-    assert_eq!(rt; again().or_else(|_| again()), Ok(Came::Made(totals(2))));
+    assert_eq!(rt;
+        of_a_group(&rt, rt.alloc(), 10, WITHOUT_LOOP),
+        Ok(Came::Made(totals(2)))
+    );
 }
 
 #[test]
@@ -498,56 +500,58 @@ fn lines_are_drafted_after_a_refused_growth(rt: HostRuntime) {
 
 #[test]
 fn no_text_is_taken_for_a_check(rt: HostRuntime) {
-    let again = || refuses_the_text_of_a_check(rt.alloc());
-    assert_eq!(rt; again().or_else(|_| again()), Ok(true));
+    assert_eq!(rt; refuses_the_text_of_a_check(rt.alloc()), Ok(true));
 }
 
 #[test]
 fn recent_events_stay(rt: HostRuntime) {
-    let again = || of_rides(&rt, rt.alloc(), 2, ALL);
-    assert_eq!(rt; again().or_else(|_| again()), Ok(Came::Made(totals(4))));
+    assert_eq!(rt;
+        of_rides(&rt, rt.alloc(), 2, ALL),
+        Ok(Came::Made(totals(4)))
+    );
 }
 
 #[test]
 fn a_vehicles_first_events_stay(rt: HostRuntime) {
-    let again = || of_first_rides(&rt, rt.alloc(), 3, 0, FIRST_THREE);
-    assert_eq!(rt; again().or_else(|_| again()), Ok(Came::Made(totals(3))));
+    assert_eq!(rt;
+        of_first_rides(&rt, rt.alloc(), 3, 0, FIRST_THREE),
+        Ok(Came::Made(totals(3)))
+    );
 }
 
 #[test]
 fn what_a_cut_leaves_is_thinned(rt: HostRuntime) {
-    let again = || of_first_rides(&rt, rt.alloc(), 2, 10, FIRST_TWO);
-    assert_eq!(rt; again().or_else(|_| again()), Ok(Came::Made(totals(2))));
+    assert_eq!(rt;
+        of_first_rides(&rt, rt.alloc(), 2, 10, FIRST_TWO),
+        Ok(Came::Made(totals(2)))
+    );
 }
 
 #[test]
 fn a_cut_of_a_vehicle_that_is_not_there_is_refused(rt: HostRuntime) {
-    let again = || of_another_vehicle(&rt, rt.alloc());
     assert_eq!(rt;
-        again().or_else(|_| again()),
+        of_another_vehicle(&rt, rt.alloc()),
         Ok(Came::Failed(CompactError::NotThere))
     );
 }
 
 #[test]
 fn another_form_is_refused(rt: HostRuntime) {
-    let again = || of_events(
-        &rt,
-        rt.alloc(),
-        "{\"form\":\"mds_city\",\"version\":3}",
-        RIDES,
-    );
     assert_eq!(rt;
-        again().or_else(|_| again()),
+        of_events(
+            &rt,
+            rt.alloc(),
+            "{\"form\":\"mds_city\",\"version\":3}",
+            RIDES
+        ),
         Ok(failed(GroupFault::Journal(JournalFault::Form)))
     );
 }
 
 #[test]
 fn a_group_without_its_check_is_told(rt: HostRuntime) {
-    let again = || of_events(&rt, rt.alloc(), CHECKED, RIDES);
     assert_eq!(rt;
-        again().or_else(|_| again()),
+        of_events(&rt, rt.alloc(), CHECKED, RIDES),
         Ok(failed(GroupFault::Damaged(0)))
     );
 }
@@ -555,9 +559,8 @@ fn a_group_without_its_check_is_told(rt: HostRuntime) {
 #[test]
 fn a_line_that_tells_nothing_is_named(rt: HostRuntime) {
     let events = [("1", "available"), ("2", "flying")];
-    let again = || of_events(&rt, rt.alloc(), FORM, &events);
     assert_eq!(rt;
-        again().or_else(|_| again()),
+        of_events(&rt, rt.alloc(), FORM, &events),
         Ok(failed(GroupFault::Journal(JournalFault::BadLine(3))))
     );
 }
@@ -565,9 +568,8 @@ fn a_line_that_tells_nothing_is_named(rt: HostRuntime) {
 #[test]
 fn a_file_that_lost_lines_is_refused(rt: HostRuntime) {
     let fewer = [("1", "available")];
-    let again = || of_rides_then(&rt, rt.alloc(), &fewer);
     assert_eq!(rt;
-        again().or_else(|_| again()),
+        of_rides_then(&rt, rt.alloc(), &fewer),
         Ok(Came::Failed(CompactError::Old(LinesError::Changed)))
     );
 }
@@ -581,24 +583,24 @@ fn lines_that_came_since_are_not_copied(rt: HostRuntime) {
         ("4", "on_trip"),
         ("5", "available"),
     ];
-    let again = || of_rides_then(&rt, rt.alloc(), &more);
-    assert_eq!(rt; again().or_else(|_| again()), Ok(Came::Made(totals(2))));
+    assert_eq!(rt;
+        of_rides_then(&rt, rt.alloc(), &more),
+        Ok(Came::Made(totals(2)))
+    );
 }
 
 #[test]
 fn a_reading_that_fails_is_told(rt: HostRuntime) {
-    let again = || of_broken(&rt, rt.alloc());
     assert_eq!(rt;
-        again().or_else(|_| again()),
+        of_broken(&rt, rt.alloc()),
         Ok(Came::Failed(CompactError::Old(LinesError::Read)))
     );
 }
 
 #[test]
 fn a_name_that_is_taken_is_told_first(rt: HostRuntime) {
-    let again = || of_a_name_that_is_taken(&rt, rt.alloc());
     assert_eq!(rt;
-        again().or_else(|_| again()),
+        of_a_name_that_is_taken(&rt, rt.alloc()),
         Ok(Came::Failed(CompactError::New(NewFileFault::IsThere)))
     );
 }
@@ -616,44 +618,42 @@ fn a_new_journal_is_ended_after_a_refused_growth(rt: HostRuntime) {
 
 #[test]
 fn groups_that_came_meanwhile_are_copied(rt: HostRuntime) {
-    let again = || since_a_group(&rt, rt.alloc());
     let totals = Totals {
         registrations: 1,
         events: 6,
         kept: 4,
     };
-    assert_eq!(rt; again().or_else(|_| again()), Ok(Came::Made(totals)));
+    assert_eq!(rt; since_a_group(&rt, rt.alloc()), Ok(Came::Made(totals)));
 }
 
 #[test]
 fn a_new_journal_can_be_given_up(rt: HostRuntime) {
-    let again = || since_rides_told(&rt, rt.alloc(), false);
-    assert_eq!(rt; again().or_else(|_| again()), Ok(Came::Otherwise));
+    assert_eq!(rt;
+        since_rides_told(&rt, rt.alloc(), false),
+        Ok(Came::Otherwise)
+    );
 }
 
 #[test]
 fn lines_that_came_meanwhile_have_their_numbers(rt: HostRuntime) {
-    let again = || since_rides_amiss(&rt, rt.alloc());
     assert_eq!(rt;
-        again().or_else(|_| again()),
+        since_rides_amiss(&rt, rt.alloc()),
         Ok(failed(GroupFault::Journal(JournalFault::BadLine(7))))
     );
 }
 
 #[test]
 fn lines_of_groups_that_came_meanwhile_have_their_numbers(rt: HostRuntime) {
-    let again = || since_a_group_amiss(&rt, rt.alloc());
     assert_eq!(rt;
-        again().or_else(|_| again()),
+        since_a_group_amiss(&rt, rt.alloc()),
         Ok(failed(GroupFault::Journal(JournalFault::BadLine(9))))
     );
 }
 
 #[test]
 fn a_damaged_group_that_came_meanwhile_is_told(rt: HostRuntime) {
-    let again = || since_a_damaged_group(&rt, rt.alloc());
     assert_eq!(rt;
-        again().or_else(|_| again()),
+        since_a_damaged_group(&rt, rt.alloc()),
         Ok(failed(GroupFault::Damaged(8)))
     );
 }
