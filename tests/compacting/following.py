@@ -17,6 +17,7 @@ from cases.vehicles import FORM, not_a_journal
 from compacting.running import SECONDS, content_amiss, run, totals
 from compacting.worked import journal_of
 from crashing.files import counted
+from crashing.recording import Recording
 from crashing.reports import FIRST_TIME, device_at, listed, listing, looking, parts_of, registering, reporting, status_of
 from harness.building import built
 from harness.counting import Unwell
@@ -123,10 +124,10 @@ class Crew:
 
 
 class Following:
-    """A compaction that follows a server, in its own process."""
+    """A compaction that follows a server, or doesn't, in its own process."""
 
-    def __init__(self, program, old, new, before=BEFORE, **more):
-        words = [program, "compact", old, new, "--before", before, "--follow"]
+    def __init__(self, program, old, new, before=BEFORE, follows=True, **more):
+        words = [program, "compact", old, new, "--before", before, *(["--follow"] if follows else [])]
         pipes = {"stdout": subprocess.PIPE, "stderr": subprocess.PIPE, "text": True}
         self.child = subprocess.Popen([*map(str, words)], env={**os.environ, **more}, **pipes)
 
@@ -274,33 +275,65 @@ def lines_that_come(program):
             if new.exists() or following.child.poll() is not None:
                 yield "the new file is there while another process has the old one"
             add(b"".join(tail[4:]) + b' {"half')
-        places = [0, 1, count - 1, *range(count, len(making.lines))]
-        if (ended := following.ended()) != (0, totals(making.lines, places), ""):
-            yield f"it ended with {ended}"
-        else:
-            yield from content_amiss(new.read_bytes(), making.content(places))
+        yield from ended_amiss(following, making, [0, 1, count - 1, *range(count, len(making.lines))], new)
 
 
 REST, BUSY = 1, 0.1
 """For how many seconds nothing comes, and how many of a processor may be taken meanwhile."""
 
 
+def calls_on(recording):
+    """How many calls wrote to the new file, and synced it."""
+    return {name: recording.number(name) for name in ("writes", "syncs")}
+
+
 def rests_between_looks(program):
-    """While nothing comes the old file is looked at a few times a second alone."""
+    """While nothing comes the old file is looked at a few times a second alone, and nothing is done to the new one."""
     making = journal_of(RIDES)
     with tempfile.TemporaryDirectory() as name:
         old, new = Path(name, "old"), Path(name, "new")
-        with growing(making, len(making.lines), old):
-            following = Following(program, old, new, LATER)
+        with growing(making, len(making.lines), old), Recording(Path(name, "new.part")) as recording:
+            following = Following(program, old, new, LATER, **recording.env)
             if following.line() != "following\n":
                 yield f"it ended with {following.ended()}"
             clock = ~following.child.pid << 3 | 2
-            begun = time.clock_gettime(clock)
+            begun, calls = time.clock_gettime(clock), calls_on(recording)
             time.sleep(REST)
             if (busy := time.clock_gettime(clock) - begun) > BUSY:
                 yield f"it took {busy:.2f} s of a processor in {REST} s"
+            if calls_on(recording) != calls:
+                yield f"the new file had {calls} calls before the rest, and {calls_on(recording)} behind it"
         if following.ended()[0]:
             yield "it didn't end well"
+
+
+def beside_another_that_makes_it(program):
+    """A run that made the new file, and then finds another one in its place that is made by a run which follows, takes that for none of
+    its own: it gives it no name, and the other run makes it whole."""
+    making = journal_of(f"{RIDES} {SINCE}")
+    with tempfile.TemporaryDirectory() as name:
+        old, new = Path(name, "old"), Path(name, "new")
+        hold, held, more = held_at_the_lock(Path(name))
+        with growing(making, len(making.lines), old):
+            hold.touch()
+            late = Following(program, old, new, LATER, follows=False, **more)
+            comes(held)
+            following = Following(program, old, new, LATER)
+            if following.line() != "following\n":
+                yield f"it ended with {following.ended()}"
+            hold.unlink()
+            status, out, faults = late.ended()
+            if (status, out) != (3, "") or not faults.startswith("mds_city: ") or new.exists():
+                yield f"the late one ended with {status}, {out!r}, {faults!r}, and the new file is there: {new.exists()}"
+        yield from (f"the other one: {it}" for it in ended_amiss(following, making, staying(making.lines, LATER), new))
+
+
+def ended_amiss(following, making, places, new):
+    """What is wrong with the end of a run by which these places of a journal stay."""
+    if (ended := following.ended()) != (0, totals(making.lines, places), ""):
+        yield f"it ended with {ended}"
+    else:
+        yield from content_amiss(new.read_bytes(), making.content(places))
 
 
 def held_at_the_lock(folder):
@@ -335,11 +368,7 @@ def the_last_look(program):
             comes(held)
             add(since + b"#")
         hold.unlink()
-        places = [0, 1, count - 1, *range(count, len(making.lines))]
-        if (ended := following.ended()) != (0, totals(making.lines, places), ""):
-            yield f"it ended with {ended}"
-        else:
-            yield from content_amiss(new.read_bytes(), making.content(places))
+        yield from ended_amiss(following, making, [0, 1, count - 1, *range(count, len(making.lines))], new)
 
 
 def a_fault_that_comes(program):
@@ -422,6 +451,7 @@ FOLLOWING = [
     followed_to_the_end,
     lines_that_come,
     rests_between_looks,
+    beside_another_that_makes_it,
     the_last_look,
     a_fault_that_comes,
     followed_without_a_server,
