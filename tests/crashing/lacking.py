@@ -132,6 +132,23 @@ def room_that_a_call_misses(program):
         yield from over_again(program, path)
 
 
+def room_is_tried_for_once(program):
+    """Where no room ahead can be made, each group goes without: it has two writes, that of its lines and that of its gate, and the
+    next try for room is a mebibyte further on."""
+    with tempfile.TemporaryDirectory() as folder:
+        path = Path(folder, "journal")
+        with Recording(path, room=ROOM_BYTES) as recording:
+            with Server(program, EACH, workers=WORKERS, journal=path, env=recording.env) as server:
+                yield from answered(server, registering(DEVICE), done(1), "before")
+                yield from answered(server, reporting(DEVICE, 0, 1), done(1), "the first try")
+                before = recording.number("writes")
+                for number in range(1, FIRST):
+                    yield from answered(server, reporting(DEVICE, number, number + 1), done(1), "without room ahead")
+                count = recording.number("writes") - before
+        if count != 2 * (FIRST - 1):
+            yield f"{count} writes of {FIRST - 1} groups"
+
+
 class FullDisk:
     """A disk of memory with little room, in a folder of its own. As a context it has the folder; where none can be had, the case is
     skipped."""
@@ -501,6 +518,7 @@ def starts_without_threads(program):
 
 LACKING = [
     room_that_a_call_misses,
+    room_is_tried_for_once,
     a_full_disk,
     a_limit_of_the_size,
     the_signal_of_a_limit,
