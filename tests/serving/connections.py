@@ -4,10 +4,13 @@ import contextlib
 import os
 import select
 import socket
+import tempfile
 import time
 from concurrent.futures import ThreadPoolExecutor
+from pathlib import Path
 
 from cases.replays import A, B, P, batch, history, identifier, item
+from crashing.recording import ASKED, Recording
 from harness.case import MAX_BYTES, MAX_ITEMS
 from harness.texts import differing
 from model.http import answer, error
@@ -37,11 +40,21 @@ PAUSE = 0.3
 """For how many seconds a client that read its answer does nothing before each piece that it sends then."""
 LET_GO = 10
 """How many seconds a server may take, at most, to close the sockets of clients that went."""
+HASTE, LOOKS, A_MOMENT = 1024, 100, 0.001
+"""Of how many clients behind a silent one the first bytes aren't waited for, how many come then, and how late those send: sooner than
+a worker waits."""
 READ_ON = 1.8
 """For how many seconds it is read on at least, in which nothing comes."""
 BODY, CHUNKS, TOO_LONG = b"0" * 1000, b"2\r\n[]\r\n0\r\n\r\n", b"0" * (MAX_BYTES + 1)
 ANNOUNCED = {"body": "", "missing": len(BODY)}
 """Of a head alone, behind which this body is to come."""
+
+
+def spelled(request):
+    """The request, with the name of its length's field in all small letters, in capitals, and in both by turns."""
+    return [request.replace(b"Content-Length", name) for name in (b"content-length", b"CONTENT-LENGTH", b"cONTENT-lENGTH")]
+
+
 # What is answered before a body comes, and the body; and requests that are answered whole, with something behind them.
 BEHIND = [
     (changed(version="HTTP/3.0", **ANNOUNCED), error(400, "bad_head"), BODY),
@@ -54,7 +67,7 @@ BEHIND = [
     (changed(lengths=["+1000"], body=""), error(400, "bad_length"), BODY),
     (changed(lengths=[str(len(TOO_LONG))], body=""), error(413, "too_long"), TOO_LONG),
     (changed(method="GET", target=f"/vehicles/{P}/{A}", **ANNOUNCED), error(404, "unregistered"), BODY),
-    (changed(method="GET", target="/table", **ANNOUNCED), answer(200, {"rows": Table().listed()}), BODY),
+    *[(request, answer(200, {"rows": Table().listed()}), BODY) for request in spelled(changed(method="GET", target="/table", **ANNOUNCED))],
     (changed(body="[1,2"), error(400, "not_json"), BODY),
     (changed(body="7"), error(400, "not_list"), BODY),
     (changed(body=MANY), error(400, "too_many"), BODY),
@@ -363,6 +376,32 @@ def behind_one_silent(program):
         yield f"answered so many seconds behind a silent client: {waited}"
 
 
+def waited_for_again(program):
+    """Behind a silent client the first bytes of the next clients aren't waited for, and of those behind them they are again: the
+    system is asked to tell of few of these. It is tried again, as on a busy machine one of them may be silent for too long."""
+    with tempfile.TemporaryDirectory() as folder, Recording(Path(folder, "none")) as recording:
+        with Server(program, None, env=recording.env) as server:
+            asked = []
+            while min(asked, default=LOOKS) > LOOKS // 2 and len(asked) < TRIES:
+                with connect(server.port):
+                    time.sleep(PAUSE)
+                    looked(server, HASTE)
+                before = recording.count(ASKED)
+                looked(server, LOOKS, A_MOMENT)
+                asked.append(recording.count(ASKED) - before)
+    if min(asked) > LOOKS // 2:
+        yield f"of {LOOKS} clients the system was asked to tell {asked} times"
+
+
+def looked(server, count, pause=0):
+    """Has so many clients ask for the table, each of which sends so many seconds behind its connection."""
+    for _ in range(count):
+        with connect(server.port) as connection:
+            time.sleep(pause)
+            connection.sendall(get("/table"))
+            read_all(connection)
+
+
 def answers_of(connections):
     """What is wrong with the answers to silent clients that went on, and looked."""
     for connection in connections:
@@ -385,4 +424,5 @@ CONNECTIONS = [
     silent_beside_working,
     behind_silent,
     behind_one_silent,
+    waited_for_again,
 ]
