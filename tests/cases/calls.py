@@ -241,6 +241,15 @@ def cut_off(words, on, end):
     return end if words == DEBUG else (3, "", cannot_read("-" if on == INPUT else "short"))
 
 
+SEVEN = 300
+"""Lines, of which three reads have a third each."""
+
+
+def judged(lines):
+    """What comes of lines that are replayed as they are read, where that fails behind so many: their verdicts went out."""
+    return 3, "".join(f"{number} fault not_object\n" for number in range(lines)), cannot_read("short")
+
+
 def failed(program, words, on, text, end, name, at, moves, error):
     """What is wrong with a run where the call of this number on a descriptor fails, and none before it moves more bytes than are
     given: none is to be made behind it."""
@@ -260,6 +269,7 @@ def failed_calls(program):
     runs += [(words, on, "next\n", end, "writes", 2, 1) for words, on, end in BROKEN_WRITES]
     runs += [(words, on, text, cut_off(words, on, end), "reads", 2, ANY) for words, on, text, end in SHORT if text]
     runs.append((DEBUG, OUT, "next\n", (3, STARTED, OUTPUT), "writes", 2, ANY))
+    runs += [("replay --lines --unlimited short", FILE, "7\n" * SEVEN, judged(2 * SEVEN // 3), "reads", 3, 2 * SEVEN // 3)]
     plain = [run for run in runs if run[:2] in PLAIN and run[-2:] == (1, ANY)]
     with ThreadPoolExecutor(os.cpu_count()) as pool:
         for wrong in pool.map(lambda it: failed(program, *it[0], it[1]), [*product(runs, ERRORS), *product(plain, OTHERS)]):
