@@ -5,6 +5,7 @@ import re
 import tempfile
 import time
 import uuid
+from collections import Counter
 from concurrent.futures import ThreadPoolExecutor
 from dataclasses import dataclass
 from pathlib import Path
@@ -13,9 +14,11 @@ from cases.replays import A, B, P, batch, item
 from harness.building import Refusal
 from harness.case import NO_MEMORY
 from model.http import answer, error
+from crashing.reports import parts_of
 from model.tables import Table
+from serving.figures import ANSWERS, REQUESTS, figures_at
 from serving.http import E1, LOOK, Exchange, done, look, registered, vehicle
-from serving.server import NotListening, Server
+from serving.server import NotListening, Server, numbered_port
 from serving.wire import ask, connect, get, post
 
 AT_ONCE = 32
@@ -72,6 +75,41 @@ def turns():
 
 TURNS = list(turns())
 ACCEPTED = 4
+KINDS = ["registration", "event", "look", "list", "look", None]
+"""What each turn asks for, as figures name it."""
+
+
+def outcomes_of(turn, found, then):
+    """What an answer to a turn's request says of each item that was asked for, and how many more there may be that found no memory.
+    `then` is what the same request was answered when it was made again. Where there was no memory for a batch's answer, its items
+    stand, and none of them has another outcome. Where none of them stands, the batch may not have been read."""
+    items = parts_of(turn.exchange.answer)[1]
+    if "failures" not in items:
+        return ["out_of_memory" if found == FIXED else "seen"], 0
+    failures = {it["index"]: it["error"] for it in items["failures"]}
+    wanted = [failures.get(index, "done") for index in range(items["total"])]
+    if found == FIXED:
+        return (len(wanted) * ["out_of_memory"], 0) if then == turn.others[-1] else ([], len(wanted))
+    for place in turn.places:
+        if found == out_of_memory(place):
+            return [*wanted[:place], "out_of_memory"], 0
+    failures = {it["index"]: it["error"] for it in parts_of(found)[1]["failures"]}
+    return [failures.get(index, "done") for index in range(len(wanted))], 0
+
+
+def miscounted(answers, figures):
+    """What is counted otherwise than these answers to the turns say, each of which counts once by its status, and by what it says of
+    what was asked."""
+    wanted, more = Counter(), Counter()
+    for turn, kind, found in zip(TURNS, KINDS, answers):
+        for answered, then in zip(found, (*found[1:], None)):
+            wanted[f'{ANSWERS}{{status="{answered[9:12].decode()}"}}'] += 1
+            outcomes, open_ones = outcomes_of(turn, answered, then) if kind else ([], 0)
+            wanted.update(f'{REQUESTS}{{kind="{kind}",outcome="{outcome}"}}' for outcome in outcomes)
+            more[f'{REQUESTS}{{kind="{kind}",outcome="out_of_memory"}}'] += open_ones
+    for name, value in figures.items():
+        if name.startswith((REQUESTS, ANSWERS)) and value - wanted[name] not in (0, more[name]):
+            yield f"{name} is {value}, in place of {wanted[name]}"
 
 
 def one_turn(port, turn):
@@ -126,16 +164,26 @@ def ended_otherwise(server, is_whole, refusal):
         yield f"ended with {ended}, {'all' if is_whole else 'not all'} answered"
 
 
+def figures_of(port):
+    """The figures, which are asked for once more where there was no memory for them."""
+    try:
+        return figures_at(port)
+    except (AssertionError, OSError):
+        return figures_at(port)
+
+
 def refused(program, number, over_journal=False):
     """A run with this growth refused, over a journal that isn't there yet if it has one: what is wrong with it, the answers of each
     turn, and whether the run came to the growth."""
-    answers = []
+    answers, port = [], numbered_port()
     with Refusal(number) as refusal, tempfile.TemporaryDirectory() as folder:
         journal = Path(folder, "journal") if over_journal else None
         try:
-            with Server(program, len(TURNS) + 1, env=refusal.env, journal=journal) as server:
+            with Server(program, len(TURNS) + 2, env=refusal.env, journal=journal, metrics=port) as server:
                 answers = served(server)
-                wrong = [*other_answers(answers), *ended_otherwise(server, len(answers) == len(TURNS), refusal)]
+                is_whole = len(answers) == len(TURNS)
+                wrong = [*other_answers(answers), *(miscounted(answers, figures_of(port)) if is_whole else [])]
+                wrong += ended_otherwise(server, is_whole, refusal)
         except NotListening as fault:
             wrong = [] if refusal.came() and fault.ended == (4, "", NO_MEMORY) else [str(fault)]
         if not refusal.came() and max(map(len, answers), default=1) > 1:

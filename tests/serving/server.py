@@ -1,12 +1,15 @@
 """The built server as a process."""
 
+import itertools
 import os
+import random
 import re
 import select
 import socket
 import subprocess
 import tempfile
 import time
+from contextlib import suppress
 from pathlib import Path
 
 from harness.case import HOW_FAR
@@ -16,16 +19,19 @@ from model.http import error
 from serving.wire import ask, get
 
 LISTENING = re.compile(r"listening 127\.0\.0\.1:([0-9]+)\n")
+PORTS = itertools.cycle(random.sample(range(10_000, 32_768), 10_000))
+"""Numbers of ports that the system gives to nobody who asks for any."""
 SECONDS = 120
 """How long a server that has answered all its connections may take to end, and each to print a line."""
 
 
 def numbered_port():
-    """The number of a port that was free a moment ago."""
-    with socket.socket() as free:
-        free.setsockopt(socket.SOL_SOCKET, socket.SO_REUSEADDR, 1)
-        free.bind(("127.0.0.1", 0))
-        return free.getsockname()[1]
+    """The number of a port that was free a moment ago, and that wasn't given out before."""
+    for number in PORTS:
+        with socket.socket() as free, suppress(OSError):
+            free.setsockopt(socket.SOL_SOCKET, socket.SO_REUSEADDR, 1)
+            free.bind(("127.0.0.1", number))
+            return number
 
 
 class NotListening(Unwell):
