@@ -1,6 +1,6 @@
 """What `replay --workers` prints: what a single worker does."""
 
-from cases.replays import ANY_RUNS, RUNS, A, B, batch, event, identifier, item, replayed
+from cases.replays import ANY_RUNS, RUNS, A, B, batch, event, identifier, history, item, replayed, turn
 from cases.tables import ONE_ROW
 from harness.case import MAX_ITEMS, not_a_batch, told
 
@@ -61,6 +61,17 @@ def shares():
         yield replayed(text, ["ok available"] * MAX_ITEMS, vehicles, **more)
 
 
+MOST_DATA = 100_000_000
+"""Of as many workers as there may be: their stacks are 8 MiB each, and what there is no room for is done by others."""
+
+
+def little_data():
+    """As many items as may be, by as many workers as may be, in little memory: each worker has as much as its share takes."""
+    text, verdicts = batch(history(A, 0, MAX_ITEMS)), [f"ok {turn(number)[0]}" for number in range(MAX_ITEMS)]
+    ends = [(A, turn(MAX_ITEMS - 1)[0], MAX_ITEMS)]
+    yield replayed(text, verdicts, ends, words="replay --workers 64 -", data=MOST_DATA, name="in little memory")
+
+
 def pieces():
     """Batches of several pieces that are cut at another place than a comma between items, or whose commas have spaces, or at
     whose end something is wrong: each is read as one thread reads it."""
@@ -101,6 +112,7 @@ def workers():
     """Replays by several workers. A file's faults are those that a single one finds; of lines the number changes nothing."""
     yield from runs()
     yield from shares()
+    yield from little_data()
     yield from pieces()
     for text, fault in (("", "not_json"), ("7", "not_list"), ("[{]", "not_json")):
         yield told("replay --workers 4 -", not_a_batch(fault), given=text)

@@ -49,6 +49,8 @@ class Case:
     stderr: object = None
     memory: int = 0
     """How many bytes the program may take; 0: as many as there are."""
+    data: int = 0
+    """The same of what it may write to (setrlimit(2), RLIMIT_DATA)."""
     env: object = None
     """Its environment, or None for that of the script."""
     name: str = ""

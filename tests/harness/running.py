@@ -48,6 +48,8 @@ def prepare(case):
             os.close(number)
     if case.memory:
         resource.setrlimit(resource.RLIMIT_AS, (case.memory, case.memory))
+    if case.data:
+        resource.setrlimit(resource.RLIMIT_DATA, (case.data, case.data))
 
 
 def start(program, case, folder):
@@ -57,7 +59,7 @@ def start(program, case, folder):
         "stdout": opened(case.stdout, os.O_WRONLY),
         "stderr": opened(case.stderr, os.O_WRONLY),
     }
-    if case.memory or CLOSED in (case.stdin, case.stdout, case.stderr):
+    if case.memory or case.data or CLOSED in (case.stdin, case.stdout, case.stderr):
         how["preexec_fn"] = lambda: prepare(case)
     child = subprocess.Popen([NAME, *words_of(case)], executable=program, cwd=folder, env=case.env, **how)
     for stream in (how["stdin"], how["stdout"], how["stderr"]):

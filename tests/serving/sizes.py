@@ -1,16 +1,19 @@
 """Numbers past those at which something could end: connections of a worker, accepted calls of a seat, bytes of an answer, and
 bytes of memory."""
 
+import os
 import struct
 import subprocess
 import tempfile
 from concurrent.futures import ThreadPoolExecutor
+from itertools import product
 from pathlib import Path
 
 from cases.largest import LONG_TYPED, LONG_TYPES, long_events
 from cases.replays import A, P, batch, event, identifier, item, turn
-from cases.tables import MOST_ROWS, STATES, TYPES
+from cases.tables import MOST_ROWS, STATES, TYPES, WAKE, table_file
 from cases.timed import MOST_TABLES, tables_file
+from crashing.filling import AS_THE_UNIT
 from harness.building import loading_client
 from harness.case import MAX_BYTES, MAX_ITEMS, lists, padded
 from harness.texts import differing
@@ -32,6 +35,8 @@ WORKERS, MOST_GROWN = 4, 100 * 2**20
 """Workers that read large bodies, and how many bytes the server may have grown by behind them."""
 MOST_DEEP = 127
 """How deep lists and objects may be."""
+TYPED, MORE_LISTS, MOST_ALIKE = 3 * MAX_ITEMS, 200, 1.15
+"""Events of one list of types, more lists than are looked through, and how many times as much memory as many events may take."""
 DEEP_WORKERS, MOST_OF_DEEP = 16, 4 * MAX_BYTES
 """Workers that read deep bodies, and how many bytes each may take."""
 
@@ -129,6 +134,48 @@ def largest_tables(program):
         yield from server.end()
 
 
+def memory_behind_a_long_table(program):
+    """Behind the reading of a table file that is as long as may be, and has many values that say nothing, a server holds no more memory
+    than its file has bytes."""
+    short = table_file([WAKE])
+    values = ",".join(["0"] * (MAX_BYTES // 2 - len(short)))
+    held = []
+    for table in (short, f'{{"more":[{values}],{short[1:]}'):
+        with Server(program, 1, table=table) as server:
+            held.append(server.bytes_of("RssAnon"))
+            yield from server.end()
+    if held[1] - held[0] > MAX_BYTES:
+        yield f"{held[1]} bytes behind {MAX_BYTES} of a table file, and {held[0]} behind {len(short)}"
+
+
+def typed(device, kinds):
+    """Reports of a device, of which each event has one of these lists of types in turn, and how many events each has."""
+    for front in range(0, len(kinds), MAX_ITEMS):
+        numbers = range(front, min(front + MAX_ITEMS, len(kinds)))
+        yield post("/events", batch(event(device, f"{it:x}", kinds[it], "available", 1000 + it) for it in numbers)), len(numbers)
+
+
+def memory_of_lists_of_types(program):
+    """A list of types that came before isn't kept again, as long as it's one of the first 128, also behind more lists than that: of so
+    many events memory grows by as much as at first."""
+    names = [f"{'kind_of_an_event_':.<28}{number}".replace(".", "_") for number in range(10)]
+    lists_of_three = [" ".join(three) for three in product(names, repeat=3)][:MORE_LISTS]
+    table, grown = table_file([(name, "removed available", "available") for name in names]), []
+    often = TYPED * lists_of_three[:1]
+    with Server(program, None, table=table, env={**os.environ, **AS_THE_UNIT}) as server:
+        for request, _ in typed(A, often):  # of a vehicle that isn't there: so all is there that a batch takes
+            ask(server.port, request)
+        for number, kinds in enumerate((often, lists_of_three, often)):
+            device = identifier(7, 2 * number)
+            yield from talk_over(server, registered(device))
+            before = server.bytes_of("RssAnon")
+            for request, count in typed(device, kinds):
+                yield from talk_over(server, Exchange(request, done(count)))
+            grown.append(server.bytes_of("RssAnon") - before)
+    if grown[2] > MOST_ALIKE * grown[0]:
+        yield f"{TYPED} events of a list took {grown[0]} bytes, and behind {MORE_LISTS} lists {grown[2]}"
+
+
 def many_requests_of_many_seats(program):
     """A server that accepted 300000 requests, as many in each of 16 seats, settles in seconds."""
     seconds = settled(program, SEATS, TURNS, ITEMS)
@@ -195,6 +242,8 @@ SIZES = [
     most_items_of_bodies,
     longest_events,
     largest_tables,
+    memory_behind_a_long_table,
+    memory_of_lists_of_types,
     many_requests_of_many_seats,
     memory_behind_long_items,
     memory_of_deep_values,
