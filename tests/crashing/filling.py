@@ -2,6 +2,7 @@
 starts again in as much address space, and has all that was answered."""
 
 import os
+import re
 import signal
 import tempfile
 import threading
@@ -28,6 +29,10 @@ FEWER = [(120_000, 1), (135_000, 2), (150_000, 1), (165_000, 2)]
 FEWEST = 50_000
 """Events that a server takes in the least of them."""
 AS_THE_UNIT = {"MALLOC_MMAP_THRESHOLD_": "1048576", "MALLOC_TRIM_THRESHOLD_": "8388608", "MALLOC_ARENA_MAX": "1"}
+START_THREADS = 3
+"""Those that a start has beside the first one."""
+PIECES, STACK = 16, 8
+"""Mebibytes of address space that a start takes beside its requests, and that each thread takes."""
 PLACEHOLDER = device_at(0)
 
 
@@ -113,4 +118,23 @@ def filled_and_started_again(program):
             yield from (f"{where}: {it}" for it in started_amiss(program, path, limit, workers, known))
 
 
-FILLING = [filled_and_started_again]
+def untouched_beside(server):
+    """The mebibytes of each large mapping of a server of which no more than a page has memory, the C library's own aside."""
+    text = Path(f"/proc/{server.child.pid}/smaps").read_text()
+    sizes = re.findall(r"rw-p .*\nSize: +(\d+) kB\n(?:\w+PageSize: .*\n)*Rss: +4 kB\n", text)
+    return [int(size) >> 10 for size in sizes if int(size) >> 10 >= PIECES]
+
+
+def room_for_the_next_start(program):
+    """A server has address space beside that no memory was taken for: what a start takes beside its requests, and a stack for each of
+    its threads that the server has no worker for."""
+    env = {**os.environ, **AS_THE_UNIT}
+    for workers in range(1, START_THREADS + 3):
+        with tempfile.TemporaryDirectory() as folder:
+            with Server(program, None, workers=workers, journal=Path(folder, "journal"), env=env) as server:
+                found, wanted = untouched_beside(server), [PIECES + STACK * max(START_THREADS + 1 - workers, 0)]
+            if found != wanted:
+                yield f"{workers} workers have {found} MiB beside, in place of {wanted}"
+
+
+FILLING = [filled_and_started_again, room_for_the_next_start]

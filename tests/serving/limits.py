@@ -5,6 +5,7 @@ These tests wait more than they work. So tests/clients runs them beside the othe
 import contextlib
 import functools
 import os
+import signal
 import socket
 import threading
 import time
@@ -51,6 +52,11 @@ AT_ITS_END = (-1, 1)
 """The same for one whose request was granted, so that nothing more is expected of it: it isn't waited for."""
 LAST_READS = (8, 20)
 """The same for one that goes on sending: 10."""
+LONGER = 11
+"""How many seconds an answer takes to be taken: more than a client may send behind it."""
+SEVERAL, STILL = 4, 7.2
+"""Clients that send behind their answers, more than a worker is told of at once; and for how many seconds the process stands still: for
+5 more than such a client may be silent, and less than it may send in all."""
 FLOODED = (-1, 12)
 """The same for one that sends all that it can: the limit of bytes comes first, or that of time."""
 MOST_BESIDE = 5
@@ -449,6 +455,59 @@ def trickling_behind_its_answer(program):
     return let_go_behind_its_answer(program, *LAST_READS, piece=b"x", pause=0.3)
 
 
+def reset_amiss(connections):
+    """What is wrong where clients send two bytes each, with a pause behind either, and meet a reset."""
+    for _ in range(2):
+        for connection in connections:
+            try:
+                connection.sendall(b"x")
+            except ConnectionError as fault:
+                yield f"{type(fault).__name__}: {fault}"
+        time.sleep(AMID)
+    for connection in connections:
+        if fault := connection.getsockopt(socket.SOL_SOCKET, socket.SO_ERROR):
+            yield os.strerror(fault)
+
+
+def sending_behind_an_answer_that_took_long(program):
+    """The time behind an answer begins at its end: a client that took it for longer than that, and sends more then, meets no reset. It
+    is tried again where it took so long to send that it may be late."""
+    with Server(program, None) as server:
+        yield from long_list(server, A)
+        for _ in range(TRIES):
+            with connect(server.port, room=SMALL_ROOM) as slow:
+                slow.sendall(get(f"/vehicles/{P}/{A}/events") + b"x")
+                slow.recv(1)
+                time.sleep(LONGER)
+                while slow.recv(AT_ONCE):
+                    pass
+                ended = time.monotonic()
+                found = list(reset_amiss([slow]))
+            if not found or time.monotonic() - ended < LAST_READ[0] + 2 * AMID:
+                break
+        yield from found
+
+
+def sending_while_it_stood_still(program):
+    """What clients sent behind their answers while the process stood still came in time: they are waited for as others are, and meet
+    no reset. It is tried again where all of it took longer than they may send."""
+    with Server(program, None) as server:
+        for _ in range(TRIES):
+            begun = time.monotonic()
+            with contextlib.ExitStack() as kept:
+                clients = [kept.enter_context(answered(server)) for _ in range(SEVERAL)]
+                server.child.send_signal(signal.SIGSTOP)
+                for client in clients:
+                    client.sendall(b"x")
+                time.sleep(STILL)
+                server.child.send_signal(signal.SIGCONT)
+                time.sleep(AMID)
+                found = list(reset_amiss(clients))
+            if not found or time.monotonic() - begun < LAST_READS[0]:
+                break
+        yield from found
+
+
 def flooding_behind_its_answer(program):
     """A client that sends all that it can behind its answer, without end."""
     return let_go_behind_its_answer(program, *FLOODED, piece=b"x" * AT_ONCE)
@@ -642,6 +701,8 @@ LIMITS = [
     sending_behind_want_of_memory,
     silent_behind_its_answer,
     trickling_behind_its_answer,
+    sending_behind_an_answer_that_took_long,
+    sending_while_it_stood_still,
     flooding_behind_its_answer,
     short_of_open_files,
     short_of_open_files_for_a_while,
