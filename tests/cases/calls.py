@@ -23,7 +23,7 @@ from cases.tables import bad as bad_row
 from cases.timed import in_table, tables_file, tables_printed
 from cases.vehicles import LONG as LONG_LINE
 from cases.vehicles import WOKEN, journal, listed, not_a_journal, registered
-from harness.building import BY_BYTES, Counting
+from harness.building import BY_BYTES, ByThread, Counting
 from harness.case import MAX_BYTES, MAX_ITEMS, NO_MEMORY, NOT_TEXT, OUTPUT, SLOW
 from harness.case import Case, cannot_read, not_a_batch, not_a_table, padded, told, told_slowly
 from harness.running import SECONDS, differences, outcome
@@ -523,6 +523,24 @@ def threads_of_workers(program):
         yield from (f"{words}: {complaint}" for complaint in wrong)
 
 
+READERS, MOST_UNLIKE = (4, 8), 1.5
+"""Threads that read a batch, and how many times as many growths of memory one of them may make as another."""
+LONG_ITEM = '{"a":"%s"}' % ("x" * 380)
+
+
+def shares_of_threads(program):
+    """Each thread that reads a batch for a replay reads as much of it as each other one, and so makes about as many growths of memory."""
+    fault = "".join(f"{number} fault missing_param provider_id\n" for number in range(MAX_ITEMS))
+    for readers in READERS:
+        with ByThread() as growths:
+            words, out = f"replay --workers {readers} -", f"{fault}accepted 0 refused {MAX_ITEMS}\n"
+            case = Case(words, status=1, out=out, given=batch([LONG_ITEM] * MAX_ITEMS), env=growths.env)
+            yield from differences(case, *outcome(program, case))
+            made = growths.counts()[1:readers]
+        if len(made) < readers - 1 or max(made) > MOST_UNLIKE * min(made):
+            yield f"{words}: beside the first thread the others made {made} growths"
+
+
 def threads_that_are_wanting(program):
     """Where the system makes no thread, or no more than two, the program prints the same: workers work one after another."""
     runs = [("replay --workers 4 -", REPLAYED), (f"{NO_CONNECTION} --workers 4", SERVED)]
@@ -593,6 +611,7 @@ CALLS = [
     long_line_by_bytes,
     unread_files,
     threads_of_workers,
+    shares_of_threads,
     threads_that_are_wanting,
     output_that_is_full,
 ]

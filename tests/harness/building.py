@@ -60,6 +60,29 @@ class Refusal:
         return self.mark.exists()
 
 
+class ByThread:
+    """Growths of memory that are counted of each thread. As a context it has the environment of the run that it is for."""
+
+    MOST = 256
+
+    def __init__(self):
+        self.shim = built("thread-growths.so", "tests/thread-growths.c", "-shared", "-fPIC", "-O1", "-ldl")
+
+    def __enter__(self):
+        self.folder = tempfile.TemporaryDirectory()
+        self.path = Path(self.folder.name, "growths")
+        self.path.write_bytes(bytes(8 * self.MOST))
+        self.env = {**os.environ, "LD_PRELOAD": str(self.shim), "GROWTHS": str(self.path)}
+        return self
+
+    def __exit__(self, *_):
+        self.folder.cleanup()
+
+    def counts(self):
+        """How many growths each thread made that made any, in the order of their first ones."""
+        return [count for count in struct.unpack(f"={self.MOST}q", self.path.read_bytes()) if count]
+
+
 Counts = namedtuple("Counts", "reads writes bytes ends threads files behind")
 """Calls of read, calls of write, the bytes that they moved, how often the end was met, the threads that were asked for, the files
 that were opened, and the calls behind one that failed but for an interruption."""
