@@ -112,7 +112,7 @@ class Descriptors:
 
 class Locks:
     """Locks that threads waited for, by the addresses of their futexes. One that waited has the lock until it tells of it that it's
-    free. The lock of who writes the file is the one under which calls on the file are made."""
+    free. The lock of who writes the file is the one under which calls on the file are made, and under which alone another is waited for."""
 
     def __init__(self):
         self.held, self.behind, self.of_file = defaultdict(dict), set(), None
@@ -143,11 +143,11 @@ class Locks:
                 self.of_file = lock
             if kind == PARKED and (at, lock) in self.behind:
                 return f"the locks at {lock:x} and at {at:x} were taken in either order"
+            if kind == PARKED and lock != (self.of_file or lock):
+                return f"a thread waited for the lock at {at:x} while it had that at {lock:x}, which isn't that of the file"
             if kind == PARKED:
                 self.behind.add((lock, at))
         return None
-
-
 
 
 class Looks:
