@@ -1,4 +1,6 @@
 //! The figures of a server, as they are kept.
+ghost use Rattle.std.specs.Prelude.{◌≡◌, ◌*◌, ◌-◌, ◌^◌, max, min};
+
 use crate::figure::{Count, Gauge};
 use crate::line::Source;
 use std::alloc::{AllocError, Global};
@@ -96,9 +98,7 @@ impl Board {
         for tally in &self.tallies {
             newest = tally.newest.load(Ordering::SeqCst).max(newest);
         }
-        newest
-            .saturating_mul(1_000)
-            .max(self.get(Gauge::FirstNewest))
+        newest_of(newest, self.get(Gauge::FirstNewest))
     }
 
     /// What is counted under the numbers from the first to the last one.
@@ -138,6 +138,14 @@ impl Board {
             Source::Newest => self.newest(),
         }
     }
+}
+
+/// The time of the newest event in microseconds, of the newest one that was accepted, in milliseconds, and of those before: it never
+/// goes back.
+fn newest_of(newest: u64, before: u64) -> u64
+    ensures { result ≡ max (min (newest * 1000) (2 ^ 64 - 1)) before }
+{
+    newest.saturating_mul(1_000).max(before)
 }
 
 impl Tally {
