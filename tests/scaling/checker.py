@@ -39,6 +39,7 @@ class Life:
                     yield f"{type(rule).__name__.lower()}: {fault}"
         yield from self.small_groups()
         yield from self.looks.amiss()
+        yield from self.locks.amiss()
 
     def rules_for(self, entry):
         """Those that a record concerns."""

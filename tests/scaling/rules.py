@@ -1,7 +1,7 @@
 """What every call of a server has to keep to: how the journal is opened, which descriptors are used, and what is done under a lock."""
 
 import os
-from collections import defaultdict
+from collections import Counter, defaultdict
 
 from crashing.recording import (
     ADVISED,
@@ -112,12 +112,38 @@ class Descriptors:
 
 class Locks:
     """Locks that threads waited for, by the addresses of their futexes. One that waited has the lock until it tells of it that it's
-    free. The lock of who writes the file is the one under which calls on the file are made, and under which alone another is waited for."""
+    free. The lock of who writes the file is the one under which calls on the file are made.
+
+    Who tells of a lock had it since another began to wait for it, also without a wait of its own, unless a third one tells of it at that
+    moment. Where a wait of its own for another lock ended since then, that was under this one. So it may be under the lock of who
+    writes the file alone."""
+
+    MOST_AMID = 4
 
     def __init__(self):
         self.held, self.behind, self.of_file = defaultdict(dict), set(), None
+        self.count, self.since, self.last, self.amid = 0, {}, {}, Counter()
+
+    def note(self, entry):
+        """Notes who waits for what, and what was waited for under the lock that is told of."""
+        self.count += 1
+        if entry.kind == PARKED:
+            self.since.setdefault(entry.at, self.count)
+        elif entry.kind == PARKED + ENDED:
+            self.last[entry.thread] = self.count, entry.at
+        elif entry.kind == WOKEN:
+            begun = self.since.pop(entry.at, self.count)
+            number, other = self.last.get(entry.thread, (0, None))
+            self.amid[entry.at] += number > begun and other != entry.at
+
+    def amiss(self):
+        """Under which locks others were waited for."""
+        for lock, count in self.amid.items():
+            if count > self.MOST_AMID and lock != self.of_file:
+                yield f"locks: {count} times another lock was waited for under that at {lock:x}, which isn't that of who writes the file"
 
     def take(self, entry):
+        self.note(entry)
         held = self.held[entry.thread]
         if entry.kind == PARKED + ENDED:
             held[entry.at] = []
@@ -143,8 +169,6 @@ class Locks:
                 self.of_file = lock
             if kind == PARKED and (at, lock) in self.behind:
                 return f"the locks at {lock:x} and at {at:x} were taken in either order"
-            if kind == PARKED and lock != (self.of_file or lock):
-                return f"a thread waited for the lock at {at:x} while it had that at {lock:x}, which isn't that of the file"
             if kind == PARKED:
                 self.behind.add((lock, at))
         return None
