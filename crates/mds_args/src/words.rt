@@ -192,7 +192,14 @@ fn missing_option(name: &str, values: &ArgMatches<'_>) -> &'static str {
     }
 }
 
-fn missing_of_compact(values: &ArgMatches<'_>) -> &'static str {
+/// What the words of `compact` lack, or which of them don't go together.
+fn missing_of_compact(values: &ArgMatches<'_>) -> &'static str
+    ensures together { first_of (codes "cut") (rows_of (found_of values.now)) ≢ None
+        → first_of (codes "follow") (rows_of (found_of values.now)) ≡ Some (codes "true")
+        → result.now ≡ codes "--follow and --cut don't go together" }
+    ensures neither { first_of (codes "cut") (rows_of (found_of values.now)) ≡ None
+        → result.now ≡ codes "one of --before <TIME> and --cut <PROVIDER> <DEVICE> <N> is needed" }
+{
     match values.get_str("cut") {
         Some(_) if is_set(values, "follow") => "--follow and --cut don't go together",
         Some(_) => "the <N> of --cut <PROVIDER> <DEVICE> <N> is a number of events",
