@@ -31,6 +31,8 @@ FEWEST = 50_000
 AS_THE_UNIT = {"MALLOC_MMAP_THRESHOLD_": "1048576", "MALLOC_TRIM_THRESHOLD_": "8388608", "MALLOC_ARENA_MAX": "1"}
 START_THREADS = 3
 """Those that a start has beside the first one."""
+HUGE_PAGE = 2048
+"""Kilobytes."""
 PIECES, STACK = 16, 8
 """Mebibytes of address space that a start takes beside its requests, and that each thread takes."""
 PLACEHOLDER = device_at(0)
@@ -119,10 +121,10 @@ def filled_and_started_again(program):
 
 
 def untouched_beside(server):
-    """The mebibytes of each large mapping of a server of which no more than a page has memory, the C library's own aside."""
+    """The mebibytes of each large mapping of a server of which no more than a page, which may be a huge one, has memory."""
     text = Path(f"/proc/{server.child.pid}/smaps").read_text()
-    sizes = re.findall(r"rw-p .*\nSize: +(\d+) kB\n(?:\w+PageSize: .*\n)*Rss: +4 kB\n", text)
-    return [int(size) >> 10 for size in sizes if int(size) >> 10 >= PIECES]
+    sizes = re.findall(r"rw-p .*\nSize: +(\d+) kB\n(?:\w+PageSize: .*\n)*Rss: +(\d+) kB\n", text)
+    return [int(size) >> 10 for size, used in sizes if int(size) >> 10 >= PIECES and int(used) <= HUGE_PAGE]
 
 
 def room_for_the_next_start(program):

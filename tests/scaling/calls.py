@@ -68,10 +68,20 @@ def calls_of_each_kind(program):
         with Recording(path) as recording, Server(program, None, journal=path, env=recording.env) as server:
             yield from prepared(server)
             for name, requests, groups in kinds():
-                before = {kind: recording.count(kind) for kind in (WRITE, SYNC, SENT, *MOST, *NONE)}
-                size = len(path.read_bytes().rstrip(b"\n"))
-                for request in requests:
-                    ask(server.port, request)
-                calls = {kind: recording.count(kind) - count for kind, count in before.items()}
-                sent, grown = sum(map(len, requests)), len(path.read_bytes().rstrip(b"\n")) - size
+                size = size_of(path)
+                calls = calls_of(server, recording, requests)
+                sent, grown = sum(map(len, requests)), size_of(path) - size
                 yield from (f"{name}: {it}" for it in amiss(calls, groups, sent, grown))
+
+
+def size_of(path):
+    """How many bytes of a journal's file aren't room."""
+    return len(path.read_bytes().rstrip(b"\n"))
+
+
+def calls_of(server, recording, requests):
+    """How many calls of each kind these requests take, one behind the other."""
+    before = {kind: recording.count(kind) for kind in (WRITE, SYNC, SENT, *MOST, *NONE)}
+    for request in requests:
+        ask(server.port, request)
+    return {kind: recording.count(kind) - count for kind, count in before.items()}

@@ -383,14 +383,19 @@ def waited_for_again(program):
         with Server(program, None, env=recording.env) as server:
             asked = []
             while min(asked, default=LOOKS) > LOOKS // 2 and len(asked) < TRIES:
-                with connect(server.port):
-                    time.sleep(PAUSE)
-                    looked(server, HASTE)
-                before = recording.count(ASKED)
-                looked(server, LOOKS, A_MOMENT)
-                asked.append(recording.count(ASKED) - before)
+                asked.append(asked_behind_a_silent_one(server, recording))
     if min(asked) > LOOKS // 2:
         yield f"of {LOOKS} clients the system was asked to tell {asked} times"
+
+
+def asked_behind_a_silent_one(server, recording):
+    """How often the system is asked to tell of clients that come behind those who aren't waited for."""
+    with connect(server.port):
+        time.sleep(PAUSE)
+        looked(server, HASTE)
+    before = recording.count(ASKED)
+    looked(server, LOOKS, A_MOMENT)
+    return recording.count(ASKED) - before
 
 
 def looked(server, count, pause=0):

@@ -101,12 +101,12 @@ def miscounted(answers, figures):
     """What is counted otherwise than these answers to the turns say, each of which counts once by its status, and by what it says of
     what was asked."""
     wanted, more = Counter(), Counter()
-    for turn, kind, found in zip(TURNS, KINDS, answers):
-        for answered, then in zip(found, (*found[1:], None)):
-            wanted[f'{ANSWERS}{{status="{answered[9:12].decode()}"}}'] += 1
-            outcomes, open_ones = outcomes_of(turn, answered, then) if kind else ([], 0)
-            wanted.update(f'{REQUESTS}{{kind="{kind}",outcome="{outcome}"}}' for outcome in outcomes)
-            more[f'{REQUESTS}{{kind="{kind}",outcome="out_of_memory"}}'] += open_ones
+    each = [(turn, kind, *pair) for turn, kind, found in zip(TURNS, KINDS, answers) for pair in zip(found, (*found[1:], None))]
+    for turn, kind, answered, then in each:
+        wanted[f'{ANSWERS}{{status="{answered[9:12].decode()}"}}'] += 1
+        outcomes, open_ones = outcomes_of(turn, answered, then) if kind else ([], 0)
+        wanted.update(f'{REQUESTS}{{kind="{kind}",outcome="{outcome}"}}' for outcome in outcomes)
+        more[f'{REQUESTS}{{kind="{kind}",outcome="out_of_memory"}}'] += open_ones
     for name, value in figures.items():
         if name.startswith((REQUESTS, ANSWERS)) and value - wanted[name] not in (0, more[name]):
             yield f"{name} is {value}, in place of {wanted[name]}"

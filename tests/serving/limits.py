@@ -475,17 +475,22 @@ def sending_behind_an_answer_that_took_long(program):
     with Server(program, None) as server:
         yield from long_list(server, A)
         for _ in range(TRIES):
-            with connect(server.port, room=SMALL_ROOM) as slow:
-                slow.sendall(get(f"/vehicles/{P}/{A}/events") + b"x")
-                slow.recv(1)
-                time.sleep(LONGER)
-                while slow.recv(AT_ONCE):
-                    pass
-                ended = time.monotonic()
-                found = list(reset_amiss([slow]))
-            if not found or time.monotonic() - ended < LAST_READ[0] + 2 * AMID:
+            found, seconds = took_long(server)
+            if not found or seconds < LAST_READ[0] + 2 * AMID:
                 break
         yield from found
+
+
+def took_long(server):
+    """What is wrong with a client that takes its answer for long, and sends more then; and for how many seconds it sends."""
+    with connect(server.port, room=SMALL_ROOM) as slow:
+        slow.sendall(get(f"/vehicles/{P}/{A}/events") + b"x")
+        slow.recv(1)
+        time.sleep(LONGER)
+        while slow.recv(AT_ONCE):
+            pass
+        ended = time.monotonic()
+        return list(reset_amiss([slow])), time.monotonic() - ended
 
 
 def sending_while_it_stood_still(program):
@@ -493,19 +498,25 @@ def sending_while_it_stood_still(program):
     no reset. It is tried again where all of it took longer than they may send."""
     with Server(program, None) as server:
         for _ in range(TRIES):
-            begun = time.monotonic()
-            with contextlib.ExitStack() as kept:
-                clients = [kept.enter_context(answered(server)) for _ in range(SEVERAL)]
-                server.child.send_signal(signal.SIGSTOP)
-                for client in clients:
-                    client.sendall(b"x")
-                time.sleep(STILL)
-                server.child.send_signal(signal.SIGCONT)
-                time.sleep(AMID)
-                found = list(reset_amiss(clients))
-            if not found or time.monotonic() - begun < LAST_READS[0]:
+            found, seconds = stood_still(server)
+            if not found or seconds < LAST_READS[0] + 2 * AMID:
                 break
         yield from found
+
+
+def stood_still(server):
+    """What is wrong with clients that send behind their answers while the process stands still, and then; and for how many seconds they
+    do."""
+    with contextlib.ExitStack() as kept:
+        begun = time.monotonic()
+        clients = [kept.enter_context(answered(server)) for _ in range(SEVERAL)]
+        server.child.send_signal(signal.SIGSTOP)
+        for client in clients:
+            client.sendall(b"x")
+        time.sleep(STILL)
+        server.child.send_signal(signal.SIGCONT)
+        time.sleep(AMID)
+        return list(reset_amiss(clients)), time.monotonic() - begun
 
 
 def flooding_behind_its_answer(program):

@@ -148,11 +148,13 @@ def memory_behind_a_long_table(program):
         yield f"{held[1]} bytes behind {MAX_BYTES} of a table file, and {held[0]} behind {len(short)}"
 
 
-def typed(device, kinds):
-    """Reports of a device, of which each event has one of these lists of types in turn, and how many events each has."""
+def told_of(server, device, kinds):
+    """Reports events of a device, each of which has one of these lists of types in turn: how many are accepted."""
+    before = server.success
     for front in range(0, len(kinds), MAX_ITEMS):
         numbers = range(front, min(front + MAX_ITEMS, len(kinds)))
-        yield post("/events", batch(event(device, f"{it:x}", kinds[it], "available", 1000 + it) for it in numbers)), len(numbers)
+        server.ask(post("/events", batch(event(device, f"{it:x}", kinds[it], "available", 1000 + it) for it in numbers)))
+    return server.success - before
 
 
 def memory_of_lists_of_types(program):
@@ -163,14 +165,14 @@ def memory_of_lists_of_types(program):
     table, grown = table_file([(name, "removed available", "available") for name in names]), []
     often = TYPED * lists_of_three[:1]
     with Server(program, None, table=table, env={**os.environ, **AS_THE_UNIT}) as server:
-        for request, _ in typed(A, often):  # of a vehicle that isn't there: so all is there that a batch takes
-            ask(server.port, request)
+        # of a vehicle that isn't there: so all is there that a batch takes
+        told_of(server, A, often)
         for number, kinds in enumerate((often, lists_of_three, often)):
             device = identifier(7, 2 * number)
             yield from talk_over(server, registered(device))
             before = server.bytes_of("RssAnon")
-            for request, count in typed(device, kinds):
-                yield from talk_over(server, Exchange(request, done(count)))
+            if told_of(server, device, kinds) != len(kinds):
+                yield f"not all events of {device} were accepted"
             grown.append(server.bytes_of("RssAnon") - before)
     if grown[2] > MOST_ALIKE * grown[0]:
         yield f"{TYPED} events of a list took {grown[0]} bytes, and behind {MORE_LISTS} lists {grown[2]}"
