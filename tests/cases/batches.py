@@ -164,7 +164,7 @@ FAULTY = [
 ]
 ACCEPTED = [
     {"timestamp": "0"},
-    {"timestamp": "9007199254740991"},
+    {"timestamp": "4102444799999"},
     {"location_e7": "null"},
     {"location_e7": '{"lat": 900000000, "lng": 1800000000}'},
     {"location_e7": '{"lat": -900000000, "lng": -1800000000, "more": 1.5}'},
@@ -188,6 +188,8 @@ REFUSED = [
     *[({"event_types": f'["{name}"]'}, "refused no_chain removed 0") for name in ("never_heard_of", "_", "0", "a")],
     ({"event_types": f'["{"k" * 32}"]'}, "refused no_chain removed 0"),
     ({"event_types": MOST_TYPES}, "refused no_chain removed 64"),
+    *[({"timestamp": time}, "refused far_future") for time in ("4102444800000", "9007199254740991")],
+    ({"timestamp": "4102444800000", "event_types": '["trip_end"]'}, "refused far_future"),
 ]
 
 

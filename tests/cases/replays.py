@@ -2,6 +2,7 @@
 
 import json
 
+from cases.tables import FAR_FUTURE
 from harness.case import MAX_ITEMS, Case
 
 
@@ -111,6 +112,18 @@ RUNS = [
         [(A, "non_operational", 2)],
     ),
     (
+        "the last time that isn't too far ahead, and the next one",
+        [
+            ((A, "e1", "provider_drop_off", "available", FAR_FUTURE), "refused far_future"),
+            ((A, "e1", "provider_drop_off", "available", FAR_FUTURE - 1), "ok available"),
+            ((A, "e1", "provider_drop_off", "available", FAR_FUTURE), "refused repeated"),
+            ((A, "e2", "wake", "available", FAR_FUTURE), "refused far_future"),
+            ((A, "e2", "battery_low", "non_operational", FAR_FUTURE - 1), "ok non_operational"),
+            ((A, "e3", "battery_charged", "available", FAR_FUTURE - 2), f"refused late {FAR_FUTURE - 1}"),
+        ],
+        [(A, "non_operational", 2)],
+    ),
+    (
         "vehicles of which nothing is accepted",
         [
             ((A, "e1", "trip_end", "available", 1000), "refused no_chain removed 0"),
@@ -151,6 +164,17 @@ ANY_RUNS = [
             ((B, "e3", "trip_end", "reserved", 1000), "refused no_opening 1"),
         ],
         [(A, "elsewhere", 2, "on_trip"), (B, "unknown", 0, EVERY_STATE)],
+    ),
+    (
+        "first events that are too far ahead, and the last that aren't",
+        [
+            ((A, "e1", "trip_end", "available", FAR_FUTURE), "refused far_future"),
+            ((A, "e1", "wake", "available", FAR_FUTURE), "refused far_future"),
+            ((A, "e1", "trip_end", "available", FAR_FUTURE - 1), "ok available"),
+            ((A, "e2", "battery_low", "non_operational", FAR_FUTURE), "refused far_future"),
+            ((B, "e1", "trip_end", "available", FAR_FUTURE), "refused far_future"),
+        ],
+        [(A, "available", 1, "on_trip"), (B, "unknown", 0, EVERY_STATE)],
     ),
     (
         "the machine's rules, after the first event that is accepted",

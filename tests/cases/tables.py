@@ -7,6 +7,8 @@ from harness.case import MAX_BYTES, Case, lists, not_a_table, padded, started, t
 STATES = "removed available non_operational reserved on_trip elsewhere non_contactable missing in_depot".split()
 PARKED = "available non_operational elsewhere non_contactable missing"
 HEARD = "removed available non_operational reserved on_trip elsewhere"
+FAR_FUTURE = 4102444800000
+"""The first time that is too far ahead for an event."""
 
 # A type, the states before, the states after: all pairs of them are rows.
 PROFILE = [

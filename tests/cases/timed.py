@@ -4,7 +4,7 @@ import json
 
 from cases.debugging import debugged
 from cases.replays import A, B, P, batch, event, identifier, replayed
-from cases.tables import BAD, MOST_ROWS, MOST_TYPES, ONE_MORE, ONE_ROW, ONE_ROW_PRINTED, PROFILE, WAKE
+from cases.tables import BAD, FAR_FUTURE, MOST_ROWS, MOST_TYPES, ONE_MORE, ONE_ROW, ONE_ROW_PRINTED, PROFILE, WAKE
 from cases.tables import entry, table_printed
 from cases.vehicles import journal, listed, not_a_journal, registered
 from harness.case import MAX_BYTES, Case, lists, not_a_table, padded, started, told
@@ -173,7 +173,8 @@ OPENED = [
     ((A, "e3", "rest", "removed", 2000), "ok removed"),
     ((B, "e1", "wake", "available", 0), "ok available"),
     ((B, "e2", "rest wake", "available", 1999), "refused no_chain available 0"),
-    ((B, "e3", "rest wake", "available", MOST_TIME), "refused no_chain available 1"),
+    ((B, "e3", "rest wake", "available", FAR_FUTURE - 1), "refused no_chain available 1"),
+    ((B, "e4", "rest", "removed", FAR_FUTURE), "refused far_future"),
 ]
 OPENED_ENDS = [(A, "removed", 1, "available"), (B, "available", 1, "removed")]
 # What the debugger says of the two accepted events of the first vehicle, line by line.

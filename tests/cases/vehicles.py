@@ -3,7 +3,7 @@
 import zlib
 
 from cases.replays import A, B, P, event
-from cases.tables import ONE_ROW, ONE_ROW_PRINTED
+from cases.tables import FAR_FUTURE, ONE_ROW, ONE_ROW_PRINTED
 from harness.building import no_random_numbers
 from harness.case import CLOSED, FOLDER, MAX_BYTES, NO_STREAMS, OUTPUT, RANDOM
 from harness.case import Case, cannot_read, not_a_table, padded, told
@@ -68,6 +68,7 @@ FAULTS = [
     ((*NEW, WOKEN, WOKEN), "refused 3"),
     ((*NEW, RESERVED), "refused 2"),
     ((*NEW, WOKEN, event(A, "e2", "reservation_start", "reserved", 999)), "refused 3"),
+    ((*NEW, event(A, "e2", "provider_drop_off", "available", FAR_FUTURE)), "refused 2"),
     ((*NEW, WOKEN, "{", RESERVED), "bad_line 3"),
     ((padded(registered(A), MAX_BYTES + 1),), "too_long 1"),
     ((*NEW, padded(WOKEN, MAX_BYTES + 1)), "too_long 2"),

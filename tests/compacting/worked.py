@@ -14,6 +14,8 @@ LETTERS = dict(zip("xanrtecmd", STATES))
 """A letter for each state; `x` is removed, which a vehicle holds first."""
 ALWAYS = 9007199254740991
 """The greatest time that an event may have."""
+LAST = 4102444799999
+"""The greatest time of an event that is accepted."""
 # A vehicle's events, each a time and a state, with a `p` where it has a position; TIME; and the events that stay, from 0.
 ROWS = [
     ("no event", "", 9, ""),
@@ -40,7 +42,7 @@ ROWS = [
     ("TIME is 0", "0a 0n 1a 2n 3a", 0, "0 1 2 3 4"),
     ("TIME is the first", "1a 2n 3a", 1, "0 1 2"),
     ("TIME is behind the first", "1a 2n 3a 4n", 2, "0 1 2 3"),
-    ("a time that bars its vehicle", f"1a 2n 3a {ALWAYS}r", ALWAYS, "0 3"),
+    ("a time that bars its vehicle", f"1a 2n 3a {LAST}r", ALWAYS, "0 3"),
     (
         "eight states, the last position, eight more, and the last event",
         "1a 2n 3r 4t 5e 6c 7m 8d 9xp 10a 11n 12r 13t 14e 15c 16m 17d 18x",

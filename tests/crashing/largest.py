@@ -5,8 +5,7 @@ from pathlib import Path
 
 from cases.largest import LONG_TYPES
 from cases.replays import P, history
-from cases.tables import table_file
-from cases.timed import MOST_TIME
+from cases.tables import FAR_FUTURE, table_file
 from cases.vehicles import journal, registered
 from crashing.files import behind, listed_by, vehicles_text
 from crashing.paths import begun
@@ -38,7 +37,7 @@ def event(device, number, types):
         "event_types": types,
         "location_e7": PLACE,
         "provider_id": P,
-        "timestamp": MOST_TIME,
+        "timestamp": FAR_FUTURE - 1,
         "vehicle_state": STATE,
     }
 
@@ -62,7 +61,7 @@ def events_of(device):
 def told_of(server, device):
     """What is wrong with what the server tells of a vehicle."""
     events = events_of(device)
-    last = {"events": len(events), "last": MOST_TIME, "location_e7": PLACE, "vehicle_state": STATE}
+    last = {"events": len(events), "last": FAR_FUTURE - 1, "location_e7": PLACE, "vehicle_state": STATE}
     yield from differing(server.ask(looking(device)), answer(200, {**vehicle(device), **last}), "a look")
     yield from differing(server.ask(listing(device)), answer(200, {"events": events}), "a list")
 

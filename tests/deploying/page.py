@@ -7,7 +7,7 @@ import re
 from datetime import datetime, timezone
 
 from cases.replays import identifier
-from cases.tables import PROFILE, PROFILE_ROWS, STATES
+from cases.tables import FAR_FUTURE, PROFILE, PROFILE_ROWS, STATES
 from deploying.passing import NOBODY, path_of, sent
 from deploying.proxies import CITY, PROVIDERS, TOKENS
 from deploying.vehicles import event, short_events, vehicle
@@ -437,14 +437,15 @@ def a_batch(city):
         good,
         good,
         changed(1, timestamp=1001),
+        changed(5, timestamp=FAR_FUTURE),
         changed(2, event_types=["trip_end"]),
         changed(3, timestamp="1000"),
         changed(4, device_id=UNKNOWN["device_id"]),
     ]
     fill_in(page, body=json.dumps(items, indent=1))
-    yield from unlike("the status", submit(page, "batch"), "Items: 6, accepted: 1, refused: 5.")
-    answers = ["accepted", "repeated", "late: last 1970-01-01 00:00:01 UTC (1002 ms)", "no_chain: at 0, held available"]
-    answers += ["bad_param: param timestamp", "unregistered"]
+    yield from unlike("the status", submit(page, "batch"), "Items: 7, accepted: 1, refused: 6.")
+    answers = ["accepted", "repeated", "late: last 1970-01-01 00:00:01 UTC (1002 ms)", "far_future"]
+    answers += ["no_chain: at 0, held available", "bad_param: param timestamp", "unregistered"]
     found = rows_of(page, "items")
     yield from unlike("items", [json.loads(row[1]) for row in found], items)
     yield from unlike("answers", [row[2] for row in found], answers)

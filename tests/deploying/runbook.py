@@ -51,14 +51,14 @@ COPIED = 1746010000
 """When copies were made, in seconds."""
 TIME_COPIED = f" {time.strftime('%Y-%m-%d %H:%M:%S', time.localtime(COPIED))}."
 """The same, as `stat` tells it."""
-MICROSECONDS = 1796000000000000
-"""A time that a client gives in microseconds."""
+WRONG = 3592000000000
+"""A time of 2083 that a client gives."""
 OWNER = 1
 """Whose the folders of journals are where a disk was lost."""
 AUDITED, ONCE = r'''"^ .*\"device_id\":\"$A\",\"event_id\""''', "awk '!seen[$0]++'"
 """Which lines an audit of a vehicle reads, and how it tells each once."""
-GREATEST = 9007199254740991
-"""The greatest time that an event may have (docs/formats.md, `Members`)."""
+GREATEST = 4102444799999
+"""The greatest time of an event that is accepted (docs/http.md, `Failures inside a batch`)."""
 
 
 def registration(device):
@@ -395,7 +395,7 @@ def one_goes_back_a_day(program):
 def with_others_stuck(machine):
     """Both vehicles have an event with a time to come, and the last group of the journal is half written."""
     with_a_time_to_come(machine)
-    ahead = {**event(B, 10, ["trip_start"], "on_trip", 4), "timestamp": MICROSECONDS}
+    ahead = {**event(B, 10, ["trip_start"], "on_trip", 4), "timestamp": WRONG}
     if success_of(machine.ask("/events", ahead)) != 1:
         raise Unwell("an event with a time to come isn't accepted")
     half_written(machine)
@@ -417,7 +417,7 @@ def all_accepted_again(machine):
     if success_of(machine.ask("/events", event(B, 11, ["trip_start"], "on_trip", 4))) != 1:
         yield "the other vehicle has no event accepted"
     kept = machine.path("/var/lib/mds_city_left_out/one").read_text()
-    if [f'"timestamp":{when},' in kept for when in (GREATEST, MICROSECONDS)] != [True, True] or kept.count("\n") != 2:
+    if [f'"timestamp":{when},' in kept for when in (GREATEST, WRONG)] != [True, True] or kept.count("\n") != 2:
         yield f"kept is {kept}"
 
 
@@ -456,7 +456,7 @@ def leaves_without_an_archive(program):
 
 
 def with_a_time_to_come(machine):
-    """An event of a vehicle has the greatest time that there is, and others of it are late."""
+    """An event of a vehicle has the greatest time that is accepted, and others of it are late."""
     machine.fill_by_own_table()
     ahead = {**event(A, 9, ["trip_start"], "on_trip", 3), "timestamp": GREATEST}
     if success_of(machine.ask("/events", ahead)) != 1 or b'"late"' not in machine.ask("/events", LATER):

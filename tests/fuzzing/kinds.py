@@ -80,7 +80,7 @@ TABLE = listed("too_long, not_json, not_rows, bad_row N, too_many_rows, too_many
 TIMED = listed("no_tables, too_many_tables, bad_entry N, first_not_zero, not_rising N, table N bad_row N, table N empty")
 ERRORS = """400 bad_head, 501 transfer_encoding, 404 not_found, 405 method_not_allowed, 411 length_required, 400 bad_length,
     413 too_long, 400 cut_short, 400 not_json, 400 not_list, 400 too_many, 404 unregistered"""
-REFUSALS = ["repeated", "late", "no_chain"]
+REFUSALS = ["repeated", "far_future", "late", "no_chain"]
 STATUSES = """replay status 0, replay status 1, replay status 2, replay status 3, debug status 0, debug status 1,
     debug status 2, debug status 3, table status 0, table status 2, table status 3, serve status 0, serve status 3"""
 ALL = [

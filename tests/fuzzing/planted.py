@@ -41,6 +41,12 @@ PLANTED = [
         "late is looked for before repeated", "fleet",
         'if event["event_id"] in', f"if not {LATE} and event['event_id'] in",
     ),
+    Error("an event at the first time too far ahead is accepted", "fleet", "] >= FAR_FUTURE:", "] > FAR_FUTURE:"),
+    Error(
+        "far_future is looked for before repeated", "fleet",
+        'if event["event_id"] in', "if event['timestamp'] < FAR_FUTURE and event['event_id'] in",
+    ),
+    Error("a first event may be of any time", "replays", '        if event["timestamp"] >= FAR_FUTURE:', "        if False:"),
     Error(
         "the last event alone has the position", "fleet",
         "positions[-1] if positions", 'self.events[-1]["location_e7"] if positions',

@@ -2,6 +2,7 @@
 
 from dataclasses import dataclass, field
 
+from cases.tables import FAR_FUTURE
 from model.chains import stuck_at
 from model.items import VEHICLE, event_of, fault_of, key_of
 from model.tables import Tables
@@ -78,6 +79,8 @@ def refusal_by(tables, vehicle, event):
     """Why a registered vehicle doesn't accept an event, or None."""
     if event["event_id"] in vehicle.identifiers:
         return {"error": "repeated"}
+    if event["timestamp"] >= FAR_FUTURE:
+        return {"error": "far_future"}
     if vehicle.events and event["timestamp"] < vehicle.events[-1]["timestamp"]:
         return {"error": "late", "last": vehicle.events[-1]["timestamp"]}
     table = tables.at(event["timestamp"])

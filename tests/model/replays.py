@@ -1,6 +1,6 @@
 """Replays of a file's items and sessions of the debugger, after docs/formats.md: what is printed of them."""
 
-from cases.tables import STATES
+from cases.tables import FAR_FUTURE, STATES
 from model.chains import in_order, least_chain, openings, reached, stuck_at
 from model.fleet import Vehicle, refusal_by
 from model.items import EVENT, event_of, fault_of, key_of
@@ -31,6 +31,8 @@ class Replay:
 
     def first_refusal(self, event):
         """Why an event can't be the first of a vehicle that may have held any state, or None."""
+        if event["timestamp"] >= FAR_FUTURE:
+            return {"error": "far_future"}
         table = self.tables.at(event["timestamp"])
         at = stuck_at(table, set(STATES), event["event_types"], event["vehicle_state"])
         return None if at is None else {"error": "no_opening", "at": at}

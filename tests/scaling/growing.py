@@ -11,6 +11,7 @@ from pathlib import Path
 
 from cases.batches import FAULTY
 from cases.replays import batch, event, history, item
+from cases.tables import FAR_FUTURE
 from crashing.clients import side_by_side
 from crashing.filling import AS_THE_UNIT
 from crashing.reports import device_at, listing, looking, registering, reporting
@@ -85,6 +86,7 @@ def short_kinds():
     yield "there already", reporting(DEVICE, 3, 4)
     yield "many that are there", reporting(DEVICE, 0, EVENTS)
     yield "late", post("/events", event(DEVICE, "fffe", "battery_low", "non_operational", 1))
+    yield "too far ahead", post("/events", event(DEVICE, "fffd", "battery_low", "non_operational", FAR_FUTURE))
     yield "no chain", post("/events", last)
     yield "unregistered", post("/events", batch(history(UNKNOWN, 0, 50)))
     yield "registered", registering(DEVICE, LONG)

@@ -11,6 +11,7 @@ import time
 from pathlib import Path
 
 from cases.replays import A, B, P, batch, event
+from cases.tables import FAR_FUTURE
 from crashing.recording import SYNC, WRITE, Recording
 from crashing.reports import NOT_KEPT, device_at, listing, looking, registering, reporting
 from crashing.resting import begins_to_write
@@ -109,7 +110,7 @@ TALK = [
 ]
 WANTED = {
     **of_kind("registration", done=2, already_registered=1, not_object=1, missing_param=1, bad_param=1, not_kept=0),
-    **of_kind("event", done=1, not_object=12, repeated=0, late=0, no_chain=0, unregistered=0),
+    **of_kind("event", done=1, not_object=12, repeated=0, far_future=0, late=0, no_chain=0, unregistered=0),
     **of_kind("look", seen=2, unregistered=1),
     **of_kind("list", seen=1, unregistered=1),
     **{f'{ANSWERS}{{status="{status}"}}': count for status, count in
@@ -136,8 +137,10 @@ def refused_events():
         event(A, 2, "trip_start", "on_trip", 999),
         event(A, 3, "trip_end", "removed", 2000),
         event(C, 4, "provider_drop_off", "available", 1000),
+        event(A, 5, "trip_start", "on_trip", FAR_FUTURE),
     ]
-    return post("/events", batch(events)), of_kind("event", done=1, repeated=1, late=1, no_chain=1, unregistered=1)
+    counts = of_kind("event", done=1, repeated=1, far_future=1, late=1, no_chain=1, unregistered=1)
+    return post("/events", batch(events)), counts
 
 
 def counts_of_a_known_run(program):

@@ -477,7 +477,7 @@ def items():
 # Times and positions that are written twice, or in another order: what is looked at then.
 WRITTEN = [
     ({"timestamp": '-1, "timestamp": 2000'}, {"last": 2000}),
-    ({"timestamp": "9007199254740991"}, {"last": 9007199254740991}),
+    ({"timestamp": "4102444799999"}, {"last": 4102444799999}),
     *[
         ({"location_e7": it}, {"location_e7": {"lat": 1, "lng": 2}})
         for it in (

@@ -6,6 +6,9 @@ use crate::uuid::Uuid;
 use std::collections::hash_map::Entry;
 use std::collections::{HashMap, HashSet};
 
+/// The first time that is too far ahead for an event, in milliseconds: the year 2100 begins.
+const FAR_FUTURE: u64 = 4_102_444_800_000;
+
 pub struct Vehicle {
     pub state: State,
     pub location: Option<Location>,
@@ -22,6 +25,7 @@ pub struct Vehicle {
 pub enum Refusal {
     Unregistered,
     Repeated,
+    FarFuture,
     Late(u64),
     NoChain { held: State, at: usize },
 }
@@ -76,6 +80,9 @@ impl Vehicle {
     pub fn take(&mut self, table: &Table, event: &Event) -> Result<(), Refusal> {
         if self.identifiers.contains(&event.id) {
             return Err(Refusal::Repeated);
+        }
+        if event.time >= FAR_FUTURE {
+            return Err(Refusal::FarFuture);
         }
         if let Some(last) = self.last.filter(|last| event.time < *last) {
             return Err(Refusal::Late(last));

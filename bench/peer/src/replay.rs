@@ -39,6 +39,7 @@ fn print_refusal(out: &mut impl Write, index: usize, refusal: Refusal) -> io::Re
     match refusal {
         Refusal::Unregistered => writeln!(out, "{index} refused unregistered"),
         Refusal::Repeated => writeln!(out, "{index} refused repeated"),
+        Refusal::FarFuture => writeln!(out, "{index} refused far_future"),
         Refusal::Late(last) => writeln!(out, "{index} refused late {last}"),
         Refusal::NoChain { held, at } => writeln!(out, "{index} refused no_chain {} {at}", held.name()),
     }

@@ -185,6 +185,7 @@ fn write_failure(out: &mut String, index: usize, failure: Failure) -> std::fmt::
         Failure::AlreadyRegistered => "already_registered",
         Failure::Refusal(Refusal::Unregistered) => "unregistered",
         Failure::Refusal(Refusal::Repeated) => "repeated",
+        Failure::Refusal(Refusal::FarFuture) => "far_future",
         Failure::Refusal(Refusal::Late(last)) => {
             return write!(out, "{{\"error\":\"late\",\"index\":{index},\"last\":{last}}}");
         }

@@ -9,7 +9,7 @@ use Rattle.mds_core.specs.declared.request.Request.{Request}
 use Rattle.mds_core.specs.declared.request.Request.TheVariants.{Register, Report, Look}
 use Rattle.mds_core.specs.declared.reply.Outcome.{Outcome}
 use Rattle.mds_core.specs.declared.reply.Outcome.TheVariants.{Done, Seen, Refused}
-use Rattle.mds_core.specs.declared.reply.Refusal.TheVariants.{AlreadyRegistered, Unregistered, Repeated, Late, NoChain}
+use Rattle.mds_core.specs.declared.reply.Refusal.TheVariants.{AlreadyRegistered, Unregistered, Repeated, FarFuture, Late, NoChain}
 use Rattle.mds_core.specs.Reported.{Reported}
 use Rattle.mds_core.specs.History.{has_event, state_of, last_time, last_position, standing_of, is_late}
 use Rattle.mds_core.specs.Known.{standing_if}
@@ -93,6 +93,7 @@ module _ (tables : Tables) (left : List ℕ → Type 0) (old new : List Request)
   opens event unleft is = record {
     registered = λ none. is.registered (alike.there none);
     new = same_has event unleft ∙ is.new;
+    near = is.near;
     in_time = ap (λ last. is_late last event.time) alike.last ∙ is.in_time;
   }
 
@@ -103,6 +104,7 @@ module _ (tables : Tables) (left : List ℕ → Type 0) (old new : List Request)
   gives_alike (Register key) (Refused AlreadyRegistered) unleft gives = λ none. gives (alike.there none)
   gives_alike (Register key) (Refused Unregistered) unleft gives = absurd gives
   gives_alike (Register key) (Refused Repeated) unleft gives = absurd gives
+  gives_alike (Register key) (Refused FarFuture) unleft gives = absurd gives
   gives_alike (Register key) (Refused (Late last)) unleft gives = absurd gives
   gives_alike (Register key) (Refused (NoChain state at)) unleft gives = absurd gives
   gives_alike (Look key) Done unleft gives = absurd gives
@@ -110,6 +112,7 @@ module _ (tables : Tables) (left : List ℕ → Type 0) (old new : List Request)
   gives_alike (Look key) (Refused AlreadyRegistered) unleft gives = absurd gives
   gives_alike (Look key) (Refused Unregistered) unleft gives = alike.none gives
   gives_alike (Look key) (Refused Repeated) unleft gives = absurd gives
+  gives_alike (Look key) (Refused FarFuture) unleft gives = absurd gives
   gives_alike (Look key) (Refused (Late last)) unleft gives = absurd gives
   gives_alike (Look key) (Refused (NoChain state at)) unleft gives = absurd gives
   gives_alike (Report event) Done unleft gives =
@@ -119,7 +122,8 @@ module _ (tables : Tables) (left : List ℕ → Type 0) (old new : List Request)
   gives_alike (Report event) (Refused AlreadyRegistered) unleft gives = absurd gives
   gives_alike (Report event) (Refused Unregistered) unleft gives = alike.none gives
   gives_alike (Report event) (Refused Repeated) unleft gives = (λ none. gives.0 (alike.there none), same_has event unleft ∙ gives.1)
-  gives_alike (Report event) (Refused (Late last)) unleft gives = (λ none. gives.0 (alike.there none), same_has event unleft ∙ gives.1, alike.last ∙ gives.2, gives.3)
+  gives_alike (Report event) (Refused FarFuture) unleft gives = (λ none. gives.0 (alike.there none), same_has event unleft ∙ gives.1, gives.2)
+  gives_alike (Report event) (Refused (Late last)) unleft gives = (λ none. gives.0 (alike.there none), same_has event unleft ∙ gives.1, gives.2, alike.last ∙ gives.3, gives.4)
   gives_alike (Report event) (Refused (NoChain state at)) unleft gives = (opens event unleft gives.0, gives.1 ∙ sym alike.state, gives.2)
 
   carried_without_count : (request : Request) (outcome : Outcome) → Gives tables old request outcome → outcome_without_count (carried outcome new) ≡ outcome_without_count outcome

@@ -99,7 +99,7 @@ acceptable_behind : (tables : Tables) (all kept : List Request) (event : Reporte
     → IsAcceptable tables all event → IsAcceptable tables kept event
 acceptable_behind tables all kept event behind same may =
     let P : State → Type 0 = λ state. Leads (rows_at tables event.time) state event.types event.state in
-    let open_ : IsOpen kept event = record { registered = behind.there; new = behind.new event.id may.0.new; in_time = behind.in_time event.time may.0.in_time } in
+    let open_ : IsOpen kept event = record { registered = behind.there; new = behind.new event.id may.0.new; near = may.0.near; in_time = behind.in_time event.time may.0.in_time } in
     (open_, subst P same may.1)
 
 -- a career stays one without its loops

@@ -1,5 +1,5 @@
 -- Requests and runs after a compaction.
-use Rattle.std.proofs.Common.{◌≡◌, ◌||◌, ◌<◌, ℕ, zero, suc, List, [], ◌∷◌, length, get_or, filter, Contains, Bool, true, false, cond, not, nat_le, nat_lt, Option, Some, None, refl, sym, ◌∙◌, ap, subst, arith}
+use Rattle.std.proofs.Common.{◌≡◌, ◌||◌, ◌<◌, ℕ, zero, suc, List, [], ◌∷◌, ◌++◌, length, get_or, filter, Contains, Bool, true, false, cond, not, nat_le, nat_lt, Option, Some, None, refl, sym, ◌∙◌, ap, subst, arith}
 use Rattle.std.specs.List.{All, AllByRecursion}
 use Rattle.std.specs.Str.{bytes_eq}
 use Rattle.std.proofs.lemmas.List.Elements.{recursion_from_All}
@@ -15,10 +15,10 @@ use Rattle.mds_core.specs.declared.reply.Outcome.TheVariants.{Refused}
 use Rattle.mds_core.specs.declared.reply.Refusal.TheVariants.{Late}
 use Rattle.mds_core.specs.declared.reply.Reply.{Reply}
 use Rattle.mds_core.specs.Reported.{Reported}
-use Rattle.mds_core.specs.History.{key_of, requests_of, same_key, reports, has_event, last_time}
+use Rattle.mds_core.specs.History.{key_of, requests_of, same_key, reports, has_event, last_time, far_future}
 use Rattle.mds_core.specs.Answer.{Answers, Gives, next}
 use Rattle.mds_core.specs.Run.{IsRun}
-use Rattle.mds_core.specs.Lawful.{IsLawful}
+use Rattle.mds_core.specs.Lawful.{IsCareer, IsLawfulOf, IsLawful}
 use Rattle.mds_core.proofs.Outcomes.{outcome_one}
 use Rattle.mds_core.proofs.Histories.{same_key_is, requests_of-next_other, requests_of-next_same}
 use Rattle.mds_core.proofs.Standings.{has_event-append}
@@ -141,10 +141,27 @@ recent_of_none from time = either (nat_le from time) where
   either false = refl
   either true = refl
 
+-- no event of a career is too far ahead
+near_after : (tables : Tables) (before rest : List Request) (event : Reported) (place : ℕ) → IsCareer tables before rest
+    → place < length (reports rest) → get_or (reports rest) place event ≡ event → event.time < far_future
+near_after tables before [] event place career within at = absurd (omega arith)
+near_after tables before (Register key ∷ rest) event place career within at = absurd career
+near_after tables before (Look key ∷ rest) event place career within at = absurd career
+near_after tables before (Report first ∷ rest) event zero career within at = subst (λ (one : Reported). one.time < far_future) at career.0.0.near
+near_after tables before (Report first ∷ rest) event (suc place) career within at =
+    let less : place < length (reports rest) = omega arith in near_after tables (before ++ Report first ∷ []) rest event place career.1 less at
+
+-- so none that was accepted
+near_of : (tables : Tables) (requests : List Request) (event : Reported) → IsLawfulOf tables requests → Contains (reports requests) event → event.time < far_future
+near_of tables [] event lawful there = absurd (omega (arith, there.1))
+near_of tables (Register key ∷ rest) event lawful there = near_after tables (Register key ∷ []) rest event there.0 lawful there.1 there.2
+near_of tables (Report first ∷ rest) event lawful there = absurd lawful
+near_of tables (Look key ∷ rest) event lawful there = absurd lawful
+
 -- an event that was left out is late where it comes again
-pub left_out_late : (tables : Tables) (from : ℕ) (old new : List Request) (event : Reported) → IsCompaction from old new → Contains (reports (requests_of old event.key)) event
+pub left_out_late : (tables : Tables) (from : ℕ) (old new : List Request) (event : Reported) → IsLawful tables old → IsCompaction from old new → Contains (reports (requests_of old event.key)) event
     → has_event (requests_of new event.key) event.id ≡ false → IsLateAfter tables old new event
-left_out_late tables from old new event compaction there gone = by_last (last_time all) refl where
+left_out_late tables from old new event lawful compaction there gone = by_last (last_time all) refl where
   all : List Request
   all = requests_of old event.key
 
@@ -173,4 +190,4 @@ left_out_late tables from old new event compaction there gone = by_last (last_ti
       let kept_last = (compaction event.key).last ∙ is in
       let before = by_recent last is (is_recent from (Some last) event.time) refl in
       let some : kept ≡ [] → ⊥ = λ nil. let e : last_time [] ≡ Some last = ap last_time (sym nil) ∙ kept_last in cc in
-      (last, is, λ reply answers. outcome_one tables kept (Report event) reply.outcome (Refused (Late last)) answers.outcome (some, gone, kept_last, before))
+      (last, is, λ reply answers. outcome_one tables kept (Report event) reply.outcome (Refused (Late last)) answers.outcome (some, gone, near_of tables all event (lawful event.key) there, kept_last, before))

@@ -71,7 +71,7 @@ IsLateAfter tables old new event =
 abbrev pub LeftOutAreLate : Type 0
 LeftOutAreLate =
     (tables : Tables) (from : ℕ) (old new : List Request) (event : Reported)
-    → IsCompaction from old new
+    → IsLawful tables old → IsCompaction from old new
     → Contains (reports (requests_of old event.key)) event
     → has_event (requests_of new event.key) event.id ≡ false
     → IsLateAfter tables old new event

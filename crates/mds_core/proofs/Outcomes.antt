@@ -1,5 +1,5 @@
 -- A request has one outcome.
-use Rattle.std.proofs.Common.{◌≡◌, ◌≢◌, ℕ, ◌<◌, ◌⊎◌, inl, inr, List, [], ◌∷◌, length, Option, Some, None, Bool, true, false, cond, nat_lt, refl, sym, ◌∙◌, ap, subst, arith}
+use Rattle.std.proofs.Common.{◌≡◌, ◌≢◌, ℕ, ◌<◌, ◌≤◌, ◌⊎◌, inl, inr, List, [], ◌∷◌, length, Option, Some, None, Bool, true, false, cond, nat_le, nat_lt, refl, sym, ◌∙◌, ap, subst, arith}
 use Rattle.std.proofs.lemmas.Bool.Decides.{nat_tests}
 use Rattle.mds_table.specs.Tables.{Tables, rows_at}
 use Rattle.mds_table.specs.Chain.{Leads}
@@ -8,10 +8,10 @@ use Rattle.mds_core.specs.declared.request.Request.{Request}
 use Rattle.mds_core.specs.declared.request.Request.TheVariants.{Register, Report, Look}
 use Rattle.mds_core.specs.declared.reply.Outcome.{Outcome}
 use Rattle.mds_core.specs.declared.reply.Outcome.TheVariants.{Done, Seen, Refused}
-use Rattle.mds_core.specs.declared.reply.Refusal.TheVariants.{AlreadyRegistered, Unregistered, Repeated, Late, NoChain}
+use Rattle.mds_core.specs.declared.reply.Refusal.TheVariants.{AlreadyRegistered, Unregistered, Repeated, FarFuture, Late, NoChain}
 use Rattle.mds_core.specs.declared.reply.Reply.{Reply}
 use Rattle.mds_core.specs.Reported.{Reported}
-use Rattle.mds_core.specs.History.{has_event, state_of, is_late, last_time, standing_of, requests_of, key_of}
+use Rattle.mds_core.specs.History.{has_event, state_of, far_future, is_late, last_time, standing_of, requests_of, key_of}
 use Rattle.mds_core.specs.Answer.{Answers, Gives, IsOpen, HasNoChain}
 use Rattle.mds_core.proofs.Stuck.{one_place}
 
@@ -30,6 +30,22 @@ some_of (request ∷ rest) there = grind (arith, nat_tests)
 
 of_some : (requests : List Request) → some requests ≡ true → requests ≢ []
 of_some requests is nil = let none = some_nil requests nil in cc
+
+-- the time is too far ahead
+is_far : ℕ → Bool
+is_far time = nat_le far_future time
+
+far_of : (time : ℕ) → far_future ≤ time → is_far time ≡ true
+unfolding is_far
+far_of time is = grind (arith, nat_tests)
+
+near_of : (time : ℕ) → time < far_future → is_far time ≡ false
+unfolding is_far
+near_of time is = grind (arith, nat_tests)
+
+of_near : (time : ℕ) → is_far time ≡ false → time < far_future
+unfolding is_far
+of_near time is = grind (arith, nat_tests)
 
 -- the time of the last event, where an event comes too late for it
 late_for : Option ℕ → ℕ → Option ℕ
@@ -54,11 +70,12 @@ of_not_late (Some last) time is = tested (nat_lt time last) is where
   tested true h = cc
 
 -- the outcome of an event by the tests that come before the table, else what the table says
-judged : Bool → Bool → Option ℕ → Outcome → Outcome
-judged false repeated late said = Refused Unregistered
-judged true true late said = Refused Repeated
-judged true false (Some last) said = Refused (Late last)
-judged true false None said = said
+judged : Bool → Bool → Bool → Option ℕ → Outcome → Outcome
+judged false repeated far late said = Refused Unregistered
+judged true true far late said = Refused Repeated
+judged true false true late said = Refused FarFuture
+judged true false false (Some last) said = Refused (Late last)
+judged true false false None said = said
 
 -- what the table says of an event
 Says : Tables → List Request → Reported → Outcome → Type 0
@@ -67,28 +84,35 @@ Says tables requests event said =
     ⊎ ((at : ℕ) × (said ≡ Refused (NoChain (state_of requests) at)) × HasNoChain (rows_at tables event.time) (state_of requests) event at)
 
 judged_of : List Request → Reported → Outcome → Outcome
-judged_of requests event said = judged (some requests) (has_event requests event.id) (late_for (last_time requests) event.time) said
+judged_of requests event said = judged (some requests) (has_event requests event.id) (is_far event.time) (late_for (last_time requests) event.time) said
 
 -- an outcome is the one that the tests give, by what the table says where they are passed
 event_gives : (tables : Tables) (requests : List Request) (event : Reported) (outcome : Outcome) → Gives tables requests (Report event) outcome
     → (said : Outcome) × (outcome ≡ judged_of requests event said) × (IsOpen requests event → Says tables requests event said)
 unfolding judged_of judged Says
 event_gives tables requests event Done is =
-    (Done, rw (some_of requests is.0.registered, is.0.new, not_late (last_time requests) event.time is.0.in_time) refl, λ _. inl (refl, is.1))
+    (Done, rw (some_of requests is.0.registered, is.0.new, near_of event.time is.0.near, not_late (last_time requests) event.time is.0.in_time) refl, λ _. inl (refl, is.1))
 event_gives tables requests event (Seen standing) is = absurd is
 event_gives tables requests event (Refused AlreadyRegistered) is = absurd is
 event_gives tables requests event (Refused Unregistered) is = (Done, rw (some_nil requests is) refl, λ o. absurd (o.registered is))
 event_gives tables requests event (Refused Repeated) is = (Done, rw (some_of requests is.0, is.1) refl, λ o. let new = o.new in let old = is.1 in cc)
-event_gives tables requests event (Refused (Late last)) is =
-    let late = late_past (last_time requests) event.time last is.2 is.3 in (
+event_gives tables requests event (Refused FarFuture) is =
+    let far = far_of event.time is.2 in (
       Done,
-      rw (some_of requests is.0, is.1, late) refl,
+      rw (some_of requests is.0, is.1, far) refl,
+      λ o.
+          let near = near_of event.time o.near in cc,
+    )
+event_gives tables requests event (Refused (Late last)) is =
+    let late = late_past (last_time requests) event.time last is.3 is.4 in (
+      Done,
+      rw (some_of requests is.0, is.1, near_of event.time is.2, late) refl,
       λ o.
           let in_time = not_late (last_time requests) event.time o.in_time in cc,
     )
 event_gives tables requests event (Refused (NoChain state at)) is = (
   Refused (NoChain (state_of requests) at),
-  rw (is.1, some_of requests is.0.registered, is.0.new, not_late (last_time requests) event.time is.0.in_time) refl,
+  rw (is.1, some_of requests is.0.registered, is.0.new, near_of event.time is.0.near, not_late (last_time requests) event.time is.0.in_time) refl,
   λ _. inr (at, refl, rw is.1 at is.2),
 )
 
@@ -102,13 +126,14 @@ says_one tables requests event a b (inr x) (inr y) =
     x.1 ∙ ap (λ at. Refused (NoChain (state_of requests) at)) (one_place (rows_at tables event.time) (state_of requests) event.types x.0 y.0 x.2.place y.2.place) ∙ sym y.1
 
 -- one outcome, where what the table says is one once the tests are passed
-judged_one : (registered repeated : Bool) (late : Option ℕ) (a b : Outcome)
-    → (registered ≡ true → repeated ≡ false → late ≡ None → a ≡ b) → judged registered repeated late a ≡ judged registered repeated late b
+judged_one : (registered repeated far : Bool) (late : Option ℕ) (a b : Outcome)
+    → (registered ≡ true → repeated ≡ false → far ≡ false → late ≡ None → a ≡ b) → judged registered repeated far late a ≡ judged registered repeated far late b
 unfolding judged
-judged_one false repeated late a b same = refl
-judged_one true true late a b same = refl
-judged_one true false (Some last) a b same = refl
-judged_one true false None a b same = same refl refl refl
+judged_one false repeated far late a b same = refl
+judged_one true true far late a b same = refl
+judged_one true false true late a b same = refl
+judged_one true false false (Some last) a b same = refl
+judged_one true false false None a b same = same refl refl refl refl
 
 event_one : (tables : Tables) (requests : List Request) (event : Reported) (a b : Outcome)
     → Gives tables requests (Report event) a → Gives tables requests (Report event) b → a ≡ b
@@ -116,10 +141,10 @@ unfolding judged_of
 event_one tables requests event a b is_a is_b =
     let first = event_gives tables requests event a is_a in
     let second = event_gives tables requests event b is_b in
-    let middle = judged_one (some requests) (has_event requests event.id) (late_for (last_time requests) event.time) first.0 second.0
-    (λ registered new in_time.
+    let middle = judged_one (some requests) (has_event requests event.id) (is_far event.time) (late_for (last_time requests) event.time) first.0 second.0
+    (λ registered new near in_time.
     let o : IsOpen requests event =
-    record { registered = of_some requests registered; new = new; in_time = of_not_late (last_time requests) event.time in_time } in
+    record { registered = of_some requests registered; new = new; near = of_near event.time near; in_time = of_not_late (last_time requests) event.time in_time } in
     says_one tables requests event first.0 second.0 (first.2 o) (second.2 o)) in
     first.1 ∙ middle ∙ sym second.1
 
@@ -130,6 +155,7 @@ register_gives tables requests key (Seen standing) is = absurd is
 register_gives tables requests key (Refused AlreadyRegistered) is = rw (some_of requests is) refl
 register_gives tables requests key (Refused Unregistered) is = absurd is
 register_gives tables requests key (Refused Repeated) is = absurd is
+register_gives tables requests key (Refused FarFuture) is = absurd is
 register_gives tables requests key (Refused (Late last)) is = absurd is
 register_gives tables requests key (Refused (NoChain state at)) is = absurd is
 
@@ -140,6 +166,7 @@ look_gives tables requests key (Seen standing) is = rw (some_of requests is.0) (
 look_gives tables requests key (Refused AlreadyRegistered) is = absurd is
 look_gives tables requests key (Refused Unregistered) is = rw (some_nil requests is) refl
 look_gives tables requests key (Refused Repeated) is = absurd is
+look_gives tables requests key (Refused FarFuture) is = absurd is
 look_gives tables requests key (Refused (Late last)) is = absurd is
 look_gives tables requests key (Refused (NoChain state at)) is = absurd is
 

@@ -1,5 +1,5 @@
 -- The answer to a request after a history of accepted requests.
-use Rattle.std.specs.Prelude.{◌≡◌, ◌≢◌, ℕ, ◌<◌, ◌++◌, ◌∷◌, List, [], length, Some, true, false}
+use Rattle.std.specs.Prelude.{◌≡◌, ◌≢◌, ℕ, ◌<◌, ◌≤◌, ◌++◌, ◌∷◌, List, [], length, Some, true, false}
 use Rattle.mds_table.specs.declared.state.State.{State}
 use Rattle.mds_table.specs.declared.row.Row.{Row}
 use Rattle.mds_table.specs.Tables.{Tables, rows_at}
@@ -9,17 +9,18 @@ use Rattle.mds_core.specs.declared.request.Request.TheVariants.{Register, Report
 use Rattle.mds_core.specs.declared.reply.Outcome.{Outcome}
 use Rattle.mds_core.specs.declared.reply.Outcome.TheVariants.{Done, Seen, Refused}
 use Rattle.mds_core.specs.declared.reply.Refusal.TheVariants.{AlreadyRegistered, Unregistered}
-use Rattle.mds_core.specs.declared.reply.Refusal.TheVariants.{Repeated, Late, NoChain}
+use Rattle.mds_core.specs.declared.reply.Refusal.TheVariants.{Repeated, FarFuture, Late, NoChain}
 use Rattle.mds_core.specs.declared.reply.Reply.{Reply}
 use Rattle.mds_core.specs.Reported.{Reported}
 use Rattle.mds_core.specs.History.{key_of, requests_of, has_event, state_of}
-use Rattle.mds_core.specs.History.{is_late, last_time, standing_of}
+use Rattle.mds_core.specs.History.{far_future, is_late, last_time, standing_of}
 
--- a registered vehicle, a new identifier, and a time not before the last: what is left to ask is
--- whether rows lead
+-- a registered vehicle, a new identifier, and a time that isn't too far ahead and not before the
+-- last: what is left to ask is whether rows lead
 pub record IsOpen (requests : List Request) (event : Reported) : Type 0 where
   pub registered : requests ≢ []
   pub new : has_event requests event.id ≡ false
+  pub near : event.time < far_future
   pub in_time : is_late (last_time requests) event.time ≡ false
 
 -- it is open to the event, and rows in force at its time lead, one for each of the event's types in
@@ -45,8 +46,10 @@ Gives tables requests (Look key) (Seen standing) =
 Gives tables requests (Report event) (Refused Unregistered) = requests ≡ []
 Gives tables requests (Report event) (Refused Repeated) =
     (requests ≢ []) × (has_event requests event.id ≡ true)
+Gives tables requests (Report event) (Refused FarFuture) =
+    (requests ≢ []) × (has_event requests event.id ≡ false) × (far_future ≤ event.time)
 Gives tables requests (Report event) (Refused (Late last)) =
-    (requests ≢ []) × (has_event requests event.id ≡ false)
+    (requests ≢ []) × (has_event requests event.id ≡ false) × (event.time < far_future)
     × (last_time requests ≡ Some last) × (event.time < last)
 Gives tables requests (Report event) (Refused (NoChain state at)) =
     IsOpen requests event × (state ≡ state_of requests)

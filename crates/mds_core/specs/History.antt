@@ -81,6 +81,10 @@ standing_of requests =
       position = last_position requests;
     }
 
+-- the first time that is too far ahead for an event: the year 2100 begins
+abbrev pub far_future : ℕ
+far_future = 4102444800000
+
 -- the time is less than that of the last event, where there is one
 abbrev pub is_late : Option ℕ → ℕ → Bool
 is_late None time = false

@@ -8,6 +8,9 @@ use crate::{Event, Outcome, Refusal, Request, Standing};
 use mds_steps::admit;
 use mds_table::Tables;
 
+/// The first time that is too far ahead for an event, in milliseconds since the Unix epoch: the year 2100 begins.
+pub const FAR_FUTURE: u64 = 4_102_444_800_000;
+
 /// What is known of the vehicle of a request: all that the outcome depends on, besides the request and the tables.
 #[derive(Clone, Copy, Debug, PartialEq, Eq)]
 pub struct Known {
@@ -59,6 +62,9 @@ pub fn decide_event(tables: &Tables, known: &Known, event: &Event) -> Result<(),
     let standing = known.standing.ok_or(Refusal::Unregistered)?;
     if known.has_event {
         return Err(Refusal::Repeated);
+    }
+    if event.time() >= FAR_FUTURE {
+        return Err(Refusal::FarFuture);
     }
     if let Some(last) = standing.last {
         if event.time() < last {

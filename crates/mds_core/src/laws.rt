@@ -54,8 +54,8 @@ pub fn histories_apart_join()
 {}
 
 /// A run from nothing accepts exactly what is acceptable, place by place: a registration where nothing of its vehicle
-/// was accepted before, an event where its vehicle is registered, its identifier is new there, its time is not before
-/// the last, and rows of the table lead, one for each of its types in order, from the state held to the state reported,
+/// was accepted before, an event where its vehicle is registered, its identifier is new there, its time is not too far
+/// ahead and not before the last, and rows of the table lead, one for each of its types in order, from the state held to the state reported,
 /// and never a look. The history that it leaves is what it accepted.
 #[tactic(auto, using(crate::proofs::RunLaws::accepts_exactly))]
 pub fn runs_accept_exactly()

@@ -22,7 +22,7 @@ mod request;
 mod runs;
 
 pub use answers::answer;
-pub use decision::{Known, decide, decide_event};
+pub use decision::{FAR_FUTURE, Known, decide, decide_event};
 pub use event::{Event, EventFault, MAX_EVENT_TYPES};
 pub use event_list::EventList;
 pub use event_name::EventName;

@@ -82,6 +82,8 @@ pub enum Refusal {
     Unregistered,
     /// The vehicle has an event with this identifier.
     Repeated,
+    /// The time of the event is at [`FAR_FUTURE`](crate::FAR_FUTURE) or past it.
+    FarFuture,
     /// The time of the event is before that of the vehicle's last event.
     Late {
         /// The time of the vehicle's last event.
@@ -105,6 +107,7 @@ impl Refusal {
             Refusal::AlreadyRegistered => "already_registered",
             Refusal::Unregistered => "unregistered",
             Refusal::Repeated => "repeated",
+            Refusal::FarFuture => "far_future",
             Refusal::Late { .. } => "late",
             Refusal::NoChain { .. } => "no_chain",
         }
@@ -118,9 +121,10 @@ impl fmt::Display for Refusal {
     fn fmt<W: fmt::Write>(&self, f: &mut fmt::Formatter<W>) -> fmt::Result {
         let word = self.word();
         match self {
-            Refusal::AlreadyRegistered | Refusal::Unregistered | Refusal::Repeated => {
-                f.write_str(word)
-            }
+            Refusal::AlreadyRegistered
+            | Refusal::Unregistered
+            | Refusal::Repeated
+            | Refusal::FarFuture => f.write_str(word),
             Refusal::Late { last } => write!(f, "{word} {last}"),
             Refusal::NoChain { held, at } => write!(f, "{word} {held} {at}"),
         }

@@ -6,7 +6,7 @@ use Rattle.mds_table.specs.State.{name_of}
 use Rattle.mds_core.specs.declared.key.Key.{Key}
 use Rattle.mds_core.specs.declared.reply.Standing.{Standing}
 use Rattle.mds_core.specs.declared.reply.Refusal.TheVariants.{AlreadyRegistered, Unregistered}
-use Rattle.mds_core.specs.declared.reply.Refusal.TheVariants.{Repeated, Late, NoChain}
+use Rattle.mds_core.specs.declared.reply.Refusal.TheVariants.{Repeated, FarFuture, Late, NoChain}
 use Rattle.mds_core.specs.Refusal.{refusal_word}
 use Rattle.mds_batch.specs.declared.item.ItemFault.TheVariants.{NotObject, Missing, Bad}
 use Rattle.mds_batch.specs.Items.{item_fault_word}
@@ -49,6 +49,7 @@ cause_text index (Refused AlreadyRegistered) =
     told_text (refusal_word AlreadyRegistered) index (codes "}")
 cause_text index (Refused Unregistered) = told_text (refusal_word Unregistered) index (codes "}")
 cause_text index (Refused Repeated) = told_text (refusal_word Repeated) index (codes "}")
+cause_text index (Refused FarFuture) = told_text (refusal_word FarFuture) index (codes "}")
 cause_text index (Refused (Late last)) =
     told_text (refusal_word (Late last)) index (codes ",\"last\":" +++ decimal last +++ codes "}")
 cause_text index (Refused (NoChain held at)) =

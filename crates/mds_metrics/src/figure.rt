@@ -23,6 +23,8 @@ pub enum Count {
     EventUnregistered,
     /// Events that their vehicles had already.
     EventRepeated,
+    /// Events whose times are too far ahead.
+    EventFarFuture,
     /// Events that came behind later ones.
     EventLate,
     /// Events to whose states no rows lead.
@@ -111,7 +113,7 @@ pub enum Count {
 
 impl Count {
     /// How many there are.
-    pub const COUNT: usize = 52;
+    pub const COUNT: usize = 53;
 }
 
 /// What is set, or counted, by one writer at a time.

@@ -3,7 +3,7 @@ use crate::figure::{Count, Gauge};
 use crate::line::{Kind, Line, Source, Unit};
 
 /// The lines, in the order in which they are told. Those that tell of a journal stand last.
-pub(crate) static LINES: [Line; 108] = [
+pub(crate) static LINES: [Line; 109] = [
     Line::Family {
         name: "process_start_time_seconds",
         kind: Kind::Gauge,
@@ -108,6 +108,11 @@ pub(crate) static LINES: [Line; 108] = [
         series: "mds_city_requests_total{kind=\"event\",outcome=\"repeated\"}",
         unit: Unit::Whole,
         source: Source::Counted(Count::EventRepeated),
+    },
+    Line::Sample {
+        series: "mds_city_requests_total{kind=\"event\",outcome=\"far_future\"}",
+        unit: Unit::Whole,
+        source: Source::Counted(Count::EventFarFuture),
     },
     Line::Sample {
         series: "mds_city_requests_total{kind=\"event\",outcome=\"late\"}",

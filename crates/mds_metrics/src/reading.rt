@@ -6,7 +6,7 @@ use crate::lines::LINES;
 use std::alloc::{AllocError, Global};
 
 /// How many lines don't tell of a journal. They stand before the others.
-const LINES_WITHOUT_JOURNAL: usize = 83;
+const LINES_WITHOUT_JOURNAL: usize = 84;
 
 /// Figures as they were read, a number for each line.
 #[derive(Drop)]

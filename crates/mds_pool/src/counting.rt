@@ -163,6 +163,7 @@ fn count_of_refusal(refusal: Refusal) -> Count {
     match refusal {
         Refusal::Unregistered | Refusal::AlreadyRegistered => Count::EventUnregistered,
         Refusal::Repeated => Count::EventRepeated,
+        Refusal::FarFuture => Count::EventFarFuture,
         Refusal::Late { .. } => Count::EventLate,
         Refusal::NoChain { .. } => Count::EventNoChain,
     }

@@ -1,5 +1,5 @@
 -- An item has one verdict.
-use Rattle.std.proofs.Common.{◌≡◌, ℕ, ◌<◌, List, [], ◌∷◌, ◌++◌, refl, sym, ◌∙◌, ap, subst, arith}
+use Rattle.std.proofs.Common.{◌≡◌, ℕ, ◌<◌, ◌≤◌, List, [], ◌∷◌, ◌++◌, refl, sym, ◌∙◌, ap, subst, arith}
 use Rattle.mds_table.specs.declared.state.State.{State}
 use Rattle.mds_table.specs.declared.row.Row.{Row}
 use Rattle.mds_table.specs.Tables.{Tables, rows_at}
@@ -7,7 +7,10 @@ use Rattle.mds_steps.specs.Stuck.{IsStuckFrom}
 use Rattle.mds_core.specs.declared.request.Request.{Request}
 use Rattle.mds_core.specs.declared.request.Request.TheVariants.{Report}
 use Rattle.mds_core.specs.declared.reply.Outcome.TheVariants.{Done, Refused as RefusedBy}
+use Rattle.mds_core.specs.declared.reply.Refusal.{Refusal}
+use Rattle.mds_core.specs.declared.reply.Refusal.TheVariants.{AlreadyRegistered, Unregistered, Repeated, FarFuture, Late, NoChain}
 use Rattle.mds_core.specs.Reported.{Reported}
+use Rattle.mds_core.specs.History.{far_future}
 use Rattle.mds_core.proofs.Outcomes.{outcome_one}
 use Rattle.mds_batch.specs.declared.item.EventItem.{EventItem}
 use Rattle.mds_batch.specs.declared.item.EventItem.TheVariants.{Event, Fault as Faulty}
@@ -37,16 +40,28 @@ outcome_line tables requests event (Accepted a) (Fault fault) is_a is_b = absurd
 outcome_line tables requests event (Refused a) (NoOpening at) is_a is_b = absurd is_b
 outcome_line tables requests event (Refused a) (Fault fault) is_a is_b = absurd is_b
 
+-- a first event is refused for its time alone
+refused_first : (tables : Tables) (event : Reported) (refusal : Refusal) → IsFirst tables event (Refused refusal) → (refusal ≡ FarFuture) × (far_future ≤ event.time)
+refused_first tables event FarFuture is = (refl, is)
+refused_first tables event AlreadyRegistered is = absurd is
+refused_first tables event Unregistered is = absurd is
+refused_first tables event Repeated is = absurd is
+refused_first tables event (Late last) is = absurd is
+refused_first tables event (NoChain state at) is = absurd is
+
 first_line : (tables : Tables) (event : Reported) (a b : Verdict) → IsFirst tables event a → IsFirst tables event b → a ≡ b
 first_line tables event (Accepted a) (Accepted b) is_a is_b = ap Accepted (is_a.0 ∙ sym is_b.0)
-first_line tables event (Accepted a) (NoOpening b) is_a is_b = absurd (is_b.0 is_a.1.0 is_a.1.1)
-first_line tables event (NoOpening a) (Accepted b) is_a is_b = absurd (is_a.0 is_b.1.0 is_b.1.1)
-first_line tables event (NoOpening a) (NoOpening b) is_a is_b = ap NoOpening (stuck_one (rows_at tables event.time) _ event.types a b is_a.1 is_b.1)
-first_line tables event (Refused a) b is_a is_b = absurd is_a
+first_line tables event (Accepted a) (NoOpening b) is_a is_b = absurd (is_b.1 is_a.2.0 is_a.2.1)
+first_line tables event (NoOpening a) (Accepted b) is_a is_b = absurd (is_a.1 is_b.2.0 is_b.2.1)
+first_line tables event (NoOpening a) (NoOpening b) is_a is_b = ap NoOpening (stuck_one (rows_at tables event.time) _ event.types a b is_a.2 is_b.2)
+first_line tables event (Refused a) (Refused b) is_a is_b = ap Refused ((refused_first tables event a is_a).0 ∙ sym (refused_first tables event b is_b).0)
+first_line tables event (Refused a) (Accepted b) is_a is_b = absurd (omega (arith, is_b.1, (refused_first tables event a is_a).1))
+first_line tables event (Refused a) (NoOpening b) is_a is_b = absurd (omega (arith, is_b.0, (refused_first tables event a is_a).1))
+first_line tables event (Refused a) (Fault b) is_a is_b = absurd is_b
 first_line tables event (Fault a) b is_a is_b = absurd is_a
-first_line tables event (Accepted a) (Refused b) is_a is_b = absurd is_b
+first_line tables event (Accepted a) (Refused b) is_a is_b = absurd (omega (arith, is_a.1, (refused_first tables event b is_b).1))
 first_line tables event (Accepted a) (Fault b) is_a is_b = absurd is_b
-first_line tables event (NoOpening a) (Refused b) is_a is_b = absurd is_b
+first_line tables event (NoOpening a) (Refused b) is_a is_b = absurd (omega (arith, is_a.0, (refused_first tables event b is_b).1))
 first_line tables event (NoOpening a) (Fault b) is_a is_b = absurd is_b
 
 event_line : (opening : Opening) (tables : Tables) (prior : List Reported) (event : Reported) (a b : Verdict) → IsVerdictOn opening tables prior event a

@@ -1,5 +1,5 @@
 -- What a replay says of each item, by the accepted events of its vehicle that stand before it.
-use Rattle.std.specs.Prelude.{◌≡◌, ◌+◌, ℕ, List, [], ◌∷◌, ◌++◌, length, take, map, filter}
+use Rattle.std.specs.Prelude.{◌≡◌, ◌<◌, ◌≤◌, ◌+◌, ℕ, List, [], ◌∷◌, ◌++◌, length, take, map, filter}
 use Rattle.std.specs.Prelude.{count_by, if◌then◌else◌, slice_get, Option, Some, None}
 use Rattle.std.specs.List.{AllZip}
 use Rattle.mds_table.specs.declared.state.State.{State}
@@ -13,8 +13,9 @@ use Rattle.mds_core.specs.declared.request.Request.{Request}
 use Rattle.mds_core.specs.declared.request.Request.TheVariants.{Register, Report as Reports}
 use Rattle.mds_core.specs.declared.reply.Standing.{Standing}
 use Rattle.mds_core.specs.declared.reply.Outcome.TheVariants.{Done, Refused as RefusedBy}
+use Rattle.mds_core.specs.declared.reply.Refusal.TheVariants.{FarFuture}
 use Rattle.mds_core.specs.Reported.{Reported}
-use Rattle.mds_core.specs.History.{same_key, standing_of}
+use Rattle.mds_core.specs.History.{same_key, standing_of, far_future}
 use Rattle.mds_core.specs.Answer.{Gives}
 use Rattle.mds_batch.specs.declared.item.EventItem.{EventItem}
 use Rattle.mds_batch.specs.declared.item.EventItem.TheVariants.{Event, Fault as Faulty}
@@ -57,15 +58,18 @@ IsOutcome tables requests event (Refused refusal) =
 IsOutcome tables requests event (NoOpening at) = ⊥
 IsOutcome tables requests event (Fault fault) = ⊥
 
--- of a vehicle that holds no state yet: its event is accepted where rows in force at its time lead
--- from some state to the one that it reports, and else gets stuck, from any state
+-- of a vehicle that holds no state yet: its event is refused where its time is too far ahead; it is
+-- accepted where rows in force at its time lead from some state to the one that it reports, and
+-- else gets stuck, from any state
 abbrev pub IsFirst : Tables → Reported → Verdict → Type 0
 IsFirst tables event (Accepted state) =
-    (state ≡ event.state)
+    (state ≡ event.state) × (event.time < far_future)
     × ((from : State) × IsOpening (rows_at tables event.time) event.types event.state from)
 IsFirst tables event (NoOpening at) =
-    ((from : State) → IsOpening (rows_at tables event.time) event.types event.state from → ⊥)
+    (event.time < far_future)
+    × ((from : State) → IsOpening (rows_at tables event.time) event.types event.state from → ⊥)
     × IsStuckFrom (rows_at tables event.time) all_states event.types at
+IsFirst tables event (Refused FarFuture) = far_future ≤ event.time
 IsFirst tables event (Refused refusal) = ⊥
 IsFirst tables event (Fault fault) = ⊥
 

@@ -10,7 +10,7 @@ ghost use Rattle.mds_trace.specs.Replay.{accepted_by, as_requests, IsFirst, IsVe
 ghost use Rattle.mds_trace.specs.Followed.{IsFollowed};
 
 use crate::{Opening, Verdict};
-use mds_core::{Event, Known, Standing, decide_event};
+use mds_core::{Event, FAR_FUTURE, Known, Refusal, Standing, decide_event};
 use mds_steps::{StateSet, openings, stuck_from};
 use mds_table::{State, Tables};
 
@@ -84,6 +84,10 @@ fn judge_first(tables: &Tables, event: &Event) -> (Verdict, Followed)
     ensures followed { IsFollowed Opening.Any tables.now event.now.key
         (accepted_by (item.Event event.now) result.0) result.1 }
 {
+    if event.time() >= FAR_FUTURE {
+        let far = Verdict::Refused(Refusal::FarFuture);
+        return (far, Followed::begins(Opening::Any));
+    }
     let table = tables.at(event.time());
     let openings = openings(table, event.types(), event.state());
     if openings.states().is_empty() {

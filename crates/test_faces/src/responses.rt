@@ -41,7 +41,7 @@ const ANSWERS: &[(Case, Answer)] = rows! {
     (Case::Events(&[Item::Done, NO_DEVICE, Item::Done]), FAULTY_AMONG_THREE),
     (Case::Events(&[Item::Out]), LACKING_AT_0),
     (Case::Events(&[NO_DEVICE, Item::Done, Item::Out, NO_DEVICE, Item::Out]), LACKING_AT_2),
-    (Case::Events(&[Item::Refused(Refusal::Repeated), NO_OBJECT]), TWO_FAILURES),
+    (Case::Events(&[Item::Refused(Refusal::FarFuture), NO_OBJECT]), TWO_FAILURES),
     (Case::History, TWO_EVENTS),
     (Case::Rows, ok!(WAKE_AND_REST)),
 };
@@ -49,7 +49,7 @@ const ANSWERS: &[(Case, Answer)] = rows! {
 const NO_OBJECT: Item = Item::Faulty(ItemFault::NotObject);
 
 const TWO_FAILURES: Answer = ok!(
-    r#"{"failures":[{"error":"repeated","index":0},{"error":"not_object","index":1}],"success":0,"total":2}"#
+    r#"{"failures":[{"error":"far_future","index":0},{"error":"not_object","index":1}],"success":0,"total":2}"#
 );
 
 const TWO_EVENTS: Answer = ok!(

@@ -3,7 +3,7 @@ use crate::told::{
     End, Expected, FIVE, FIVE_REPORT, NOTHING, Told, is_report, items_of, items_over,
 };
 use mds_batch::{EventItem, ItemFault};
-use mds_core::Refusal;
+use mds_core::{FAR_FUTURE, Refusal};
 use mds_table::State::{Available, Elsewhere, OnTrip, Removed, Reserved};
 use mds_table::{State, Tables};
 use mds_trace::{Opening, Replayer, Report, Verdict, replay};
@@ -19,8 +19,13 @@ const NOT_REMOVED: Verdict = Verdict::Refused(Refusal::NoChain {
     at: 0,
 });
 
-/// Three events without a registration: two of A, and one of B that gets stuck from any state.
+/// The verdict on an event whose time is too far ahead.
+const TOO_FAR: Verdict = Verdict::Refused(Refusal::FarFuture);
+
+/// Four events without a registration: three of A, of which the first is too far ahead, and one of B that gets stuck from
+/// any state.
 const UNREGISTERED: &[Told] = &[
+    Told(A, E1, &["trip_end"], Available, FAR_FUTURE),
     Told(A, E1, &["trip_end"], Available, 1000),
     Told(A, E2, &["changed_geographies"], Elsewhere, 2000),
     STUCK,
@@ -28,16 +33,16 @@ const UNREGISTERED: &[Told] = &[
 
 /// What they come to from any state.
 const FROM_ANY: Expected = Expected(
-    rows! { Verdict::Accepted(Available), Verdict::Accepted(Elsewhere), Verdict::NoOpening { at: 1 } },
+    rows! { TOO_FAR, Verdict::Accepted(Available), Verdict::Accepted(Elsewhere), Verdict::NoOpening { at: 1 } },
     rows! { End(A, &[OnTrip], Some((Elsewhere, 2))), End(B, &State::ALL, None) },
-    (2, 1),
+    (2, 2),
 );
 
 /// What they come to from removed.
 const FROM_REMOVED: Expected = Expected(
-    &[NOT_REMOVED; 3],
+    rows! { TOO_FAR, NOT_REMOVED, NOT_REMOVED, NOT_REMOVED },
     rows! { End(A, &[Removed], Some((Removed, 0))), End(B, &[Removed], Some((Removed, 0))) },
-    (0, 3),
+    (0, 4),
 );
 
 const STUCK: Told = Told(B, E3, &["trip_end"], Reserved, 1000);

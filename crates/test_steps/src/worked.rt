@@ -3,8 +3,8 @@ use crate::steps::{
     AVAILABLE, DEPOT, DROPPED_OFF, PROFILE, STUCK_AVAILABLE, STUCK_REMOVED, Step, WAKE_THEN_REST,
 };
 use mds_core::Outcome::{self, Done, Refused, Seen};
-use mds_core::Refusal::{Late, NoChain, Repeated};
-use mds_core::Standing;
+use mds_core::Refusal::{FarFuture, Late, NoChain, Repeated};
+use mds_core::{FAR_FUTURE, Standing};
 use mds_table::State::{Available, InDepot, NonContactable, NonOperational, OnTrip, Removed};
 use test_fixtures::Ask::{Look, Register, Report};
 use test_fixtures::{A, C, DROP_OFF, E0, E1, E2, E3, E4, rows};
@@ -103,6 +103,13 @@ pub const CASES: &[WorkedCase] = rows! {
         (Report(A, E1, &[LOW], NonOperational, 1000), 2, Done),
         (Report(A, E2, &[FULL], Available, 999), 3, Refused(Late { last: 1000 })),
         (Look(A), 3, Seen(LOW_BATTERY)),
+    ]),
+    ("the last time that isn't too far ahead, and the next one", PROFILE, &[
+        (Register(A), 0, Done),
+        (Report(A, E1, DROP_OFF, Available, FAR_FUTURE), 1, Refused(FarFuture)),
+        (Report(A, E1, DROP_OFF, Available, FAR_FUTURE - 1), 1, Done),
+        (Report(A, E2, &[LOW], NonOperational, FAR_FUTURE), 2, Refused(FarFuture)),
+        (Report(A, E1, DROP_OFF, Available, FAR_FUTURE), 2, Refused(Repeated)),
     ]),
     ("just before the rules change, as they do, and another vehicle before that", WAKE_THEN_REST, &[
         (Register(A), 0, Done),

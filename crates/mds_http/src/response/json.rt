@@ -89,9 +89,10 @@ fn write_refusal<W: fmt::Write>(f: &mut Formatter<W>, index: usize, refusal: Ref
 {
     let word = refusal.word();
     match refusal {
-        Refusal::AlreadyRegistered | Refusal::Unregistered | Refusal::Repeated => {
-            write!(f, "{{\"error\":\"{word}\",\"index\":{index}}}")
-        }
+        Refusal::AlreadyRegistered
+        | Refusal::Unregistered
+        | Refusal::Repeated
+        | Refusal::FarFuture => { write!(f, "{{\"error\":\"{word}\",\"index\":{index}}}") }
         Refusal::Late { last } => {
             write!(
                 f,

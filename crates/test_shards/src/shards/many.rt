@@ -1,7 +1,7 @@
 //! A shard of many vehicles against a fleet.
 ghost use Rattle.std.specs.Prelude.{◌<◌};
 
-use mds_core::{Fleet, Outcome, Refusal};
+use mds_core::{FAR_FUTURE, Fleet, Outcome, Refusal};
 use mds_shard::{PackedRequest, Shard};
 use mds_table::State::{self, Available, NonContactable, NonOperational};
 use std::alloc::Global;
@@ -48,6 +48,14 @@ fn change(number: u64) -> (&'static [&'static str], State) {
     }
 }
 
+/// The time of a report: one of three, or one that is too far ahead.
+fn time(number: u64) -> u64 {
+    match number {
+        0..=2 => 1000 + number,
+        _ => FAR_FUTURE,
+    }
+}
+
 /// The request of this number: a bystander's registration, or else one about another vehicle: a registration, a look,
 /// or a report with one of four identifiers, four times and four changes.
 fn nth(numbers: &mut Numbers, number: u64) -> Ask {
@@ -59,7 +67,7 @@ fn nth(numbers: &mut Numbers, number: u64) -> Ask {
         0 => Register(device),
         1 => Look(device),
         _ => {
-            let (id, time) = (numbers.below(4), 1000 + numbers.below(4));
+            let (id, time) = (numbers.below(4), time(numbers.below(4)));
             let (types, state) = change(numbers.below(4));
             Report(device, id, types, state, time)
         }
@@ -68,7 +76,7 @@ fn nth(numbers: &mut Numbers, number: u64) -> Ask {
 
 /// The place of an outcome among the kinds of outcomes.
 fn kind_of(outcome: &Outcome) -> usize
-    ensures { result < 7 }
+    ensures { result < 8 }
 {
     match outcome {
         Outcome::Done => 0,
@@ -78,6 +86,7 @@ fn kind_of(outcome: &Outcome) -> usize
         Outcome::Refused(Refusal::Repeated) => 4,
         Outcome::Refused(Refusal::Late { .. }) => 5,
         Outcome::Refused(Refusal::NoChain { .. }) => 6,
+        Outcome::Refused(Refusal::FarFuture) => 7,
     }
 }
 
@@ -86,9 +95,9 @@ fn kind_of(outcome: &Outcome) -> usize
 fn compared(
     shard: &mut Shard<PackedRequest>,
     fleet: &mut Fleet,
-) -> Result<(Option<u64>, [bool; 7]), Lack> {
+) -> Result<(Option<u64>, [bool; 8]), Lack> {
     let mut numbers = Numbers { state: 1 };
-    let mut kinds = [false; 7];
+    let mut kinds = [false; 8];
     for number in 0..BYSTANDERS + REQUESTS {
         let request = request_of(&nth(&mut numbers, number)).ok_or(Lack::Case)?;
         let reply = fleet.step(&request)?;
@@ -104,7 +113,7 @@ fn compared(
 fn compared_by_profile<R: RandomSource>(
     rt: &R,
     alloc: Global,
-) -> Result<(Option<u64>, [bool; 7]), Lack> {
+) -> Result<(Option<u64>, [bool; 8]), Lack> {
     let mut shard = Shard::open(alloc, profile(alloc)?, hasher(rt)?);
     let mut fleet = Fleet::open(alloc, profile(alloc)?);
     compared(&mut shard, &mut fleet)
@@ -112,5 +121,5 @@ fn compared_by_profile<R: RandomSource>(
 
 #[test]
 fn ten_thousand_vehicles_as_a_fleet_has_them(rt: HostRuntime) {
-    assert_eq!(rt; compared_by_profile(&rt, rt.alloc()), Ok((None, [true; 7])));
+    assert_eq!(rt; compared_by_profile(&rt, rt.alloc()), Ok((None, [true; 8])));
 }
