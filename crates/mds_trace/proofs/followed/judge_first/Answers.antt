@@ -15,6 +15,9 @@ openings_of : (c : After-openings-openings)
     → AreOpenings (rows_at c.args.tables.now c.args.event.now.time) c.args.event.now.types c.args.event.now.state c.openings-openings.result
 openings_of c = rw (c.at-table.ensures, c.time-2.ensures.time, c.types.ensures.types, c.state.ensures) at c.openings-openings.ensures
 
+pub returns-then-time-ge-FAR_FUTURE-clause-followed : goal.returns-then-time-ge-FAR_FUTURE-clause-followed
+returns-then-time-ge-FAR_FUTURE-clause-followed c = c.begins.ensures _ _
+
 pub returns-then-is_empty-clause-verdict : goal.returns-then-is_empty-clause-verdict
 returns-then-is_empty-clause-verdict c =
     let openings = openings_of (goal.at.returns-then-is_empty-clause-verdict c).After-openings-openings in
@@ -27,7 +30,7 @@ returns-then-is_empty-clause-verdict c =
     )
 
 pub returns-then-is_empty-clause-followed : goal.returns-then-is_empty-clause-followed
-returns-then-is_empty-clause-followed c = c.begins.ensures _ _
+returns-then-is_empty-clause-followed c = c.begins-then-is_empty.ensures _ _
 
 pub returns-clause-verdict : goal.returns-clause-verdict
 returns-clause-verdict c =
