@@ -18,7 +18,7 @@ pub fn outcomes_stay()
     ensures { OutcomesStay }
 {}
 
-/// An event that was left out is late where it comes again.
+/// An event that was left out of a lawful history is late where it comes again.
 pub fn left_out_are_late()
     ensures { LeftOutAreLate }
 {}
