@@ -78,6 +78,8 @@ class Server:
             words += ["--journal", str(journal)]
         if metrics is not None:
             words += ["--metrics", str(metrics)]
+        self.aside = aside_of(journal)
+        self.was_aside = os.path.exists(self.aside)
         self.faults = open(Path(self.folder.name, "faults"), "w+b")
         self.child = subprocess.Popen(
             words,
@@ -183,9 +185,13 @@ class Server:
     def amiss_at_end(self):
         """What is wrong with how it ends by itself. Where its start took long it told how far it was."""
         status, out, faults = self.ended()
-        ended, wanted = (status, out, re.sub(HOW_FAR, "", faults)), (0, f"accepted {self.success}\n", "")
+        ended, wanted = (status, out, re.sub(HOW_FAR, "", faults)), (0, f"accepted {self.success}\n", self.told_of_its_start())
         if ended != wanted:
             yield f"ended with {ended}, in place of {wanted}"
+
+    def told_of_its_start(self):
+        """What its start has told on standard error: how many bytes it cut off, where these stand aside since."""
+        return "" if self.was_aside else told_of_cut(self.aside)
 
     def drain(self):
         """Makes connections until it ends, where it isn't known how many others were taken by a worker, and says what is wrong
@@ -198,6 +204,16 @@ class Server:
             if answered not in (b"", error(404, "not_found")):
                 yield f"a connection at the end, {answered[:200]!r}"
         yield from self.amiss_at_end()
+
+
+def aside_of(journal):
+    """Where a start puts what it cuts off the journal of this path."""
+    return Path(f"{journal}.cut")
+
+
+def told_of_cut(aside):
+    """What a start tells that has put so much aside, if anything is there."""
+    return f"mds_city: {os.path.getsize(aside)} bytes cut\n" if os.path.exists(aside) else ""
 
 
 def close_faults():

@@ -4,3 +4,4 @@ pub mod JournalLemmas
 pub mod ChangeLemmas
 pub mod BurstLemmas
 pub mod StreamLemmas
+pub mod EntryLemmas

@@ -2,4 +2,5 @@
 pub mod Fault
 pub mod Form
 pub mod Stream
+pub mod Entries
 pub mod Laws

@@ -151,7 +151,7 @@ impl<R: Read> Taking<R> {
     {
         'lines: while self.take_line()? {}
         match self.groups.finish(self.lines.number()) {
-            Ok(()) => Ok(()),
+            Ok(_form) => Ok(()),
             Err(fault) => Err(TakeError::Fault(fault)),
         }
     }

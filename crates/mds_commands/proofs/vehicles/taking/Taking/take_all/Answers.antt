@@ -12,6 +12,10 @@ returns-in-Ok-clause-all g c = λ tables known taken.
     let no : c.in_ok-take_line.field-0 ≡ false = search rules in
     c.in_ok-take_line.ensures.all no tables known (c.lines.invariant.taken tables known taken)
 
+-- they are a journal of the form that the stream tells
+pub returns-in-Ok-clause-whole : goal.returns-in-Ok-clause-whole
+returns-in-Ok-clause-whole g c = λ lines groups taken. (c.in-Ok._form, c.in-Ok.ensures.whole lines groups taken)
+
 pub returns-in-Err-clause-fault : goal.returns-in-Err-clause-fault
 returns-in-Err-clause-fault g c = λ tables known taken.
     let no : c.in_ok-take_line.field-0 ≡ false = search rules in
