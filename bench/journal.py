@@ -10,9 +10,11 @@ import subprocess
 import sys
 import tempfile
 import time
+from itertools import islice
 from pathlib import Path
 
 from cases.replays import P, identifier
+from cases.vehicles import CHECKED, FORM, group
 from harness.counting import ROOT
 from model.items import EVENT
 from model.json_text import compact
@@ -34,8 +36,8 @@ RATE_PAIRS, LOOK_PAIRS = 2, 5
 and without one a look takes the same calls, and runs of it differ by more than what is looked for."""
 LOOKS_BESIDE, REPORTS_BESIDE = 10000, 60000
 """Looks of a run beside reports, and how many reports there are for it, more than are made in that time."""
-RECORDED = 1000000
-"""Events of the journal at which a server starts."""
+RECORDED, OF_A_GROUP = 1000000, 100
+"""Events of the journal at which a server starts, and how many lines stand in a group of it."""
 AIMS = {"reports": 0.7, "batches": 0.7, "looks": 0.95, "looks beside": 0.5}
 """What part of a rate is aimed at: of the plain program's, and of looks, of the own rate without a journal."""
 AIM_OF_TIME, AIM_OF_MEMORY = 1.5, 200
@@ -190,16 +192,17 @@ class JournalBench:
                     print(f"| looks{owner} | 4 | {clients} | {cells} |", flush=True)
 
     def restart(self):
-        """Prints a table of how long a server takes to listen over a journal of many events, and of listing its vehicles."""
-        journal = recorded(Path(self.folder, "recorded.journal"))
-        size = journal.stat().st_size / 1e6
+        """Prints a table of how long a server takes to listen over a journal of many events, and of listing its vehicles. The plain program
+        has one of version 1, which it knows alone."""
+        journals = [recorded(Path(self.folder, f"{name}.journal"), lines) for name, lines in (("checked", group), ("plain", plain))]
+        size = journals[0].stat().st_size / 1e6
         print(f"\nA journal of {VEHICLES:,} registrations and {RECORDED:,} events: {size:,.0f} MB.\n")
         ratio = "ratio of pairs, its median and quartiles"
         heads = f"s | of the plain program | {ratio} | aim at most | most memory, MB | aim at most | of the plain program"
         print(f"| what is run | {heads} |")
         print("|---|---:|---:|---:|---:|---:|---:|---:|")
         for name, measured, most in (("`serve`, until it listens", started, NONE), ("`vehicles`", listed, AIM_OF_MEMORY)):
-            measures = [lambda program=program: measured(program, journal) for program in self.programs]
+            measures = [lambda words=words: measured(*words) for words in zip(self.programs, journals)]
             (seconds, memory), other, ratios = in_pairs_of(self.runs, measures)
             plain_seconds, plain_memory = other or (None, None)
             plain = NONE if plain_seconds is None else f"{plain_seconds:.2f}"
@@ -222,14 +225,25 @@ def once_beside(bench, paths, count, reports):
     return count / float(asked[3]), made / float(beside[3])
 
 
-def recorded(path):
-    """A journal of this path with the events of many vehicles in turn, all of it on the disk."""
+def texts():
+    """Those of the lines of many vehicles and of their events in turn."""
+    yield from (compact(vehicle(number)) for number in range(VEHICLES))
+    for at in range(RECORDED):
+        yield compact({**dict.fromkeys(EVENT), **event(at % VEHICLES, at // VEHICLES), "event_id": identifier(2, at)})
+
+
+def plain(*portion):
+    """Lines of version 1 of these texts."""
+    return "".join(f" {text}\n" for text in portion)
+
+
+def recorded(path, lines_of):
+    """A journal of this path with these lines, alone or in groups of `OF_A_GROUP`, all of it on the disk."""
+    form, more = CHECKED if lines_of is group else FORM, texts()
     with open(path, "w") as file:
-        file.write(' {"form":"mds_city","version":1}\n')
-        file.writelines(f" {compact(vehicle(number))}\n" for number in range(VEHICLES))
-        for at in range(RECORDED):
-            line = {**dict.fromkeys(EVENT), **event(at % VEHICLES, at // VEHICLES), "event_id": identifier(2, at)}
-            file.write(f" {compact(line)}\n")
+        file.write(lines_of(form))
+        for portion in iter(lambda: list(islice(more, OF_A_GROUP)), []):
+            file.write(lines_of(*portion))
         file.flush()
         os.fsync(file.fileno())
     return path

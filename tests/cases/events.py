@@ -2,7 +2,8 @@
 
 from cases.debugging import BAD, NOBODY
 from cases.replays import A, B, P, event, identifier
-from cases.vehicles import FAULTS, FORM, LONG, NEW, NO_FORM, RESERVED, ROOM, WOKEN, journal, not_a_journal, registered
+from cases.vehicles import DAMAGED, FAULTS, FORM, GROUP_FAULTS, LONG, NEW, NO_FORM, RESERVED, ROOM, WOKEN
+from cases.vehicles import checked, journal, not_a_journal, registered
 from harness.building import no_random_numbers
 from harness.case import CLOSED, FOLDER, MAX_BYTES, NO_STREAMS, OUTPUT, Case, cannot_read, padded, told
 
@@ -45,6 +46,10 @@ def events_of_a_vehicle():
         yield printed(journal(*texts, end=""), lines)
         yield printed(journal(*texts, end="#" + ROOM), lines)
         yield printed("", lines, words=f"events - {P} {A}", given=journal(*texts))
+        for groups in ((texts,), tuple((text,) for text in texts), (texts[:1], (), texts[1:])):
+            yield printed(checked(*groups), lines)
+            yield printed(checked(*groups, end="#" + ROOM), lines)
+            yield printed("", lines, words=f"events - {P} {A}", given=checked(*groups, end=""))
     for end in (f"#{RESERVED}\n {RESERVED}\n", "\n", f" {RESERVED}", f" {RESERVED[:-1]}", f"#{LONG}"):
         yield printed(journal(*NEW, WOKEN, end=end), [WOKEN])
     for provider, device in NAMES:
@@ -58,6 +63,7 @@ def no_events_of_it():
     """A vehicle that isn't there, words that name none, and files that are no journal, of which nothing is printed."""
     for texts in ((), (registered(B), ELSEWHERE), (registered(A).replace(P, OTHER), THEIRS)):
         yield Case(OF_A, status=1, faults=NOBODY, files={"journal": journal(*texts)})
+        yield Case(OF_A, status=1, faults=NOBODY, files={"journal": checked(texts)})
     yield Case(f"events journal {P} {C}", status=1, faults=NOBODY, files={"journal": journal(*NEW, WOKEN)})
     for provider, device in NO_NAMES:
         for name in ("journal", "nowhere"):
@@ -65,7 +71,13 @@ def no_events_of_it():
     for texts, fault in FAULTS:
         if not fault.startswith("refused"):
             yield told(OF_A, not_a_journal(fault), files={"journal": journal(*texts)})
+    for groups, fault in GROUP_FAULTS:
+        if not fault.startswith("refused"):
+            yield told(OF_A, not_a_journal(fault), files={"journal": checked(*groups)})
+    for text, line in DAMAGED:
+        yield told(OF_A, not_a_journal(f"damaged {line}"), files={"journal": text})
     yield told(OF_A, not_a_journal("bad_line 3"), files={"journal": journal(*NEW, WOKEN, "{", RESERVED)})
+    yield told(OF_A, not_a_journal("bad_line 6"), files={"journal": checked(NEW, (WOKEN,), ("{", RESERVED))})
     yield told(OF_A, not_a_journal("too_long 2"), files={"journal": journal(*NEW, end=f" {LONG}")})
     for text in NO_FORM:
         yield told(OF_A, not_a_journal("form"), files={"journal": text})

@@ -7,7 +7,7 @@ from pathlib import Path
 
 from cases.replays import A, P
 from cases.tables import ONE_ROW, PROFILE, table_file
-from cases.vehicles import FAULTS, NEW, NO_FORM, WOKEN, journal, not_a_journal
+from cases.vehicles import DAMAGED, FAULTS, GROUP_FAULTS, NEW, NO_FORM, WOKEN, checked, journal, not_a_journal
 from compacting.running import content_amiss, run
 from harness.building import no_random_numbers
 from harness.case import RANDOM, cannot_read, not_a_table, padded, told
@@ -37,6 +37,8 @@ def untouched(program, files, words, wanted):
 def faulty_journals(program):
     """Each fault of a journal is told as `vehicles` does. No line is judged, so none is refused."""
     faulty = [(journal(*texts), fault) for texts, fault in FAULTS] + [(text, "form") for text in NO_FORM]
+    faulty += [(checked(*groups), fault) for groups, fault in GROUP_FAULTS]
+    faulty += [(text, f"damaged {line}") for text, line in DAMAGED]
     for text, fault in faulty:
         if not fault.startswith("refused"):
             for way in WAYS:

@@ -13,10 +13,10 @@ import time
 from contextlib import ExitStack, contextmanager
 from pathlib import Path
 
-from cases.vehicles import FORM, not_a_journal
-from compacting.running import SECONDS, content_amiss, run, totals
+from cases.vehicles import group, journal, not_a_journal
+from compacting.running import IN_GROUPS, SECONDS, content_amiss, run, totals
 from compacting.worked import journal_of
-from crashing.files import counted
+from crashing.files import counted, texts_in
 from crashing.recording import Recording
 from crashing.reports import FIRST_TIME, device_at, listed, listing, looking, parts_of, registering, reporting, status_of
 from harness.building import built
@@ -151,7 +151,7 @@ def begun(port):
 
 def lines_in(content):
     """The requests of a journal that a server wrote, and their texts."""
-    texts = [text[1:] for text in counted(content).decode().splitlines()[1:]]
+    texts = [text.decode() for text in texts_in(counted(content))]
     values = [json.loads(text) for text in texts]
     return texts, [
         Line(it["device_id"], it.get("timestamp"), it.get("vehicle_state"), it.get("location_e7") is not None) for it in values
@@ -159,12 +159,11 @@ def lines_in(content):
 
 
 def left_of(content, count=None):
-    """The bytes of the lines that stay of a journal, or of the first ones of it, and the last line that is printed of it."""
+    """A journal of the lines that stay of one, or of the first ones of it, and the last line that is printed of it."""
     texts, lines = lines_in(content)
     lines = lines[:count]
     places = staying(lines, BEFORE)
-    wanted = "".join([f" {FORM}\n", *(f" {texts[place]}\n" for place in places)])
-    return wanted.encode(), totals(lines, places)
+    return journal(*(texts[place] for place in places)).encode(), totals(lines, places)
 
 
 def kept_amiss(port, fronts):
@@ -239,11 +238,16 @@ def followed_to_the_end(program):
         yield from (f"{number.name}: {it}" for it in changed_over(program, number))
 
 
+def lines_of(texts, in_groups):
+    """Lines of these texts, as a server adds them to a journal of version 1, or to one in groups."""
+    return (group(*texts) if in_groups else "".join(f" {text}\n" for text in texts)).encode()
+
+
 @contextmanager
-def growing(making, count, old):
+def growing(making, count, old, in_groups):
     """The first lines of a journal, in a file that is locked as a server locks it, and a function that adds bytes behind them, before
     it opens their gate."""
-    front = making.content(range(count))
+    front = making.content(range(count), in_groups=in_groups)
     old.write_bytes(front)
     with open(old, "r+b", buffering=0) as file:
         fcntl.flock(file, fcntl.LOCK_EX)
@@ -260,21 +264,27 @@ def growing(making, count, old):
 def lines_that_come(program):
     """Of what was there at first a loop goes. What comes while another process has the file stays as it stands, by and by, and the last
     of it just before the file is left; half a line isn't one."""
+    for in_groups in IN_GROUPS:
+        yield from (f"groups of {in_groups}: {it}" for it in lines_that_come_in(program, in_groups))
+
+
+def lines_that_come_in(program, in_groups):
+    """What is wrong with them in a journal of version 1, or in groups."""
     making = journal_of(f"{RIDES} {SINCE}")
     count = 1 + len(RIDES.split())
-    tail = [f" {text}\n".encode() for text in making.texts[count:]]
+    tail = making.texts[count:]
     with tempfile.TemporaryDirectory() as name:
         old, new = Path(name, "old"), Path(name, "new")
-        with growing(making, count, old) as add:
+        with growing(making, count, old, in_groups) as add:
             following = Following(program, old, new, LATER)
             if following.line() != "following\n":
                 yield f"it ended with {following.ended()}"
             for some in (tail[:2], tail[2:4]):
-                add(b"".join(some) + b"#")
+                add(lines_of(some, in_groups) + b"#")
                 time.sleep(LOOKS)
             if new.exists() or following.child.poll() is not None:
                 yield "the new file is there while another process has the old one"
-            add(b"".join(tail[4:]) + b' {"half')
+            add(lines_of(tail[4:], in_groups) + b' {"half')
         yield from ended_amiss(following, making, [0, 1, count - 1, *range(count, len(making.lines))], new)
 
 
@@ -292,7 +302,7 @@ def rests_between_looks(program):
     making = journal_of(RIDES)
     with tempfile.TemporaryDirectory() as name:
         old, new = Path(name, "old"), Path(name, "new")
-        with growing(making, len(making.lines), old), Recording(Path(name, "new.part")) as recording:
+        with growing(making, len(making.lines), old, 0), Recording(Path(name, "new.part")) as recording:
             following = Following(program, old, new, LATER, **recording.env)
             if following.line() != "following\n":
                 yield f"it ended with {following.ended()}"
@@ -314,7 +324,7 @@ def beside_another_that_makes_it(program):
     with tempfile.TemporaryDirectory() as name:
         old, new = Path(name, "old"), Path(name, "new")
         hold, held, more = held_at_the_lock(Path(name))
-        with growing(making, len(making.lines), old):
+        with growing(making, len(making.lines), old, 0):
             hold.touch()
             late = Following(program, old, new, LATER, follows=False, **more)
             comes(held)
@@ -356,11 +366,11 @@ def the_last_look(program):
     """What comes between a look at the file and the moment at which nobody has it is in the new file too."""
     making = journal_of(f"{RIDES} {SINCE}")
     count = 1 + len(RIDES.split())
-    since = "".join(f" {text}\n" for text in making.texts[count:]).encode()
+    since = lines_of(making.texts[count:], IN_GROUPS[1])
     with tempfile.TemporaryDirectory() as name:
         old, new = Path(name, "old"), Path(name, "new")
         hold, held, more = held_at_the_lock(Path(name))
-        with growing(making, count, old) as add:
+        with growing(making, count, old, IN_GROUPS[1]) as add:
             following = Following(program, old, new, LATER, **more)
             if following.line() != "following\n":
                 yield f"it ended with {following.ended()}"
@@ -372,18 +382,32 @@ def the_last_look(program):
 
 
 def a_fault_that_comes(program):
-    """A line that is none ends it, with its number in the whole file, and there is no new file."""
+    """A line that is none ends it, with its number in the whole file, and there is no new file. So does a group whose check doesn't fit,
+    or that has none."""
     making = journal_of(f"{RIDES} {SINCE}")
     count = 1 + len(RIDES.split())
-    since = "".join(f" {text}\n" for text in making.texts[count:]).encode()
+    since = making.texts[count:]
+    whole = lines_of(since, 1)
+    for in_groups, added, fault in (
+        (0, lines_of([*since, "7"], 0), f"bad_line {len(making.lines) + 1}"),
+        # behind the form's line, its check, and the first group with its own
+        (IN_GROUPS[1], lines_of([*since, "7"], 1), f"bad_line {len(making.lines) + 3}"),
+        (IN_GROUPS[1], whole.replace(b":9,", b":8,"), f"damaged {count + 3}"),
+        (IN_GROUPS[1], whole + lines_of(["{}"], 0), f"damaged {count + 3 + len(since) + 1}"),
+    ):
+        yield from (f"{fault}: {it}" for it in ended_by(program, making, count, in_groups, added, fault))
+
+
+def ended_by(program, making, count, in_groups, added, fault):
+    """What is wrong where these lines come behind the first ones of a journal, and have this fault."""
     with tempfile.TemporaryDirectory() as name:
         old, new = Path(name, "old"), Path(name, "new")
-        with growing(making, count, old) as add:
+        with growing(making, count, old, in_groups) as add:
             following = Following(program, old, new, LATER)
             said = following.line()
-            add(since + b" 7\n#")
+            add(added + b"#")
             ended = following.ended()
-        if (said, *ended) != ("following\n", 3, "", not_a_journal(f"bad_line {len(making.lines) + 1}")):
+        if (said, *ended) != ("following\n", 3, "", not_a_journal(fault)):
             yield f"it said {said!r}, and ended with {ended}"
         if os.listdir(name) != ["old"]:
             yield f"there are {os.listdir(name)}"

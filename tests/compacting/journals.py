@@ -6,7 +6,7 @@ from dataclasses import dataclass, field
 from cases.replays import P, identifier
 from cases.tables import ALL, PROFILE, STATES, TYPES, table_file
 from cases.timed import tables_file
-from cases.vehicles import FORM
+from cases.vehicles import checked, journal
 from model.compaction import Line
 
 EVENTS = 200_000
@@ -121,10 +121,13 @@ class Making:
         vehicle.events.append(text)
         self.put(text, line)
 
-    def content(self, places=None, end=b"#"):
-        """The bytes of the journal, or of the one that has these lines alone."""
+    def content(self, places=None, end=b"#", in_groups=0):
+        """The bytes of the journal, or of the one that has these lines alone: of version 1, or of version 2 in groups of so many."""
         texts = self.texts if places is None else [self.texts[place] for place in places]
-        return "".join([f" {FORM}\n", *(f" {text}\n" for text in texts)]).encode() + end
+        if not in_groups:
+            return journal(*texts, end="").encode() + end
+        groups = (texts[at : at + in_groups] for at in range(0, len(texts), in_groups))
+        return checked(*groups, end="").encode() + end
 
     def latest(self):
         return max(vehicle.last or 0 for vehicle in self.vehicles)

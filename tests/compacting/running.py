@@ -3,11 +3,13 @@
 import re
 import subprocess
 
-from crashing.files import behind, counted
+from crashing.files import CHECKED_LINE, behind, counted, fault_of, texts_in
 from harness.case import HOW_FAR
 from harness.texts import differing
 
 SECONDS = 120
+IN_GROUPS = (0, 7)
+"""An old journal is of version 1, or of version 2 in groups of so many lines."""
 
 
 def run(program, *words):
@@ -24,17 +26,32 @@ def totals(lines, places):
 
 
 def content_amiss(content, wanted):
-    """What is wrong with the bytes of a new file, of which the lines that count are to be those."""
-    yield from differing(counted(content), counted(wanted), "the lines")
+    """What is wrong with the bytes of a new file: it's a journal of version 2, whose groups are whole, and has the texts of another
+    journal."""
+    front = counted(content)
+    if not front.startswith(CHECKED_LINE + b"\n"):
+        yield f"the first line is {front[:100]!r}"
+    elif fault := fault_of(front):
+        yield f"its groups: {fault}"
+    else:
+        yield from differing(b"\n".join(texts_in(front)), b"\n".join(texts_in(counted(wanted))), "the texts")
     if behind(content) not in (b"", b"#"):
         yield f"behind the lines stands {behind(content)[:200]!r}"
 
 
 def left_amiss(program, making, places, folder, *words, end=b"#", printed=""):
-    """What is wrong with a compaction of a journal, which is written to the folder with this end, and with what is left: these
-    places of it. So much is printed before the totals."""
+    """What is wrong with a compaction of a journal of either version, which is written to the folder with this end, and with what is
+    left: these places of it. So much is printed before the totals."""
+    for in_groups in IN_GROUPS:
+        content = making.content(end=end, in_groups=in_groups)
+        (folder / "new").unlink(missing_ok=True)
+        complaints = left_of_content(program, making, content, places, folder, *words, printed=printed)
+        yield from (f"groups of {in_groups}: {it}" for it in complaints)
+
+
+def left_of_content(program, making, content, places, folder, *words, printed=""):
+    """What is wrong with a compaction of a journal with these bytes."""
     old, new = folder / "old", folder / "new"
-    content = making.content(end=end)
     old.write_bytes(content)
     found = run(program, "compact", old, new, *words)
     wanted = (0, printed + totals(making.lines, places), "")

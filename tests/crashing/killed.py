@@ -9,11 +9,12 @@ import threading
 import time
 from pathlib import Path
 
-from crashing.files import Lines, counted, listed_amiss
+from crashing.files import Lines, counted, listed_amiss, start_over
+from crashing.paths import aside_amiss
 from crashing.reports import device_at, items_in, listing, looking, registering, reporting, said, status_of
 from harness.counting import Unwell
 from serving.http import done
-from serving.server import Server
+from serving.server import Server, aside_of
 from serving.wire import ask, connect
 
 CHAINS, KILLS = 4, 25
@@ -165,10 +166,15 @@ def killed_in_its_start(program, path, chance):
 
 def one_round(program, path, fleet, devices, seed):
     """What is wrong with a server that goes on from the file, and with what it leaves there when it is killed."""
-    chance = random.Random(seed)
+    chance, lines, aside = random.Random(seed), Lines(), aside_of(path)
+    start = start_over(path.read_bytes() if path.exists() else b"", lines.fault_in)
+    aside.unlink(missing_ok=True)
     with Server(program, EACH, workers=WORKERS, journal=path) as server:
+        yield from aside_amiss(path, start.cut)
         told, complaints = begun(server.port, fleet, devices)
         yield from complaints
+        if start.lines and told != lines.told(start.lines):
+            yield f"it tells {told}, and its file {lines.told(start.lines)}"
         yield from fleet.amiss(told, "at a start")
         crew = Crew(server.port, fleet, told, seed)
         try:
@@ -187,6 +193,7 @@ def chain(program, number):
         for at in range(KILLS):
             seed = f"{number} {at}"
             if at % IN_A_START == 1:
+                aside_of(path).unlink(missing_ok=True)
                 killed_in_its_start(program, path, random.Random(seed))
             yield from (f"file {number}, kill {at}, {it}" for it in one_round(program, path, fleet, devices, seed))
         yield from listed_amiss(program, path)

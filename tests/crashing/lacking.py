@@ -12,9 +12,9 @@ from concurrent.futures import ThreadPoolExecutor
 from pathlib import Path
 
 from cases.replays import A
-from cases.vehicles import journal, registered
+from cases.vehicles import checked, group, journal, registered
 from crashing.clients import unanswered
-from crashing.files import Lines, counted, listed_amiss
+from crashing.files import Lines, counted, is_put_aside, listed_amiss, start_over
 from crashing.paths import FAULTS
 from crashing.recording import CUT, READ, SYNC, WRITE, Recording
 from crashing.reports import NOT_KEPT, device_at, listed, listing, looking, registering, reporting, standing
@@ -28,7 +28,7 @@ from model.tables import Table
 from serving.connections import BODY, SMALL_ROOM, long_list, sent_behind_at
 from serving.http import done
 from serving.limits import TOO_LONG, moved_on
-from serving.server import NotListening, Server
+from serving.server import NotListening, Server, aside_of, told_of_cut
 from serving.wire import ask, connect, get, post
 
 EACH = 1000
@@ -51,6 +51,8 @@ HELD_BACK = answer(503, NOT_KEPT)
 NO_MEMORY = "mds_city: out of memory\n"
 STANDARD = 3
 """Open files, of the standard streams."""
+TORN = '#{"device_id":'
+"""What a crash may leave behind the lines."""
 SEVERAL_READS = 3000
 """Registrations of a file that a start doesn't read at once."""
 FEWEST_GROWTHS = 20
@@ -69,11 +71,19 @@ def faults_of(server):
     return Path(server.folder.name, "faults").read_text()
 
 
-def kept_amiss(path, wanted):
-    """What is wrong with what the file tells, of devices that are to have so many events."""
+def kept_amiss(path, *wanted):
+    """What is wrong with what the file tells, of devices that are to have so many events, or so many."""
     told = Lines().told(counted(path.read_bytes()))
-    if told != wanted:
+    if told not in wanted:
         yield f"the file tells {told}, in place of {wanted}"
+
+
+def lost_amiss(path, content):
+    """What is wrong with what a start that failed left of a file with this content: what it cut off stands aside."""
+    aside, cut = aside_of(path), start_over(content, Lines().fault_in).cut
+    found = aside.read_bytes() if aside.exists() else b""
+    if (found or not path.read_bytes().startswith(content)) and not is_put_aside(found, cut):
+        yield f"of {cut[:200]!r} stands aside {found[:200]!r}"
 
 
 def filled(server, path):
@@ -251,9 +261,9 @@ def lost_by(program, path, kind, after):
             yield f"it ended with {found}, in place of {wanted}"
         if time.monotonic() - start > AT_ONCE:
             yield f"it ended {time.monotonic() - start:.1f} seconds behind that"
-    told = Lines().told(counted(path.read_bytes()))
-    if told not in ({DEVICE: 0, OTHER: 0}, {DEVICE: 3, OTHER: 0}):
-        yield f"the file tells {told}"
+    yield from kept_amiss(path, {DEVICE: 0, OTHER: 0}, {DEVICE: 3, OTHER: 0})
+    lines = Lines()
+    told = lines.told(start_over(path.read_bytes(), lines.fault_in).lines)
     with Server(program, 1, journal=path) as server:
         server.success = 2 + told[DEVICE]
         server.count()
@@ -405,12 +415,13 @@ def start_that_fails(program, content, kind, number):
         path = Path(folder, "journal")
         path.write_bytes(content)
         with Recording(path, failing=kind, first=number, many=1) as recording:
-            found, wanted = outcome_of_start(program, path, accepted, recording.env), (3, "", cannot_read(path))
+            found = outcome_of_start(program, path, accepted, recording.env)
+            wanted = (3, "", told_of_cut(aside_of(path)) + cannot_read(path))
             has_failed_to_read = kind == READ and recording.number("reads") >= number
         if found is None and not has_failed_to_read:
             return None
         complaints = [] if found == wanted else [f"it ended with {found}, in place of {wanted}"]
-        complaints += kept_amiss(path, told)
+        complaints += [*kept_amiss(path, told), *lost_amiss(path, content)]
         behind = outcome_of_start(program, path, accepted)
         return complaints if behind is None else [*complaints, f"the next start came to {behind}"]
 
@@ -428,8 +439,8 @@ def failing_starts(program, content, kind):
 
 def starts_that_fail(program):
     """Each call of a start that fails, over no file and over one with a torn end; and each read of one that takes several."""
-    torn = journal(registered(DEVICE), end='#{"device_id":').encode()
-    for content in (b"", torn):
+    torn = (journal(registered(DEVICE), end=TORN).encode(), checked((registered(DEVICE),), end=TORN).encode())
+    for content in (b"", *torn):
         for kind in (WRITE, CUT, SYNC, READ):
             yield from failing_starts(program, content, kind)
     long = journal(*[registered(device_at(number)) for number in range(SEVERAL_READS)]).encode()
@@ -449,27 +460,31 @@ def begun_without(program, path, number):
 
 def starts_over_without(program, content):
     """What is wrong with starts over a file with this content, of which one growth of memory is refused, each of them in turn: it is
-    told, and the lines are the same."""
-    told = Lines().told(counted(content))
+    told, and the lines are the same, or also those of a group that is kept."""
+    lines = Lines()
+    vehicles = [lines.told(front) for front in (counted(content), start_over(content, lines.fault_in).lines)]
     with tempfile.TemporaryDirectory() as folder:
         path = Path(folder, "journal")
         for number in range(1, EACH):
             path.write_bytes(content)
+            aside_of(path).unlink(missing_ok=True)
             found, came = begun_without(program, path, number)
             if not came:
                 break
-            if found not in (None, (4, "", NO_MEMORY)):
+            if found not in (None, *((4, "", told + NO_MEMORY) for told in ("", told_of_cut(aside_of(path))))):
                 yield f"growth {number} refused: it ended with {found}"
-            yield from (f"growth {number} refused: {it}" for it in kept_amiss(path, told))
+            yield from (f"growth {number} refused: {it}" for it in (*kept_amiss(path, *vehicles), *lost_amiss(path, content)))
     if came or number < FEWEST_GROWTHS:
         yield f"over {len(content)} bytes, a start takes {number} growths"
 
 
 def starts_without_memory(program):
-    """Each growth of memory of a start that is refused, over a file with a torn end, over one at rest, and over those that it makes a
-    journal of."""
-    for end in ('#{"device_id":', "#"):
+    """Each growth of memory of a start that is refused, over a file with a torn end, over one at rest, over one with a group that is kept,
+    and over those that it makes a journal of."""
+    for end in (TORN, "#"):
         yield from starts_over_without(program, journal(registered(DEVICE), registered(OTHER), end=end).encode())
+    for end in (TORN, "#" + group(registered(OTHER))[1:] + TORN):
+        yield from starts_over_without(program, checked((registered(DEVICE),), end=end).encode())
     for content in (b"", b"#"):
         yield from starts_over_without(program, content)
 

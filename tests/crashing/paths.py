@@ -13,8 +13,8 @@ from cases.calls import EVERY, MOST_CALLS, MOVED
 from cases.opened import BY_A_SERVER
 from cases.replays import event
 from cases.tables import ONE_ROW
-from cases.vehicles import FORM, LONG, journal, not_a_journal, registered
-from crashing.files import AT_REST, counted, listed_by, vehicles_text
+from cases.vehicles import CHECKED, DAMAGED, FORM, GROUP_FAULTS, LONG, checked, journal, not_a_journal, registered
+from crashing.files import AT_REST, counted, is_put_aside, listed_by, texts_in, vehicles_text
 from crashing.recording import LOCKED, OPENED, Recording
 from crashing.reports import device_at, registering
 from crashing.resting import SLOW
@@ -23,7 +23,7 @@ from harness.case import RANDOM, SOCKET, cannot_read, not_a_table
 from harness.counting import Skipped
 from harness.texts import differing
 from serving.http import done
-from serving.server import SECONDS, NotListening, Server, numbered_port
+from serving.server import SECONDS, NotListening, Server, aside_of, numbered_port
 from serving.sockets import addresses_of
 
 IN_USE = "mds_city: journal in use\n"
@@ -60,13 +60,13 @@ def refused(program, content, faults, **more):
         path = Path(folder, "journal")
         path.write_bytes(content)
         yield from not_started(program, path, faults, **more)
-        if path.read_bytes() != content:
-            yield f"the file has {path.read_bytes()[:200]!r}, in place of {content[:200]!r}"
+        if path.read_bytes() != content or os.listdir(folder) != ["journal"]:
+            yield f"the file has {path.read_bytes()[:200]!r}, in place of {content[:200]!r}, and there are {os.listdir(folder)}"
 
 
 def begun(program, content, wanted, behind):
     """What is wrong with a server that starts over a file with this content, or over none, and is to hold so many requests of it;
-    the file has then these bytes."""
+    the file has then these bytes, and what was cut off is put aside."""
     with tempfile.TemporaryDirectory() as folder:
         path = Path(folder, "journal")
         if content is not None:
@@ -76,6 +76,16 @@ def begun(program, content, wanted, behind):
             yield from server.end()
         if path.read_bytes() != behind:
             yield f"the file has {path.read_bytes()[:200]!r}, in place of {behind[:200]!r}"
+        front = counted(content or b"")
+        yield from aside_amiss(path, content[len(front) :] if front else b"")
+
+
+def aside_amiss(path, cut):
+    """What is wrong with what a start over the journal of this path put aside of what it cut off."""
+    aside = aside_of(path)
+    found = aside.read_bytes() if aside.exists() else b""
+    if not is_put_aside(found, cut):
+        yield f"put aside is {found[:200]!r}, of {cut[:200]!r}"
 
 
 def places_that_are_none(program):
@@ -119,7 +129,7 @@ def links(program):
                 server.success = count
                 yield from differing(server.ask(registering(OTHER)), done(1), f"a link to a file that is {name}")
                 yield from server.end()
-            if not link.is_symlink() or counted(target.read_bytes()).count(b"\n") != count + 2:
+            if not link.is_symlink() or len(texts_in(counted(target.read_bytes()))) != count + 1:
                 yield f"{name}: {target.read_bytes()!r}"
 
 
@@ -203,7 +213,8 @@ def files_that_are_none(program):
         (f"#{FORM}\n {new}\n#", "form"),
         (f"#{FORM[:-1]}0}}\n#", "form"),
         (f"#{FORM}x", "form"),
-        (f"#{FORM[:-2]}2}}\n#", "form"),
+        (f"#{CHECKED}\n#", "form"),
+        (f" {FORM[:-2]}3}}\n#", "form"),
         ('#{"a":1}', "form"),
         ("# notes\n", "form"),
         ("\0\0\1\0icon", "form"),
@@ -235,6 +246,31 @@ def files_that_are_none(program):
         yield from refused(program, text.encode(), not_a_journal(fault))
     yield from refused(program, journal(new, DROPPED).encode(), not_a_journal("refused 2"), table=ONE_ROW)
     yield from refused(program, journal(new, WAKE).encode(), not_a_journal("refused 2"))
+
+
+def groups_that_are_none(program):
+    """Files with a group that isn't as it was written, or of whose groups one has a line that is none, or that isn't accepted."""
+    for groups, fault in GROUP_FAULTS:
+        yield from refused(program, checked(*groups).encode(), not_a_journal(fault))
+    for text, line in DAMAGED:
+        yield from refused(program, text.encode(), not_a_journal(f"damaged {line}"))
+
+
+def forms_that_stay(program):
+    """A server goes on with a file of either version in its own, and so does the next one."""
+    old, new = registered(DEVICE), registered(OTHER)
+    for before, behind in ((journal(old), journal(old, new)), (checked((old,)), checked((old,), (new,)))):
+        with tempfile.TemporaryDirectory() as folder:
+            path = Path(folder, "journal")
+            path.write_text(before)
+            with Server(program, 1, journal=path) as server:
+                server.success = 1
+                yield from differing(server.ask(registering(OTHER)), done(1))
+                yield from server.end()
+            # but for the room behind its lines
+            if (found := path.read_text().rstrip("\n")) != behind:
+                yield f"the file has {found[:400]!r}, in place of {behind!r}"
+            yield from begun(program, behind.encode(), 2, behind.encode())
 
 
 def before_the_port(program):
@@ -316,11 +352,14 @@ def too_much_behind_the_lines(program):
 
 
 def files_that_are_begun(program):
-    """No file, an empty one, and what a crash leaves of the first line: a server begins there. One at rest stays as it is, and so
-    does one with a line behind it that doesn't count, but for that."""
-    line = b"#" + AT_REST[1:]
+    """No file, an empty one, and what a crash leaves of the lines before the first group, of either version: a server begins there.
+    One at rest stays as it is, and so does one with a line behind it that doesn't count, but for that."""
+    old = journal().encode()
+    line, lines = b"#" + old[1:], b"#" + AT_REST[1:]
     yield from begun(program, None, 0, AT_REST)
-    for content in (b"", b"#", line, line[:-1], line[:9], line[:4] + bytes(20), bytes(len(line)), AT_REST):
+    yield from begun(program, old, 0, old)
+    torn = (lines, lines[:-1], lines[:-9], lines[:34], lines[:40] + bytes(9), bytes(len(lines)))
+    for content in (b"", b"#", line, line[:-1], line[:9], line[:4] + bytes(20), bytes(len(line)), AT_REST, *torn):
         yield from (f"{content[:50]!r}: {it}" for it in begun(program, content, 0, AT_REST))
     whole = REGISTERED.encode()
     for content in (whole, whole[:-1], whole + DROPPED.encode() + b"\n#", whole + b"\0" * 600, whole[:-1] + b" {"):
@@ -346,6 +385,8 @@ PATHS = [
     locks_that_are_refused,
     another_at_its_path,
     files_that_are_none,
+    groups_that_are_none,
+    forms_that_stay,
     before_the_port,
     not_before_its_book,
     behind_the_table,

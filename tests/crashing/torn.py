@@ -7,14 +7,15 @@ from concurrent.futures import ThreadPoolExecutor
 from pathlib import Path
 
 from crashing.clients import look_until, report, report_again, side_by_side, unanswered
-from crashing.files import Lines, behind, counted, listed_amiss
+from crashing.files import Lines, behind, counted, listed_amiss, start_over
 from crashing.leaving import Disk
+from crashing.paths import aside_amiss
 from crashing.recording import SYNC, WRITE, Recording
 from crashing.reports import device_at, registering, reporting
 from crashing.walking import CHANGING, Walk
 from harness.counting import Unwell
 from serving.http import done
-from serving.server import Server
+from serving.server import Server, aside_of
 from serving.wire import ask
 
 FILES = 5000
@@ -146,7 +147,8 @@ def listed_alike(program, folder, contents, lines):
 def started(program, path, content, lines):
     """Starts a server over a file with this content, for one connection: what was recorded, and what is wrong with its end."""
     path.write_bytes(content)
-    told = lines.told(counted(content))
+    start = start_over(content, lines.fault_in)
+    told = lines.told(start.lines)
     with Recording(path) as recording:
         with Server(program, 1, journal=path, env=recording.env) as server:
             server.success = len(told) + sum(told.values())
@@ -154,6 +156,7 @@ def started(program, path, content, lines):
         entries = recording.entries()
     if path.read_bytes() != replayed(entries, content):
         complaints.append("the recorded calls don't make the file that is there")
+    complaints += aside_amiss(path, start.cut)
     return entries, complaints
 
 
@@ -179,6 +182,7 @@ def recorded(program, folder, clients, workers, content, chance):
     """What was recorded while clients were served over a file that has this content first, and what is wrong with the file then."""
     path = Path(folder, f"{clients.__name__}-{len(content)}")
     path.write_bytes(content)
+    aside_of(path).unlink(missing_ok=True)
     entries = played(program, path, clients, workers, chance)
     complaints = []
     if path.read_bytes() != replayed(entries, content):

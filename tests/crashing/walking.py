@@ -1,7 +1,7 @@
 """Recordings that are walked from moment to moment: what a crash may leave at each, held against what had been answered by then and
 what had been sent."""
 
-from crashing.files import GROUP_END, Lines, counted
+from crashing.files import GROUP_END, Lines, counted, start_over
 from crashing.leaving import Disk
 from crashing.recording import CUT, ENDED, RECEIVED, SENT, SYNC, TAKEN, WRITE
 from crashing.reports import items_in, said
@@ -13,8 +13,8 @@ CHANGING = (WRITE, CUT, SYNC, WRITE + ENDED, CUT + ENDED, SYNC + ENDED)
 class Talks:
     """What has been sent and answered by a moment: of each device how many events were sent, and how many are told to stand."""
 
-    def __init__(self, told=()):
-        self.sent, self.needed = dict(told), dict(told)
+    def __init__(self, told=(), sent=()):
+        self.sent, self.needed = dict(sent), dict(told)
         self.requests = {}
 
     def take(self, entry):
@@ -47,9 +47,9 @@ class Walk:
 
     def __init__(self, content, lines=None):
         self.disk, self.lines = Disk(content), lines or Lines()
-        front = counted(content)
-        self.talks = Talks(self.lines.told(front))
-        self.ends = {len(front)}
+        front, start = counted(content), start_over(content, self.lines.fault_in)
+        self.talks = Talks(self.lines.told(front), self.lines.told(start.lines))
+        self.ends = {len(front), len(start.lines)}
         """Where the lines of a file may end that a crash left: behind no group, or behind a whole one."""
 
     def take(self, entry):

@@ -10,6 +10,8 @@ import time
 from itertools import islice
 from pathlib import Path
 
+from cases.vehicles import checked
+from crashing.files import counted, texts_in
 from crashing.recording import WRITE, Recording
 from deploying.dashboards import queries_without_answer
 from deploying.proxies import INSTANCES, PROVIDERS, Proxy, changed, free_ports, installed
@@ -292,8 +294,8 @@ class Instance:
         """Goes on over its journal, in which a registration is left out."""
         self.server.__exit__()
         device = vehicle(P, UNUSED)["device_id"].encode()
-        lines = self.journal().read_bytes().splitlines(keepends=True)
-        self.journal().write_bytes(b"".join(line for line in lines if device not in line))
+        texts = [text.decode() for text in texts_in(counted(self.journal().read_bytes())) if device not in text]
+        self.journal().write_text(checked(*([text] for text in texts)))
         self.start()
 
     def look_ahead(self):

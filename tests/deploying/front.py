@@ -1,7 +1,8 @@
-"""What a journal has before the lines of a case: its first line alone, or the years of a city, of vehicles of their own."""
+"""What a journal has before the lines of a case: its first lines alone, or the years of a city, of vehicles of their own."""
 
 import gzip
 import re
+import shutil
 import tempfile
 import threading
 import time
@@ -10,10 +11,11 @@ from functools import cache, cached_property
 from pathlib import Path
 
 from cases.replays import identifier
+from cases.vehicles import checked, group
 from model.compaction import Line, staying
 
 FORM = ' {"form":"mds_city","version":1}\n'
-"""The first line of a journal (docs/formats.md, `Journal`)."""
+"""The first line of a journal of version 1, as older programs made it (docs/formats.md, `Journal`)."""
 VEHICLES, EVENTS = 3000, 1_000_000
 GROUP, NAMES = 0xD, 0xE
 """The groups of the identifiers: of devices, and of events."""
@@ -32,6 +34,8 @@ SHOWN = {
     r"registrations N of N": ("events", "events"),
     r"mds_city: not a journal: \w+ N": ("lines",),
 }
+ALONE = {"refused": "refused", "damaged": "bad_line"}
+"""How a fault of a request is told in version 1, by its fault in version 2."""
 """Lines that the runbook shows, and by which counts of a front their numbers N are greater behind it."""
 
 
@@ -52,10 +56,15 @@ class Front:
 
     @property
     def size(self):
-        return self.path.stat().st_size if self.path else len(FORM)
+        return self.path.stat().st_size if self.path else len(self.content())
 
     def content(self):
-        return self.path.read_bytes() if self.path else FORM.encode()
+        """The lines before the first group of version 2, in which each request of a case is a group: a server makes them."""
+        return checked(end="").encode()
+
+    def group(self, texts):
+        """Lines of these texts behind it."""
+        return group(*texts).encode()
 
     @cached_property
     def packed(self):
@@ -70,7 +79,30 @@ class Front:
         return line
 
 
-EMPTY = Front()
+@dataclass(frozen=True)
+class Plain(Front):
+    """Lines of a journal of version 1, with which a server goes on, or the first line alone."""
+
+    def content(self):
+        return self.path.read_bytes() if self.path else FORM.encode()
+
+    def group(self, texts):
+        return "".join(f" {text}\n" for text in texts).encode()
+
+    def lay(self, path):
+        """Puts it at a path."""
+        if self.path:
+            shutil.copy(self.path, path)
+        else:
+            path.write_bytes(self.content())
+
+    def shifted(self, line):
+        """A fault is told by its line, and none is a check."""
+        told = lambda found: f": {ALONE[found[1]]} {int(found[2]) // 2}"
+        return super().shifted(re.sub(r": (refused|damaged) ([0-9]+)", told, line))
+
+
+EMPTY, PLAIN_FRONT = Front(), Plain()
 
 
 def turn(number):
@@ -95,7 +127,7 @@ def kept_of(count, times, before):
 
 
 def write_front(path, provider):
-    """Writes a front of a provider's vehicles, of which the last event of some is the newest."""
+    """Writes a front of version 1 of a provider's vehicles, of which the last event of some is the newest."""
     devices = [identifier(GROUP, number) for number in range(VEHICLES)]
     rounds, now = -(-EVENTS // VEHICLES), int(time.time())
     times = [now - EVERY * (rounds - number) + EVERY // 2 for number in range(rounds)]
@@ -106,7 +138,7 @@ def write_front(path, provider):
         for number, seconds in enumerate(times):
             file.writelines(lines_of(provider, devices[: more if number == rounds - 1 else VEHICLES], number, seconds))
     one_more, one_less = (kept_of(count, times, now - DAYS * 86400) for count in (rounds, rounds - 1))
-    return Front(path, VEHICLES, EVENTS, more * one_more + (VEHICLES - more) * one_less, f'"device_id":"{devices[0][:-6]}')
+    return Plain(path, VEHICLES, EVENTS, more * one_more + (VEHICLES - more) * one_less, f'"device_id":"{devices[0][:-6]}')
 
 
 HOLDER, MAKING = [], threading.Lock()

@@ -3,12 +3,12 @@
 import gzip
 import subprocess
 
-from deploying.runbook import A, SECTIONS, Machine, event, first_steps, run_steps, sections, with_a_time_to_come
+from deploying.runbook import A, BAD, CLOSED, SECTIONS, Machine, event, first_steps, run_steps, sections, with_a_time_to_come
 from harness.counting import Skipped, Unwell
 from serving.server import success_of
 
 STUCK = "A vehicle that is stuck"
-MENDINGS = ("Vehicles registered by mistake", "bad_line", "damaged, or fewer vehicles than there were", STUCK, "Many vehicles are stuck")
+MENDINGS = ("Vehicles registered by mistake", BAD, CLOSED, STUCK, "Many vehicles are stuck")
 WHOLE = "registrations 2 events 4"
 """What each mended journal tells."""
 TOO_SMALL = 1.5
@@ -77,7 +77,7 @@ def with_one_left_over(program):
     """A mended journal of an earlier incident is there, and what was accepted since isn't lost."""
     with Machine(program) as machine:
         with_a_time_to_come(machine)
-        machine.path(MENDED).write_bytes(b"\n".join(machine.journal().read_bytes().splitlines()[:3]) + b"\n")
+        machine.path(MENDED).write_bytes(b"\n".join(machine.journal().read_bytes().splitlines()[:4]) + b"\n")
         yield from run_steps([*first_steps(), *sections()[STUCK]], machine.run)
         yield from SECTIONS[STUCK][1](machine)
 

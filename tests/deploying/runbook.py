@@ -13,7 +13,7 @@ import tempfile
 import time
 from pathlib import Path
 
-from deploying.front import EMPTY, FORM
+from deploying.front import EMPTY, PLAIN_FRONT
 from deploying.passing import answered, sent
 from deploying.proxies import PROVIDERS, TOKENS, changed, free_ports, installed
 from deploying.vehicles import vehicle
@@ -24,6 +24,8 @@ from serving.server import success_of
 from serving.wire import ask, post
 
 RUNBOOK = ROOT / "docs/runbook.md"
+BAD, CLOSED = "bad_line, or damaged with a number", "damaged, or fewer vehicles than there were"
+"""The sections on a byte that is wrong, and on a gate that isn't open."""
 HEADING = re.compile(r"^#{2,3} (.*)$", re.MULTILINE)
 SECOND = "/second.example/var/lib/mds_city_copies"
 """Where the copies lie: in a folder in place of the second machine (tests/deploying/machine/rsync)."""
@@ -80,7 +82,7 @@ REQUESTS = [
     ("/events", event(A, 3, ["trip_end"], "available", 2)),
     ("/events", event(B, 4, ["provider_drop_off"], "available", 3)),
 ]
-"""What the instance `one` has accepted, a line of its journal each, behind the first line. A copy lacks the last."""
+"""What the instance `one` has accepted, a group of its journal each, behind the first lines. A copy lacks the last."""
 
 WOKEN = {**REQUESTS[-1][1], "event_types": ["wake"]}
 """The last event by a type of the city's own, of which the profile knows nothing."""
@@ -170,9 +172,9 @@ class Machine:
         return self.path(f"/var/lib/mds_city/{name}/journal")
 
     def lay(self, name="one"):
-        """Puts the front in the place of an instance's journal, where there is one."""
-        if self.front.path:
-            shutil.copy(self.front.path, self.folder(name) / "journal")
+        """Puts the front in the place of an instance's journal, where there is one that a server doesn't make."""
+        if self.front is not EMPTY:
+            self.front.lay(self.folder(name) / "journal")
 
     def parts(self):
         """What the journal of `one` has before its own lines, and these."""
@@ -229,12 +231,19 @@ class Machine:
         shutil.copy(self.journal(name), copy)
         os.utime(copy, (COPIED, COPIED))
 
-    def change(self, line, old, new):
-        """Stops the instance, and changes a line of its journal, from 0, the front's left out."""
+    def change(self, number, old, new):
+        """Stops the instance, and changes the line of a request of its journal, counted from 1, the front's left out."""
         self.run("systemctl stop mds_city@one")
         front, lines = self.parts()
-        lines[line - 1] = lines[line - 1].replace(old, new, 1)
+        (place, *_) = [at for at, line in enumerate(lines) if b"device_id" in line][number - 1 :]
+        lines[place] = lines[place].replace(old, new, 1)
         self.journal().write_bytes(b"".join([front, *lines]))
+
+
+class Plain(Machine):
+    """A machine whose journals are of version 1, with which servers go on."""
+
+    front = PLAIN_FRONT
 
 
 def device_of(number):
@@ -248,8 +257,9 @@ def without_memory(machine):
         raise Skipped(f"the program doesn't run in {LITTLE} MiB")
     if not machine.front.path:
         text = compact(registration("%s"))
-        lines = [f' {text.replace("%s", device_of(number))}\n' for number in range(MANY)]
-        (machine.folder() / "journal").write_text("".join([FORM, *lines]))
+        texts = [text.replace("%s", device_of(number)) for number in range(MANY)]
+        groups = [machine.front.group(texts[at : at + AT_ONCE]) for at in range(0, MANY, AT_ONCE)]
+        (machine.folder() / "journal").write_bytes(b"".join([machine.front.content(), *groups]))
     machine.path("/etc/systemd/system/mds_city@one.service.d").mkdir()
     machine.write("/etc/systemd/system/mds_city@one.service.d/override.conf", f"[Service]\nLimitAS={LITTLE}M\n")
     machine.run("systemctl start mds_city@one")
@@ -380,7 +390,7 @@ def one_goes_back_a_day(program):
         before = {name: machine.journal(name).read_bytes() for name in machine.ports}
         machine.path(f"{SECOND}/one.journal").write_bytes(b"")
         stops, restores, *_ = (step.command for step in sections()["A disk is lost"])
-        commands = [*(step.command for step in first_steps()[:4]), *words_of("damaged, or fewer vehicles than there were")]
+        commands = [*(step.command for step in first_steps()[:4]), *words_of(CLOSED)]
         for command in [*commands, stops, restores, restores]:
             told = machine.run(command)
         times = machine.path("/var/tmp/times").read_text().splitlines()
@@ -527,14 +537,14 @@ def with_archives(machine):
     """Three files were put away: they overlap, the last one lacks the first event, none has that of the last trip's end, and the first one
     has an event that was taken out later. Each has a torn end."""
     machine.fill()
-    lines = machine.parts()[1][: len(REQUESTS)]
-    number, taken = REQUESTS[3][1]["event_id"].encode(), b"00000000-0000-4000-8000-0000000000e9"
-    out = lines[3].replace(number, taken)
-    for day, kept in (("2025-05-01", [*lines[:3], out]), ("2025-06-01", lines[:4]), ("2025-07-01", lines[:2] + lines[3:4])):
-        packed = machine.front.packed + gzip.compress(b"".join([*kept, TORN]))
+    texts = [line[1:-1].decode() for line in machine.parts()[1] if b"device_id" in line][: len(REQUESTS)]
+    number, taken = REQUESTS[3][1]["event_id"], "00000000-0000-4000-8000-0000000000e9"
+    out = texts[3].replace(number, taken)
+    for day, kept in (("2025-05-01", [*texts[:3], out]), ("2025-06-01", texts[:4]), ("2025-07-01", texts[:2] + texts[3:4])):
+        packed = machine.front.packed + gzip.compress(machine.front.group(kept) + TORN)
         machine.path(f"/var/lib/mds_city_archive/one.journal.{day}.gz").write_bytes(packed)
     machine.path("/var/lib/mds_city_left_out").mkdir()
-    machine.path("/var/lib/mds_city_left_out/one").write_bytes(out)
+    machine.path("/var/lib/mds_city_left_out/one").write_text(f" {out}\n")
 
 
 def of_all_vehicles(machine):
@@ -551,7 +561,7 @@ def of_all_vehicles(machine):
 def old_trips_left_out(machine):
     """Of what was accepted all is known, or late; and the file that was put away has all of it."""
     (archive,) = machine.path("/var/lib/mds_city_archive").glob("one.journal.20*.gz")
-    events = gzip.open(archive).read().count(b"\n ")
+    events = gzip.open(archive).read().count(b'\n {"device_id"')
     if events != len(REQUESTS) + 2 * TRIPS + machine.front.lines:
         yield f"{archive.name} has {events} lines"
     for target, value in REQUESTS:
@@ -638,8 +648,8 @@ SECTIONS = {
     "Vehicles registered by mistake": (with_unused_vehicles, unused_left_out),
     "The disk is full": (on_a_full_disk, nothing_more),
     "refused": (refused_by_a_table, all_of_it_there),
-    "bad_line": (with_a_bad_line, all_of_it_there),
-    "damaged, or fewer vehicles than there were": (with_a_closed_gate, all_of_it_there),
+    BAD: (with_a_bad_line, all_of_it_there),
+    CLOSED: (with_a_closed_gate, all_of_it_there),
     "Copies of each day": (with_copies, fourteen_days),
     "A disk is lost": (without_its_disk, sent_again_since),
     "A machine is lost": (without_its_disk, on_another_machine),
@@ -756,4 +766,6 @@ OF_PROXIES = [
     of_proxies("Its tokens come back", came_back, *["A provider floods"] * 2, "A token is known to others"),
     of_proxies("A token is known to others", renewed),
 ]
+OF_VERSION_1 = [of_section(name, Plain, "runbook of version 1") for name in ("refused", BAD, CLOSED)]
 RUNBOOKS = [runbook_is_whole, lost_disk_over_a_boot, one_goes_back_a_day, leaves_without_an_archive, *map(of_section, SECTIONS)]
+RUNBOOKS += OF_VERSION_1

@@ -11,6 +11,8 @@ import threading
 from concurrent.futures import ThreadPoolExecutor
 from pathlib import Path
 
+from cases.vehicles import checked, not_a_journal
+from crashing.files import counted, hurt_gate, listed_by
 from deploying.journals import server_over
 from deploying.passing import sent
 from deploying.proxies import TOKENS, changed, installed
@@ -30,6 +32,10 @@ AT_ONCE, PACE = 25, 0.02
 """How many vehicles a batch registers, and how many seconds lie between two of them."""
 MANY = 12
 """How many copies are made at once."""
+BACKUP = (ROOT / "docs/operations.md").read_text().partition("**A backup is a copy of the journal**")[2].partition("]")[0]
+"""What docs/operations.md says of copies."""
+TOOLS = re.compile(r"`([^`]*)`")
+"""The tools there: the last one is none for a journal."""
 LOOKS = 40
 """How many requests come before the log is put away, and how many behind that."""
 
@@ -262,6 +268,64 @@ def copies_of_one_second(program):
         yield f"a copy, an appended one, and one more: {told}"
 
 
+def made_by(tool, journal, copy):
+    """Makes a copy of a journal by a tool, whose name may have an option, over the copy that is there."""
+    name, *options = tool.split()
+    words = {
+        "cp": ["cp", journal, copy],
+        "rsync": ["rsync", "--times", "--ignore-times", *options, journal, copy],
+        "tar": ["sh", "-c", 'tar -C "$0" -cf - "$1" | tar -xOf - > "$2"', journal.parent, journal.name, copy],
+    }[name]
+    ran = subprocess.run([installed(words[0]), *words[1:]], capture_output=True, text=True, timeout=SECONDS)
+    # tar says by a status of its own that the file changed meanwhile
+    if ran.returncode and name != "tar":
+        raise Unwell(f"{tool}: {ran.returncode} {ran.stderr}")
+
+
+def copies_by_tools(program):
+    """Copies by the tools that docs/operations.md names, made while a server writes a journal of version 2: each tells all that was
+    answered before, and no fault. Nor is a fault told of the journal itself, whose gates are opened while it's read."""
+    *tools, _ = TOOLS.findall(BACKUP)
+    with tempfile.TemporaryDirectory() as folder:
+        journal, copy = Path(folder, "journal"), Path(folder, "copy")
+        journal.write_text(checked(end=""))
+        with server_over(program, journal, EACH, 2) as server, Reporting(server) as reporting:
+            for tool in tools * COPIES:
+                before = reporting.answered
+                made_by(tool, journal, copy)
+                status, out, faults = listed_by(program, copy, "--check")
+                registrations, events = told_of(program, copy)
+                if status or min(registrations, events) < before or f"registrations {registrations} events {events}\nlines" not in out:
+                    yield f"{tool}: {before} were answered, and its copy tells {status} {out[-100:]}{faults}"
+                if (found := listed_by(program, journal, "--check"))[0]:
+                    yield f"of the journal itself {found} was told"
+    if tools != ["cp", "tar", "rsync"]:
+        yield f"tried are {tools}"
+
+
+def copy_that_is_appended_to(program):
+    """A copy of a journal without room, to which `rsync --append` adds what came since: its last gate stays closed, and a group stands
+    behind that one before an open gate."""
+    *_, tool = TOOLS.findall(BACKUP)
+    with tempfile.TemporaryDirectory() as folder:
+        journal, copy, owners = Path(folder, "journal"), Path(folder, "copy"), [vehicle(PROVIDERS[0], number) for number in range(4)]
+        journal.write_text(checked(*([compact(owner)] for owner in owners[:2])))
+        made_by("cp", journal, copy)
+        with server_over(program, journal, EACH) as server:
+            for owner in owners[2:]:
+                if success_of(server.ask(post("/vehicles", compact(owner)))) != 1:
+                    yield f"{owner} isn't accepted"
+        made_by(tool, journal, copy)
+        content, found = copy.read_bytes(), listed_by(program, copy, "--check")
+        fault = hurt_gate(counted(content), content[len(counted(content)) :])
+        if fault != "damaged 6" or told_of(program, journal) != (4, 0):
+            yield f"the copy has {fault}: {content[-300:]!r}"
+        if found != (3, "", not_a_journal(fault)):
+            yield f"`vehicles --check` says {found}, in place of {fault}"
+        if told_of(program, copy) != (2, 0):
+            yield f"the copy tells {told_of(program, copy)}"
+
+
 def log_put_away(city):
     """logrotate puts nginx's log away, and no line is lost: those of before stand in the old file, those of later in the new one."""
     rotate = installed("logrotate")
@@ -292,4 +356,5 @@ def log_put_away(city):
 
 
 SHIPPING = [copies_at_any_moment, copies_by_a_key, copies_at_once, rest_by_the_key, copies_of_one_second]
+SHIPPING += [copies_by_tools, copy_that_is_appended_to]
 ROTATING = [log_put_away]

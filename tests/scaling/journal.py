@@ -12,10 +12,17 @@ ROOM = b"\n" * (1 << 20)
 """What is written ahead of the lines."""
 OPEN, CLOSED = b" ", b"#"
 DEVICE = re.compile(rb'"device_id":"([^"]{36})"')
-FORM = b'{"form":"mds_city"'
+FORM, TEXT = b'{"form":"mds_city"', b'{"device_id":"'
+"""How the lines before the first group begin, behind their gate, and how each other group does."""
 GROUP = (WRITE + ENDED, SYNC, SYNC + ENDED, WRITE, WRITE + ENDED, SYNC, SYNC + ENDED)
 """The calls of a group behind that which begins its write."""
 STEP_OF_THE_GATE = 3
+
+
+def is_written(entry):
+    """Whether a call of a start writes lines, those before the first group, or of a group that is kept anew, or makes room for these."""
+    is_group = entry.data.endswith(b"\n" + CLOSED) and entry.data.startswith((FORM, TEXT))
+    return entry.kind == WRITE and (is_group or entry.data == ROOM)
 
 
 class Journal:
@@ -50,7 +57,7 @@ class Journal:
             self.writing = len(entry.data)
         if self.group is not None:
             return self.go_on(entry)
-        return self.begin_group(entry) if self.is_serving or entry.data.startswith(FORM) else self.open_file(entry)
+        return self.begin_group(entry) if self.is_serving or is_written(entry) else self.open_file(entry)
 
     def open_file(self, entry):
         """A call of a start: what stands behind the lines is cut off, and the gate closed."""

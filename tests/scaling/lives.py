@@ -17,7 +17,7 @@ from scaling.checker import Checker
 from scaling.clients import Bodies, Bulk, Life, Small
 from scaling.others import Crew, Going, Hostile, Modelled, Together
 from scaling.record import Pipe
-from serving.server import Server
+from serving.server import Server, aside_of
 from serving.wire import connect, get, read_all
 
 WORKERS = (4, 16)
@@ -112,6 +112,7 @@ class City:
         self.checker.begin(pipe.path, workers)
         with ExitStack() as stack:
             with pipe.open():
+                aside_of(self.path).unlink(missing_ok=True)
                 server = Long(self.program, each, workers, env=pipe.env, journal=self.path, **more)
                 stack.enter_context(server)
             self.starts.append(time.monotonic() - begun)

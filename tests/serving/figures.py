@@ -11,6 +11,8 @@ import time
 from pathlib import Path
 
 from cases.replays import A, B, P, batch, event
+from cases.vehicles import ROOM, checked, group, journal, registered
+from crashing.files import LINE_FEED, counted, listed_by
 from crashing.recording import SYNC, WRITE, Recording
 from crashing.reports import NOT_KEPT, device_at, listing, looking, registering, reporting
 from crashing.resting import begins_to_write
@@ -34,6 +36,18 @@ PART = 5
 """How many bytes come of a request that isn't whole."""
 LATE = 20
 """Seconds in which a client is let go whose head doesn't come, on a machine that is busy with other tests."""
+FLEET = [registered(device_at(number)) for number in range(2000)]
+"""Registrations that a start reads in several pieces."""
+TORN = "#" + "\n {" * 50_000
+"""What a crash may leave behind the lines, of several pieces too."""
+OF_VERSION_1 = [journal(*FLEET[:count], end=end) for count in (0, 1, 2000) for end in ("", "#", "#" + ROOM, TORN)]
+OF_VERSION_2 = [
+    checked(*groups, end=end)
+    for groups in ((), (FLEET[:2],), (FLEET[:1999], FLEET[1999:]))
+    for end in ("", "#", "#" + ROOM, TORN, "#" + group(registered(B))[1:] + TORN)
+]
+REFUSED = checked(FLEET, end="#" + group(FLEET[0])[1:] + "#")
+"""Behind the lines stands a group that isn't accepted. So a start reads the file twice."""
 READY_ANSWER = answer(200, {})
 NOT_FOUND = error(404, "not_found")
 
@@ -246,7 +260,7 @@ def figures_while_all_workers_wait(program):
                 yield f"figures took {time.monotonic() - begun} s beside a worker that waits for the disk"
             client.join()
             recording.set(pause=0)
-            wanted = {"mds_city_journal_lines": 2, "mds_city_journal_groups_total": 2}
+            wanted = {"mds_city_journal_lines": 4, "mds_city_journal_groups_total": 2}
             found = awaited(port, wanted)
             yield from differing(found, wanted, "with a journal")
             if found["mds_city_journal_bytes"] != len(path.read_bytes().rstrip(b"\n")):
@@ -294,12 +308,39 @@ def ready_once_it_listens(program):
                     yield f"once it listens: {told_at(port, READY)!r}"
                 if told_at(port, get("/nowhere")) != NOT_FOUND or told_at(port, post("/metrics", "{}")) != NOT_FOUND:
                     yield "something else isn't refused"
-                wanted = {"mds_city_held_vehicles": 2, "mds_city_held_requests": 7, "mds_city_journal_lines": 8,
+                wanted = {"mds_city_held_vehicles": 2, "mds_city_held_requests": 7, "mds_city_journal_lines": 11,
                           "mds_city_newest_event_timestamp_seconds": 1.004, **of_kind("event", done=0)}
                 yield from differing(figures_at(port), wanted, "over a journal")
                 ask(starting.port, reporting(device_at(2), 0, 1))
                 wanted = {"mds_city_newest_event_timestamp_seconds": 1.004, **of_kind("event", done=1)}
                 yield from differing(figures_at(port), wanted, "behind an older event of another vehicle")
+
+
+def lines_amiss(program, port, path, what):
+    """What is wrong with how many lines a server tells that its journal has: those that count, as `vehicles --check` tells, too."""
+    count = counted(path.read_bytes()).count(LINE_FEED)
+    yield from differing(figures_at(port), {"mds_city_journal_lines": count}, what)
+    status, out, faults = listed_by(program, path, "--check")
+    if status or faults or f"\nlines {count} groups " not in f"\n{out}":
+        yield f"{what}: of {count} lines `vehicles --check` said {(status, out[-100:], faults)}"
+
+
+def lines_of_the_journal(program):
+    """How many lines the journal has is told of a new one and of either version, whatever stands behind the lines at a start, and then
+    behind each group."""
+    port = numbered_port()
+    for content in (None, *OF_VERSION_1, *OF_VERSION_2, REFUSED):
+        with tempfile.TemporaryDirectory() as folder:
+            path = Path(folder, "journal")
+            if content is not None:
+                path.write_text(content)
+            front = counted((content or "").encode())
+            what = f"over {front.count(LINE_FEED)} lines of {front[:34]!r} and {(content or '')[len(front):][:150]!r}"
+            with Server(program, None, workers=2, journal=path, metrics=port) as server:
+                yield from lines_amiss(program, port, path, f"{what}, at its start")
+                for request in (registering(A, C), reporting(A, 0, 5), registering(device_at(9000))):
+                    ask(server.port, request)
+                    yield from lines_amiss(program, port, path, f"{what}, behind {request[-100:]!r}")
 
 
 def answer_once_there(port, seconds=20):
@@ -382,6 +423,7 @@ FIGURES = [
     figures_while_all_workers_wait,
     the_limit_in_force,
     ready_once_it_listens,
+    lines_of_the_journal,
     not_ready_while_nothing_is_kept,
     figures_as_promtool_takes_them,
     a_port_that_is_taken,

@@ -21,6 +21,8 @@ from serving.wire import ask, get
 LISTENING = re.compile(r"listening 127\.0\.0\.1:([0-9]+)\n")
 PORTS = itertools.cycle(random.sample(range(10_000, 32_768), 10_000))
 """Numbers of ports that the system gives to nobody who asks for any."""
+MOST_ASIDE = 100
+"""Files of what was cut off a journal."""
 SECONDS = 120
 """How long a server that has answered all its connections may take to end, and each to print a line."""
 
@@ -78,6 +80,7 @@ class Server:
             words += ["--journal", str(journal)]
         if metrics is not None:
             words += ["--metrics", str(metrics)]
+        self.aside = next((path for path in asides_of(journal) if not os.path.lexists(path)), None)
         self.faults = open(Path(self.folder.name, "faults"), "w+b")
         self.child = subprocess.Popen(
             words,
@@ -183,9 +186,13 @@ class Server:
     def amiss_at_end(self):
         """What is wrong with how it ends by itself. Where its start took long it told how far it was."""
         status, out, faults = self.ended()
-        ended, wanted = (status, out, re.sub(HOW_FAR, "", faults)), (0, f"accepted {self.success}\n", "")
+        ended, wanted = (status, out, re.sub(HOW_FAR, "", faults)), (0, f"accepted {self.success}\n", self.told_of_its_start())
         if ended != wanted:
             yield f"ended with {ended}, in place of {wanted}"
+
+    def told_of_its_start(self):
+        """What its start has told on standard error: how many bytes it cut off, where these stand aside since."""
+        return told_of_cut(self.aside) if self.aside else ""
 
     def drain(self):
         """Makes connections until it ends, where it isn't known how many others were taken by a worker, and says what is wrong
@@ -198,6 +205,21 @@ class Server:
             if answered not in (b"", error(404, "not_found")):
                 yield f"a connection at the end, {answered[:200]!r}"
         yield from self.amiss_at_end()
+
+
+def asides_of(journal):
+    """Where starts put what they cut off the journal of this path, each into the first of these files that isn't there."""
+    return [aside_of(journal), *(Path(f"{journal}.cut.{number}") for number in range(1, MOST_ASIDE))]
+
+
+def aside_of(journal):
+    """The first of these files."""
+    return Path(f"{journal}.cut")
+
+
+def told_of_cut(aside):
+    """What a start tells that has put so much aside, if anything is there."""
+    return f"mds_city: {os.path.getsize(aside)} bytes cut\n" if os.path.exists(aside) else ""
 
 
 def close_faults():

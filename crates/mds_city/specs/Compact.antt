@@ -8,7 +8,6 @@ use Rattle.mds_commands.specs.declared.problem.Problem.TheVariants.{CannotRead, 
 use Rattle.mds_commands.specs.declared.problem.Problem.TheVariants.{Memory}
 use Rattle.mds_commands.specs.declared.status.Status.{Status}
 use Rattle.mds_commands.specs.declared.status.Status.TheVariants as status
-use Rattle.mds_groups.specs.declared.fault.GroupFault.TheVariants as groups
 use Rattle.mds_commands.specs.declared.vehicles.problem.JournalProblem.TheVariants.{NotAJournal}
 use Rattle.mds_commands.specs.declared.vehicles.problem.JournalProblem.TheVariants.{Other}
 use Rattle.mds_commands.specs.JournalProblem.{TellsJournal, journal_status_of}
@@ -50,7 +49,7 @@ abbrev pub IsProblemOf : List ℕ → List ℕ → CompactError → CompactProbl
 IsProblemOf old new (Old lines.Memory) problem = problem ≡ Journal (Other Memory)
 IsProblemOf old new (Old lines.Read) (Journal (Other (CannotRead path))) = path.now ≡ old
 IsProblemOf old new (Old lines.Changed) (Journal (Other (CannotRead path))) = path.now ≡ old
-IsProblemOf old new (Old (lines.Fault fault)) problem = problem ≡ Journal (NotAJournal (groups.Journal fault))
+IsProblemOf old new (Old (lines.Fault fault)) problem = problem ≡ Journal (NotAJournal fault)
 IsProblemOf old new (New file.IsThere) (IsThere path) = path.now ≡ new
 IsProblemOf old new (New file.CannotWrite) (CannotWrite path) = path.now ≡ new
 IsProblemOf old new (New file.Memory) problem = problem ≡ Journal (Other Memory)

@@ -17,7 +17,6 @@ use Rattle.mds_commands.specs.declared.problem.Problem.TheVariants.{Random, Memo
 use Rattle.mds_commands.specs.declared.status.Status.{Status}
 use Rattle.mds_commands.specs.declared.status.Status.TheVariants as status
 use Rattle.mds_commands.specs.Source.{HasTablesIn, ExplainsTable}
-use Rattle.mds_groups.specs.declared.fault.GroupFault.TheVariants as groups
 use Rattle.mds_commands.specs.declared.vehicles.problem.JournalProblem.TheVariants.{NotAJournal}
 use Rattle.mds_commands.specs.declared.vehicles.problem.JournalProblem.TheVariants.{Other}
 use Rattle.mds_commands.specs.JournalProblem.{TellsJournal, journal_status_of}
@@ -66,8 +65,9 @@ IsFileProblem path file.Memory problem = problem ≡ Journal (Other Memory)
 abbrev pub IsStartProblem : List ℕ → StartFault → ServeProblem → Type 0
 IsStartProblem path start.Memory problem = problem ≡ Journal (Other Memory)
 IsStartProblem path start.Device problem = IsUnreadable path problem
-IsStartProblem path (start.Journal fault) problem = problem ≡ Journal (NotAJournal (groups.Journal fault))
+IsStartProblem path (start.Journal fault) problem = problem ≡ Journal (NotAJournal fault)
 IsStartProblem path start.Shared problem = IsUnreadable path problem
+IsStartProblem path start.CutOff problem = IsUnreadable path problem
 
 -- the problem by which serving stopped
 abbrev pub IsServingProblem : RecordedStop → ServeProblem → Type 0

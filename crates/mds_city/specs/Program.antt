@@ -109,6 +109,12 @@ module _ {F : Type 0} (opens : List ℕ → Option F → Type 0) where
   IsFileNamed (Some path) None = ⊥
   IsFileNamed (Some path) (Some source) = IsFileOf path source
 
+-- a file is given again where this is asked, and none where it isn't
+abbrev pub IsGivenAgain : {R : Type 0} → (Source R → Type 0) → Bool → Option (Source R) → Type 0
+IsGivenAgain Given false again = again ≡ None
+IsGivenAgain Given true None = ⊥
+IsGivenAgain Given true (Some again) = Given again
+
 -- of the program: the files of its host, and standard input
 module _ {F I : Type 0} (files : FileHost F) (input : StandardInput I) where
   -- a listing of the journal of this path, which is standard input for `-` alone, came to these
@@ -116,10 +122,12 @@ module _ {F I : Type 0} (files : FileHost F) (input : StandardInput I) where
   CarriesVehicles path check table outcome =
       ((path ≡ codes "-") × (file : Source I)
       × (file.path.now ≡ path) × (file.reader ≡ Some input.reader)
-      × CameToListing (files_of files.bytes table input.bytes file) check
+      × (again : Option (Source I)) × IsGivenAgain (λ source. source.reader ≡ None) check again
+      × CameToListing (files_of files.bytes table input.bytes file) again
       outcome.ended outcome.out outcome.faults)
       ⊎ ((path ≢ codes "-") × (file : Source F) × IsFileOf files.opens path file
-      × CameToListing (files_of files.bytes table files.bytes file) check
+      × (again : Option (Source F)) × IsGivenAgain (IsFileOf files.opens path) check again
+      × CameToListing (files_of files.bytes table files.bytes file) again
       outcome.ended outcome.out outcome.faults)
 
   -- a print of the lines of a vehicle's events in the journal of this path, which is standard input

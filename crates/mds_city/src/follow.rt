@@ -3,7 +3,8 @@ ghost use Rattle.std.specs.Prelude.{◌≡◌, ◌⊎◌, ℕ, List, Option, Som
 ghost use Rattle.mds_commands.specs.Change.{change_of};
 ghost use Rattle.mds_retention.specs.declared.error.CompactError.{CompactError as Error};
 ghost use Rattle.mds_retention.specs.Compacting.{AreReadings, IsOfNew, StandsWhole};
-ghost use Rattle.mds_retention.specs.NewJournal.{HasSince, IsBeginFault, IsEndFault, IsFollowed, IsFollowedTo, IsNewJournal, MayBeEnded};
+ghost use Rattle.mds_retention.specs.NewJournal.{HasSince, IsBeginFault, IsFollowed, IsFollowedTo, IsNewJournal, MayBeEnded};
+ghost use Rattle.mds_retention.specs.Rest.{IsEndFault};
 ghost use Rattle.mds_city.specs.Compact.{IsProblemOf};
 ghost use Rattle.mds_city.specs.Follow.{CameFrom, CameToFollow, IsNotOpened, IsOpened, following_line};
 ghost use Rattle.mds_city.specs.Outcome.{outcome_of};

@@ -1,5 +1,5 @@
 //! The command that serves vehicles over a journal.
-ghost use Rattle.std.specs.Prelude.{◌≡◌, ◌⊎◌, ℕ, List, Result, ⊤, IfOk, IfErr};
+ghost use Rattle.std.specs.Prelude.{◌≡◌, ◌⊎◌, ℕ, List, Result, ⊤, IfOk, IfErr, IsSome, MatchOption};
 ghost use Rattle.mds_file.specs.declared.fault.FileFault.{FileFault as Unopened};
 ghost use Rattle.mds_book.specs.Books.{IsSeatCount};
 ghost use Rattle.mds_follow.specs.Reading.{IsAtFirstRequest};
@@ -17,11 +17,12 @@ use crate::start_room::StartRoom;
 use mds_book::{NamedLedger, Packed};
 use mds_commands::{JournalProblem, Problem, Source, Status, tables_in, tell_journal_problem};
 use mds_file::FileFault;
-use mds_follow::{Disk, RecordLog, RequestReader, StartFault};
+use mds_follow::{Aside, Disk, RecordLog, RequestReader, StartFault};
 use mds_io::{MAX_CALLS, PrintError, write_all_of};
 use mds_journal::Device;
 use mds_log::BlankLog;
 use mds_pool::{Alarm, Held, NewBook, RecordedBook, RecordedStop, Stop};
+use mds_table::Tables;
 use std::alloc::{AllocError, Global};
 use std::hash::RandomState;
 use std::io::{Read, Write};
@@ -53,6 +54,20 @@ pub trait OpensJournals {
 
     /// Hears what the journal told at the start, if figures are told.
     fn tell_held(&self, _held: Held) {}
+}
+
+/// Where a server puts what is cut off a journal.
+pub trait PutsAside {
+    /// Where bytes go that are cut off.
+    type Cuttings: Aside + Drop;
+
+    /// Where bytes go that are cut off the journal of this path: a new file, whose path is that one with `.cut` behind it, or also a
+    /// number, where files stand there already. It tells whoever runs the server how many they are.
+    ///
+    /// # Errors
+    ///
+    /// `AllocError` where there is no memory for its path.
+    fn aside(&self, alloc: Global, path: &str) -> Result<Self::Cuttings, AllocError>;
 }
 
 /// Tells of the first write that fails, and of no other, while a server runs.
@@ -113,7 +128,7 @@ pub(crate) enum BookStop {
 /// ends with; a problem is told to `faults` in one line.
 pub fn serve_over<
     R: Threads + Wait + RandomSource + Copy + Send + Sync + 'static,
-    H: Listens + OpensJournals + Sync,
+    H: Listens + OpensJournals + PutsAside + Sync,
     T: Read + Drop,
     W: Write,
     E: Write,
@@ -148,7 +163,7 @@ pub fn serve_over<
 fn serve_to_end<
     'a,
     R: Threads + Wait + RandomSource + Copy + Send + Sync + 'static,
-    H: Listens + OpensJournals + Sync,
+    H: Listens + OpensJournals + PutsAside + Sync,
     T: Read + Drop,
     W: Write,
 >(
@@ -185,11 +200,8 @@ fn serve_to_end<
         Ok(reader) => reader,
         Err(problem) => return Err((problem, None)),
     };
-    let opening = NewBook::of(tables, asked.workers, [first, second]);
-    let log = BlankLog::new();
-    match serve_reader::<R, H, Brand, Brand, Brand, W>(
-        rt, alloc, host, opening, reader, log, asked, out,
-    ) {
+    let hashers = [first, second];
+    match serve_opened(rt, alloc, host, &tables, hashers, path, reader, asked, out) {
         Ok(served) => Ok(served),
         Err((stop, listening)) => Err((problem_of_stop(path, stop), listening)),
     }
@@ -203,7 +215,7 @@ fn open_reader<'a, H: OpensJournals>(
 ) -> Result<RequestReader<H::Journal>, ServeProblem<'a>>
     ensures ok { IfOk result (λ reader.
         IsAtFirstRequest H.Journal.seen H.Journal.may_leave H.Journal.may_be_used H.Journal.is_true
-        reader.opening) }
+        reader) }
     ensures had { IfOk result (λ _. HadJournal (H.opens_journal host.now) path.now) }
     ensures err { IfErr result (IsJournalStop (H.opens_journal host.now) path.now) }
 {
@@ -217,14 +229,98 @@ fn open_reader<'a, H: OpensJournals>(
     }
 }
 
-/// Opens a book over the journal, which keeps what it has packed, prints where it listens, and serves: how many requests the book holds at the end, or why it
-/// wasn't served to that; and what listened, if a connection could come of it.
+/// Serves as [`serve_over`], over the journal of this path, which was opened. Where a group was cut off that the tables refuse, it
+/// starts once more, over the same file, which stays locked.
+fn serve_opened<R: Threads + Wait + Sync, H: Listens + OpensJournals + PutsAside + Sync, W: Write>(
+    rt: &R,
+    alloc: Global,
+    host: &H,
+    tables: &Tables,
+    hashers: [RandomState; 2],
+    path: &str,
+    reader: RequestReader<H::Journal>,
+    asked: ServeOptions,
+    out: &mut W,
+) -> Result<(u128, H::Listening), (BookStop, Option<H::Listening>)>
+    requires seats { IsSeatCount asked.workers }
+    requires at_first { IsAtFirstRequest H.Journal.seen H.Journal.may_leave H.Journal.may_be_used
+        H.Journal.is_true reader }
+    ensures ok { IfOk result (λ served. ServedBook (H.listens host.now asked.port)
+        tables.now asked.workers asked.each
+        (change_of (W.contents out.old) (W.contents out.new)) served.0) }
+    ensures err { IfErr result (λ stopped. StopsBook (H.listens host.now asked.port)
+        (change_of (W.contents out.old) (W.contents out.new)) stopped.0) }
+{
+    let mut aside = match host.aside(alloc, path) {
+        Ok(aside) => aside,
+        Err(AllocError) => return Err((BookStop::Start(StartFault::Memory), None)),
+    };
+    let (stop, listening, file) = match serve_new(
+        rt, alloc, host, tables, hashers, reader, &mut aside, asked, out,
+    ) {
+        Ok(served) => return Ok(served),
+        Err(ended) => ended,
+    };
+    let Some(file) = file else {
+        return Err((stop, listening));
+    };
+    let reader = match RequestReader::open(alloc, file) {
+        Ok(reader) => reader,
+        Err((fault, _file)) => return Err((BookStop::Start(fault), None)),
+    };
+    match serve_new(
+        rt, alloc, host, tables, hashers, reader, &mut aside, asked, out,
+    ) {
+        Ok(served) => Ok(served),
+        Err((stop, listening, _file)) => Err((stop, listening)),
+    }
+}
+
+/// Serves a new book over these tables, as [`serve_reader`].
+fn serve_new<R: Threads + Wait + Sync, H: Listens + OpensJournals + Sync, A: Aside, W: Write>(
+    rt: &R,
+    alloc: Global,
+    host: &H,
+    tables: &Tables,
+    hashers: [RandomState; 2],
+    reader: RequestReader<H::Journal>,
+    aside: &mut A,
+    asked: ServeOptions,
+    out: &mut W,
+) -> Result<(u128, H::Listening), (BookStop, Option<H::Listening>, Option<H::Journal>)>
+    requires seats { IsSeatCount asked.workers }
+    requires at_first { IsAtFirstRequest H.Journal.seen H.Journal.may_leave H.Journal.may_be_used
+        H.Journal.is_true reader }
+    ensures ok { IfOk result (λ served. ServedBook (H.listens host.now asked.port)
+        tables.now asked.workers asked.each
+        (change_of (W.contents out.old) (W.contents out.new)) served.0) }
+    ensures err { IfErr result (λ stopped. StopsBook (H.listens host.now asked.port)
+        (change_of (W.contents out.old) (W.contents out.new)) stopped.0) }
+    ensures again { IfErr result (λ stopped. MatchOption stopped.2 ⊤ H.Journal.may_be_used) }
+    ensures silent { IfErr result (λ stopped. IsSome stopped.2
+        → W.contents out.new ≡ W.contents out.old) }
+{
+    let copied = match tables.copy(alloc) {
+        Ok(copied) => copied,
+        Err(AllocError) => return Err((BookStop::Start(StartFault::Memory), None, None)),
+    };
+    let opening = NewBook::of(copied, asked.workers, hashers);
+    let log = BlankLog::new();
+    serve_reader::<R, H, Brand, Brand, Brand, A, W>(
+        rt, alloc, host, opening, reader, log, aside, asked, out,
+    )
+}
+
+/// Opens a book over the journal, which keeps what it has packed, prints where it listens, and serves: how many requests the book
+/// holds at the end, or why it wasn't served to that; and what listened, if a connection could come of it. Where a group was cut
+/// off that the tables refuse, the file comes back, over which the start is to be done again.
 fn serve_reader<
     R: Threads + Wait + Sync,
     H: Listens + OpensJournals + Sync,
     L: NamedLedger + Send + Sync,
     M: NamedLedger + Send + Sync,
     J: RecordLog + Send + Sync,
+    A: Aside,
     W: Write,
 >(
     rt: &R,
@@ -233,13 +329,14 @@ fn serve_reader<
     opening: NewBook,
     reader: RequestReader<H::Journal>,
     log: BlankLog,
+    aside: &mut A,
     asked: ServeOptions,
     out: &mut W,
-) -> Result<(u128, H::Listening), (BookStop, Option<H::Listening>)>
+) -> Result<(u128, H::Listening), (BookStop, Option<H::Listening>, Option<H::Journal>)>
     requires fits { Fits (names_of L.name L.parts L.log L.marks L.tables)
         (names_of M.name M.parts M.log M.marks M.tables) opening }
     requires at_first { IsAtFirstRequest H.Journal.seen H.Journal.may_leave H.Journal.may_be_used
-        H.Journal.is_true reader.opening }
+        H.Journal.is_true reader }
     requires log { log ≡ J.log }
     requires begins { BeginsOver J.start J.held (H.Journal.moment reader.opening.device)
         (H.Journal.seen reader.opening.device) }
@@ -248,30 +345,27 @@ fn serve_reader<
         (change_of (W.contents out.old) (W.contents out.new)) served.0) }
     ensures err { IfErr result (λ stopped. StopsBook (H.listens host.now asked.port)
         (change_of (W.contents out.old) (W.contents out.new)) stopped.0) }
+    ensures again { IfErr result (λ stopped. MatchOption stopped.2 ⊤ H.Journal.may_be_used) }
+    ensures silent { IfErr result (λ stopped. IsSome stopped.2
+        → W.contents out.new ≡ W.contents out.old) }
 {
-    let book = match RecordedBook::<Disk<H::Journal>, Packed<L>, Packed<M>, J>::open(
-        rt, alloc, opening, reader, log,
+    let book = match open_recorded::<R, H, L, M, J, A>(
+        rt, alloc, host, opening, reader, log, aside, asked,
     ) {
         Ok(book) => book,
-        Err((fault, _file)) => return Err((BookStop::Start(fault), None)),
+        Err((fault, file)) => return Err((BookStop::Start(fault), None, file)),
     };
-    if asked.metrics.is_some() {
-        match book.held(rt, alloc) {
-            Ok(held) => host.tell_held(held),
-            Err(AllocError) => return Err((BookStop::Start(StartFault::Memory), None)),
-        }
-    }
     let room = match StartRoom::beside(alloc, asked.workers) {
         Ok(room) => room,
-        Err(AllocError) => return Err((BookStop::Start(StartFault::Memory), None)),
+        Err(AllocError) => return Err((BookStop::Start(StartFault::Memory), None, None)),
     };
     let (listening, port) = match host.listen(alloc, asked.port) {
         Ok(had) => had,
-        Err(fault) => return Err((BookStop::Listen(fault), None)),
+        Err(fault) => return Err((BookStop::Listen(fault), None, None)),
     };
     match print_line(alloc, out, &ListeningLine { port }) {
         Ok(()) => {}
-        Err(fault) => return Err((BookStop::Print(fault), None)),
+        Err(fault) => return Err((BookStop::Print(fault), None, None)),
     }
     let alarm = FirstFailure {
         host,
@@ -280,8 +374,61 @@ fn serve_reader<
     };
     match book.serve(rt, alloc, &listening, asked.each, &alarm) {
         Ok(end) => Ok((end.book.settled.accepted(), listening)),
-        Err(stop) => Err((BookStop::Serve(stop), Some(listening))),
+        Err(stop) => Err((BookStop::Serve(stop), Some(listening), None)),
     }
+}
+
+/// Opens a book over the journal, and records in it what the book holds of a group that no gate opened. Where a group was cut off
+/// that the tables refuse, the file comes back.
+fn open_recorded<
+    R: Threads + Wait + Sync,
+    H: Listens + OpensJournals + Sync,
+    L: NamedLedger + Send + Sync,
+    M: NamedLedger + Send + Sync,
+    J: RecordLog + Send + Sync,
+    A: Aside,
+>(
+    rt: &R,
+    alloc: Global,
+    host: &H,
+    opening: NewBook,
+    reader: RequestReader<H::Journal>,
+    log: BlankLog,
+    aside: &mut A,
+    asked: ServeOptions,
+) -> Result<
+    RecordedBook<Disk<H::Journal>, Packed<L>, Packed<M>, J>,
+    (StartFault, Option<H::Journal>),
+>
+    requires fits { Fits (names_of L.name L.parts L.log L.marks L.tables)
+        (names_of M.name M.parts M.log M.marks M.tables) opening }
+    requires at_first { IsAtFirstRequest H.Journal.seen H.Journal.may_leave H.Journal.may_be_used
+        H.Journal.is_true reader }
+    requires log { log ≡ J.log }
+    requires begins { BeginsOver J.start J.held (H.Journal.moment reader.opening.device)
+        (H.Journal.seen reader.opening.device) }
+    ensures opened { IfOk result (λ own. (own.tables ≡ opening.tables)
+        × (own.seats ≡ opening.seats)) }
+    ensures again { IfErr result (λ error. MatchOption error.1 ⊤ H.Journal.may_be_used) }
+{
+    let mut book = match RecordedBook::<Disk<H::Journal>, Packed<L>, Packed<M>, J>::open(
+        rt, alloc, opening, reader, log, aside,
+    ) {
+        Ok(book) => book,
+        Err((StartFault::CutOff, file)) => return Err((StartFault::CutOff, Some(file))),
+        Err((fault, _file)) => return Err((fault, None)),
+    };
+    match book.record_all(rt) {
+        Ok(()) => {}
+        Err(fault) => return Err((StartFault::from(fault), None)),
+    }
+    if asked.metrics.is_some() {
+        match book.held(rt, alloc) {
+            Ok(held) => host.tell_held(held),
+            Err(AllocError) => return Err((StartFault::Memory, None)),
+        }
+    }
+    Ok(book)
 }
 
 fn problem_of_file<'a>(path: &'a str, fault: FileFault) -> ServeProblem<'a>
@@ -299,7 +446,9 @@ fn problem_of_start<'a>(path: &'a str, fault: StartFault) -> ServeProblem<'a>
 {
     match fault {
         StartFault::Memory => ServeProblem::from(Problem::Memory),
-        StartFault::Device | StartFault::Shared => ServeProblem::from(Problem::CannotRead(path)),
+        StartFault::Device | StartFault::Shared | StartFault::CutOff => {
+            ServeProblem::from(Problem::CannotRead(path))
+        }
         StartFault::Journal(fault) => ServeProblem::Journal(JournalProblem::from(fault)),
     }
 }

@@ -4,6 +4,7 @@
 
 mod compact;
 mod compacted;
+mod cut_file;
 mod cuts;
 mod figures;
 mod follow;
@@ -16,9 +17,10 @@ mod start_room;
 mod watched_file;
 
 use crate::compact::MakesFiles;
+use crate::cut_file::{CUT, CutFile};
 use crate::figures::FiguresPort;
 use crate::follow::FollowsJournals;
-use crate::journal::OpensJournals;
+use crate::journal::{OpensJournals, PutsAside};
 use crate::program::{Opens, run, run_at_terminal, tell_words, words_of};
 use crate::progress::{Teller, ToldReader};
 use crate::serve::{ListenFault, Listens, ServeOptions};
@@ -30,6 +32,7 @@ use mds_metrics::{Board, Gauge};
 use mds_pool::Held;
 use mds_socket::{Listening, SocketIn, SocketOut, SocketPort};
 use std::alloc::{AllocError, Global};
+use std::fmt::Write as _;
 use std::io::{self, ErrorKind, IsTerminal, Read, Stderr};
 use std::marker::Brand;
 use std::net::Net;
@@ -41,6 +44,9 @@ use std::{env, fs};
 
 /// How many bytes of stack a server finds in the first thread: more than it needs, which was 0.8 MB.
 const STACK_BYTES: usize = 1_048_576;
+
+/// How many files are kept of what was cut off a journal.
+const MOST_CUT: u32 = 100;
 
 /// What the program runs on: its files, its sockets and its standard streams. `main` alone has a runtime that may wait, so
 /// what listens is written for any that may.
@@ -152,6 +158,30 @@ impl<R: Net + Wait + Clock + Threads + Copy + Send + Sync + Drop + 'static> List
     }
 }
 
+/// The first of some paths that nothing has, for what is cut off the journal of a path: that with `.cut` behind it, and then also with
+/// a number. So what an earlier start put aside stays, and keeps no server from starting. Where all are taken it is the last of them.
+fn free_path(rt: &HostRuntime, alloc: Global, path: &str) -> Result<String, AllocError> {
+    let mut name = cut_path(alloc, path)?;
+    for number in 1..MOST_CUT {
+        if fs::symlink_metadata(rt, name.as_str()).is_err() {
+            break;
+        }
+        name = cut_path(alloc, path)?;
+        if write!(name, ".{number}").is_err() {
+            return Err(AllocError);
+        }
+    }
+    Ok(name)
+}
+
+/// The path of a journal with `.cut` behind it.
+fn cut_path(alloc: Global, path: &str) -> Result<String, AllocError> {
+    let mut name = String::new(alloc);
+    name.push_str(path)?;
+    name.push_str(CUT)?;
+    Ok(name)
+}
+
 /// Uses so much of this thread's stack.
 fn touch_stack(rt: &HostRuntime) {
     let mut room = [0u8; STACK_BYTES];
@@ -174,6 +204,19 @@ impl From<io::Error> for ListenFault {
     }
 }
 
+impl PutsAside for Host<HostRuntime> {
+    type Cuttings = CutFile<NewFile<Brand>, Stderr>;
+
+    fn aside(&self, alloc: Global, path: &str) -> Result<Self::Cuttings, AllocError> {
+        let name = free_path(&self.rt, alloc, path)?;
+        Ok(CutFile {
+            alloc,
+            name: NewFile::at(self.rt, alloc, &name)?,
+            faults: self.rt.stderr(),
+        })
+    }
+}
+
 impl OpensJournals for Host<HostRuntime> {
     type Journal = WatchedFile<DiskFile<Brand>, HostRuntime, Stderr>;
 
@@ -193,7 +236,6 @@ impl OpensJournals for Host<HostRuntime> {
             board.set(Gauge::FirstVehicles, held.vehicles);
             board.set(Gauge::FirstRequests, held.requests);
             board.set(Gauge::FirstNewest, held.newest.saturating_mul(1_000));
-            board.set(Gauge::JournalLines, held.requests.saturating_add(1));
         }
     }
 

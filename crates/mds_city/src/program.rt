@@ -10,13 +10,13 @@ ghost use Rattle.mds_commands.specs.Problem.{Tells};
 ghost use Rattle.mds_io.specs.Page.{AppendsUpTo, with_newline};
 ghost use Rattle.mds_trace.specs.WithFault.{IsWorkerCount};
 ghost use Rattle.mds_city.specs.Outcome.{outcome_of};
-ghost use Rattle.mds_city.specs.Program.{Carries, CarriesCompact, CarriesCuts, CarriesEvents, CarriesFollow, CarriesReplay, CarriesServe, CarriesVehicles, Explains, ExplainsJudged, HasWorkers, IsFileNamed, IsFileOf, IsJudged, Runs};
+ghost use Rattle.mds_city.specs.Program.{Carries, CarriesCompact, CarriesCuts, CarriesEvents, CarriesFollow, CarriesReplay, CarriesServe, CarriesVehicles, Explains, ExplainsJudged, HasWorkers, IsFileNamed, IsFileOf, IsGivenAgain, IsJudged, Runs};
 ghost use Rattle.mds_city.specs.Program.{connections_each, first_kept, form_if, opening_if, options_of};
 
 use crate::compact::{CompactAsked, MakesFiles, compact_to};
 use crate::cuts::cuts_of;
 use crate::follow::{FollowAsked, FollowsJournals, follow_to};
-use crate::journal::{OpensJournals, serve_over};
+use crate::journal::{OpensJournals, PutsAside, serve_over};
 use crate::serve::{Listens, ServeOptions, serve_at};
 use mds_args::{Command, CutWords, WordsError, WordsErrorKind, parse_words};
 use mds_commands::{
@@ -100,7 +100,7 @@ pub fn tell_words<E: Write>(alloc: Global, faults: &mut E, fault: WordsFault) ->
 pub fn run<
     R: Threads + Wait + RandomSource + Copy + Send + Sync + 'static,
     S: AsStr,
-    O: Opens + Listens + OpensJournals + MakesFiles + FollowsJournals + Sync,
+    O: Opens + Listens + OpensJournals + PutsAside + MakesFiles + FollowsJournals + Sync,
     I: Read + Drop,
     W: Write,
     E: Write,
@@ -137,7 +137,7 @@ pub fn run<
 pub fn run_at_terminal<
     R: Threads + Wait + RandomSource + Copy + Send + Sync + 'static,
     S: AsStr,
-    O: Opens + Listens + OpensJournals + MakesFiles + FollowsJournals + Sync,
+    O: Opens + Listens + OpensJournals + PutsAside + MakesFiles + FollowsJournals + Sync,
     I: Read + Drop,
     W: Write,
     E: Write,
@@ -192,7 +192,7 @@ fn explain<W: Write, E: Write>(
 /// a replay is `input`; the table file is one of its name, whatever that is.
 fn carry_out<
     R: Threads + Wait + RandomSource + Copy + Send + Sync + 'static,
-    O: Opens + Listens + OpensJournals + MakesFiles + FollowsJournals + Sync,
+    O: Opens + Listens + OpensJournals + PutsAside + MakesFiles + FollowsJournals + Sync,
     I: Read + Drop,
     W: Write,
     E: Write,
@@ -299,7 +299,7 @@ fn carry_out<
 /// Serves over the journal of this path, or over none.
 fn serve_named<
     R: Threads + Wait + RandomSource + Copy + Send + Sync + 'static,
-    O: Opens + Listens + OpensJournals + Sync,
+    O: Opens + Listens + OpensJournals + PutsAside + Sync,
     W: Write,
     E: Write,
 >(
@@ -454,9 +454,32 @@ fn list_vehicles<R: RandomSource, O: Opens, I: Read + Drop, W: Write, E: Write>(
     let table = file_if_named(files, table);
     if is_standard_input(path) {
         let file = source_of(path, input);
-        return vehicles_to(rt, alloc, table, file, check, out, faults);
+        let again = input_again(path, check);
+        return vehicles_to(rt, alloc, table, file, again, out, faults);
     }
-    vehicles_to(rt, alloc, table, file_of(files, path), check, out, faults)
+    let again = file_again(files, path, check);
+    vehicles_to(rt, alloc, table, file_of(files, path), again, out, faults)
+}
+
+/// Standard input can't be read again.
+fn input_again<'a, R: Read + Drop>(path: &'a str, check: bool) -> Option<Source<'a, R>>
+    ensures { IsGivenAgain (λ source. source.reader ≡ None) check result }
+{
+    if check {
+        Some(Source { path, reader: None })
+    } else {
+        None
+    }
+}
+
+fn file_again<'a, O: Opens>(files: &O, path: &'a str, check: bool) -> Option<Source<'a, O::File>>
+    ensures { IsGivenAgain (IsFileOf (O.opens files.now) path.now) check result }
+{
+    if check {
+        Some(file_of(files, path))
+    } else {
+        None
+    }
 }
 
 /// Makes a new journal of an old one, beside a server or not.

@@ -24,6 +24,7 @@ pub struct WatchedFile<D: Device, C: Clock + Drop, W: Write + Drop> {
     progress: Progress<C, W>,
     /// How many bytes it had when that was asked last.
     size: u64,
+    reading: Reading,
     /// The lines, and the end, of the group that was written last.
     group: Group,
     /// Whether a gate was written last.
@@ -35,6 +36,47 @@ pub struct WatchedFile<D: Device, C: Clock + Drop, W: Write + Drop> {
 struct Group {
     lines: u64,
     end: u64,
+}
+
+/// What was read of a file. Its bytes are read one after the other, from the first one on. Then those behind the lines that count are
+/// read once more, to the end.
+#[derive(Clone, Copy)]
+struct Reading {
+    /// Up to where it was read.
+    end: u64,
+    /// The line feeds up to there, without those that were read once more: of a file that was read to its end, the lines that count.
+    lines: u64,
+    /// Whether bytes were read once more.
+    is_again: bool,
+}
+
+impl Reading {
+    fn nothing() -> Reading {
+        Reading {
+            end: 0,
+            lines: 0,
+            is_again: false,
+        }
+    }
+
+    /// Takes what was read there, and says whether that goes on further. At the first byte another reading begins.
+    fn take(&mut self, at: usize, bytes: &[u8]) -> bool {
+        let at = at as u64;
+        if at == 0 {
+            *self = Reading::nothing();
+        }
+        let before = self.end;
+        if at < before {
+            self.is_again = true;
+            let again = before.saturating_sub(at) as usize;
+            let known = bytes.get(..again).unwrap_or(bytes);
+            self.lines = self.lines.saturating_sub(line_feeds(known));
+        } else if !self.is_again {
+            self.lines = self.lines.saturating_add(line_feeds(bytes));
+        }
+        self.end = before.max(at.saturating_add(bytes.len() as u64));
+        self.end > before
+    }
 }
 
 impl<D: Device, C: Clock + Drop, W: Write + Drop> WatchedFile<D, C, W> {
@@ -52,8 +94,20 @@ impl<D: Device, C: Clock + Drop, W: Write + Drop> WatchedFile<D, C, W> {
             board,
             progress: Progress::new(alloc, teller),
             size: 0,
+            reading: Reading::nothing(),
             group: Group { lines: 0, end: 0 },
             is_gate: false,
+        }
+    }
+
+    /// Notes so many bytes at the front of a buffer, which were read there. Where that was further than before, it is told, if it is due.
+    fn note_read(&mut self, at: usize, buffer: &[u8], count: usize)
+        ensures { self.new.file ≡ self.old.file }
+    {
+        let bytes = buffer.get(..count).unwrap_or(buffer);
+        if self.reading.take(at, bytes) {
+            self.board.set(Gauge::ReadBytes, self.reading.end);
+            self.progress.tell_if_due(self.reading.end, self.size);
         }
     }
 
@@ -139,9 +193,7 @@ impl<D: Device, C: Clock + Drop, W: Write + Drop> Device for WatchedFile<D, C, W
     fn read_at(&mut self, at: usize, buffer: &mut [u8]) -> Result<usize, DeviceError> {
         let read = self.file.read_at(at, buffer);
         if let Ok(count) = read {
-            let end = (at as u64).saturating_add(count as u64);
-            self.board.set(Gauge::ReadBytes, end);
-            self.progress.tell_if_due(end, self.size);
+            self.note_read(at, buffer, count);
         }
         read
     }
@@ -161,6 +213,7 @@ impl<D: Device, C: Clock + Drop, W: Write + Drop> Device for WatchedFile<D, C, W
         let cut = self.file.cut(size);
         if cut.is_ok() {
             self.board.set(Gauge::JournalBytes, size as u64);
+            self.board.set(Gauge::JournalLines, self.reading.lines);
         }
         cut
     }

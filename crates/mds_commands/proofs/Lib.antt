@@ -8,5 +8,6 @@ pub mod FedLemmas
 pub mod NameLemmas
 pub mod Pushed
 pub mod TakingLemmas
+pub mod GateLemmas
 pub mod ListingLemmas
 pub mod PlaceLemmas

@@ -1,5 +1,5 @@
 -- What the lines that were taken come to.
-use Rattle.std.proofs.Common.{◌≡◌, ◌∙◌, ℕ, suc, ◌+◌, ◌<◌, ◌≤◌, Vec, Global, get_or, take, drop, drop-cons, List, [], ◌∷◌, ◌++◌, length, inl, inr, All, Option, Some, None, IfSome, refl, sym, ap, append_assoc, append-nil, length-append, subst, arith}
+use Rattle.std.proofs.Common.{◌≡◌, ◌∙◌, ℕ, suc, ◌+◌, ◌<◌, ◌≤◌, Vec, Global, get_or, take, drop, drop-cons, List, [], ◌∷◌, ◌++◌, length, inl, inr, All, Option, Some, None, refl, sym, ap, append_assoc, append-nil, length-append, subst, arith}
 use Rattle.std.proofs.lemmas.List.{length-map, length-take-le, map-append, map_more, take_all, take-append-drop}
 use Rattle.std.proofs.lemmas.List.Elements.{All-head, All-nil, All-push, All-tail, All-cons}
 use Rattle.std.specs.List.{AllZip}
@@ -9,7 +9,7 @@ use Rattle.mds_table.specs.Json.{max_bytes}
 use Rattle.mds_core.specs.declared.request.Request.{Request}
 use Rattle.mds_entries.specs.Entry.{Tells}
 use Rattle.mds_groups.specs.Form.{group_lines, header, lines_of, texts_in, IsEntry, IsJournal}
-use Rattle.mds_groups.specs.Stream.{begun_of, texts_held, texts_of, AreWhole, EndsGroup, HasTaken, IsEndFault, IsFront, IsLineFault, Refuses, Takes}
+use Rattle.mds_groups.specs.Stream.{begun_of, texts_held, texts_of, EndsGroup, HasTaken, IsEndFault, IsLineFault, Refuses, Takes}
 use Rattle.mds_groups.specs.declared.fault.GroupFault.{GroupFault}
 use Rattle.mds_groups.specs.declared.fault.GroupFault.TheVariants.{Damaged, Journal}
 use Rattle.mds_groups.specs.declared.form.JournalForm.{JournalForm}
@@ -19,7 +19,8 @@ use Rattle.mds_groups.specs.declared.stream.GroupError.TheVariants as kind
 use Rattle.mds_groups.specs.declared.stream.GroupStream.{GroupStream}
 use Rattle.mds_groups.specs.declared.stream.WholeGroup.{WholeGroup}
 use Rattle.mds_groups.proofs.JournalLemmas.{lines_more, texts_more}
-use Rattle.mds_journal.specs.Lines.{recovered_texts}
+use Rattle.mds_journal.specs.Lines.{HasNoFeed, open_lines, recovered_texts}
+use Rattle.mds_journal.proofs.LineLemmas.{open_lines-append, recovered_end, recovered_lines}
 use Rattle.mds_journal.specs.Stream.{HandsOut, IsStreamFault, StandsForNothing, lines_given, unread_of}
 use Rattle.mds_journal.specs.declared.fault.JournalFault.TheVariants as fault
 use Rattle.mds_journal.specs.declared.stream.StreamError.{StreamError}
@@ -29,7 +30,7 @@ use Rattle.mds_commands.specs.Roster.{Accepts, IsRosterOf}
 use Rattle.mds_commands.specs.declared.vehicles.taking.TakeError.{TakeError}
 use Rattle.mds_commands.specs.declared.vehicles.taking.TakeError.TheVariants.{Memory, Read, Fault}
 use Rattle.mds_commands.specs.declared.vehicles.taking.Taking.{Taking}
-use Rattle.mds_commands.specs.Taking.{AreTexts, Gives, HasFront, HasTakenAll, HasTakenOf, HasTold, IsDamaged, IsEntryFault, IsEntryOf, IsJournalFault, IsShort, IsTakenTo, StopsAmong, TakesTexts, group_error, stream_error}
+use Rattle.mds_commands.specs.Taking.{AreTexts, Gives, HasFront, HasTakenAll, HasTakenOf, IsEntryFault, IsEntryOf, IsJournalFault, IsShort, IsTakenTo, StopsAmong, TakesTexts, group_error, stream_error}
 
 -- ---- texts that are handed out
 
@@ -40,40 +41,44 @@ gives_more None middle left texts text given out = tt
 gives_more (Some bytes) None left texts text given out = absurd given
 gives_more (Some bytes) (Some some) None texts text given out = absurd out
 gives_more (Some bytes) (Some some) (Some rest) texts text given out =
-    given ∙ ap (λ more. texts ++ more) out ∙ sym (append_assoc texts (text ∷ []) (recovered_texts rest))
+    let line : open_lines texts ++ some ≡ open_lines texts ++ 32 ∷ (text ++ 10 ∷ rest) = ap (λ (w : List ℕ). open_lines texts ++ w) out.0 in
+    let back : 32 ∷ (text ++ 10 ∷ rest) ≡ open_lines (text ∷ []) ++ rest = ap (λ (w : List ℕ). 32 ∷ w) (sym (append_assoc text (10 ∷ []) rest)) in
+    let all : open_lines texts ++ (open_lines (text ∷ []) ++ rest) ≡ open_lines (texts ++ text ∷ []) ++ rest =
+    sym (append_assoc (open_lines texts) (open_lines (text ∷ [])) rest) ∙ ap (λ (w : List ℕ). w ++ rest) (sym (open_lines-append texts (text ∷ []))) in
+    (given.0 ∙ line ∙ ap (λ (w : List ℕ). open_lines texts ++ w) back ∙ all, All-push HasNoFeed texts text given.1 out.1)
 
 -- at the end they are all
 gives_all : (known left : Option (List ℕ)) (texts : List (List ℕ)) → Gives known texts left → StandsForNothing left → AreTexts known texts
 gives_all None left texts given none = tt
 gives_all (Some bytes) None texts given none = absurd given
-gives_all (Some bytes) (Some rest) texts given none = given ∙ ap (λ more. texts ++ more) none ∙ append-nil texts
+gives_all (Some bytes) (Some rest) texts given none = ap recovered_texts given.0 ∙ recovered_end texts rest given.1 none
 
 -- the same bytes are left
 gives_kept : (known middle left : Option (List ℕ)) (texts : List (List ℕ)) → Gives known texts middle → Keeps middle left → Gives known texts left
 gives_kept None middle left texts given keeps = tt
 gives_kept (Some bytes) None left texts given keeps = absurd given
 gives_kept (Some bytes) (Some some) None texts given keeps = absurd keeps
-gives_kept (Some bytes) (Some some) (Some rest) texts given keeps = given ∙ ap (λ more. texts ++ recovered_texts more) (sym keeps)
+gives_kept (Some bytes) (Some some) (Some rest) texts given keeps = (given.0 ∙ ap (λ (w : List ℕ). open_lines texts ++ w) (sym keeps), given.1)
 
 -- no text was handed out yet
 gives_none : (known left : Option (List ℕ)) → Keeps known left → Gives known [] left
 gives_none None left keeps = tt
 gives_none (Some bytes) None keeps = absurd keeps
-gives_none (Some bytes) (Some rest) keeps = ap recovered_texts (sym keeps)
+gives_none (Some bytes) (Some rest) keeps = (sym keeps, All-nil HasNoFeed)
 
 -- the first text of all
 gives_first : (known middle left : Option (List ℕ)) (text : List ℕ) → Gives known [] middle → HandsOut middle text left → HandsOut known text left
 gives_first None middle left text given out = tt
 gives_first (Some bytes) None left text given out = absurd given
 gives_first (Some bytes) (Some some) None text given out = absurd out
-gives_first (Some bytes) (Some some) (Some rest) text given out = given ∙ out
+gives_first (Some bytes) (Some some) (Some rest) text given out = (given.0 ∙ out.0, out.1)
 
 -- a front of them
 gives_front : (known left : Option (List ℕ)) (texts front back : List (List ℕ)) → Gives known texts left → texts ≡ front ++ back → HasFront known front
 gives_front None left texts front back given split = tt
 gives_front (Some bytes) None texts front back given split = absurd given
 gives_front (Some bytes) (Some rest) texts front back given split =
-    (back ++ recovered_texts rest, given ∙ ap (λ all. all ++ recovered_texts rest) split ∙ append_assoc front back (recovered_texts rest))
+    (back ++ recovered_texts rest, ap recovered_texts given.0 ∙ recovered_lines texts rest given.1 ∙ ap (λ all. all ++ recovered_texts rest) split ∙ append_assoc front back (recovered_texts rest))
 
 -- ---- lists
 

@@ -2,7 +2,6 @@
 use Rattle.std.specs.Prelude.{◌≡◌, ◌⊎◌, ℕ, List, Option, Some}
 use Rattle.std.specs.Io.KnownBytes.{Appends, Keeps}
 use Rattle.mds_core.specs.declared.key.Key.{Key}
-use Rattle.mds_groups.specs.declared.fault.GroupFault.TheVariants.{Journal}
 use Rattle.mds_io.specs.Page.{AppendsFront}
 use Rattle.mds_retention.specs.declared.error.LinesError.TheVariants.{Fault}
 use Rattle.mds_retention.specs.Events.{HasEvents, HasNothingOf}
@@ -29,7 +28,7 @@ events_status_of (Debug problem) = debug_status_of problem
 
 -- what is said of the problem went out, or a front of it
 abbrev pub TellsEvents : Option (List ℕ) → Option (List ℕ) → EventsProblem → Type 0
-TellsEvents old new (NotAJournal fault) = TellsJournal old new (journal.NotAJournal (Journal fault))
+TellsEvents old new (NotAJournal fault) = TellsJournal old new (journal.NotAJournal fault)
 TellsEvents old new (Debug problem) = TellsDebug old new problem
 
 -- that the output failed was told, or that there was no memory to tell that

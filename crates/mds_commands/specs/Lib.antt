@@ -15,4 +15,5 @@ pub mod Roster
 pub mod Listing
 pub mod JournalProblem
 pub mod Taking
+pub mod Gate
 pub mod ListingText

@@ -9,13 +9,12 @@ use Rattle.mds_core.specs.Answer.{MayBeDone}
 use Rattle.mds_core.specs.Lawful.{IsLawful}
 use Rattle.mds_entries.specs.Entry.{Tells}
 use Rattle.mds_groups.specs.Form.{first_line, texts_in, IsJournal}
-use Rattle.mds_groups.specs.Stream.{texts_of, AreWhole, HasTaken, IsEndFault, IsFront, IsLineFault}
+use Rattle.mds_groups.specs.Stream.{AreWhole, HasTaken, IsEndFault, IsFront, IsLineFault}
 use Rattle.mds_groups.specs.declared.fault.GroupFault.TheVariants.{Damaged, Journal}
 use Rattle.mds_groups.specs.declared.form.JournalForm.{JournalForm}
 use Rattle.mds_groups.specs.declared.stream.GroupError.{GroupError}
 use Rattle.mds_groups.specs.declared.stream.GroupError.TheVariants as kind
-use Rattle.mds_groups.specs.declared.stream.WholeGroup.{WholeGroup}
-use Rattle.mds_journal.specs.Lines.{recovered_texts}
+use Rattle.mds_journal.specs.Lines.{HasNoFeed, open_lines, recovered_texts}
 use Rattle.mds_journal.specs.Opening.{IsTooLong}
 use Rattle.mds_journal.specs.Stream.{HandsOut, StandsForNothing, IsStream}
 use Rattle.mds_journal.specs.Stream.{lines_given, most_of, unread_of}
@@ -26,6 +25,7 @@ use Rattle.mds_journal.specs.declared.fault.JournalFault.TheVariants.{Refused}
 use Rattle.mds_commands.specs.declared.roster.Roster.{Roster}
 use Rattle.mds_commands.specs.Roster.{IsRosterOf}
 use Rattle.mds_commands.specs.declared.vehicles.taking.Taken.{Taken}
+use Rattle.mds_commands.specs.declared.vehicles.taking.TakenJournal.{TakenJournal}
 use Rattle.mds_commands.specs.declared.vehicles.taking.Taking.{Taking}
 use Rattle.mds_commands.specs.declared.vehicles.taking.TakeError.{TakeError}
 use Rattle.mds_commands.specs.declared.vehicles.taking.TakeError.TheVariants.{Memory, Read, Fault}
@@ -42,11 +42,11 @@ abbrev pub group_error : GroupError → TakeError
 group_error kind.Memory = Memory
 group_error (kind.Fault fault) = Fault fault
 
--- of known bytes these texts count first, and what counts in the rest counts behind them
+-- known bytes are open lines of these texts, and then the rest
 abbrev pub Gives : Option (List ℕ) → List (List ℕ) → Option (List ℕ) → Type 0
 Gives None texts left = Unit {0}
 Gives (Some bytes) texts None = ⊥
-Gives (Some bytes) texts (Some rest) = recovered_texts bytes ≡ texts ++ recovered_texts rest
+Gives (Some bytes) texts (Some rest) = (bytes ≡ open_lines texts ++ rest) × All HasNoFeed texts
 
 -- of known bytes these texts count first, whatever counts behind them
 abbrev pub HasFront : Option (List ℕ) → List (List ℕ) → Type 0
@@ -234,3 +234,12 @@ pub record IsTakenBy (tables : Tables) (known : Option (List ℕ)) (taken : Take
   pub roster_is : IsRosterOf tables history taken.roster
   pub line_count : taken.lines ≡ length lines
   pub group_count : taken.groups ≡ length groups
+
+-- the same, and what stands behind these lines
+pub record IsJournalBy {R : Type 0} (remaining : R → Option (List ℕ)) (tables : Tables)
+    (known : Option (List ℕ)) (journal : TakenJournal R) : Type 0 where
+  pub by : IsTakenBy tables known journal.taken
+  pub form : IsJournal journal.form by.lines by.groups
+  pub stream : IsStream journal.behind
+  pub limit : most_of journal.behind ≡ max_bytes
+  pub left : Gives known by.lines (unread_of remaining journal.behind)

@@ -11,8 +11,8 @@ use crate::problem::{Problem, tell};
 use crate::source::Source;
 use crate::status::Status;
 use crate::vehicles::{JournalProblem, tell_journal_problem};
+use mds_groups::GroupFault;
 use mds_io::{MAX_CALLS, write_all_of};
-use mds_journal::JournalFault;
 use mds_retention::{LinesError, events_of};
 use std::alloc::Global;
 use std::io::{Read, Write};
@@ -21,7 +21,7 @@ use std::io::{Read, Write};
 #[derive(Clone, Copy, Debug)]
 pub enum EventsProblem<'a> {
     /// The file is no journal.
-    NotAJournal(JournalFault),
+    NotAJournal(GroupFault),
     /// What may hinder the debugger too; a vehicle isn't in the file where no line is about it.
     Debug(DebugProblem<'a>),
 }

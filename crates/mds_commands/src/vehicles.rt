@@ -5,6 +5,7 @@
 //! the first gate that is closed.
 
 mod command;
+mod gate;
 mod lines;
 mod print;
 mod problem;

@@ -18,8 +18,6 @@ pub mod laws;
 mod marking;
 mod path;
 mod survey;
-#[cfg(test)]
-mod tests;
 mod thinning;
 mod whole;
 

@@ -20,4 +20,4 @@ pub use disk_file::{DiskFile, Origin};
 pub use fault::FileFault;
 pub use followed::{Followed, FollowedFile};
 pub use lock::open_file;
-pub use new_file::{NewFile, NewFileFault, NewName};
+pub use new_file::{NewFile, NewFileFault, NewName, make_file};

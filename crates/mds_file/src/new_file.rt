@@ -3,6 +3,7 @@
 //! It is written under another name beside its own, that with `.part` behind it. Then it gets its name, by a call that never
 //! puts it over a file, and loses the other one. So a crash leaves nothing under its name, or all of it.
 ghost use Rattle.std.specs.Prelude.{◌≡◌, ◌≢◌, ◌⊎◌, ◌∷◌, [], ℕ, Bool, List, Option, None, IfOk, IfErr, OnOk};
+ghost use Rattle.mds_journal.specs.Device.{Only};
 ghost use Rattle.mds_file.specs.NameCalls.{Answer, Free, IsOver, Link, Taken, name_calls_in};
 ghost use Rattle.mds_file.specs.NewFile.{HasName, IsKeptTruly, IsNamedTruly, IsTaken, MayStand, WentOver, name_calls_of};
 
@@ -51,6 +52,10 @@ impl From<AllocError> for NewFileFault {
 }
 
 impl From<DeviceError> for NewFileFault {
+    ghost use Rattle.mds_file.specs.declared.new_file.NewFileFault.TheVariants.{IsThere};
+
+    ghost from_gives = { λ _ fault. fault ≢ IsThere };
+
     fn from(error: DeviceError) -> NewFileFault {
         match error {
             DeviceError::Memory => NewFileFault::Memory,
@@ -73,6 +78,10 @@ impl From<io::Error> for NewFileFault {
 }
 
 impl From<TryLockError> for NewFileFault {
+    ghost use Rattle.mds_file.specs.declared.new_file.NewFileFault.TheVariants.{IsThere};
+
+    ghost from_gives = { λ _ fault. fault ≢ IsThere };
+
     fn from(error: TryLockError) -> NewFileFault {
         match error {
             TryLockError::WouldBlock => NewFileFault::CannotWrite,
@@ -125,6 +134,7 @@ pub trait NewName {
     /// `CannotWrite` where it can't be made, or another process makes it; `Memory`.
     fn draft(&mut self) -> Result<Self::File, NewFileFault>
         ensures usable { IfOk result Self.File.may_be_used }
+        ensures other { IfErr result (λ fault. fault ≢ NewFileFault.IsThere) }
         ensures stands { (found : Option (List ℕ)) → may_stand self.new found → may_stand self.old found }
         ensures over { is_over self.new → is_over self.old }
         ensures kept { keeps self.new → keeps self.old };
@@ -150,6 +160,46 @@ pub trait NewName {
         ensures stands { (found : Option (List ℕ)) → may_stand self.new found → may_stand self.old found }
         ensures over { is_over self.new → is_over self.old }
         ensures kept { keeps self.new → keeps self.old };
+}
+
+/// Makes a file of this name with these bytes. It stands there, with all of them, once this succeeds.
+///
+/// # Errors
+///
+/// `IsThere` where something stands under the name; `CannotWrite` where the file can't be made or written, or doesn't get its name;
+/// `Memory`. The file isn't there then, but where that can't be known.
+pub fn make_file<N: NewName>(name: &mut N, bytes: &[u8]) -> Result<(), NewFileFault>
+    ensures made { OnOk result (N.is_true name.new → (found : Option (List ℕ))
+        → N.may_stand name.new found → found ≡ Some bytes.now) }
+    // Whatever crash ends it, also before this returns.
+    ensures crash { N.is_true name.new → (found : Option (List ℕ)) → N.may_stand name.new found
+        → N.may_stand name.old found ⊎ (found ≡ Some bytes.now) }
+    // Nothing that had the name at any moment lost it; and where something has it from the start, no file is made.
+    ensures over { N.keeps name.new → N.is_over name.new → N.is_over name.old }
+    ensures free { OnOk result (N.keeps name.new → N.is_taken name.old → ⊥) }
+    ensures there { IfErr result (λ fault. fault ≡ NewFileFault.IsThere → N.keeps name.new
+        → (then : N) × N.keeps then × N.is_taken then) }
+    ensures kept { N.keeps name.new → N.keeps name.old }
+{
+    name.is_free()?;
+    let mut file = name.draft()?;
+    match write_whole(&mut file, bytes) {
+        Ok(()) => name.link(file),
+        Err(error) => {
+            name.discard(file);
+            Err(NewFileFault::from(error))
+        }
+    }
+}
+
+/// Writes bytes in place of all that a file has, and syncs it.
+fn write_whole<D: Device>(file: &mut D, bytes: &[u8]) -> Result<(), DeviceError>
+    requires { D.may_be_used file.old }
+    ensures { OnOk result (D.is_true file.new → Only bytes.now (D.may_leave file.new)) }
+{
+    file.cut(0)?;
+    file.write_at(0, bytes)?;
+    file.sync()
 }
 
 /// The name of a file of the system that is to be made.
@@ -274,7 +324,9 @@ fn give_name(
 
 /// A new file at a path, under its lock. What stood there goes, unless another process has it locked: the file may have its name
 /// already, so it isn't written over.
-fn fresh_file(rt: &HostRuntime, path: &str) -> Result<File, NewFileFault> {
+fn fresh_file(rt: &HostRuntime, path: &str) -> Result<File, NewFileFault>
+    ensures { IfErr result (λ fault. fault ≢ NewFileFault.IsThere) }
+{
     if !may_be_opened(rt, path)? {
         return Err(NewFileFault::CannotWrite);
     }
@@ -294,7 +346,9 @@ fn fresh_file(rt: &HostRuntime, path: &str) -> Result<File, NewFileFault> {
 }
 
 /// The file that stood at a path, under its lock, once it is gone from there.
-fn taken_away(rt: &HostRuntime, path: &str) -> Result<Option<File>, NewFileFault> {
+fn taken_away(rt: &HostRuntime, path: &str) -> Result<Option<File>, NewFileFault>
+    ensures { IfErr result (λ fault. fault ≢ NewFileFault.IsThere) }
+{
     let earlier = match fs::open(rt, path) {
         Ok(file) => file,
         Err(error) if error.kind() == ErrorKind::NotFound => return Ok(None),

@@ -8,23 +8,14 @@ use Rattle.mds_journal.specs.declared.fault.JournalFault.TheVariants.{Form, BadL
 use Rattle.mds_journal.proofs.LineLemmas.{parts}
 use Rattle.mds_journal.proofs.MomentLemmas.{started, weaker, and_then, after_none}
 use Rattle.mds_journal.proofs.RepairLemmas.{keeps_itself}
-use Rattle.mds_entries.specs.Entry.{Tells}
-use Rattle.mds_entries.specs.Form.{form_line}
-use Rattle.std.specs.List.{AllZip}
-use Rattle.mds_follow.specs.Disk.{MayBeBegun, Stands}
+use Rattle.mds_groups.specs.Form.{first_line, header}
+use Rattle.mds_groups.specs.declared.fault.GroupFault.TheVariants.{Damaged as DamagedGroup, Journal as InJournal}
+use Rattle.mds_groups.specs.declared.form.JournalForm.{JournalForm}
+use Rattle.mds_groups.specs.declared.form.JournalForm.TheVariants.{Plain, Checked}
+use Rattle.mds_follow.specs.Disk.{MayBeBegun, new_form}
 use Rattle.mds_follow.specs.Reading.{IsBlank, IsFormFault, IsOpenFault, IsJournalFault, KeepsOrBegins, StaysOrBegins}
 use Rattle.mds_follow.specs.declared.start_fault.StartFault.{StartFault}
-use Rattle.mds_follow.specs.declared.start_fault.StartFault.TheVariants.{Memory, Device, Journal, Shared}
-
--- no requests are told by the form's line alone
-no_entries : (entries : List (List ℕ)) → AllZip Tells entries [] → entries ≡ []
-no_entries [] tells = refl
-no_entries (entry ∷ entries) tells = absurd tells
-
--- what stands where nothing is recorded
-pub form_alone : {D : Type 0} (seen : D → List ℕ) (may_leave : D → List ℕ → Type 0) (device : D) → Stands seen may_leave device [] → recovered_texts (seen device) ≡ form_line ∷ []
-form_alone seen may_leave device stands =
-    stands.stands.now ∙ stands.is_told.split ∙ ap (λ w. form_line ∷ w) (no_entries stands.is_told.entries stands.is_told.tells)
+use Rattle.mds_follow.specs.declared.start_fault.StartFault.TheVariants.{Memory, Device, Journal, Shared, CutOff}
 
 -- how a file is made a journal
 module _ {D : Type 0} (seen : D → List ℕ) (may_leave : D → List ℕ → Type 0) (moment : D → ℕ) (left_since : D → ℕ → List ℕ → Type 0) where
@@ -138,16 +129,29 @@ not_too_long limit bytes text texts is short long =
     let split : long.0 ++ long.1 ≡ text ++ 10 ∷ (open_lines texts ++ of.end) = tails ∙ append_assoc text (10 ∷ open_lines texts) of.end in
     no_feed_within text long.0 long.1 (open_lines texts ++ of.end) long.3 split (omega (arith, short, long.4))
 
+-- the lines before the first group begin with the one that names the form, which isn't too long
+header_first : (form : JournalForm) → (rest : List (List ℕ)) × (header form ≡ first_line form ∷ rest)
+header_first Plain = ([], refl)
+header_first Checked = (_, refl)
+
+short_first : (form : JournalForm) → length (first_line form) ≤ max_bytes
+short_first Plain = omega arith
+short_first Checked = omega arith
+
 -- the fault of a first line that was made is none
-none_of_made : (made : List ℕ) (fault : StartFault) → recovered_texts made ≡ form_line ∷ [] → IsFormFault made fault → IsJournalFault fault → ⊥
+none_of_made : (made : List ℕ) (fault : StartFault) → recovered_texts made ≡ header new_form → IsFormFault made fault → IsJournalFault fault → ⊥
 none_of_made made Memory is why journal = journal
 none_of_made made Device is why journal = journal
 none_of_made made Shared is why journal = journal
-none_of_made made (Journal Form) is why journal = why [] is
-none_of_made made (Journal (TooLong line)) is why journal = not_too_long max_bytes made form_line [] is (omega arith) why.1
-none_of_made made (Journal (BadLine line)) is why journal = why
-none_of_made made (Journal (Refused line)) is why journal = why
-none_of_made made (Journal Damaged) is why journal = why
+none_of_made made CutOff is why journal = journal
+none_of_made made (Journal (DamagedGroup line)) is why journal = why
+none_of_made made (Journal (InJournal Form)) is why journal = let first = header_first new_form in why new_form first.0 (is ∙ first.1)
+none_of_made made (Journal (InJournal (TooLong line))) is why journal =
+    let first = header_first new_form in
+    not_too_long max_bytes made (first_line new_form) first.0 (is ∙ first.1) (short_first new_form) why.1
+none_of_made made (Journal (InJournal (BadLine line))) is why journal = why
+none_of_made made (Journal (InJournal (Refused line))) is why journal = why
+none_of_made made (Journal (InJournal Damaged)) is why journal = why
 
 -- where the file is no journal, it is as it was
 pub stays : (file made : List ℕ) (fault : StartFault) → StaysOrBegins file made → IsFormFault made fault → IsJournalFault fault → made ≡ file
@@ -155,15 +159,19 @@ stays file made fault (inl same) why journal = same
 stays file made fault (inr begins) why journal = absurd (none_of_made made fault begins.1 why journal)
 
 -- and its fault is that of the file as it was
-pub open_fault : (file made : List ℕ) (fault : StartFault) → StaysOrBegins file made → (file ≡ [] → recovered_texts made ≡ form_line ∷ []) → IsFormFault made fault → IsOpenFault file fault
+pub open_fault : (file made : List ℕ) (fault : StartFault) → StaysOrBegins file made → (file ≡ [] → recovered_texts made ≡ header new_form) → IsFormFault made fault → IsOpenFault file fault
 open_fault file made Memory kept empty why = tt
 open_fault file made Device kept empty why = tt
 open_fault file made Shared kept empty why = absurd why
-open_fault file made (Journal Form) kept empty why =
-    let same = stays file made (Journal Form) kept why tt in
-    (λ none. why [] (empty none), λ texts is. why texts (ap recovered_texts same ∙ is))
-open_fault file made (Journal (TooLong line)) kept empty why =
-    subst (λ (w : List ℕ). IsFormFault w (Journal (TooLong line))) (stays file made (Journal (TooLong line)) kept why tt) why
-open_fault file made (Journal (BadLine line)) kept empty why = absurd why
-open_fault file made (Journal (Refused line)) kept empty why = absurd why
-open_fault file made (Journal Damaged) kept empty why = absurd why
+open_fault file made CutOff kept empty why = absurd why
+open_fault file made (Journal (DamagedGroup line)) kept empty why = absurd why
+open_fault file made (Journal (InJournal Form)) kept empty why =
+    let same = stays file made (Journal (InJournal Form)) kept why tt in
+    let first = header_first new_form in
+    (λ none. why new_form first.0 (empty none ∙ first.1), λ form lines is. why form lines (ap recovered_texts same ∙ is))
+open_fault file made (Journal (InJournal (TooLong line))) kept empty why =
+    let fault = Journal (InJournal (TooLong line)) in
+    subst (λ (w : List ℕ). IsFormFault w fault) (stays file made fault kept why tt) why
+open_fault file made (Journal (InJournal (BadLine line))) kept empty why = absurd why
+open_fault file made (Journal (InJournal (Refused line))) kept empty why = absurd why
+open_fault file made (Journal (InJournal Damaged)) kept empty why = absurd why

@@ -10,11 +10,18 @@ use Rattle.mds_journal.specs.declared.journal.Journal.{Journal}
 use Rattle.mds_journal.specs.Journal.{IsBeforeOrAfter as IsFileBeforeOrAfter}
 use Rattle.mds_journal.specs.declared.journal.AppendError.{AppendError}
 use Rattle.mds_journal.specs.declared.journal.AppendError.TheVariants.{NotWritten, Full, Unknown, Lost}
+use Rattle.std.proofs.lemmas.List.{append_cancel_left}
 use Rattle.mds_entries.specs.Entry.{Tells}
+use Rattle.mds_groups.specs.Form.{first_line, header, texts_in, IsJournal}
+use Rattle.mds_groups.specs.Laws.{TellsTexts}
+use Rattle.mds_groups.specs.declared.form.JournalForm.{JournalForm}
+use Rattle.mds_groups.specs.declared.form.JournalForm.TheVariants.{Plain, Checked}
+use Rattle.mds_groups.proofs.ChangeLemmas.{forms_differ}
+use Rattle.mds_groups.proofs.JournalLemmas.{journals_go_on, journals_tell_once}
 use Rattle.mds_follow.specs.declared.disk.Disk.{Disk}
 use Rattle.mds_follow.specs.Record.{IsBeforeOrAfter, Passes}
 use Rattle.mds_entries.proofs.EntryLemmas.{lines_tell_one_request}
-use Rattle.mds_follow.specs.Disk.{IsTold, Stands, MayRead, TextsTellOneList}
+use Rattle.mds_follow.specs.Disk.{IsTold, IsToldIn, Records, Stands, MayRead, TextsTellOneList}
 
 -- two pairs of lists that fit
 pub zip_append : {X Y : Type 0} (R : X → Y → Type 0) (xs us : List X) (ys vs : List Y) → AllZip R xs ys → AllZip R us vs → AllZip R (xs ++ us) (ys ++ vs)
@@ -24,7 +31,7 @@ zip_append R (x ∷ xs) us [] vs first second = absurd first
 zip_append R (x ∷ xs) us (y ∷ ys) vs first second = (first.0, zip_append R xs us ys vs first.1 second)
 
 -- lines tell one list of requests
-entries_tell_one : (entries : List (List ℕ)) (told other : List Request) → AllZip Tells entries told → AllZip Tells entries other → told ≡ other
+pub entries_tell_one : (entries : List (List ℕ)) (told other : List Request) → AllZip Tells entries told → AllZip Tells entries other → told ≡ other
 entries_tell_one [] [] [] tells tells_other = refl
 entries_tell_one [] [] (request ∷ other) tells tells_other = absurd tells_other
 entries_tell_one [] (request ∷ told) other tells tells_other = absurd tells
@@ -35,28 +42,55 @@ entries_tell_one (line ∷ entries) (request ∷ told) (one ∷ other) tells tel
     let rest : told ≡ other = entries_tell_one entries told other tells.1 tells_other.1 in
     cc (first, rest)
 
--- and so do texts behind the form
-pub texts_tell_one_list : TextsTellOneList
-texts_tell_one_list texts told other is are =
-    let same : are.entries ≡ is.entries = cc (is.split, are.split) in
-    entries_tell_one is.entries told other is.tells (subst (λ (w : List (List ℕ)). AllZip Tells w other) same are.tells)
+-- lines of a journal tell texts in one way
+texts_once : (form : JournalForm) (lines : List (List ℕ)) (groups others : List (List (List ℕ))) → IsJournal form lines groups → IsJournal form lines others → texts_in groups ≡ texts_in others
+texts_once Plain lines groups others one other = append_cancel_left (header Plain) (texts_in groups) (texts_in others) (sym one.lines_are ∙ other.lines_are)
+texts_once Checked lines groups others one other = ap texts_in (journals_tell_once lines groups others one other)
 
--- lines behind others tell requests behind others
-pub told_more : (texts group : List (List ℕ)) (told requests : List Request) → IsTold texts told → AllZip Tells group requests → IsTold (texts ++ group) (told ++ requests)
-told_more texts group told requests is tells = record {
-  entries = is.entries ++ group;
-  split = ap (λ w. w ++ group) is.split;
-  tells = zip_append Tells is.entries group told requests is.tells tells;
-}
+told_once : (form : JournalForm) (lines : List (List ℕ)) (told other : List Request) → IsToldIn form lines told → IsToldIn form lines other → told ≡ other
+told_once form lines told other is are =
+    let same : are.texts ≡ is.texts =
+    sym are.groups.told ∙ texts_once form lines are.groups.groups is.groups.groups are.groups.journal is.groups.journal ∙ is.groups.told in
+    entries_tell_one is.texts told other is.tells (subst (λ (w : List (List ℕ)). AllZip Tells w other) same are.tells)
+
+-- and are of one form
+not_both : (lines : List (List ℕ)) (groups others : List (List (List ℕ))) → IsJournal Checked lines groups → IsJournal Plain lines others → ⊥
+not_both lines groups others checked plain =
+    let whole = sym checked.lines_are ∙ plain.lines_are in
+    let first : first_line Checked ≡ first_line Plain = cc whole in
+    forms_differ first
+
+by_forms : (form another : JournalForm) (lines : List (List ℕ)) (told other : List Request) → IsToldIn form lines told → IsToldIn another lines other → told ≡ other
+by_forms Plain Plain lines told other is are = told_once Plain lines told other is are
+by_forms Checked Checked lines told other is are = told_once Checked lines told other is are
+by_forms Plain Checked lines told other is are = absurd (not_both lines are.groups.groups is.groups.groups are.groups.journal is.groups.journal)
+by_forms Checked Plain lines told other is are = absurd (not_both lines is.groups.groups are.groups.groups is.groups.journal are.groups.journal)
+
+pub texts_tell_one_list : TextsTellOneList
+texts_tell_one_list lines told other is are = by_forms is.0 are.0 lines told other is.1 are.1
+
+-- lines that record requests, behind a journal's, tell them behind others
+pub told_more : (form : JournalForm) (lines group : List (List ℕ)) (told requests : List Request) → IsToldIn form lines told → Records form requests group
+    → IsToldIn form (lines ++ group) (told ++ requests)
+told_more form lines group told requests is records =
+    let more = journals_go_on form lines is.texts records.texts is.groups records.are in
+    record {
+      texts = is.texts ++ records.texts;
+      groups = subst (λ (w : List (List ℕ)). TellsTexts form (lines ++ w) (is.texts ++ records.texts)) (sym records.lines_are) more;
+      tells = zip_append Tells is.texts records.texts told requests is.tells records.tells;
+    }
 
 -- the file stands for the requests of a group that was acknowledged
-pub stands_more : {D : Type 0} (seen : D → List ℕ) (may_leave : D → List ℕ → Type 0) (old new : D) (group : List (List ℕ)) (told requests : List Request)
-    → Stands seen may_leave old told → AllZip Tells group requests → StandsFor seen may_leave (recovered_texts (seen old) ++ group) new → Stands seen may_leave new (told ++ requests)
-stands_more seen may_leave old new group told requests stands tells now =
-    let Told : List (List ℕ) → Type 0 = λ w. IsTold w told in
+pub stands_more : {D : Type 0} (seen : D → List ℕ) (may_leave : D → List ℕ → Type 0) (old new : Disk D) (group : List (List ℕ)) (told requests : List Request)
+    → new.form ≡ old.form → Stands seen may_leave old told → Records old.form requests group
+    → StandsFor seen may_leave (recovered_texts (seen old.journal.device) ++ group) new.journal.device → Stands seen may_leave new (told ++ requests)
+stands_more seen may_leave old new group told requests same stands records now =
+    let before = recovered_texts (seen old.journal.device) in
+    let Told : List (List ℕ) → Type 0 = λ w. IsToldIn old.form w told in
+    let In : JournalForm → Type 0 = λ w. IsToldIn w (before ++ group) (told ++ requests) in
     record {
-      texts = recovered_texts (seen old) ++ group;
-      is_told = told_more (recovered_texts (seen old)) group told requests (subst Told (sym stands.stands.now) stands.is_told) tells;
+      lines = before ++ group;
+      is_told = subst In (sym same) (told_more old.form before group told requests (subst Told (sym stands.stands.now) stands.is_told) records);
       stands = now;
     }
 
@@ -85,22 +119,28 @@ was_usable old result other lost = not_lost old.is_lost (λ is. subst IsOther (l
 pub disk_passes : {D : Type 0} (seen : D → List ℕ) (may_leave : D → List ℕ → Type 0) (moment : D → ℕ) (left_since : D → ℕ → List ℕ → Type 0) (old new : Disk D) (group : List (List ℕ))
     (told requests : List Request) → MayGoOn old.journal
     → LeavesOnly moment left_since old.journal.device new.journal.device (IsFileBeforeOrAfter (recovered_texts (seen old.journal.device)) group)
-    → Stands seen may_leave old.journal.device told → AllZip Tells group requests
+    → Stands seen may_leave old told → Records old.form requests group
     → Passes (λ (disk : Disk D). moment disk.journal.device) (λ disk t c. MayRead (left_since disk.journal.device) t c) old new (λ c. MayGoOn old.journal × IsBeforeOrAfter told requests c)
-disk_passes {D = D} seen may_leave moment left_since old new group told requests go leaves stands tells = record {
+disk_passes {D = D} seen may_leave moment left_since old new group told requests go leaves stands records = record {
   later = leaves.later;
   before = λ t c earlier read. by_time t c read (leaves.before t read.file earlier read.left);
 } where
-  Told : List Request → List (List ℕ) → Type 0
-  Told c w = IsTold w c
+  before : List (List ℕ)
+  before = recovered_texts (seen old.journal.device)
+
+  -- other lines that are these tell what these do
+  by_same : (file : List ℕ) (c : List Request) → ((other : List Request) → IsTold (recovered_texts file) other → other ≡ c) → (lines : List (List ℕ)) (one : List Request)
+      → recovered_texts file ≡ lines → IsToldIn old.form lines one → c ≡ one
+  by_same file c is lines one same tells =
+      let told_in : IsToldIn old.form (recovered_texts file) one = subst (λ (w : List (List ℕ)). IsToldIn old.form w one) (sym same) tells in
+      sym (is one (old.form, told_in))
 
   by_lines : (file : List ℕ) (c : List Request) → ((other : List Request) → IsTold (recovered_texts file) other → other ≡ c)
-      → (recovered_texts file ≡ recovered_texts (seen old.journal.device)) ⊎ (recovered_texts file ≡ recovered_texts (seen old.journal.device) ++ group) → IsBeforeOrAfter told requests c
-  by_lines file c is (inl same) =
-      inl (sym (is told (subst (Told told) (sym (same ∙ stands.stands.now)) stands.is_told)))
+      → (recovered_texts file ≡ before) ⊎ (recovered_texts file ≡ before ++ group) → IsBeforeOrAfter told requests c
+  by_lines file c is (inl same) = inl (by_same file c is stands.lines told (same ∙ stands.stands.now) stands.is_told)
   by_lines file c is (inr same) =
-      inr (sym (is (told ++ requests) (subst (Told (told ++ requests)) (sym (same ∙ ap (λ w. w ++ group) stands.stands.now))
-      (told_more stands.texts group told requests stands.is_told tells))))
+      inr (by_same file c is (stands.lines ++ group) (told ++ requests) (same ∙ ap (λ w. w ++ group) stands.stands.now)
+      (told_more old.form stands.lines group told requests stands.is_told records))
 
   by_time : (t : ℕ) (c : List Request) → (read : MayRead (left_since new.journal.device) t c)
       → left_since old.journal.device t read.file ⊎ IsFileBeforeOrAfter (recovered_texts (seen old.journal.device)) group read.file
@@ -121,7 +161,7 @@ pub failed_passes : {D : Type 0} (seen : D → List ℕ) (may_leave : D → List
     (group : List (List ℕ)) (told requests : List Request) (error : AppendError) → (IsRefusal error → new.journal ≡ old.journal)
     → (IsLost old.journal → failed error ≡ failed Lost)
     → (MayGoOn old.journal → LeavesOnly moment left_since old.journal.device new.journal.device (IsFileBeforeOrAfter (recovered_texts (seen old.journal.device)) group))
-    → (MayGoOn old.journal → Stands seen may_leave old.journal.device told) → AllZip Tells group requests
+    → (MayGoOn old.journal → Stands seen may_leave old told) → Records old.form requests group
     → Passes (λ (disk : Disk D). moment disk.journal.device) (λ disk t c. MayRead (left_since disk.journal.device) t c) old new (λ c. MayGoOn old.journal × IsBeforeOrAfter told requests c)
 failed_passes seen may_leave moment left_since old new group told requests (NotWritten error) refused lost leaves stands tells =
     let go = was_usable old.journal (Err (NotWritten error)) tt lost in

@@ -7,7 +7,10 @@ pub mod Desks
 pub mod Pulls
 pub mod Disks
 pub mod Blanks
+pub mod Readings
 pub mod ReadBack
 pub mod Begins
 pub mod PieceLemmas
 pub mod Asking
+pub mod Groups
+pub mod EndLemmas

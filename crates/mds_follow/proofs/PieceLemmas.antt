@@ -1,5 +1,5 @@
 -- Pieces of a journal: their lines, and the requests that these tell.
-use Rattle.std.proofs.Common.{◌≡◌, ℕ, ◌+◌, ◌<◌, ◌≤◌, Vec, take, drop, get_or, List, [], ◌∷◌, ◌++◌, Bool, true, false, Result, Ok, Err, IfOk, IfErr, length, refl, sym, ap, ◌∙◌, subst, arith, append_assoc, append-nil, length-append, ◌-◌}
+use Rattle.std.proofs.Common.{◌≡◌, ◌≢◌, ◌⊎◌, inl, inr, ℕ, ◌+◌, ◌<◌, ◌≤◌, Vec, take, drop, get_or, List, [], ◌∷◌, ◌++◌, Bool, true, false, Result, Ok, Err, IfOk, IfErr, length, refl, sym, ap, ◌∙◌, subst, arith, append_assoc, append-nil, length-append, ◌-◌}
 use Rattle.std.specs.List.{AllZip}
 use Rattle.std.proofs.lemmas.List.{take_more, drop_more, take_all, take-append-drop, map-append, length-map, length-drop}
 use Rattle.std.specs.Result.{is_err}
@@ -9,25 +9,18 @@ use Rattle.mds_core.specs.declared.request.Request.{Request}
 use Rattle.mds_entries.specs.Entry.{Tells, IsFaultOfLine}
 use Rattle.mds_entries.specs.declared.entry.EntryFault.{EntryFault}
 use Rattle.mds_entries.specs.declared.entry.EntryFault.TheVariants.{Memory, BadLine, NoLine}
-use Rattle.mds_follow.specs.Reading.{HandsOut, HandsOutAll, IsEndOf, IsEndOfTexts, IsLineFault, IsNextText, TellsAll}
-use Rattle.mds_follow.specs.Pieces.{AreRead, IsTextFault, fault_of_text, first_fault, texts_in}
+use Rattle.mds_journal.specs.Lines.{recovered_texts}
+use Rattle.mds_journal.specs.declared.fault.JournalFault.TheVariants.{Form, BadLine as BadLineOf, TooLong, Refused, Damaged as Torn}
+use Rattle.mds_groups.specs.Entries.{AreEntries, IsEntryAt}
+use Rattle.mds_groups.specs.declared.fault.GroupFault.TheVariants.{Damaged as DamagedGroup, Journal as InJournal}
+use Rattle.mds_groups.proofs.EntryLemmas.{entries_front, entry_of}
+use Rattle.mds_follow.specs.Reading.{StopsBehind}
+use Rattle.mds_follow.specs.Pieces.{AreRead, IsAhead, IsEndBehind, IsReadFrom, IsSaid, IsTextFault, IsTextStop, StandBehind, first_fault, requests_in, texts_in}
+use Rattle.mds_follow.specs.declared.piece.Piece.{Piece}
+use Rattle.mds_follow.specs.declared.reader.RequestReader.{RequestReader}
 use Rattle.mds_follow.specs.declared.start_fault.StartFault.{StartFault}
+use Rattle.mds_follow.specs.declared.start_fault.StartFault.TheVariants.{Memory as NoMemory, Device, Journal, Shared, CutOff}
 use Rattle.mds_follow.proofs.Disks.{zip_append}
-
--- one text more is handed out
-pub hands_more : (bytes : List ℕ) (texts : List (List ℕ)) (mid text left : List ℕ) → HandsOutAll bytes texts mid → HandsOut mid text left → HandsOutAll bytes (texts ++ text ∷ []) left
-hands_more bytes [] mid text left none next = (left, subst (λ (w : List ℕ). HandsOut w text left) none next, refl)
-hands_more bytes (one ∷ texts) mid text left all next = (all.0, all.1, hands_more all.0 texts mid text left all.2 next)
-
--- the first of the texts that were handed out tell requests, and the others come behind them
-tells_front : (bytes left : List ℕ) (front rest : List (List ℕ)) (requests : List Request) → HandsOutAll bytes (front ++ rest) left → AllZip Tells front requests
-    → (behind : List ℕ) × TellsAll bytes requests behind × HandsOutAll behind rest left
-tells_front bytes left [] rest [] hands told = (bytes, refl, hands)
-tells_front bytes left [] rest (request ∷ requests) hands told = absurd told
-tells_front bytes left (text ∷ front) rest [] hands told = absurd told
-tells_front bytes left (text ∷ front) rest (request ∷ requests) hands told =
-    let later = tells_front hands.0 left front rest requests hands.2 told.1 in
-    (later.0, (hands.0, (text, hands.1, told.0), later.1), later.2)
 
 -- the texts of lines, split at one of them
 module _ {A : Type 0} (lines : List (Vec ℕ A)) (at : ℕ) (line : Vec ℕ A) (within : at < length lines) (is : line ≡ get_or lines at line) where
@@ -55,42 +48,43 @@ fault_of_line text texts Memory why = tt
 fault_of_line text texts BadLine why = why
 fault_of_line text texts NoLine why = why
 
--- a text that gives no request is that of a line at fault
-text_fault : (behind left : List ℕ) (rest : List (List ℕ)) (number : ℕ) (fault : EntryFault) → HandsOutAll behind rest left → IsTextFault rest fault → IsLineFault number behind (fault_of_text number fault)
-text_fault behind left rest number Memory hands why = tt
-text_fault behind left [] number BadLine hands why = absurd why
-text_fault behind left [] number NoLine hands why = absurd why
-text_fault behind left (text ∷ rest) number BadLine hands why = (refl, (text, hands.0, hands.1, why))
-text_fault behind left (text ∷ rest) number NoLine hands why = absurd why
+-- some texts tell requests, and what is said of the one behind them
+pub text_stop : (rest : List (List ℕ)) (numbers : List ℕ) (place : ℕ) (fault : EntryFault) (said : StartFault) → IsTextFault rest fault → IsSaid numbers place fault said
+    → IsTextStop rest numbers place said
+text_stop rest numbers place Memory said why is = subst (λ (w : StartFault). IsTextStop rest numbers place w) (sym is) tt
+text_stop [] numbers place BadLine said why is = absurd why
+text_stop [] numbers place NoLine said why is = absurd why
+text_stop (text ∷ rest) numbers place BadLine said why is = subst (λ (w : StartFault). IsTextStop (text ∷ rest) numbers place w) (sym is.2) (text, rest, refl, why, is.1)
+text_stop (text ∷ rest) numbers place NoLine said why is = absurd why
 
--- what the answer of a piece says of its end, where this number is that of the line behind its requests
-abbrev pub end_behind : ℕ → Result (Unit {0}) EntryFault → Result Bool StartFault → Result Bool StartFault
-end_behind number (Ok done) end = end
-end_behind number (Err fault) end = Err (fault_of_text number fault)
+-- where a text tells none there is one behind those that do
+text_there : (rest : List (List ℕ)) (fault : EntryFault) → IsTextFault rest fault → fault ≢ Memory → 0 < length rest
+text_there rest Memory why other = absurd (other refl)
+text_there [] BadLine why other = absurd why
+text_there [] NoLine why other = absurd why
+text_there (text ∷ rest) BadLine why other = omega arith
+text_there (text ∷ rest) NoLine why other = omega arith
 
--- where all texts tell requests, what comes behind the texts comes behind the requests
-all_read : (bytes left : List ℕ) (number : ℕ) (texts : List (List ℕ)) (requests : List Request) (end : Result Bool StartFault) → HandsOutAll bytes texts left
-    → IsEndOfTexts left (number + length requests) end → AllZip Tells texts requests → IsEndOf bytes left number requests end
-all_read bytes left number texts requests end hands ends told =
-    let Texts : List (List ℕ) → Type 0 = λ w. HandsOutAll bytes w left in
-    let front = tells_front bytes left texts [] requests (subst Texts (sym (append-nil texts)) hands) told in
-    let tells : TellsAll bytes requests left = subst (λ (w : List ℕ). TellsAll bytes requests w) (sym front.2) front.1 in
-    by_end end ends tells where
-      by_end : (end : Result Bool StartFault) → IsEndOfTexts left (number + length requests) end → TellsAll bytes requests left → IsEndOf bytes left number requests end
-      by_end (Ok true) ends tells = tells
-      by_end (Ok false) ends tells = (tells, ends)
-      by_end (Err fault) ends tells = (left, tells, ends)
+pub text_behind : (texts : List (List ℕ)) (requests : List Request) (fault : EntryFault) → AreRead texts requests (Err fault) → fault ≢ Memory → length requests < length texts
+text_behind texts requests fault read other =
+    omega (arith, AllZip-long Tells read.0 requests read.3, ap (λ (w : List (List ℕ)). length w) read.2, length-append read.0 read.1, text_there read.1 fault read.4 other)
 
--- what comes behind the requests of a piece
-pub piece_ends : (bytes left : List ℕ) (number : ℕ) (texts : List (List ℕ)) (requests : List Request) (told : Result (Unit {0}) EntryFault) (end : Result Bool StartFault) → HandsOutAll bytes texts left
-    → IsEndOfTexts left (number + length texts) end → AreRead texts requests told → IsEndOf bytes left number requests (end_behind (number + length requests) told end)
-piece_ends bytes left number texts requests (Ok done) end hands ends read =
-    let Ends : ℕ → Type 0 = λ w. IsEndOfTexts left (number + w) end in
-    all_read bytes left number texts requests end hands (subst Ends (sym (AllZip-long Tells texts requests read)) ends) read
-piece_ends bytes left number texts requests (Err fault) end hands ends read =
-    let Texts : List (List ℕ) → Type 0 = λ w. HandsOutAll bytes w left in
-    let front = tells_front bytes left read.0 read.1 requests (subst Texts read.2 hands) read.3 in
-    (front.0, front.1, text_fault front.0 left read.1 (number + length requests) fault front.2 read.4)
+-- what a piece has of texts that were read
+pub all_read_from : (texts : List (List ℕ)) (end : Result Bool StartFault) (piece : Piece) → AllZip Tells texts (requests_in piece) → piece.end ≡ end → IsReadFrom texts end piece
+all_read_from texts end piece told same = record { front = texts; rest = []; split = sym (append-nil texts); told = told; stops = inl (refl, same) }
+
+pub some_read_from : (texts : List (List ℕ)) (end : Result Bool StartFault) (piece : Piece) (fault : EntryFault) (said : StartFault) → AreRead texts (requests_in piece) (Err fault)
+    → IsSaid piece.numbers.items (length (requests_in piece)) fault said → piece.end ≡ Err said → IsReadFrom texts end piece
+some_read_from texts end piece fault said read is same =
+    let size : length (requests_in piece) ≡ length read.0 = AllZip-long Tells read.0 (requests_in piece) read.3 in
+    let at_front : IsSaid piece.numbers.items (length read.0) fault said = subst (λ (n : ℕ). IsSaid piece.numbers.items n fault said) size is in
+    record {
+      front = read.0;
+      rest = read.1;
+      split = read.2;
+      told = read.3;
+      stops = inr (said, same, text_stop read.1 piece.numbers.items (length read.0) fault said read.4 at_front);
+    }
 
 -- no more requests are read than there are texts
 pub few_read : (texts : List (List ℕ)) (requests : List Request) (told : Result (Unit {0}) EntryFault) → AreRead texts requests told → length requests ≤ length texts
@@ -101,13 +95,6 @@ few_read texts requests (Err fault) read =
 -- nor lines
 pub few_lines : {A : Type 0} → (lines : List (Vec ℕ A)) (requests : List Request) (told : Result (Unit {0}) EntryFault) → AreRead (texts_in lines) requests told → length requests ≤ length lines
 few_lines {A} lines requests told read = omega (arith, few_read (texts_in lines) requests told read, length-map lines (λ (line : Vec ℕ A). line.items))
-
--- where the end is that of the lines, all are read
-pub end_told : {A : Type 0} → (lines : List (Vec ℕ A)) (requests : List Request) (number : ℕ) (told : Result (Unit {0}) EntryFault) (end : Result Bool StartFault) → AreRead (texts_in lines) requests told
-    → IfOk (end_behind number told end) (λ _. (end_behind number told end ≡ end) × (length requests ≡ length lines))
-end_told {A} lines requests number (Ok done) (Ok more) read = (refl, AllZip-long Tells (texts_in lines) requests read ∙ length-map lines (λ (line : Vec ℕ A). line.items))
-end_told lines requests number (Ok done) (Err fault) read = tt
-end_told lines requests number (Err fault) end read = tt
 
 -- a fault of some texts is one of them with others behind
 fault_stays : (texts more : List (List ℕ)) (fault : EntryFault) → IsTextFault texts fault → IsTextFault (texts ++ more) fault
@@ -153,9 +140,61 @@ module _ (kept others : List Request) where
   left_in (Ok done) isnt all = (all, tt)
   left_in (Err fault) isnt all = absurd (true≢false isnt)
 
--- behind texts that were handed out the next one is, or what comes behind them is known
-pub next_text : (bytes : List ℕ) (texts : List (List ℕ)) (mid text left : List ℕ) (number : ℕ) (end : Result Bool StartFault) → HandsOutAll bytes texts mid → IsNextText mid text left number end
-    → (end ≡ Ok true → ⊥) → HandsOutAll bytes texts left × IsEndOfTexts left number end
-next_text bytes texts mid text left number (Ok true) hands next ends = absurd (ends refl)
-next_text bytes texts mid text left number (Ok false) hands next ends = (subst (λ (w : List ℕ). HandsOutAll bytes texts w) (sym next.0) hands, next.1)
-next_text bytes texts mid text left number (Err fault) hands next ends = (subst (λ (w : List ℕ). HandsOutAll bytes texts w) (sym next.0) hands, next.1)
+-- the end of a piece says that more may come only where that of its lines does
+pub goes_further : (texts : List (List ℕ)) (end : Result Bool StartFault) (piece : Piece) (P : Bool → Type 0) → IsReadFrom texts end piece → IfOk end P → IfOk piece.end P
+goes_further texts end piece P read further = by_stops read.stops where
+  Of : Result Bool StartFault → Type 0
+  Of w = IfOk w P
+
+  by_stops : ((read.rest ≡ []) × (piece.end ≡ end)) ⊎ ((fault : StartFault) × (piece.end ≡ Err fault) × IsTextStop read.rest piece.numbers.items (length read.front) fault) → Of piece.end
+  by_stops (inl all) = subst Of (sym all.1) further
+  by_stops (inr stop) = subst Of (sym stop.1) tt
+
+-- ---- a piece behind what was read before
+
+module _ {D : Type 0} (seen : D → List ℕ) (is_true : D → Type 0) (reader : RequestReader D) (before : List (List ℕ)) where
+  abbrev file : List ℕ
+  file = seen reader.opening.device
+
+  -- a text that tells none is a stop behind those that do
+  text_stops : (front rest : List (List ℕ)) (numbers : List ℕ) (fault : StartFault) → AreEntries (recovered_texts file) before (front ++ rest) numbers
+      → IsTextStop rest numbers (length front) fault → StopsBehind file (before ++ front) fault
+  text_stops front rest numbers NoMemory are why = tt
+  text_stops front rest numbers Device are why = absurd why
+  text_stops front rest numbers Shared are why = absurd why
+  text_stops front rest numbers CutOff are why = absurd why
+  text_stops front rest numbers (Journal (DamagedGroup line)) are why = absurd why
+  text_stops front rest numbers (Journal (InJournal Form)) are why = absurd why
+  text_stops front rest numbers (Journal (InJournal (TooLong line))) are why = absurd why
+  text_stops front rest numbers (Journal (InJournal (Refused line))) are why = absurd why
+  text_stops front rest numbers (Journal (InJournal Torn)) are why = absurd why
+  text_stops front rest numbers (Journal (InJournal (BadLineOf line))) are why =
+      let Are : List (List ℕ) → Type 0 = λ w. AreEntries (recovered_texts file) before (front ++ w) numbers in
+      let at = entry_of (recovered_texts file) before front why.0 why.1 numbers (subst Are why.2 are) in
+      let same : at.0 ≡ line = cc (at.1, why.4) in
+      (why.0, subst (λ (w : ℕ). IsEntryAt (recovered_texts file) (before ++ front) w why.0) same at.2, why.3)
+
+  -- what was read is a piece
+  pub is_ahead : (texts : List (List ℕ)) (end : Result Bool StartFault) (piece : Piece) → StandBehind seen is_true reader before texts piece.numbers.items end → IsReadFrom texts end piece
+      → IsAhead seen is_true reader before piece
+  is_ahead texts end piece stand read = record {
+    texts = read.front;
+    told = read.told;
+    stand = record {
+      short = omega (arith, stand.short, ap (λ (w : List (List ℕ)). length w) read.split, length-append read.front read.rest);
+      entries = λ truth. entries_front (recovered_texts file) before read.front read.rest piece.numbers.items (entries truth);
+      end_is = by_stops read.stops;
+    };
+  } where
+    entries : is_true reader.opening.device → AreEntries (recovered_texts file) before (read.front ++ read.rest) piece.numbers.items
+    entries truth = subst (λ (w : List (List ℕ)). AreEntries (recovered_texts file) before w piece.numbers.items) read.split (stand.entries truth)
+
+    by_stops : ((read.rest ≡ []) × (piece.end ≡ end)) ⊎ ((fault : StartFault) × (piece.end ≡ Err fault) × IsTextStop read.rest piece.numbers.items (length read.front) fault)
+        → IsEndBehind seen is_true reader (before ++ read.front) piece.end
+    by_stops (inl all) =
+        let whole : texts ≡ read.front = read.split ∙ ap (λ (w : List (List ℕ)). read.front ++ w) all.0 ∙ append-nil read.front in
+        subst (λ (w : Result Bool StartFault). IsEndBehind seen is_true reader (before ++ read.front) w) (sym all.1)
+        (subst (λ (w : List (List ℕ)). IsEndBehind seen is_true reader (before ++ w) end) whole stand.end_is)
+    by_stops (inr stop) =
+        subst (λ (w : Result Bool StartFault). IsEndBehind seen is_true reader (before ++ read.front) w) (sym stop.1)
+        (λ truth. text_stops read.front read.rest piece.numbers.items stop.0 (entries truth) stop.2)

@@ -1,8 +1,10 @@
 -- A journal whose requests are asked again.
-use Rattle.std.proofs.Common.{◌≡◌, inl, inr, ℕ, ◌+◌, ◌<◌, ◌==◌, List, [], ◌∷◌, ◌++◌, ◌-◌, ◌^◌, ◌≤◌, ◌≢◌, Bool, true, false, Result, Ok, Err, IfOk, OnOk, length, refl, sym, ap, ◌∙◌, subst, arith, append_assoc, append-nil, length-append}
+use Rattle.std.proofs.Common.{◌≡◌, inl, inr, ℕ, ◌+◌, ◌<◌, ◌==◌, List, [], ◌∷◌, ◌++◌, ◌-◌, ◌^◌, ◌≤◌, ◌≢◌, Bool, true, false, Result, Ok, Err, IfOk, OnOk, Some, slice_get, length, refl, sym, ap, ◌∙◌, subst, arith, length-append}
+use Rattle.std.specs.List.{AllZip}
 use Rattle.std.proofs.lemmas.Bool.Decides.{nat_tests}
 use Rattle.std.proofs.lemmas.List.{length-map, map-append}
 use Rattle.std.proofs.lemmas.List.Elements.{filter-append}
+use Rattle.std.proofs.lemmas.Slice.Zip.{AllZip-long}
 use Rattle.mds_table.specs.Tables.{Tables}
 use Rattle.mds_core.specs.declared.key.Key.{Key}
 use Rattle.mds_core.specs.declared.request.Request.{Request}
@@ -11,95 +13,121 @@ use Rattle.mds_core.specs.History.{requests_of, key_of, same_key}
 use Rattle.mds_core.specs.Answer.{Gives, MayBeDone}
 use Rattle.mds_core.proofs.Histories.{same_key_is}
 use Rattle.mds_journal.specs.Lines.{recovered_texts}
-use Rattle.mds_journal.specs.Opening.{KeepsLines}
+use Rattle.mds_journal.specs.Opening.{KeepsLines, unread_bytes}
 use Rattle.mds_journal.specs.Device.{LeavesOnly}
 use Rattle.mds_journal.specs.declared.fault.JournalFault.TheVariants.{Form, BadLine, TooLong, Refused, Damaged}
-use Rattle.mds_entries.specs.Form.{form_line}
+use Rattle.mds_entries.specs.Entry.{Tells}
+use Rattle.mds_groups.specs.Entries.{AreEntries, IsEntryAt}
+use Rattle.mds_groups.specs.declared.fault.GroupFault.TheVariants.{Damaged as DamagedGroup, Journal as InJournal}
+use Rattle.mds_groups.proofs.EntryLemmas.{entry_of}
 use Rattle.mds_log.specs.Log.{Acceptance, requests}
 use Rattle.mds_book.specs.Shards.{shard_of, part}
 use Rattle.mds_book.specs.Seats.{Seated}
 use Rattle.mds_follow.specs.Record.{recorded_at}
 use Rattle.mds_follow.specs.Disk.{IsTold, MayRead}
-use Rattle.mds_follow.specs.Reading.{HasNoMore, IsEndFault, IsEndOf, IsLineFault, IsReadTo, IsStartFault, TellsAll, TellsNext}
+use Rattle.mds_follow.specs.Reading.{HasNoMore, HasTexts, IsStartFault, StopsBehind}
+use Rattle.mds_follow.specs.Pieces.{requests_in, IsAhead, IsEndBehind}
 use Rattle.mds_book.specs.Refilling.{HasAll, IsFilled, IsRefusedAt, IsRefusedIn}
-use Rattle.mds_follow.specs.Restart.{IsAhead, IsAskFault, IsRead, IsRefilled, IsRefused, lines_of}
+use Rattle.mds_follow.specs.Restart.{IsAskFault, IsRead, IsRefilled, IsRefused}
+use Rattle.mds_follow.specs.declared.piece.Piece.{Piece}
+use Rattle.mds_follow.specs.End.{HasRefused}
+use Rattle.mds_follow.specs.declared.reader.RequestReader.{RequestReader}
 use Rattle.mds_follow.specs.declared.start_fault.StartFault.{StartFault}
-use Rattle.mds_follow.specs.declared.start_fault.StartFault.TheVariants.{Memory, Device, Journal, Shared}
-use Rattle.mds_follow.proofs.Disks.{told_more}
+use Rattle.mds_follow.specs.declared.start_fault.StartFault.TheVariants.{Memory, Device, Journal, Shared, CutOff}
+use Rattle.mds_follow.proofs.Disks.{zip_append}
 use Rattle.mds_follow.proofs.Safety.{recorded_requests}
 
--- the form's line alone tells nothing
-pub read_form : (file left : List ℕ) → recovered_texts file ≡ form_line ∷ recovered_texts left → IsReadTo file [] left
-read_form file left is = record { texts = form_line ∷ []; is_told = record { entries = []; split = refl; tells = tt }; split = is }
+-- ---- texts that tell requests
 
--- one more line tells one request more
-pub read_next : (file bytes left : List ℕ) (told : List Request) (request : Request) → IsReadTo file told bytes → TellsNext bytes request left
-    → IsReadTo file (told ++ request ∷ []) left
-read_next file bytes left told request read next = record {
-  texts = read.texts ++ next.0 ∷ [];
-  is_told = told_more read.texts (next.0 ∷ []) told (request ∷ []) read.is_told (next.2, tt);
-  split = read.split ∙ ap (λ w. read.texts ++ w) next.1 ∙ sym (append_assoc read.texts (next.0 ∷ []) (recovered_texts left));
-}
+-- the text of each of the requests that texts tell
+tells_split : (texts : List (List ℕ)) (before : List Request) (request : Request) (rest : List Request) → AllZip Tells texts (before ++ request ∷ rest)
+    → (front : List (List ℕ)) × (text : List ℕ) × (back : List (List ℕ)) × (texts ≡ front ++ text ∷ back) × AllZip Tells front before × Tells text request
+tells_split [] [] request rest tells = absurd tells
+tells_split [] (one ∷ before) request rest tells = absurd tells
+tells_split (text ∷ texts) [] request rest tells = ([], text, texts, refl, tt, tells.0)
+tells_split (text ∷ texts) (one ∷ before) request rest tells =
+    let later = tells_split texts before request rest tells.1 in
+    (text ∷ later.0, later.1, later.2, ap (λ (w : List (List ℕ)). text ∷ w) later.3, (tells.0, later.4), later.5)
 
--- where no more lines count, all were read
-pub read_all : (file left : List ℕ) (told : List Request) → IsReadTo file told left → HasNoMore left → IsTold (recovered_texts file) told
-read_all file left told read none =
-    let all : recovered_texts file ≡ read.texts = read.split ∙ ap (λ w. read.texts ++ w) none ∙ append-nil read.texts in
-    let Told : List (List ℕ) → Type 0 = λ w. IsTold w told in
-    subst Told (sym all) read.is_told
+-- ---- a piece that is read behind what is recorded
 
--- lines that tell requests, and then one more
-pub tells_more : (bytes : List ℕ) (told : List Request) (mid : List ℕ) (request : Request) (left : List ℕ) → TellsAll bytes told mid → TellsNext mid request left → TellsAll bytes (told ++ request ∷ []) left
-tells_more bytes [] mid request left none next = (left, subst (λ (w : List ℕ). TellsNext w request left) none next, refl)
-tells_more bytes (one ∷ told) mid request left all next = (all.0, all.1, tells_more all.0 told mid request left all.2 next)
+module _ {D : Type 0} (seen : D → List ℕ) (is_true : D → Type 0) (reader : RequestReader D) (before : List (List ℕ)) where
+  -- nothing is read but the form
+  pub read_none : (piece : Piece) → before ≡ [] → requests_in piece ≡ [] → piece.end ≡ Ok true → HasTexts seen is_true reader [] → IsAhead seen is_true reader before piece
+  read_none piece none empty more has = record {
+    texts = [];
+    told = subst (λ (w : List Request). AllZip Tells [] w) (sym empty) tt;
+    stand = record {
+      short = omega (arith, ap (λ (w : List (List ℕ)). length w) none);
+      entries = λ truth. tt;
+      end_is = subst (λ (w : Result Bool StartFault). IsEndBehind seen is_true reader (before ++ []) w) (sym more)
+          (subst (λ (w : List (List ℕ)). HasTexts seen is_true reader (w ++ [])) (sym none) has);
+    };
+  }
 
--- the line of each of the requests that lines tell
-pub tells_split : (bytes : List ℕ) (before : List Request) (request : Request) (rest : List Request) (left : List ℕ) → TellsAll bytes (before ++ request ∷ rest) left
-    → (mid : List ℕ) × (behind : List ℕ) × TellsAll bytes before mid × TellsNext mid request behind
-tells_split bytes [] request rest left all = (bytes, all.0, refl, all.1)
-tells_split bytes (one ∷ before) request rest left all =
-    let later = tells_split all.0 before request rest left all.2 in
-    (later.0, later.1, (all.0, all.1, later.2), later.3)
+  -- where more may come behind a piece, its texts are read too
+  pub read_piece : (piece : Piece) (ahead : IsAhead seen is_true reader before piece) → piece.end ≡ Ok true → HasTexts seen is_true reader (before ++ ahead.texts)
+  read_piece piece ahead more = subst (λ (w : Result Bool StartFault). IsEndBehind seen is_true reader (before ++ ahead.texts) w) more ahead.stand.end_is
 
--- lines tell as many requests more
-pub read_many : (file bytes left : List ℕ) (told requests : List Request) → IsReadTo file told bytes → TellsAll bytes requests left → IsReadTo file (told ++ requests) left
-read_many file bytes left told [] read none =
-    let Told : List Request → Type 0 = λ w. IsReadTo file w left in
-    subst Told (sym (append-nil told)) (subst (λ (w : List ℕ). IsReadTo file told w) (sym none) read)
-read_many file bytes left told (request ∷ requests) read all =
-    let Told : List Request → Type 0 = λ w. IsReadTo file w left in
-    subst Told (append_assoc told (request ∷ []) requests) (read_many file all.0 left (told ++ request ∷ []) requests (read_next file bytes all.0 told request read all.1) all.2)
+  -- behind the last one no more lines count, or its end says why
+  pub read_last : (texts : List (List ℕ)) (end : Result Bool StartFault) → IsEndBehind seen is_true reader (before ++ texts) end → end ≢ Ok true
+      → IfOk end (λ _. HasTexts seen is_true reader (before ++ texts) × (is_true reader.opening.device → HasNoMore (unread_bytes seen reader.opening)))
+  read_last texts (Ok true) is last = absurd (last refl)
+  read_last texts (Ok false) is last = is
+  read_last texts (Err fault) is last = tt
 
--- an end has the lines of its requests before it
-pub before_end : (bytes left : List ℕ) (number : ℕ) (told : List Request) (end : Result Bool StartFault) → IsEndOf bytes left number told end → (mid : List ℕ) × TellsAll bytes told mid
-before_end bytes left number told (Ok true) is = (left, is)
-before_end bytes left number told (Ok false) is = (left, is.0)
-before_end bytes left number told (Err fault) is = (is.0, is.1)
+  -- the requests of the piece come behind those that are recorded
+  pub told_both : (piece : Piece) (recorded : List Request) (ahead : IsAhead seen is_true reader before piece) → AllZip Tells before recorded
+      → AllZip Tells (before ++ ahead.texts) (recorded ++ requests_in piece)
+  told_both piece recorded ahead told = zip_append Tells before ahead.texts recorded (requests_in piece) told ahead.told
 
--- nothing but the form is read, and what is left comes next
-pub read_none : (file left : List ℕ) (told : List Acceptance) (number : ℕ) (requests_ahead : List Request) (end : Result Bool StartFault) → told ≡ [] → requests_ahead ≡ [] → end ≡ Ok true
-    → recovered_texts file ≡ form_line ∷ recovered_texts left → IsAhead file left (requests told) (lines_of number requests_ahead end)
-read_none file left told number requests_ahead end none empty more form =
-    let Ends : Result Bool StartFault → Type 0 = λ w. IsAhead file left [] (lines_of number [] w) in
-    let Holds : List Request → Type 0 = λ w. IsAhead file left [] (lines_of number w end) in
-    let Told : List Acceptance → Type 0 = λ w. IsAhead file left (requests w) (lines_of number requests_ahead end) in
-    subst Told (sym none) (subst Holds (sym empty) (subst Ends (sym more) (record { bytes = left; read = read_form file left form; end = refl })))
+  -- there are few of them
+  pub few_told : (piece : Piece) (recorded : List Request) → IsAhead seen is_true reader before piece → AllZip Tells before recorded → length recorded + length (requests_in piece) ≤ 2 ^ 62
+  few_told piece recorded ahead told =
+      omega (arith, ahead.stand.short, AllZip-long Tells before recorded told, AllZip-long Tells ahead.texts (requests_in piece) ahead.told)
 
--- where more may come behind a piece, its requests are read too
-pub read_piece : (file left : List ℕ) (recorded : List Request) (number : ℕ) (told : List Request) (end : Result Bool StartFault) → IsAhead file left recorded (lines_of number told end) → end ≡ Ok true
-    → IsReadTo file (recorded ++ told) left
-read_piece file left recorded number told end ahead more =
-    let End : Result Bool StartFault → Type 0 = λ w. IsEndOf ahead.bytes left number told w in
-    read_many file ahead.bytes left recorded told ahead.read (subst End more ahead.end)
+-- ---- why a start ends
 
--- behind the last one no more lines count, or its end says why
-pub read_last : (file left : List ℕ) (recorded : List Request) (number : ℕ) (told : List Request) (end : Result Bool StartFault) → IsAhead file left recorded (lines_of number told end) → end ≢ Ok true
-    → IfOk end (λ _. HasNoMore left × IsTold (recovered_texts file) (recorded ++ told))
-read_last file left recorded number told (Ok true) ahead last = absurd (last refl)
-read_last file left recorded number told (Ok false) ahead last =
-    let all = read_many file ahead.bytes left recorded told ahead.read ahead.end.0 in
-    (ahead.end.1, read_all file left (recorded ++ told) all ahead.end.1)
-read_last file left recorded number told (Err fault) ahead last = tt
+-- no more is read behind texts that tell requests
+pub stop_fault : (tables : Tables) (file : List ℕ) (texts : List (List ℕ)) (told : List Request) (fault : StartFault) → AllZip Tells texts told → StopsBehind file texts fault
+    → IsStartFault tables file fault
+stop_fault tables file texts told Memory tells why = tt
+stop_fault tables file texts told Device tells why = tt
+stop_fault tables file texts told Shared tells why = tt
+stop_fault tables file texts told CutOff tells why = absurd why
+stop_fault tables file texts told (Journal (DamagedGroup line)) tells why = (texts, told, tells, why)
+stop_fault tables file texts told (Journal (InJournal Form)) tells why = (texts, told, tells, why)
+stop_fault tables file texts told (Journal (InJournal (TooLong line))) tells why = (texts, told, tells, why)
+stop_fault tables file texts told (Journal (InJournal (BadLine line))) tells why = (texts, told, tells, why)
+stop_fault tables file texts told (Journal (InJournal (Refused line))) tells why = absurd why
+stop_fault tables file texts told (Journal (InJournal Damaged)) tells why = (texts, told, tells, why)
+
+-- the tables refuse one of the texts of a piece
+pub ask_fault : {D : Type 0} (seen : D → List ℕ) (is_true : D → Type 0) (reader : RequestReader D) (before : List (List ℕ)) (tables : Tables) (recorded : List Request) (piece : Piece)
+    (fault : StartFault) → is_true reader.opening.device → IsAhead seen is_true reader before piece → AllZip Tells before recorded
+    → IsAskFault tables recorded piece.numbers.items (requests_in piece) fault → IsStartFault tables (seen reader.opening.device) fault
+ask_fault seen is_true reader before tables recorded piece Memory truth ahead told why = tt
+ask_fault seen is_true reader before tables recorded piece Device truth ahead told why = tt
+ask_fault seen is_true reader before tables recorded piece Shared truth ahead told why = tt
+ask_fault seen is_true reader before tables recorded piece CutOff truth ahead told why = absurd why
+ask_fault seen is_true reader before tables recorded piece (Journal (DamagedGroup line)) truth ahead told why = absurd why
+ask_fault seen is_true reader before tables recorded piece (Journal (InJournal Form)) truth ahead told why = absurd why
+ask_fault seen is_true reader before tables recorded piece (Journal (InJournal (TooLong line))) truth ahead told why = absurd why
+ask_fault seen is_true reader before tables recorded piece (Journal (InJournal (BadLine line))) truth ahead told why = absurd why
+ask_fault seen is_true reader before tables recorded piece (Journal (InJournal Damaged)) truth ahead told why = absurd why
+ask_fault seen is_true reader before tables recorded piece (Journal (InJournal (Refused line))) truth ahead told why =
+    let lines = recovered_texts (seen reader.opening.device) in
+    let numbers = piece.numbers.items in
+    let at = tells_split ahead.texts why.before why.request why.rest (subst (λ (w : List Request). AllZip Tells ahead.texts w) why.split ahead.told) in
+    let entry = entry_of lines before at.0 at.1 at.2 numbers (subst (λ (w : List (List ℕ)). AreEntries lines before w numbers) at.3 (ahead.stand.entries truth)) in
+    let size : length why.before ≡ length at.0 = AllZip-long Tells at.0 why.before at.4 in
+    let here = ap (λ (n : ℕ). slice_get numbers n) size ∙ entry.1 in
+    let same : entry.0 ≡ line = cc (here, why.number) in (
+      before ++ at.0,
+      recorded ++ why.before,
+      zip_append Tells before at.0 recorded why.before told at.4,
+      (at.1, subst (λ (w : ℕ). IsEntryAt lines (before ++ at.0) w at.1) same entry.2, (why.request, at.5, why.refused)),
+    )
 
 -- what follows from a fact of a success
 pub on_ok : {X Y : Type 0} (result : Result X Y) (P Q : Type 0) → (P → Q) → OnOk result P → OnOk result Q
@@ -170,73 +198,47 @@ refused_in tables number seen recorded before request is here refused may =
     refused (subst Given (sym same) may)
 
 -- nor may its line
-refused_line : (tables : Tables) (number : ℕ) (seen recorded told : List Request) (first line at : ℕ) → seen ≡ part number recorded → line ≡ first + at
-    → IsRefusedIn tables number seen told at → IsRefused tables recorded first told line
-refused_line tables number seen recorded told first line at is place why = record {
+refused_line : (tables : Tables) (number : ℕ) (seen recorded told : List Request) (numbers : List ℕ) (line at : ℕ) → seen ≡ part number recorded → slice_get numbers at ≡ Some line
+    → IsRefusedIn tables number seen told at → IsRefused tables recorded numbers told line
+refused_line tables number seen recorded told numbers line at is place why = record {
   before = why.before;
   request = why.request;
   rest = why.rest;
   split = why.split;
-  count = omega (arith, place, why.count);
+  number = ap (λ (n : ℕ). slice_get numbers n) (sym why.count) ∙ place;
   refused = refused_in tables number seen recorded why.before why.request is why.here why.refused;
 }
 
 -- in whichever shard it is
-pub refused_told : (tables : Tables) (seat : Seated) (recorded : List Acceptance) (told : List Request) (first line at : ℕ) → IsRefilled seat recorded → line ≡ first + at
-    → IsRefusedAt tables seat told at → IsRefused tables (requests recorded) first told line
-refused_told tables seat recorded told first line at refilled place (inl why) = refused_line tables 0 seat.first_seen (requests recorded) told first line at refilled.first place why
-refused_told tables seat recorded told first line at refilled place (inr why) = refused_line tables 1 seat.second_seen (requests recorded) told first line at refilled.second place why
+pub refused_told : (tables : Tables) (seat : Seated) (recorded : List Acceptance) (told : List Request) (numbers : List ℕ) (line at : ℕ) → IsRefilled seat recorded
+    → slice_get numbers at ≡ Some line → IsRefusedAt tables seat told at → IsRefused tables (requests recorded) numbers told line
+refused_told tables seat recorded told numbers line at refilled place (inl why) =
+    refused_line tables 0 seat.first_seen (requests recorded) told numbers line at refilled.first place why
+refused_told tables seat recorded told numbers line at refilled place (inr why) =
+    refused_line tables 1 seat.second_seen (requests recorded) told numbers line at refilled.second place why
 
--- a fault of a line that comes behind what was read is one of the file
-pub line_start_fault : (tables : Tables) (file bytes : List ℕ) (told : List Request) (number : ℕ) (fault : StartFault) → IsReadTo file told bytes → number ≡ length told + 1
-    → IsLineFault number bytes fault → IsStartFault tables file fault
-line_start_fault tables file bytes told number Memory read count why = tt
-line_start_fault tables file bytes told number Device read count why = tt
-line_start_fault tables file bytes told number Shared read count why = tt
-line_start_fault tables file bytes told number (Journal Form) read count why = absurd why
-line_start_fault tables file bytes told number (Journal (TooLong line)) read count why = (told, bytes, read, why.0 ∙ count, why.1)
-line_start_fault tables file bytes told number (Journal (BadLine line)) read count why = (told, bytes, read, why.0 ∙ count, why.1)
-line_start_fault tables file bytes told number (Journal (Refused line)) read count why = absurd why
-line_start_fault tables file bytes told number (Journal Damaged) read count why = absurd why
+-- so one of them is refused
+refused_part : (tables : Tables) (number : ℕ) (seen recorded told : List Request) (at : ℕ) → seen ≡ part number recorded → IsRefusedIn tables number seen told at → HasRefused tables recorded told
+refused_part tables number seen recorded told at is why = record {
+  before = why.before;
+  request = why.request;
+  rest = why.rest;
+  split = why.split;
+  refused = refused_in tables number seen recorded why.before why.request is why.here why.refused;
+}
 
--- and so is that of a piece that was asked
-pub piece_fault : (tables : Tables) (file left : List ℕ) (recorded : List Request) (number : ℕ) (told : List Request) (fault : StartFault) → IsAhead file left recorded (lines_of number told (Err fault))
-    → number ≡ length recorded + 1 → IsStartFault tables file fault
-piece_fault tables file left recorded number told fault ahead count =
-    let end = ahead.end in
-    line_start_fault tables file end.0 (recorded ++ told) (number + length told) fault (read_many file ahead.bytes end.0 recorded told ahead.read end.1)
-    (omega (arith, count, length-append recorded told)) end.2
+pub refused_end : (tables : Tables) (seat : Seated) (recorded : List Acceptance) (told : List Request) (at : ℕ) → IsRefilled seat recorded → IsRefusedAt tables seat told at
+    → HasRefused tables (requests recorded) told
+refused_end tables seat recorded told at refilled (inl why) = refused_part tables 0 seat.first_seen (requests recorded) told at refilled.first why
+refused_end tables seat recorded told at refilled (inr why) = refused_part tables 1 seat.second_seen (requests recorded) told at refilled.second why
 
--- and that of one which the tables refuse
-pub ask_fault : (tables : Tables) (file left : List ℕ) (recorded : List Request) (number : ℕ) (told : List Request) (end : Result Bool StartFault) (fault : StartFault)
-    → IsAhead file left recorded (lines_of number told end) → number ≡ length recorded + 1 → IsAskFault tables recorded number told fault → IsStartFault tables file fault
-ask_fault tables file left recorded number told end Memory ahead count why = tt
-ask_fault tables file left recorded number told end Device ahead count why = tt
-ask_fault tables file left recorded number told end Shared ahead count why = tt
-ask_fault tables file left recorded number told end (Journal Form) ahead count why = absurd why
-ask_fault tables file left recorded number told end (Journal (TooLong line)) ahead count why = absurd why
-ask_fault tables file left recorded number told end (Journal (BadLine line)) ahead count why = absurd why
-ask_fault tables file left recorded number told end (Journal Damaged) ahead count why = absurd why
-ask_fault tables file left recorded number told end (Journal (Refused line)) ahead count why =
-    let all = before_end ahead.bytes left number told end ahead.end in
-    let at = tells_split ahead.bytes why.before why.request why.rest all.0 (subst (λ (w : List Request). TellsAll ahead.bytes w all.0) why.split all.1) in (
-      recorded ++ why.before,
-      at.0,
-      read_many file ahead.bytes at.0 recorded why.before ahead.read at.2,
-      omega (arith, count, why.count, length-append recorded why.before),
-      (why.request, at.1, at.3, why.refused),
-    )
+-- it is one of the requests
+refused_in_them : (tables : Tables) (number : ℕ) (seen told : List Request) (at : ℕ) → IsRefusedIn tables number seen told at → at < length told
+refused_in_them tables number seen told at why = omega (arith, why.count, ap (λ (w : List Request). length w) why.split, length-append why.before (why.request ∷ why.rest))
 
--- and so is one of its end
-pub end_fault : (tables : Tables) (file : List ℕ) (fault : StartFault) → IsEndFault file fault → IsStartFault tables file fault
-end_fault tables file Memory why = tt
-end_fault tables file Device why = tt
-end_fault tables file Shared why = tt
-end_fault tables file (Journal Form) why = absurd why
-end_fault tables file (Journal (TooLong line)) why = absurd why
-end_fault tables file (Journal (BadLine line)) why = absurd why
-end_fault tables file (Journal (Refused line)) why = absurd why
-end_fault tables file (Journal Damaged) why = why
+pub refused_within : (tables : Tables) (seat : Seated) (told : List Request) (at : ℕ) → IsRefusedAt tables seat told at → at < length told
+refused_within tables seat told at (inl why) = refused_in_them tables 0 seat.first_seen told at why
+refused_within tables seat told at (inr why) = refused_in_them tables 1 seat.second_seen told at why
 
 -- as many requests as were recorded
 pub requests_length : (told : List Acceptance) → length (requests told) ≡ length told

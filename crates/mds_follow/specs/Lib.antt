@@ -5,5 +5,6 @@ pub mod Group
 pub mod Restart
 pub mod Lives
 pub mod Disk
+pub mod End
 pub mod Reading
 pub mod Pieces

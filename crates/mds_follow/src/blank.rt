@@ -1,14 +1,14 @@
-//! A file that has no form yet, and the line that names the form.
-ghost use Rattle.std.specs.Prelude.{◌≡◌, ◌⊎◌, [], ◌∷◌, true, IfOk, IfErr};
+//! A file that has no form yet, and the lines before its first group.
+ghost use Rattle.std.specs.Prelude.{◌≡◌, ◌⊎◌, [], true, IfOk, IfErr};
 ghost use Rattle.mds_journal.specs.Device.{LeavesOnly, Untouched};
 ghost use Rattle.mds_journal.specs.Lines.{recovered_texts};
-ghost use Rattle.mds_entries.specs.Form.{form_line};
-ghost use Rattle.mds_follow.specs.Disk.{MayBeBegun};
+ghost use Rattle.mds_groups.specs.Form.{header};
+ghost use Rattle.mds_follow.specs.Disk.{MayBeBegun, new_form};
 ghost use Rattle.mds_follow.specs.Reading.{IsBlank, IsNoJournalFault, KeepsOrBegins, StaysOrBegins, left_of};
 
 use crate::start_fault::call_fault;
 use crate::{Disk, StartFault};
-use mds_entries::form_text;
+use mds_groups::{JournalForm, form_check};
 use mds_journal::{Device, DeviceError, Journal, Opening};
 use mds_table::MAX_BYTES;
 use std::alloc::Global;
@@ -19,7 +19,7 @@ const CLOSED_GATE: u8 = b'#';
 /// More bytes than a file has whose form was begun.
 const ROOM: usize = 64;
 
-/// Whether the file is empty, or has no more than a crash leaves of the line that names the form, where that was begun.
+/// Whether the file is empty, or has no more than a crash leaves of the lines before the first group, where they were begun.
 /// Whatever else stands in a file without a form is somebody's, and isn't to be written over.
 fn is_blank<D: Device>(device: &mut D) -> Result<bool, DeviceError>
     requires { D.may_be_used device.old }
@@ -46,7 +46,8 @@ fn is_blank<D: Device>(device: &mut D) -> Result<bool, DeviceError>
     }
 }
 
-/// Whether bytes are a closed gate and the line that names the form, or less of them: a byte that isn't on the disk yet is 0.
+/// Whether bytes are a closed gate and the lines before the first group, of either form, or less of them: a byte that isn't on the
+/// disk yet is 0.
 fn is_begun(bytes: &[u8]) -> bool
     ensures { result ≡ true → recovered_texts bytes.now ≡ [] }
 {
@@ -56,9 +57,22 @@ fn is_begun(bytes: &[u8]) -> bool
     if *gate != CLOSED_GATE && *gate != 0 {
         return false;
     }
-    let form = form_text().as_bytes();
-    let (line, end) = rest.split_at(rest.len().min(form.len()));
-    is_part(line, form) && is_part(end, b"\n#")
+    let plain = JournalForm::Plain.first_line().as_bytes();
+    let checked = JournalForm::Checked.first_line().as_bytes();
+    are_parts(rest, &[plain, b"\n#"]) || are_parts(rest, &[checked, b"\n ", &form_check(), b"\n#"])
+}
+
+/// Whether bytes are these texts, one behind the other, or less of them: each of their bytes, or 0.
+fn are_parts(bytes: &[u8], texts: &[&[u8]]) -> bool {
+    let mut rest = bytes;
+    for text in texts {
+        let (part, behind) = rest.split_at(rest.len().min(text.len()));
+        if !is_part(part, text) {
+            return false;
+        }
+        rest = behind;
+    }
+    rest.is_empty()
 }
 
 /// Whether each of these bytes is that of a text at its place, or 0.
@@ -74,7 +88,7 @@ fn is_part(bytes: &[u8], text: &[u8]) -> bool {
     true
 }
 
-/// A file whose first line names the form, if it was blank; else the file as it was.
+/// A file with the lines before the first group, if it was blank; else the file as it was.
 ///
 /// # Errors
 ///
@@ -85,7 +99,7 @@ pub(crate) fn with_form<D: Device>(alloc: Global, mut device: D) -> Result<D, (S
     ensures kept { IfOk result (λ made. D.is_true made
         → StaysOrBegins (D.seen device) (D.seen made)) }
     ensures empty { IfOk result (λ made. D.is_true made → D.seen device ≡ []
-        → recovered_texts (D.seen made) ≡ form_line ∷ []) }
+        → recovered_texts (D.seen made) ≡ header new_form) }
     ensures any_moment { D.is_true (left_of result (λ made. made) (λ error. error.1))
         → LeavesOnly D.moment D.left_since device
         (left_of result (λ made. made) (λ error. error.1))
@@ -101,7 +115,7 @@ pub(crate) fn with_form<D: Device>(alloc: Global, mut device: D) -> Result<D, (S
     }
 }
 
-/// Writes the line that names the form into a blank file.
+/// Writes the lines before the first group into a blank file.
 ///
 /// # Errors
 ///
@@ -111,7 +125,7 @@ fn make_form<D: Device>(alloc: Global, device: D) -> Result<D, (StartFault, D)>
     requires blank { D.is_true device → IsBlank (D.seen device) }
     ensures usable { IfOk result D.may_be_used }
     ensures made { IfOk result (λ made. D.is_true made
-        → recovered_texts (D.seen made) ≡ form_line ∷ []) }
+        → recovered_texts (D.seen made) ≡ header new_form) }
     ensures any_moment { D.is_true (left_of result (λ made. made) (λ error. error.1))
         → LeavesOnly D.moment D.left_since device
         (left_of result (λ made. made) (λ error. error.1))

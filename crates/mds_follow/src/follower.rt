@@ -6,7 +6,7 @@ ghost use Rattle.mds_log.specs.Log.{requests};
 ghost use Rattle.mds_book.specs.Shards.{part};
 ghost use Rattle.mds_follow.specs.Parts.{Covers};
 ghost use Rattle.mds_follow.specs.Record.{IsDesk, IsSound};
-ghost use Rattle.mds_follow.specs.Restart.{IsRead, IsRefilled};
+ghost use Rattle.mds_follow.specs.Restart.{IsRead};
 ghost use Rattle.mds_follow.specs.Group.{IsGroup};
 
 use crate::desk::Desk;
@@ -77,13 +77,14 @@ fn next_group<L: ShardLedger, M: ShardLedger, R: Wait>(
 }
 
 impl<F: Record, L: ShardLedger, M: ShardLedger, J: RecordLog> Follower<F, L, M, J> {
-    /// A follower of a book that holds what stands in the file, and nothing else: one seat has asked it. The keeper has the
-    /// requests, in the order of the file.
+    /// A follower of a book of which so much was seen: what stands in the file, and nothing else. The keeper has the requests, in
+    /// the order of the file.
     pub(crate) fn begin(
         alloc: Global,
         file: F,
         keeper: Keeper<J>,
-        seat: &Seat<L, M>,
+        first: Progress<L>,
+        second: Progress<M>,
     ) -> Follower<F, L, M, J>
         requires sound { F.is_sound file }
         requires short { length keeper < 2 ^ 63 }
@@ -91,10 +92,12 @@ impl<F: Record, L: ShardLedger, M: ShardLedger, J: RecordLog> Follower<F, L, M, 
         requires stands { F.is_true file → F.may_go_on file → F.stands file (requests keeper) }
         requires read { F.is_true file → IsRead (F.left_since file) J.start keeper }
         requires held { F.is_true file → J.held (requests keeper) }
-        requires refilled { IsRefilled seat.now keeper }
+        requires first { first
+            ≡ record { seen = part 0 (requests keeper); count = length (part 0 (requests keeper)) } }
+        requires second { second
+            ≡ record { seen = part 1 (requests keeper); count = length (part 1 (requests keeper)) } }
         ensures { result ≡ keeper }
     {
-        let (first, second) = seat.progress();
         Follower {
             desk: Desk { file, keeper },
             first,

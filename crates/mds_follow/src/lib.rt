@@ -12,9 +12,11 @@
 #![tactic(auto)]
 
 mod ahead;
+mod aside;
 mod blank;
 mod desk;
 mod disk;
+mod end;
 mod follower;
 pub mod laws;
 mod piece;
@@ -25,11 +27,12 @@ mod restart;
 mod shared;
 mod start_fault;
 
+pub use aside::Aside;
 pub use disk::Disk;
 pub use follower::Follower;
 pub use reader::RequestReader;
 pub use receipt::Receipt;
 pub use record::{Record, RecordLog};
-pub use restart::resume;
+pub use restart::{Resumed, resume};
 pub use shared::SharedFollower;
 pub use start_fault::StartFault;

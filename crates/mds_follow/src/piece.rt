@@ -1,9 +1,9 @@
 //! Requests that are read a piece at a time, by several threads, in room that is kept for the next ones.
-ghost use Rattle.std.specs.Prelude.{◌≡◌, ◌+◌, ◌^◌, ◌≤◌, [], ℕ, List, length, IfOk, OnOk, OnErr};
-ghost use Rattle.mds_follow.specs.Reading.{HandsOutAll, IsEndOf, IsEndOfTexts};
-ghost use Rattle.mds_follow.specs.Pieces.{AreRead, IsFirstPiece, first_fault, fault_of_text, requests_in, texts_in};
+ghost use Rattle.std.specs.Prelude.{◌≡◌, ◌≢◌, ◌^◌, ◌<◌, ◌≤◌, [], length, OnOk};
+ghost use Rattle.mds_follow.specs.Pieces.{AreRead, IsFirstPiece, IsReadFrom, IsSaid, first_fault, requests_in, texts_in};
 
 use crate::StartFault;
+use crate::start_fault::of_journal;
 use mds_core::{Key, Request};
 use mds_entries::{EntryFault, EntryReader};
 use mds_journal::JournalFault;
@@ -22,8 +22,8 @@ pub(crate) struct Portion {
 /// Requests that were read one after the other.
 #[derive(Drop)]
 pub(crate) struct Piece {
-    /// The number of the first one's line.
-    pub(crate) number: usize,
+    /// The numbers of their lines, and of those behind them that give none.
+    pub(crate) numbers: Vec<usize>,
     /// The first half of them.
     pub(crate) first: Portion,
     /// The half behind it.
@@ -52,14 +52,15 @@ fn make_places(requests: &mut Vec<Request>, count: usize) -> Result<(), AllocErr
     Ok(())
 }
 
-/// Why the line of this number gives no request.
-fn fault_at(number: usize, fault: EntryFault) -> StartFault
-    ensures { result ≡ fault_of_text number fault }
+/// Why the line gives no request whose number stands at this place.
+fn fault_at(numbers: &[usize], place: usize, fault: EntryFault) -> StartFault
+    requires { fault ≢ EntryFault.Memory → place < length numbers.now }
+    ensures { IsSaid numbers.now place fault result }
 {
     match fault {
         EntryFault::Memory => StartFault::Memory,
         EntryFault::BadLine | EntryFault::NoLine => {
-            StartFault::Journal(JournalFault::BadLine(number))
+            of_journal(JournalFault::BadLine(numbers[place]))
         }
     }
 }
@@ -74,7 +75,7 @@ fn first_of(one: Result<(), EntryFault>, other: Result<(), EntryFault>) -> Resul
 }
 
 impl Portion {
-    fn new(alloc: Global) -> Portion
+    pub(crate) fn new(alloc: Global) -> Portion
         ensures { result.requests.items ≡ [] }
     {
         Portion {
@@ -95,7 +96,7 @@ impl Portion {
     /// # Errors
     ///
     /// Those of [`EntryReader::read_into`], of the line behind the requests; `Memory` where there is none for their places.
-    fn read(&mut self, lines: &[Vec<u8>]) -> Result<(), EntryFault>
+    pub(crate) fn read(&mut self, lines: &[Vec<u8>]) -> Result<(), EntryFault>
         ensures { AreRead (texts_in lines.now) self.new.requests.items result }
     {
         if make_places(&mut self.requests, lines.len()).is_err() {
@@ -121,7 +122,7 @@ impl Piece {
         ensures { IsFirstPiece result }
     {
         Piece {
-            number: 1,
+            numbers: Vec::new(alloc),
             first: Portion::new(alloc),
             second: Portion::new(alloc),
             end: Ok(true),
@@ -129,7 +130,7 @@ impl Piece {
     }
 
     fn len(&self) -> usize
-        requires { length (requests_in self.now) ≤ 2 ^ 62 }
+        requires { length (requests_in self.now) < 2 ^ 64 }
         ensures { result ≡ length (requests_in self.now) }
     {
         self.first.requests.len() + self.second.requests.len()
@@ -142,6 +143,7 @@ impl Piece {
         front: &[Vec<u8>],
         behind: &[Vec<u8>],
     ) -> (Result<(), EntryFault>, Result<(), EntryFault>)
+        ensures numbers { self.new.numbers ≡ self.old.numbers }
         ensures first { AreRead (texts_in front.now) self.new.first.requests.items result.0 }
         ensures second { AreRead (texts_in behind.now) self.new.second.requests.items result.1 }
     {
@@ -154,7 +156,8 @@ impl Piece {
 
     /// As [`Portion::read`], by two threads.
     fn read_texts<R: Threads + Sync>(&mut self, rt: &R, lines: &[Vec<u8>]) -> Result<(), EntryFault>
-        ensures { AreRead (texts_in lines.now) (requests_in self.new) result }
+        ensures numbers { self.new.numbers ≡ self.old.numbers }
+        ensures read { AreRead (texts_in lines.now) (requests_in self.new) result }
     {
         let middle = lines.len() / 2;
         let (ones, others) = self.read_both(rt, &lines[..middle], &lines[middle..]);
@@ -165,28 +168,23 @@ impl Piece {
     }
 
     /// Reads the requests that these lines tell, in the place of those before them, up to the first line that tells none, by two
-    /// threads. The first line has this number, and behind the last one comes this end.
+    /// threads. The piece has the lines' numbers, and behind the last one comes this end.
     pub(crate) fn read<R: Threads + Sync>(
         &mut self,
         rt: &R,
-        number: usize,
         lines: &[Vec<u8>],
         end: Result<bool, StartFault>,
     )
-        requires { number + length lines.now ≤ 2 ^ 62 }
-        ensures number { self.new.number ≡ number }
-        ensures read { (bytes left : List ℕ) → HandsOutAll bytes (texts_in lines.now) left
-            → IsEndOfTexts left (number + length lines.now) end
-            → IsEndOf bytes left number (requests_in self.new) self.new.end }
-        ensures all { IfOk self.new.end (λ _. (self.new.end ≡ end)
-            × (length (requests_in self.new) ≡ length lines.now)) }
-        ensures few { length (requests_in self.new) ≤ length lines.now }
+        requires numbered { length lines.now ≤ length self.old.numbers.items }
+        requires few { length lines.now < 2 ^ 64 }
+        ensures numbers { self.new.numbers ≡ self.old.numbers }
+        ensures read { IsReadFrom (texts_in lines.now) end self.new }
+        ensures fewer { length (requests_in self.new) ≤ length lines.now }
     {
         let told = self.read_texts(rt, lines);
-        self.number = number;
         self.end = match told {
             Ok(()) => end,
-            Err(fault) => Err(fault_at(number + self.len(), fault)),
+            Err(fault) => Err(fault_at(&self.numbers, self.len(), fault)),
         };
     }
 }

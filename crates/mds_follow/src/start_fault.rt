@@ -1,9 +1,11 @@
 //! Why a server can't start over a journal.
 ghost use Rattle.std.specs.Prelude.{◌≡◌};
-ghost use Rattle.mds_follow.specs.Reading.{IsNoJournalFault, line_fault};
+ghost use Rattle.mds_follow.specs.Reading.{IsNoJournalFault, group_fault, line_fault};
 
 use mds_book::RecordFault;
+use mds_groups::{GroupError, GroupFault};
 use mds_journal::{DeviceError, JournalFault, OpenError};
+use std::alloc::AllocError;
 
 /// Why a book isn't open over a journal.
 #[derive(Clone, Copy, Debug, PartialEq, Eq)]
@@ -13,9 +15,22 @@ pub enum StartFault {
     /// The file can't be read or written, or its lines have more than 2^62 bytes.
     Device,
     /// The file is no journal of requests that the tables of the book accept.
-    Journal(JournalFault),
+    Journal(GroupFault),
     /// Another has asked the book, or written to the log: nobody does.
     Shared,
+    /// A whole group stood behind the lines, and the tables don't accept it. It is cut off: the journal is to be opened again, over a
+    /// new book.
+    CutOff,
+}
+
+impl From<AllocError> for StartFault {
+    ghost use Rattle.mds_follow.specs.declared.start_fault.StartFault.TheVariants.{Memory};
+
+    ghost from_gives = { λ _ fault. fault ≡ Memory };
+
+    fn from(_refused: AllocError) -> StartFault {
+        StartFault::Memory
+    }
 }
 
 impl From<DeviceError> for StartFault {
@@ -51,9 +66,26 @@ pub(crate) fn line_fault(error: OpenError, number: usize) -> StartFault
     match error {
         OpenError::Memory => StartFault::Memory,
         OpenError::Device(error) => StartFault::from(error),
-        OpenError::TooLong => StartFault::Journal(JournalFault::TooLong(number)),
+        OpenError::TooLong => of_journal(JournalFault::TooLong(number)),
         OpenError::Full | OpenError::Damaged => StartFault::Device,
     }
+}
+
+/// The fault of a line that goes on with no group.
+pub(crate) fn group_fault(error: GroupError) -> StartFault
+    ensures { result ≡ group_fault error }
+{
+    match error {
+        GroupError::Memory => StartFault::Memory,
+        GroupError::Fault(fault) => StartFault::Journal(fault),
+    }
+}
+
+/// What may be wrong with a journal that has no checks, too.
+pub(crate) fn of_journal(fault: JournalFault) -> StartFault
+    ensures { result ≡ StartFault.Journal (GroupFault.Journal fault) }
+{
+    StartFault::Journal(GroupFault::Journal(fault))
 }
 
 /// The fault where a call of the device failed before any line was read, or behind all of them.

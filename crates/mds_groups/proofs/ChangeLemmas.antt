@@ -37,7 +37,7 @@ no_plain after others more are is checked =
     All-head (IsEntry Plain) (check_of (first_line Checked ∷ [])) more entries (crc32 (open_lines (first_line Checked ∷ []))) (omega (arith, form_crc)) refl
 
 -- the forms have other first lines: the digit of the version is another
-forms_differ : first_line Checked ≡ first_line Plain → ⊥
+pub forms_differ : first_line Checked ≡ first_line Plain → ⊥
 forms_differ same =
     let digits : 50 ≡ 49 = ap (λ (w : List ℕ). get_or w 29 0) same in
     absurd (omega (arith, digits))

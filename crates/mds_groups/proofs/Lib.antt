@@ -4,3 +4,5 @@ pub mod JournalLemmas
 pub mod ChangeLemmas
 pub mod BurstLemmas
 pub mod StreamLemmas
+pub mod EntryLemmas
+pub mod BehindLemmas

@@ -1,7 +1,8 @@
 //! The groups of a journal, from its lines.
 ghost use Rattle.std.specs.Prelude.{◌≡◌, ◌++◌, ◌+◌, ◌^◌, ◌<◌, ◌≤◌, ℕ, List, [], ◌∷◌, length, None};
 ghost use Rattle.std.specs.Prelude.{IfOk, IfErr, IfSome, OnOk, OnErr};
-ghost use Rattle.mds_groups.specs.Stream.{AreWhole, HasTaken, IsEndFault, Keeps, Refuses, Takes, texts_held};
+ghost use Rattle.mds_groups.specs.Form.{IsJournal};
+ghost use Rattle.mds_groups.specs.Stream.{HasTaken, IsEndFault, Keeps, Refuses, Takes, texts_held};
 ghost use Rattle.mds_groups.specs.declared.form.JournalForm.TheVariants.{Plain, Checked};
 ghost use Rattle.mds_groups.specs.declared.stream.Stage.TheVariants.{First, FormCheck, Groups};
 
@@ -73,6 +74,19 @@ impl GroupStream {
         }
     }
 
+    /// The lines that are taken next come behind those of a journal of this form.
+    pub fn behind(alloc: Global, form: JournalForm) -> GroupStream
+        ensures { (lines : List (List ℕ)) (groups : List (List (List ℕ)))
+            → IsJournal form lines groups → HasTaken result lines groups }
+    {
+        GroupStream {
+            alloc,
+            stage: Stage::Groups(form),
+            check: GroupCheck::new(),
+            texts: Vec::new(alloc),
+        }
+    }
+
     /// Takes the line of this number, without its gate and its line feed, and hands on the group that it ends. The lines before the
     /// first group end none.
     ///
@@ -95,14 +109,15 @@ impl GroupStream {
         }
     }
 
-    /// Says whether these lines, of which there are so many, are all: a journal, whose groups were handed on.
+    /// The form of these lines, of which there are so many, where they are all: a journal, whose groups were handed on.
     ///
     /// # Errors
     ///
     /// `Form` where there is no line, `Damaged` where the last group has no check.
-    pub fn finish(&self, count: usize) -> Result<(), GroupFault>
-        ensures whole { OnOk result ((lines : List (List ℕ)) (groups : List (List (List ℕ)))
-            → HasTaken self.now lines groups → AreWhole lines groups) }
+    pub fn finish(&self, count: usize) -> Result<JournalForm, GroupFault>
+        ensures whole { IfOk result (λ form.
+            (lines : List (List ℕ)) (groups : List (List (List ℕ)))
+            → HasTaken self.now lines groups → IsJournal form lines groups) }
         ensures fault { IfErr result (λ fault.
             (lines : List (List ℕ)) (groups : List (List (List ℕ)))
             → HasTaken self.now lines groups → count ≡ length lines
@@ -111,9 +126,9 @@ impl GroupStream {
         match self.stage {
             Stage::First => Err(GroupFault::Journal(JournalFault::Form)),
             Stage::FormCheck => Err(GroupFault::Damaged(0)),
-            Stage::Groups(_) => {
+            Stage::Groups(form) => {
                 if self.texts.is_empty() {
-                    Ok(())
+                    Ok(form)
                 } else {
                     Err(GroupFault::Damaged(self.begin(count)))
                 }

@@ -1,5 +1,5 @@
 -- How the lines of a file are read.
-use Rattle.std.proofs.Common.{◌≡◌, ◌≢◌, inl, inr, Bool, true, cond, ℕ, ◌+◌, ◌-◌, ◌<◌, ◌≤◌, List, [], ◌∷◌, ◌++◌, length, take, drop, slice_index, refl, sym, ◌∙◌, ap, arith, append_assoc, append-nil, length-append, length-drop, take-append-drop, take-add, drop-drop}
+use Rattle.std.proofs.Common.{◌≡◌, ◌≢◌, ◌⊎◌, inl, inr, Bool, true, cond, ℕ, ◌+◌, ◌-◌, ◌<◌, ◌≤◌, List, [], ◌∷◌, ◌++◌, length, take, drop, slice_index, refl, sym, ◌∙◌, ap, arith, append_assoc, append-nil, length-append, length-drop, take-append-drop, take-add, drop-drop}
 use Rattle.std.proofs.lemmas.Bool.{cond-true}
 use Rattle.std.proofs.lemmas.List.{take_at, drop_at, drop_more, drop_all, take_rest, length-take-le}
 use Rattle.std.proofs.lemmas.List.Elements.{All-push}
@@ -82,6 +82,14 @@ module _ (file : List ℕ) (end : ℕ) (held : List ℕ) (ahead : GoesOn file en
   none_ahead at is short =
       let none : ahead.rest ≡ [] = sym (behind_held at is) ∙ drop_all at file short in
       ahead.split ∙ ap (λ (all : List ℕ). held ++ all) none ∙ append-nil held
+
+  by_end : (at size : ℕ) → at ≡ end + length held → 0 < size → (size ≡ 0) ⊎ (length file ≤ at) → drop end file ≡ held
+  by_end at size is some (inl none) = absurd (omega (arith, none, some))
+  by_end at size is some (inr short) = none_ahead at is short
+
+  -- where a read gives nothing, all is at hand
+  pub all_ahead : (at n : ℕ) (old new : List ℕ) → at ≡ end + length held → n ≡ 0 → 0 < length old → ReadsAt file at old new n → drop end file ≡ held
+  all_ahead at n old new is none some reads = by_end at (length old) is some (reads.end none)
 
   -- ---- a line is handed out
 

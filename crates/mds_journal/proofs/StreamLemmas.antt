@@ -1,12 +1,13 @@
 -- How lines are handed out of what a reader gives.
-use Rattle.std.proofs.Common.{◌≡◌, ℕ, ◌+◌, ◌<◌, ◌≤◌, List, ◌∷◌, ◌++◌, length, take, drop, Option, Some, None, IfSome, refl, sym, ap, ◌∙◌, subst, append_assoc, append-nil, arith, length-drop, take-add}
-use Rattle.std.proofs.lemmas.List.{take_at, drop-append-le}
+use Rattle.std.proofs.Common.{◌≡◌, ℕ, ◌+◌, ◌<◌, List, ◌∷◌, ◌++◌, length, take, drop, Option, Some, None, IfSome, refl, sym, ap, ◌∙◌, subst, append_assoc, append-nil, arith, drop-drop, take-add}
+use Rattle.std.proofs.lemmas.List.{take_at}
 use Rattle.std.specs.Io.KnownBytes.{Consumes, IsAtEnd, Keeps, prepend_known}
 use Rattle.mds_journal.specs.Lines.{recovered_texts}
 use Rattle.mds_journal.specs.Opening.{GoesOn, IsTooLong, IsFound}
-use Rattle.mds_journal.specs.Stream.{HandsOut, StandsForNothing}
+use Rattle.mds_journal.specs.Stream.{CountsFirst, HandsOut, StandsForNothing}
 use Rattle.mds_journal.specs.declared.opening.Found.TheVariants.{Line, Shut, More}
-use Rattle.mds_journal.proofs.ReadingLemmas.{more_nothing, shut_nothing, more_too_long, line_too_long, next_recovered}
+use Rattle.mds_journal.proofs.LineLemmas.{recovered_line}
+use Rattle.mds_journal.proofs.ReadingLemmas.{more_nothing, shut_nothing, more_too_long, line_too_long}
 
 -- from its beginning on a file has its own first bytes
 goes_on : (held rest : List ℕ) → GoesOn (held ++ rest) 0 held
@@ -29,11 +30,19 @@ pub hands_out : (known : Option (List ℕ)) (held : List ℕ) (size : ℕ) → I
     → HandsOut (prepend_known held known) (take size (drop 1 held)) (prepend_known (drop (size + 2) held) known)
 hands_out None held size found = tt
 hands_out (Some rest) held size found =
-    let ahead = goes_on held rest in
-    let more : size + 2 ≤ length held = omega (arith, found.0, length-drop 1 held) in
-    let place : 0 + (size + 2) ≡ size + 2 = omega arith in
-    next_recovered (held ++ rest) 0 held ahead size found
-    ∙ ap (λ (l : List ℕ). take size (drop 1 held) ∷ recovered_texts l) (ap (λ (n : ℕ). drop n (held ++ rest)) place ∙ drop-append-le (size + 2) held rest more)
+    let text = take size (drop 1 held) in
+    let back = drop (size + 1) (drop 1 held) in
+    let place : 1 + (size + 1) ≡ size + 2 = omega arith in
+    let behind : back ≡ drop (size + 2) held = drop-drop (size + 1) 1 held ∙ ap (λ (n : ℕ). drop n held) place in (
+      ap (λ (l : List ℕ). l ++ rest) found.1 ∙ ap (λ (l : List ℕ). 32 ∷ l) (append_assoc text (10 ∷ back) rest) ∙ ap (λ (l : List ℕ). 32 ∷ (text ++ 10 ∷ (l ++ rest))) behind,
+      found.2,
+    )
+
+-- a line that is handed out counts first
+pub counts_first : (known left : Option (List ℕ)) (text : List ℕ) → HandsOut known text left → CountsFirst known text left
+counts_first None left text out = tt
+counts_first (Some bytes) None text out = absurd out
+counts_first (Some bytes) (Some rest) text out = ap recovered_texts out.0 ∙ recovered_line text rest out.1
 
 -- behind a gate that isn't open nothing counts
 pub none_behind : (known : Option (List ℕ)) (held : List ℕ) → IsFound held Shut → StandsForNothing (prepend_known held known)
@@ -66,7 +75,7 @@ pub same_hands_out : (a b c : Option (List ℕ)) (text : List ℕ) → Keeps a b
 same_hands_out None b c text same is = tt
 same_hands_out (Some x) None c text same is = absurd same
 same_hands_out (Some x) (Some y) None text same is = absurd is
-same_hands_out (Some x) (Some y) (Some z) text same is = ap recovered_texts (sym same) ∙ is
+same_hands_out (Some x) (Some y) (Some z) text same is = (sym same ∙ is.0, is.1)
 
 -- the bytes that were held, and those that a read put behind them
 pub held_and_given : (held empty joined filled cut : List ℕ) (at count : ℕ) → length held ≡ at → joined ≡ held ++ empty → take at filled ≡ take at joined

@@ -26,6 +26,11 @@ open_texts ((gate ∷ text) ∷ lines) = if gate == 32 then text ∷ open_texts 
 abbrev pub recovered_texts : List ℕ → List (List ℕ)
 recovered_texts file = open_texts (whole_lines file)
 
+-- the texts that would count if the gate were open that some bytes begin with
+abbrev pub lines_behind : List ℕ → List (List ℕ)
+lines_behind [] = []
+lines_behind (gate ∷ bytes) = recovered_texts (32 ∷ bytes)
+
 -- open lines of these texts
 abbrev pub open_lines : List (List ℕ) → List ℕ
 open_lines [] = []

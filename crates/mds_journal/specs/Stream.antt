@@ -1,8 +1,8 @@
 -- What is known of a reader while its lines are handed out.
-use Rattle.std.specs.Prelude.{◌≡◌, ℕ, ◌^◌, ◌<◌, ◌≤◌, List, [], ◌∷◌, length, drop, Bool}
+use Rattle.std.specs.Prelude.{◌≡◌, ℕ, ◌^◌, ◌<◌, ◌≤◌, List, [], ◌∷◌, ◌++◌, length, drop, Bool}
 use Rattle.std.specs.Prelude.{true, false, Option, Some, None, IfSome, Result, Ok, Err}
 use Rattle.std.specs.Io.KnownBytes.{prepend_known}
-use Rattle.mds_journal.specs.Lines.{recovered_texts}
+use Rattle.mds_journal.specs.Lines.{HasNoFeed, lines_behind, recovered_texts}
 use Rattle.mds_journal.specs.Opening.{IsTooLong}
 use Rattle.mds_journal.specs.declared.stream.StreamError.{StreamError}
 use Rattle.mds_journal.specs.declared.stream.StreamError.TheVariants.{Memory, Read, TooLong, Full}
@@ -35,15 +35,27 @@ pub record IsStream {R : Type 0} (stream : LineStream R) : Type 0 where
   pub limit : stream.longest < 2 ^ 62
   pub begins : stream.next ≤ length stream.bytes.items
 
--- of known bytes the first line that counts has this text, and all others count behind it
+-- known bytes begin with an open line of this text, and these are left
 abbrev pub HandsOut : Option (List ℕ) → List ℕ → Option (List ℕ) → Type 0
 HandsOut None text left = Unit {0}
 HandsOut (Some bytes) text None = ⊥
-HandsOut (Some bytes) text (Some rest) = recovered_texts bytes ≡ text ∷ recovered_texts rest
+HandsOut (Some bytes) text (Some rest) = (bytes ≡ 32 ∷ (text ++ 10 ∷ rest)) × HasNoFeed text
+
+-- of known bytes the first line that counts has this text, and all others count behind it
+abbrev pub CountsFirst : Option (List ℕ) → List ℕ → Option (List ℕ) → Type 0
+CountsFirst None text left = Unit {0}
+CountsFirst (Some bytes) text None = ⊥
+CountsFirst (Some bytes) text (Some rest) = recovered_texts bytes ≡ text ∷ recovered_texts rest
 
 -- in known bytes no line counts
 abbrev pub StandsForNothing : Option (List ℕ) → Type 0
 StandsForNothing known = IfSome known (λ bytes. recovered_texts bytes ≡ [])
+
+-- what would count of known bytes if their first gate were open, counts now
+abbrev pub OpensGate : Option (List ℕ) → Option (List ℕ) → Type 0
+OpensGate None left = Unit {0}
+OpensGate (Some bytes) None = ⊥
+OpensGate (Some bytes) (Some rest) = recovered_texts rest ≡ lines_behind bytes
 
 -- why lines can't be read on: the line of this number has more bytes than the limit, or so many
 -- lines were handed out that no more are

@@ -8,7 +8,7 @@ ghost use Rattle.mds_journal.specs.Opening.{unread_bytes, at_hand, place_of, lim
 
 use crate::group::{OPEN_GATE, find_feed};
 use crate::journal::MAX_BYTES;
-use crate::{Device, DeviceError};
+use crate::{Device, DeviceError, MAX_GROUP_BYTES};
 use std::alloc::{AllocError, Global};
 
 /// How many bytes a read asks for.
@@ -136,6 +136,46 @@ impl<D: Device> Opening<D> {
             Ok(Found::More) => Ok(false),
             Err(error) => Err(error),
         }
+    }
+
+    /// What stands behind the lines, to the end of the file, once they were all handed out.
+    ///
+    /// # Errors
+    ///
+    /// `Damaged` where that is more than a group, `Device` where a read failed, `Memory`.
+    pub fn rest(&mut self) -> Result<Vec<u8>, OpenError>
+        requires { IsReading D.seen D.may_leave D.may_be_used D.is_true self.old }
+        ensures reading { IsReading D.seen D.may_leave D.may_be_used D.is_true self.new }
+        ensures rest { IfOk result (λ rest. D.is_true self.new.device
+            → rest.items ≡ unread_bytes D.seen self.old) }
+        ensures short { IfOk result (λ rest. length rest.items ≤ MAX_GROUP_BYTES) }
+        ensures damaged { IsErrOf result OpenError.Damaged → D.is_true self.new.device
+            → MAX_GROUP_BYTES < length (unread_bytes D.seen self.old) }
+        ensures place { place_of self.new ≡ place_of self.old }
+        ensures limit { limit_of self.new ≡ limit_of self.old }
+        ensures number { number_of self.new ≡ number_of self.old }
+        ensures untouched { D.is_true self.new.device → Untouched D.seen D.may_leave D.moment
+            D.left_since self.old.device self.new.device }
+        ensures was_true { D.is_true self.new.device → D.is_true self.old.device }
+        ensures later { D.faults self.old.device ≤ D.faults self.new.device }
+        ensures failed { IsErrOf result (OpenError.Device DeviceError.Failed)
+            → D.faults self.old.device < D.faults self.new.device }
+    {
+        let mut rest = Vec::new(self.alloc);
+        'reads: while rest.len() <= MAX_GROUP_BYTES {
+            let mut room = [0u8; CHUNK_BYTES];
+            let count = match self.device.read_at(self.end + rest.len(), &mut room) {
+                Ok(count) => count,
+                Err(error) => return Err(OpenError::Device(error)),
+            };
+            if count == 0 {
+                return Ok(rest);
+            }
+            if rest.extend_from_slice(&room[..count]).is_err() {
+                return Err(OpenError::Memory);
+            }
+        }
+        Err(OpenError::Damaged)
     }
 
     /// The number of the line that comes next. The first one is 0.

@@ -3,9 +3,10 @@ ghost use Rattle.std.specs.Prelude.{◌≡◌, ◌⊎◌, ◌+◌, ◌^◌, ◌<
 ghost use Rattle.std.specs.Prelude.{OnOk, OnErr, IfOk, IfErr, IfSome, IfNone, MatchBool};
 ghost use Rattle.std.specs.Io.KnownBytes.{Consumes, IsAtEnd, Keeps};
 ghost use Rattle.mds_journal.specs.Opening.{IsFound, IfMore};
-ghost use Rattle.mds_journal.specs.Stream.{IsStream, IsStreamFault, HandsOut, StandsForNothing, lines_of_stream};
+ghost use Rattle.mds_journal.specs.Stream.{IsStream, IsStreamFault, HandsOut, OpensGate, StandsForNothing, lines_of_stream};
 ghost use Rattle.mds_journal.specs.Stream.{unread_of, held_by, most_of, lines_given};
 
+use crate::group::OPEN_GATE;
 use crate::opening::{CHUNK_BYTES, Found, find_line, join};
 use std::alloc::Global;
 use std::io::{ErrorKind, Read};
@@ -97,6 +98,31 @@ impl<R: Read> LineStream<R> {
         ensures { result ≡ lines_given self.now }
     {
         self.count
+    }
+
+    /// Takes the gate of the next line for open, whatever it is. So what stands behind a closed gate is handed out as lines,
+    /// though it doesn't count.
+    ///
+    /// # Errors
+    ///
+    /// Those of [`LineStream::next_line`].
+    pub fn open_gate(&mut self) -> Result<(), StreamError>
+        requires { IsStream self.old }
+        ensures stream { IsStream self.new }
+        ensures open { OnOk result
+            (OpensGate (unread_of R.remaining self.old) (unread_of R.remaining self.new)) }
+        ensures err { OnErr result
+            (Keeps (unread_of R.remaining self.old) (unread_of R.remaining self.new)) }
+        ensures cause { IfErr result (IsStreamFault (lines_given self.old)
+            (most_of self.old) (unread_of R.remaining self.old)) }
+        ensures limit { most_of self.new ≡ most_of self.old }
+        ensures number { lines_given self.new ≡ lines_given self.old }
+    {
+        self.find()?;
+        if self.next < self.bytes.len() {
+            self.bytes[self.next] = OPEN_GATE;
+        }
+        Ok(())
     }
 
     /// Reads on until it can say what line comes next.

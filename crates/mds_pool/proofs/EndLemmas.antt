@@ -9,8 +9,7 @@ use Rattle.mds_table.specs.Tables.{Tables}
 use Rattle.mds_book.specs.Seats.{Seated, new_seat}
 use Rattle.mds_book.specs.Gathering.{Collected, IsGathered}
 use Rattle.mds_face.specs.Seats.{HasGrown}
-use Rattle.mds_log.specs.Log.{Acceptance}
-use Rattle.mds_follow.specs.Restart.{IsRefilled}
+use Rattle.mds_book.specs.Refilling.{HasAll}
 use Rattle.mds_pool.specs.Recording.{AreResumed}
 use Rattle.mds_pool.specs.Serving.{AreWorkers, IsEnded, IsLeft, IsSettledEnd}
 
@@ -37,12 +36,12 @@ first_resumed count seats old new some are is keep =
     let first : old ≡ new_seat false = is ∙ (ap (λ (w : List Seated). slice_index_or w 0 old) are ∙ get_or-replicate count 0 (new_seat false) old some) in
     (length-set seats 0 new ∙ workers.0, All-set (λ seat. seat.keeps_all ≡ false) seats 0 new (keep ∙ ap (λ (s : Seated). s.keeps_all) first) workers.1)
 
--- and they are resumed where it has asked what is recorded
-pub resumed : (count : ℕ) (seats : List Seated) (new : Seated) (told : List Acceptance) → 0 < count → seats ≡ replicate count (new_seat false) → IsRefilled new told
-    → AreResumed (slice_set seats 0 new) told
-resumed zero seats new told some are refilled = absurd (omega (arith, some))
-resumed (suc others) seats new told some are refilled =
-    record { first = new; others = others; split = ap (λ (w : List Seated). slice_set w 0 new) are; is_refilled = refilled }
+-- and they are resumed where it has asked all that the book holds
+pub resumed : (count : ℕ) (seats : List Seated) (new : Seated) → 0 < count → seats ≡ replicate count (new_seat false) → HasAll new
+    → AreResumed (slice_set seats 0 new)
+resumed zero seats new some are all = absurd (omega (arith, some))
+resumed (suc others) seats new some are all =
+    record { first = new; others = others; split = ap (λ (w : List Seated). slice_set w 0 new) are; all = all }
 
 -- what was gathered of a book of the workers' seats is what was left of it
 left : (tables : Tables) (count : ℕ) (seats : List Seated) (all : Collected) → AreWorkers count seats

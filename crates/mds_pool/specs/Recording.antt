@@ -6,21 +6,21 @@ use Rattle.mds_table.specs.Tables.{Tables}
 use Rattle.mds_core.specs.declared.request.Request.{Request}
 use Rattle.mds_log.specs.Log.{Acceptance, requests}
 use Rattle.mds_book.specs.Gathering.{Collected}
+use Rattle.mds_book.specs.Refilling.{HasAll}
 use Rattle.mds_book.specs.Seats.{Seated, new_seat}
 use Rattle.mds_book.specs.Shards.{part}
 use Rattle.mds_follow.specs.Parts.{Covers}
 use Rattle.mds_follow.specs.Record.{IsDesk, IsSound}
-use Rattle.mds_follow.specs.Restart.{IsRefilled}
 use Rattle.mds_pool.specs.declared.recorded_book.RecordedStop.{RecordedStop}
 use Rattle.mds_pool.specs.declared.recorded_book.RecordedStop.TheVariants.{Serve, Journal}
 use Rattle.mds_pool.specs.Serving.{IsEnded}
 
--- the first seat alone has asked what is recorded, and the others were told nothing
-pub record AreResumed (seats : List Seated) (told : List Acceptance) : Type 0 where
+-- the first seat alone has asked the book, all that it holds, and the others were told nothing
+pub record AreResumed (seats : List Seated) : Type 0 where
   pub first : Seated
   pub others : ℕ
   pub split : seats ≡ first ∷ replicate others (new_seat false)
-  pub is_refilled : IsRefilled first told
+  pub all : HasAll first
 
 -- what serving came to where what is accepted is recorded: as where it isn't, or not all is
 -- recorded

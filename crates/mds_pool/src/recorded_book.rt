@@ -15,7 +15,7 @@ use crate::{Alarm, FinalBook, Held, NewBook, Port, Stop};
 use mds_book::{Book, Copies, OpenGate, RecordFault, Seat, Settled, ShardLedger, SharedLedger};
 use mds_face::Face;
 use mds_follow::{
-    Disk, Follower, Record, RecordLog, RequestReader, SharedFollower, StartFault, resume,
+    Aside, Disk, Follower, Record, RecordLog, RequestReader, SharedFollower, StartFault, resume,
 };
 use mds_journal::Device;
 use mds_log::BlankLog;
@@ -53,7 +53,7 @@ impl<F: Record, L: ShardLedger, M: ShardLedger, J: RecordLog> Model for Recorded
     ghost view = { λ own. own.book };
 
     ghost invariant = { λ own. AreWorkers own.book.seats own.seats.items
-        × AreResumed own.seats.items own.follower };
+        × AreResumed own.seats.items };
 }
 
 /// A settled book, and the file in which what it accepted is recorded.
@@ -81,22 +81,24 @@ impl<D: Device + Send, L: SharedLedger, M: SharedLedger, J: RecordLog> RecordedB
     M,
     J,
 > {
-    /// Opens a book over a journal. Its first seat asks all that the journal tells, and notes it like any other request.
+    /// Opens a book over a journal. Its first seat asks all that the journal tells, and notes it like any other request; so it does
+    /// a whole group that no gate opened. That is still to be [recorded](RecordedBook::record_all).
     ///
     /// # Errors
     ///
-    /// As [`resume`]; and `Memory` where there is none for the book.
-    pub fn open<R: Threads + Wait + Sync>(
+    /// As [`resume`]; and `Memory` where there is none for the book. Behind `CutOff` another book may be opened over the device.
+    pub fn open<R: Threads + Wait + Sync, A: Aside>(
         rt: &R,
         alloc: Global,
         opening: NewBook,
         reader: RequestReader<D>,
         log: BlankLog,
+        aside: &mut A,
     ) -> Result<RecordedBook<Disk<D>, L, M, J>, (StartFault, D)>
         requires fits { Fits (names_of L.name L.parts L.log L.marks L.tables)
             (names_of M.name M.parts M.log M.marks M.tables) opening }
         requires at_first { IsAtFirstRequest D.seen D.may_leave D.may_be_used D.is_true
-            reader.opening }
+            reader }
         requires log { log ≡ J.log }
         requires begins { BeginsOver J.start J.held (D.moment reader.opening.device)
             (D.seen reader.opening.device) }
@@ -109,16 +111,18 @@ impl<D: Device + Send, L: SharedLedger, M: SharedLedger, J: RecordLog> RecordedB
             (KeepsLines (D.seen reader.opening.device))) }
         ensures was_true { IfErr result (λ error. D.is_true error.1
             → D.is_true reader.opening.device) }
+        ensures usable { IfErr result (λ error. error.0 ≡ StartFault.CutOff
+            → D.may_be_used error.1) }
     {
         let (book, mut seats) = match open_book::<L, M>(alloc, opening) {
             Ok(opened) => opened,
             Err(AllocError) => return Err((StartFault::Memory, reader.into_device())),
         };
-        match resume::<D, L, M, J, R>(rt, &book, &mut seats[0], reader, log) {
-            Ok(follower) => Ok(RecordedBook {
+        match resume::<D, L, M, J, R, A>(rt, &book, &mut seats[0], reader, log, aside) {
+            Ok(resumed) => Ok(RecordedBook {
                 book,
                 seats,
-                follower,
+                follower: resumed.follow(alloc),
             }),
             Err(error) => Err(error),
         }
@@ -126,6 +130,18 @@ impl<D: Device + Send, L: SharedLedger, M: SharedLedger, J: RecordLog> RecordedB
 }
 
 impl<F: Record + Drop, L: SharedLedger, M: SharedLedger, J: RecordLog> RecordedBook<F, L, M, J> {
+    /// Records what the book holds and isn't recorded yet: a group that stood whole behind the lines of a journal.
+    ///
+    /// # Errors
+    ///
+    /// As [`Record::append`].
+    pub fn record_all<R: Wait>(&mut self, rt: &R) -> Result<(), RecordFault>
+        ensures { self.new ≡ self.old }
+    {
+        self.follower
+            .follow_all(rt, &self.book, self.seats.as_slice())
+    }
+
     /// What the book holds. All of it is looked at.
     ///
     /// # Errors

@@ -1,7 +1,7 @@
 -- How what is kept of the lines of a vehicle's events goes on, line by line.
 use Rattle.std.proofs.Common.{◌≡◌, ◌≢◌, ◌∙◌, ℕ, List, [], ◌∷◌, ◌++◌, length, map, cond, Bool, true, false, Option, Some, None, refl, sym, ap, subst, arith, append-nil}
 use Rattle.std.specs.Prelude.{MatchBool, MatchOption}
-use Rattle.std.specs.List.{flat_map}
+use Rattle.std.specs.List.{flat_map, AllZip}
 use Rattle.std.proofs.lemmas.Grind.{flat_map-append}
 use Rattle.std.proofs.lemmas.List.{length_push, length-map, map-append}
 use Rattle.mds_core.specs.declared.key.Key.{Key}
@@ -11,12 +11,13 @@ use Rattle.mds_core.specs.History.{same_key, key_of, report_of, requests_of}
 use Rattle.mds_core.proofs.Histories.{requests_of-push_same, requests_of-push_other}
 use Rattle.mds_compact.specs.Compaction.{kept_of}
 use Rattle.mds_compact.proofs.Kept.{kept_more}
-use Rattle.mds_entries.specs.Form.{form_line}
-use Rattle.mds_journal.specs.Stream.{StandsForNothing}
+use Rattle.mds_entries.specs.Entry.{Tells}
+use Rattle.mds_groups.specs.Form.{texts_in}
+use Rattle.mds_retention.specs.declared.place.Place.{Place}
 use Rattle.mds_retention.specs.declared.vehicle_events.VehicleEvents.{VehicleEvents}
-use Rattle.mds_retention.specs.Telling.{HasTold, TellsBy}
+use Rattle.mds_retention.specs.Place.{HasAll}
+use Rattle.mds_retention.specs.Telling.{IsTaken}
 use Rattle.mds_retention.specs.Events.{is_event_of, event_lines, AreEventsOf, HasEvents, HasNothingOf}
-use Rattle.mds_retention.proofs.Telling.{gives_all, gives_more, told_zip}
 
 -- a line more, by whether it tells an event of the vehicle
 lines_more : (key : Key) (history : List Request) (texts : List (List ℕ)) (request : Request) (text : List ℕ) (is : Bool) → length texts ≡ length history → is_event_of key request ≡ is
@@ -87,27 +88,28 @@ events_more key history texts request text old new own some same are vehicle the
       ∙ sym (lines_more key history texts request text true same (of_own key request own some) ∙ ap (λ one. event_lines key history texts ++ one) (append-nil (text ++ 10 ∷ [])));
 }
 
--- what is kept of the lines that were told, with one more
-pub events_told : (known middle left : Option (List ℕ)) (history : List Request) (request : Request) (text : List ℕ) (key : Key) (events : VehicleEvents) (told : HasTold known history middle)
-    → TellsBy text middle left request → AreEventsOf key (history ++ request ∷ []) (told.entries ++ text ∷ []) events
-    → (all : HasTold known (history ++ request ∷ []) left) × AreEventsOf key (history ++ request ∷ []) all.entries events
-events_told known middle left history request text key events told tells are = (
-  record {
-    entries = told.entries ++ text ∷ [];
-    given = gives_more known middle left (form_line ∷ told.entries) text told.given tells.0;
-    told = told_zip told.entries history text request told.told tells.1;
-  },
-  are,
-)
+-- what all lines tell
+abbrev taken_of : (known : Option (List ℕ)) (texts : List (List ℕ)) (history : List Request) (place : Place) → HasAll known texts place → AllZip Tells texts history → IsTaken known history
+taken_of known texts history place all told = record {
+  form = place.form;
+  lines = all.lines;
+  groups = all.groups;
+  counted = all.counted;
+  journal = all.is.journal;
+  told = subst (λ (w : List (List ℕ)). AllZip Tells w history) (sym all.told) told;
+}
 
 -- where no more lines count, what is kept is of all of them
-pub events_all : (known left : Option (List ℕ)) (history : List Request) (key : Key) (events : VehicleEvents) (told : HasTold known history left) → StandsForNothing left
-    → AreEventsOf key history told.entries events → MatchBool events.is_there (HasEvents key known events.lines.items) (HasNothingOf key known)
-events_all known left history key events told none are =
+pub events_all : (known : Option (List ℕ)) (texts : List (List ℕ)) (history : List Request) (place : Place) (key : Key) (events : VehicleEvents) → HasAll known texts place → AllZip Tells texts history
+    → AreEventsOf key history texts events → MatchBool events.is_there (HasEvents key known events.lines.items) (HasNothingOf key known)
+events_all known texts history place key events all told are =
     by_there events.is_there are.there where
+      lines : events.lines.items ≡ event_lines key history (texts_in all.groups)
+      lines = are.lines ∙ ap (event_lines key history) (sym all.told)
+
       by_there : (there : Bool) → MatchBool there (requests_of history key ≢ []) (requests_of history key ≡ []) → MatchBool there (HasEvents key known events.lines.items) (HasNothingOf key known)
-      by_there true some = (history, (told.entries, gives_all known left (form_line ∷ told.entries) told.given none, told.told), some, are.lines)
-      by_there false empty = (history, (told.entries, gives_all known left (form_line ∷ told.entries) told.given none, told.told), empty)
+      by_there true some = (history, taken_of known texts history place all told, some, lines)
+      by_there false empty = (history, taken_of known texts history place all told, empty)
 
 -- what is found by whether it's there
 pub found_if : {A : Type 0} (there : Bool) (found : A) (P : Type 0) (Q : A → Type 0) → MatchBool there (Q found) P → MatchOption (cond there (Some found) None) P Q

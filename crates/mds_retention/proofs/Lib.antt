@@ -1,4 +1,6 @@
 pub mod Telling
+pub mod Fronts
+pub mod Reading
 pub mod Halfway
 pub mod Copied
 pub mod Journals

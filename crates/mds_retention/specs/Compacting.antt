@@ -35,8 +35,8 @@ StandsWhole Is found = (out : List ℕ) × (found ≡ Some out) × Is out
 abbrev pub IsCompactedTo : ℕ → List Cut → List ℕ → Compacted → List ℕ → Type 0
 IsCompactedTo from cuts bytes compacted out =
     (made : IsCompactedJournal from cuts bytes out)
-    × AreTotalsOf made.old made.new compacted.totals
-    × (compacted.cuts.items ≡ cut_totals made.old cuts)
+    × AreTotalsOf made.made.old made.made.new compacted.totals
+    × (compacted.cuts.items ≡ cut_totals made.made.old cuts)
 
 -- why so many marked lines can't be written: what tells them has this fault, or the new file
 abbrev pub IsWriteFault : Option (List ℕ) → ℕ → CompactError → Type 0

@@ -1,5 +1,6 @@
 -- What stays of a journal, and what a shorter one tells.
-use Rattle.std.specs.Prelude.{◌≡◌, ◌⊎◌, ℕ, ◌+◌, List, ◌∷◌, length, map, Bool, Option, Some}
+use Rattle.std.specs.Prelude.{◌≡◌, ℕ, ◌+◌, List, length, map, Bool, Option, Some}
+use Rattle.std.specs.List.{AllZip}
 use Rattle.mds_table.specs.Tables.{Tables}
 use Rattle.mds_core.specs.declared.request.Request.{Request}
 use Rattle.mds_core.specs.History.{requests_of, reports}
@@ -8,17 +9,17 @@ use Rattle.mds_compact.specs.Compaction.{kept_of, IsCompaction, IsThin}
 use Rattle.mds_compact.specs.Cutting.{IsCutBy, IsCuttingOf}
 use Rattle.mds_compact.specs.Passes.{IsSurveyOf}
 use Rattle.mds_compact.specs.declared.cutting.Cut.{Cut}
-use Rattle.mds_entries.specs.Form.{form_line}
-use Rattle.mds_journal.specs.Lines.{open_lines}
-use Rattle.mds_journal.specs.declared.fault.JournalFault.TheVariants.{Form, BadLine, TooLong}
-use Rattle.mds_journal.specs.declared.fault.JournalFault.TheVariants.{Refused, Damaged}
+use Rattle.mds_entries.specs.Entry.{Tells}
+use Rattle.mds_groups.specs.Form.{texts_in}
+use Rattle.mds_groups.specs.declared.fault.GroupFault.TheVariants.{Damaged, Journal}
+use Rattle.mds_journal.specs.declared.fault.JournalFault.TheVariants.{Form, TooLong}
 use Rattle.mds_retention.specs.declared.error.LinesError.{LinesError}
 use Rattle.mds_retention.specs.declared.error.LinesError.TheVariants.{Memory, Read, Fault, Changed}
 use Rattle.mds_retention.specs.declared.compacting.CutTotals.{CutTotals}
 use Rattle.mds_retention.specs.declared.passes.Surveyed.{Surveyed}
 use Rattle.mds_retention.specs.declared.passes.Totals.{Totals}
-use Rattle.mds_retention.specs.Telling.{Gives, AreTexts, HasFront, IsTaken}
-use Rattle.mds_retention.specs.Telling.{HasFewer, HasLongLine, HasOtherForm}
+use Rattle.mds_retention.specs.Telling.{HasFewer, HasLongBehind, HasOtherForm, HasTexts}
+use Rattle.mds_retention.specs.Telling.{IsDamaged, IsFileOf, IsTaken}
 
 -- the pass by these cuts took this history, and what it leaves of it was surveyed
 pub record IsSurveyed (cuts : List Cut) (history : List Request) (surveyed : Surveyed)
@@ -48,41 +49,49 @@ pub record AreTotalsOf (old new : List Request) (totals : Totals) : Type 0 where
   pub all : totals.registrations + totals.events ≡ length old
   pub kept : totals.kept ≡ length (reports new)
 
--- these texts have a mark each, and the bytes are the form's line and those that the marks keep
-abbrev pub IsKeptBy : List Bool → List (List ℕ) → List ℕ → Type 0
-IsKeptBy marks texts out =
-    (length texts ≡ length marks) × (out ≡ open_lines (form_line ∷ kept_of marks texts))
+-- these texts are those that marks keep of the first texts of a journal
+abbrev pub HasKept : Option (List ℕ) → List Bool → List (List ℕ) → Type 0
+HasKept known marks kept =
+    (texts : List (List ℕ)) × HasTexts known texts
+    × (length texts ≡ length marks) × (kept ≡ kept_of marks texts)
 
--- so are those of the first lines of a file behind the form's
-abbrev pub HasKept : Option (List ℕ) → List Bool → List ℕ → Type 0
-HasKept known marks out =
-    (texts : List (List ℕ)) × HasFront known (form_line ∷ texts) × IsKeptBy marks texts out
+-- the bytes are those of a journal with these texts
+abbrev pub HasKeptIn : Option (List ℕ) → List Bool → List ℕ → Type 0
+HasKeptIn known marks out =
+    (kept : List (List ℕ)) × HasKept known marks kept × IsFileOf kept out
 
--- why so many marked lines of a file can't be copied
+-- why so many marked texts of a file can't be copied
 abbrev pub IsCopyFault : ℕ → Option (List ℕ) → LinesError → Type 0
 IsCopyFault count known Memory = Unit {0}
 IsCopyFault count known Read = Unit {0}
-IsCopyFault count known (Fault Form) = HasOtherForm known
-IsCopyFault count known (Fault (TooLong line)) =
-    ((line ≡ 0) × HasLongLine known)
-    ⊎ ((texts : List (List ℕ)) × (left : Option (List ℕ)) × Gives known (form_line ∷ texts) left
-    × (line ≡ length texts + 1) × HasLongLine left)
-IsCopyFault count known (Fault (BadLine line)) = ⊥
-IsCopyFault count known (Fault (Refused line)) = ⊥
-IsCopyFault count known (Fault Damaged) = ⊥
+IsCopyFault count known (Fault (Damaged line)) =
+    (texts : List (List ℕ)) × IsDamaged known texts line
+IsCopyFault count known (Fault (Journal Form)) = HasOtherForm known
+IsCopyFault count known (Fault (Journal (TooLong line))) =
+    (texts : List (List ℕ)) × HasLongBehind known texts line
+IsCopyFault count known (Fault (Journal other)) = ⊥
 IsCopyFault count known Changed = HasFewer known count
 
--- what the lines of one journal tell is a compaction of what cuts leave of what those of the other
--- tell, and they stand there as they stand in the other
-pub record IsCompactedJournal (from : ℕ) (cuts : List Cut) (bytes out : List ℕ) : Type 0 where
+-- these texts of a journal tell a compaction of what cuts leave of what all its lines tell, and
+-- stand there as they stand in it
+pub record IsCompactionOf (from : ℕ) (cuts : List Cut) (bytes : List ℕ) (kept : List (List ℕ))
+    : Type 0 where
   pub old : List Request
   pub cut : List Request
   pub new : List Request
   pub before : IsTaken (Some bytes) old
-  pub after : IsTaken (Some out) new
-  pub copied : (marks : List Bool) × (texts : List (List ℕ))
-      × AreTexts (Some bytes) (form_line ∷ texts)
-      × (new ≡ kept_of marks old) × IsKeptBy marks texts out
+  pub told : AllZip Tells kept new
+  pub marks : List Bool
+  pub count : length marks ≡ length old
+  pub copied : kept ≡ kept_of marks (texts_in before.groups)
+  pub stays : new ≡ kept_of marks old
   pub front : IsCutBy cuts old cut
   pub compaction : IsCompaction from cut new
   pub thin : (tables : Tables) → IsLawful tables cut → IsThin from cut new
+
+-- a journal of version 2 has these texts, and no more
+pub record IsCompactedJournal (from : ℕ) (cuts : List Cut) (bytes out : List ℕ) : Type 0 where
+  pub kept : List (List ℕ)
+  pub made : IsCompactionOf from cuts bytes kept
+  pub file : IsFileOf kept out
+  pub after : IsTaken (Some out) made.new

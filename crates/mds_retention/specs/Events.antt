@@ -6,6 +6,7 @@ use Rattle.mds_core.specs.declared.request.Request.{Request}
 use Rattle.mds_core.specs.declared.request.Request.TheVariants.{Register, Report, Look}
 use Rattle.mds_core.specs.History.{same_key, requests_of}
 use Rattle.mds_compact.specs.Compaction.{kept_of}
+use Rattle.mds_groups.specs.Form.{texts_in}
 use Rattle.mds_retention.specs.declared.vehicle_events.VehicleEvents.{VehicleEvents}
 use Rattle.mds_retention.specs.Telling.{IsTaken}
 
@@ -34,7 +35,7 @@ pub record AreEventsOf (key : Key) (history : List Request) (texts : List (List 
 abbrev pub HasEvents : Key → Option (List ℕ) → List ℕ → Type 0
 HasEvents key known lines =
     (history : List Request) × (taken : IsTaken known history)
-    × (requests_of history key ≢ []) × (lines ≡ event_lines key history taken.0)
+    × (requests_of history key ≢ []) × (lines ≡ event_lines key history (texts_in taken.groups))
 
 -- they are the form's, and others that tell requests, none of them about the vehicle
 abbrev pub HasNothingOf : Key → Option (List ℕ) → Type 0

@@ -1,8 +1,11 @@
+-- Definitions that the contracts cite.
 pub mod Telling
-pub mod Copying
+pub mod Place
+pub mod Texts
 pub mod Lines
+pub mod Copying
 pub mod Draft
 pub mod Compacting
-pub mod Events
-pub mod Place
+pub mod Rest
 pub mod NewJournal
+pub mod Events

@@ -1,22 +1,23 @@
--- What is known of a journal's lines while their requests are read.
-use Rattle.std.specs.Prelude.{◌≡◌, ℕ, List, Option}
-use Rattle.mds_table.specs.Json.{max_bytes}
-use Rattle.mds_journal.specs.Stream.{IsStream, unread_of, lines_given, most_of}
+-- What the lines of a journal told while their requests are read.
+use Rattle.std.specs.Prelude.{List, ℕ, Option}
+use Rattle.std.specs.List.{AllZip}
+use Rattle.mds_core.specs.declared.request.Request.{Request}
+use Rattle.mds_entries.specs.Entry.{Tells}
+use Rattle.mds_retention.specs.declared.error.LinesError.{LinesError}
 use Rattle.mds_retention.specs.declared.lines.RequestLines.{RequestLines}
+use Rattle.mds_retention.specs.Telling.{IsJournalFault}
+use Rattle.mds_retention.specs.Texts.{HasRead}
 
--- the next line may be read
-pub record AreLines {R : Type 0} (requests : RequestLines R) : Type 0 where
-  pub stream : IsStream requests.lines
-  pub limit : most_of requests.lines ≡ max_bytes
+-- of a reader's bytes
+module _ {R : Type 0} (remaining : R → Option (List ℕ)) where
+  -- the lines so far told these requests
+  abbrev pub HasTold : Option (List ℕ) → RequestLines R → List Request → Type 0
+  HasTold known requests history =
+      (texts : List (List ℕ)) × HasRead remaining known requests.texts texts
+      × AllZip Tells texts history
 
--- all that is behind the lines that were read, where it's known what the reader gives
-abbrev pub left_of : {R : Type 0} → (R → Option (List ℕ)) → RequestLines R → Option (List ℕ)
-left_of remaining requests = unread_of remaining requests.lines
-
--- the text of the line that was read last
-abbrev pub text_of : {R : Type 0} → RequestLines R → List ℕ
-text_of requests = requests.line.items
-
--- the number of the next line
-abbrev pub number_of : {R : Type 0} → RequestLines R → ℕ
-number_of requests = lines_given requests.lines
+  -- whatever requests they told, this is why no more are read
+  abbrev pub StopsLines : RequestLines R → LinesError → Type 0
+  StopsLines requests error =
+      (known : Option (List ℕ)) (history : List Request)
+      → HasTold known requests history → IsJournalFault known error

@@ -1,128 +1,184 @@
 -- What the lines of a journal tell.
-use Rattle.std.specs.Prelude.{◌≡◌, ◌≢◌, ◌⊎◌, ◌≤◌, ◌<◌, ℕ, ◌+◌, List, ◌∷◌, ◌++◌, length}
+use Rattle.std.specs.Prelude.{◌≡◌, ◌≢◌, ◌⊎◌, ◌≤◌, ◌<◌, ℕ, List, ◌++◌, length}
 use Rattle.std.specs.Prelude.{Option, Some, None, IfSome}
 use Rattle.std.specs.List.{AllZip}
 use Rattle.mds_table.specs.Json.{max_bytes}
 use Rattle.mds_core.specs.declared.request.Request.{Request}
 use Rattle.mds_entries.specs.Entry.{Tells}
-use Rattle.mds_entries.specs.Form.{form_line}
-use Rattle.mds_journal.specs.Lines.{recovered_texts}
+use Rattle.mds_entries.specs.declared.entry.EntryFault.{EntryFault}
+use Rattle.mds_entries.specs.declared.entry.EntryFault.TheVariants as entry
+use Rattle.mds_groups.specs.Entries.{IsEntryAt}
+use Rattle.mds_groups.specs.Form.{first_line, texts_in, IsJournal}
+use Rattle.mds_groups.specs.Laws.{TellsTexts}
+use Rattle.mds_groups.specs.Stream.{IsEndFault, IsFront, IsLineFault}
+use Rattle.mds_groups.specs.declared.fault.GroupFault.TheVariants.{Damaged, Journal}
+use Rattle.mds_groups.specs.declared.form.JournalForm.{JournalForm}
+use Rattle.mds_groups.specs.declared.form.JournalForm.TheVariants.{Checked}
+use Rattle.mds_groups.specs.declared.stream.GroupError.{GroupError}
+use Rattle.mds_groups.specs.declared.stream.GroupError.TheVariants as group
+use Rattle.mds_journal.specs.Lines.{recovered_texts, open_lines}
 use Rattle.mds_journal.specs.Opening.{IsTooLong}
-use Rattle.mds_journal.specs.Stream.{HandsOut, StandsForNothing}
+use Rattle.mds_journal.specs.Stream.{CountsFirst, StandsForNothing}
 use Rattle.mds_journal.specs.declared.stream.StreamError.{StreamError}
 use Rattle.mds_journal.specs.declared.stream.StreamError.TheVariants as stream
 use Rattle.mds_journal.specs.declared.fault.JournalFault.TheVariants.{Form, BadLine, TooLong}
-use Rattle.mds_journal.specs.declared.fault.JournalFault.TheVariants.{Refused, Damaged}
 use Rattle.mds_retention.specs.declared.error.LinesError.{LinesError}
 use Rattle.mds_retention.specs.declared.error.LinesError.TheVariants.{Memory, Read, Fault, Changed}
 
--- why requests can't be read, where lines can't be read on for this
-abbrev pub stream_error : StreamError → LinesError
-stream_error stream.Memory = Memory
-stream_error stream.Read = Read
-stream_error (stream.TooLong line) = Fault (TooLong line)
-stream_error stream.Full = Read
+-- why the line of this number can't be read, where lines can't be read on for this
+abbrev pub stream_error : ℕ → StreamError → LinesError
+stream_error number stream.Memory = Memory
+stream_error number stream.Read = Read
+stream_error number (stream.TooLong line) = Fault (Journal (TooLong number))
+stream_error number stream.Full = Read
 
--- of known bytes these texts count first, and what counts in the rest counts behind them
+-- why requests can't be read, where a line goes on with no group for this
+abbrev pub group_error : GroupError → LinesError
+group_error group.Memory = Memory
+group_error (group.Fault fault) = Fault fault
+
+-- why the line of this number isn't read, where its text tells no request for this
+abbrev pub entry_error : ℕ → EntryFault → LinesError
+entry_error number entry.BadLine = Fault (Journal (BadLine number))
+entry_error number entry.NoLine = Fault (Journal (BadLine number))
+entry_error number entry.Memory = Memory
+
+-- of known bytes these lines count first, and what counts in the rest counts behind them
 abbrev pub Gives : Option (List ℕ) → List (List ℕ) → Option (List ℕ) → Type 0
-Gives None texts left = Unit {0}
-Gives (Some bytes) texts None = ⊥
-Gives (Some bytes) texts (Some rest) = recovered_texts bytes ≡ texts ++ recovered_texts rest
+Gives None lines left = Unit {0}
+Gives (Some bytes) lines None = ⊥
+Gives (Some bytes) lines (Some rest) = recovered_texts bytes ≡ lines ++ recovered_texts rest
 
--- the first line names the form, and those behind it tell these requests, in order
-pub record HasTold (known : Option (List ℕ)) (history : List Request) (left : Option (List ℕ))
-    : Type 0 where
-  pub entries : List (List ℕ)
-  pub given : Gives known (form_line ∷ entries) left
-  pub told : AllZip Tells entries history
-
--- of known bytes these texts count first, whatever counts behind them
+-- of known bytes these lines count first, whatever counts behind them
 abbrev pub HasFront : Option (List ℕ) → List (List ℕ) → Type 0
-HasFront known texts = (left : Option (List ℕ)) × Gives known texts left
+HasFront known lines = (left : Option (List ℕ)) × Gives known lines left
 
--- the first line names the form, and the first of those behind it tell these requests, in order
-abbrev pub BeginsWith : List ℕ → List Request → Type 0
-BeginsWith bytes history = (left : Option (List ℕ)) × HasTold (Some bytes) history left
+-- these are the lines that count in known bytes
+abbrev pub AreLines : Option (List ℕ) → List (List ℕ) → Type 0
+AreLines known lines = IfSome known (λ bytes. recovered_texts bytes ≡ lines)
 
--- the next line has this text, and it tells this request
-abbrev pub TellsBy : List ℕ → Option (List ℕ) → Option (List ℕ) → Request → Type 0
-TellsBy text known left request = HandsOut known text left × Tells text request
+-- the lines that count are a journal, of either version, whose texts tell these requests, in order
+pub record IsTaken (known : Option (List ℕ)) (history : List Request) : Type 0 where
+  pub form : JournalForm
+  pub lines : List (List ℕ)
+  pub groups : List (List (List ℕ))
+  pub counted : AreLines known lines
+  pub journal : IsJournal form lines groups
+  pub told : AllZip Tells (texts_in groups) history
 
--- the next line tells this request
-abbrev pub TellsNext : Option (List ℕ) → Option (List ℕ) → Request → Type 0
-TellsNext known left request = (text : List ℕ) × HandsOut known text left × Tells text request
+-- the lines that count begin with a journal, and its texts tell these requests, in order
+pub record BeginsWith (bytes : List ℕ) (history : List Request) : Type 0 where
+  pub form : JournalForm
+  pub lines : List (List ℕ)
+  pub groups : List (List (List ℕ))
+  pub more : List (List ℕ)
+  pub counted : recovered_texts bytes ≡ lines ++ more
+  pub journal : IsJournal form lines groups
+  pub told : AllZip Tells (texts_in groups) history
 
--- these are the texts that count in known bytes
-abbrev pub AreTexts : Option (List ℕ) → List (List ℕ) → Type 0
-AreTexts known texts = IfSome known (λ bytes. recovered_texts bytes ≡ texts)
+-- the bytes are those of a journal of version 2 with these texts, and no more
+pub record IsFileOf (texts : List (List ℕ)) (bytes : List ℕ) : Type 0 where
+  pub lines : List (List ℕ)
+  pub journal : TellsTexts Checked lines texts
+  pub bytes_are : bytes ≡ open_lines lines
+  pub counted : recovered_texts bytes ≡ lines
 
--- the lines that count are the form's, and others that tell these requests, in order
-abbrev pub IsTaken : Option (List ℕ) → List Request → Type 0
-IsTaken known history =
-    (entries : List (List ℕ)) × AreTexts known (form_line ∷ entries) × AllZip Tells entries history
+-- the lines that count begin with the front of a journal, and these texts come first in its groups
+pub record HasTexts (known : Option (List ℕ)) (texts : List (List ℕ)) : Type 0 where
+  pub lines : List (List ℕ)
+  pub groups : List (List (List ℕ))
+  pub rest : List (List ℕ)
+  pub counted : HasFront known lines
+  pub front : IsFront lines groups
+  pub told : texts_in groups ≡ texts ++ rest
 
--- the next line isn't too long, and tells no request
-abbrev pub TellsNone : Option (List ℕ) → Type 0
-TellsNone known =
-    (text : List ℕ) × (left : Option (List ℕ)) × HandsOut known text left
-    × (length text ≤ max_bytes) × ((request : Request) → Tells text request → ⊥)
+-- a text isn't too long
+abbrev pub IsShort : List ℕ → Type 0
+IsShort text = length text ≤ max_bytes
+
+-- nor does it tell a request
+abbrev pub TellsNone : List ℕ → Type 0
+TellsNone text = IsShort text × ((request : Request) → Tells text request → ⊥)
 
 -- the next line has too many bytes
 abbrev pub HasLongLine : Option (List ℕ) → Type 0
 HasLongLine known = IfSome known (IsTooLong max_bytes)
 
--- there is no first line, or one that isn't too long, and names another form
+-- there is no first line, or one that isn't too long, and names no form
 abbrev pub HasOtherForm : Option (List ℕ) → Type 0
 HasOtherForm known =
     StandsForNothing known
     ⊎ ((text : List ℕ) × (left : Option (List ℕ))
-    × HandsOut known text left × (length text ≤ max_bytes) × (text ≢ form_line))
+    × CountsFirst known text left × IsShort text
+    × ((form : JournalForm) → text ≢ first_line form))
 
--- why the first line can't be taken
-abbrev pub IsFormFault : Option (List ℕ) → LinesError → Type 0
-IsFormFault known Memory = Unit {0}
-IsFormFault known Read = Unit {0}
-IsFormFault known (Fault Form) = HasOtherForm known
-IsFormFault known (Fault (TooLong line)) = (line ≡ 0) × HasLongLine known
-IsFormFault known (Fault (BadLine line)) = ⊥
-IsFormFault known (Fault (Refused line)) = ⊥
-IsFormFault known (Fault Damaged) = ⊥
-IsFormFault known Changed = ⊥
+-- these lines count first, the front of a journal whose whole groups have these texts
+pub record IsReadTo (known : Option (List ℕ)) (texts lines : List (List ℕ))
+    (left : Option (List ℕ)) : Type 0 where
+  pub groups : List (List (List ℕ))
+  pub front : IsFront lines groups
+  pub told : texts_in groups ≡ texts
+  pub given : Gives known lines left
 
--- why the next line, which has this number, can't be taken
-abbrev pub IsLineFault : ℕ → Option (List ℕ) → LinesError → Type 0
-IsLineFault number known Memory = Unit {0}
-IsLineFault number known Read = Unit {0}
-IsLineFault number known (Fault Form) = ⊥
-IsLineFault number known (Fault (TooLong line)) = (line ≡ number) × HasLongLine known
-IsLineFault number known (Fault (BadLine line)) = (line ≡ number) × TellsNone known
-IsLineFault number known (Fault (Refused line)) = ⊥
-IsLineFault number known (Fault Damaged) = ⊥
-IsLineFault number known Changed = ⊥
+-- behind these texts the line of this number is too long
+abbrev pub HasLongBehind : Option (List ℕ) → List (List ℕ) → ℕ → Type 0
+HasLongBehind known texts number =
+    (lines : List (List ℕ)) × (left : Option (List ℕ)) × IsReadTo known texts lines left
+    × (number ≡ length lines) × HasLongLine left
 
--- all lines before that of this number tell requests, but for the first, which names the form, and
--- this holds of what is left of them
-abbrev pub StopsAt : Option (List ℕ) → ℕ → (Option (List ℕ) → Type 0) → Type 0
-StopsAt known number Stops =
-    (left : Option (List ℕ)) × (history : List Request)
-    × HasTold known history left × (number ≡ length history + 1) × Stops left
+-- behind these texts the group that begins with the line of this number isn't whole: by the next
+-- line, or because there is none
+pub record IsDamaged (known : Option (List ℕ)) (texts : List (List ℕ)) (number : ℕ) : Type 0 where
+  pub lines : List (List ℕ)
+  pub left : Option (List ℕ)
+  pub to : IsReadTo known texts lines left
+  pub damage : ((line : List ℕ) × (rest : Option (List ℕ)) × CountsFirst left line rest
+      × IsLineFault lines to.groups line (group.Fault (Damaged number)))
+      ⊎ (AreLines known lines × IsEndFault lines to.groups (Damaged number))
 
--- there are fewer lines behind the first than so many
-abbrev pub HasFewer : Option (List ℕ) → ℕ → Type 0
-HasFewer known count =
-    (texts : List (List ℕ)) × AreTexts known (form_line ∷ texts) × (length texts < count)
+-- why no more texts can be read behind these
+abbrev pub StopsBehind : Option (List ℕ) → List (List ℕ) → LinesError → Type 0
+StopsBehind known texts Memory = Unit {0}
+StopsBehind known texts Read = Unit {0}
+StopsBehind known texts (Fault (Damaged line)) = IsDamaged known texts line
+StopsBehind known texts (Fault (Journal Form)) = HasOtherForm known
+StopsBehind known texts (Fault (Journal (TooLong line))) = HasLongBehind known texts line
+StopsBehind known texts (Fault (Journal other)) = ⊥
+StopsBehind known texts Changed = ⊥
+
+-- behind texts that tell requests comes one that tells none; its line has this number
+pub record HasBadLine (known : Option (List ℕ)) (number : ℕ) : Type 0 where
+  pub lines : List (List ℕ)
+  pub counted : HasFront known lines
+  pub before : List (List ℕ)
+  pub history : List Request
+  pub told : AllZip Tells before history
+  pub text : List ℕ
+  pub at : IsEntryAt lines before number text
+  pub none : TellsNone text
+
+-- this holds of texts that tell requests
+abbrev pub StopsAfter : (List (List ℕ) → Type 0) → Type 0
+StopsAfter Stops =
+    (texts : List (List ℕ)) × (history : List Request) × AllZip Tells texts history × Stops texts
 
 -- why known bytes are no journal
 abbrev pub IsJournalFault : Option (List ℕ) → LinesError → Type 0
 IsJournalFault known Memory = Unit {0}
 IsJournalFault known Read = Unit {0}
-IsJournalFault known (Fault Form) = HasOtherForm known
-IsJournalFault known (Fault (TooLong line)) =
-    ((line ≡ 0) × HasLongLine known) ⊎ StopsAt known line HasLongLine
-IsJournalFault known (Fault (BadLine line)) = StopsAt known line TellsNone
-IsJournalFault known (Fault (Refused line)) = ⊥
-IsJournalFault known (Fault Damaged) = ⊥
+IsJournalFault known (Fault (Damaged line)) = StopsAfter (λ texts. IsDamaged known texts line)
+IsJournalFault known (Fault (Journal Form)) = HasOtherForm known
+IsJournalFault known (Fault (Journal (TooLong line))) =
+    StopsAfter (λ texts. HasLongBehind known texts line)
+IsJournalFault known (Fault (Journal (BadLine line))) = HasBadLine known line
+IsJournalFault known (Fault (Journal other)) = ⊥
 IsJournalFault known Changed = ⊥
+
+-- the journal has fewer texts than so many
+abbrev pub HasFewer : Option (List ℕ) → ℕ → Type 0
+HasFewer known count =
+    (form : JournalForm) × (lines : List (List ℕ)) × (groups : List (List (List ℕ)))
+    × AreLines known lines × IsJournal form lines groups × (length (texts_in groups) < count)
 
 -- why so many requests of known bytes can't be read: they are no journal, or tell fewer
 abbrev pub IsAgainFault : Option (List ℕ) → ℕ → LinesError → Type 0

@@ -2,7 +2,7 @@
 ghost use Rattle.std.specs.Prelude.{◌≡◌, ◌⊎◌, ℕ, List, Bool, [], length, Option, IfOk, IfErr, OnOk};
 ghost use Rattle.mds_core.specs.declared.request.Request.{Request as Requested};
 ghost use Rattle.mds_compact.specs.Cutting.{IsCuttingOf};
-ghost use Rattle.mds_retention.specs.Copying.{HasKept, IsCompactedJournal, cut_totals};
+ghost use Rattle.mds_retention.specs.Copying.{HasKeptIn, IsCompactedJournal, cut_totals};
 ghost use Rattle.mds_retention.specs.Draft.{IsWritten};
 ghost use Rattle.mds_retention.specs.Compacting.{AreReadings, IsCompactFault, IsCompactedTo, IsCutFault, IsOfNew, IsWriteFault, StandsWhole};
 
@@ -12,7 +12,7 @@ use crate::error::CompactError;
 use crate::passes::{Totals, marks_of, survey_of, thinning_of};
 use mds_compact::{Cut, Cutting};
 use mds_file::NewName;
-use mds_journal::Device;
+use mds_journal::{Device, Group};
 use std::alloc::Global;
 use std::hash::RandomState;
 use std::io::Read;
@@ -120,15 +120,16 @@ fn write_new<R: Read + Drop, N: NewName>(
     name: &mut N,
 ) -> Result<(), CompactError>
     ensures made { OnOk result (N.is_true name.new → (found : Option (List ℕ))
-        → N.may_stand name.new found → StandsWhole (HasKept (R.remaining reader) marks.now) found) }
+        → N.may_stand name.new found → StandsWhole (HasKeptIn (R.remaining reader) marks.now) found) }
     ensures crash { N.is_true name.new → (found : Option (List ℕ)) → N.may_stand name.new found
-        → N.may_stand name.old found ⊎ StandsWhole (HasKept (R.remaining reader) marks.now) found }
+        → N.may_stand name.old found ⊎ StandsWhole (HasKeptIn (R.remaining reader) marks.now) found }
     ensures fault { IfErr result (IsWriteFault (R.remaining reader) (length marks.now)) }
     ensures over { N.keeps name.new → N.is_over name.new → N.is_over name.old }
     ensures kept { N.keeps name.new → N.keeps name.old }
 {
+    let room = Group::new(alloc)?;
     let file = name.draft()?;
-    let mut draft = Draft::new(alloc, file);
+    let mut draft = Draft::new(alloc, room, file);
     match write_kept(alloc, reader, marks, &mut draft) {
         Ok(()) => {
             name.link(draft.into_file())?;
@@ -151,7 +152,8 @@ fn write_kept<R: Read + Drop, D: Device + Drop>(
     requires usable { D.may_be_used draft.old.file }
     requires start { draft.old.size ≡ 0 }
     requires page { draft.old.page.items ≡ [] }
-    ensures kept { OnOk result ((out : List ℕ) × HasKept (R.remaining reader) marks.now out
+    requires group { draft.old.group ≡ [] }
+    ensures kept { OnOk result ((out : List ℕ) × HasKeptIn (R.remaining reader) marks.now out
         × IsWritten D.may_leave D.is_true out draft.new) }
     ensures fault { IfErr result (IsWriteFault (R.remaining reader) (length marks.now)) }
 {

@@ -2,7 +2,7 @@
 ghost use Rattle.std.specs.Prelude.{◌≡◌};
 
 use mds_file::{FileFault, NewFileFault};
-use mds_journal::{JournalFault, StreamError};
+use mds_groups::{GroupError, GroupFault};
 use std::alloc::{AllocError, AllocFailed};
 
 /// Why the requests of a journal can't be read.
@@ -13,7 +13,7 @@ pub enum LinesError {
     /// A read failed, or there are more than 2^62 lines.
     Read,
     /// The file is no journal.
-    Fault(JournalFault),
+    Fault(GroupFault),
     /// There are fewer lines than there were: the file was changed since.
     Changed,
 }
@@ -38,16 +38,15 @@ impl<T: Drop> From<AllocFailed<T>> for LinesError {
     }
 }
 
-impl From<StreamError> for LinesError {
-    ghost use Rattle.mds_retention.specs.Telling.{stream_error};
+impl From<GroupError> for LinesError {
+    ghost use Rattle.mds_retention.specs.Telling.{group_error};
 
-    ghost from_gives = { λ cause error. error ≡ stream_error cause };
+    ghost from_gives = { λ cause error. error ≡ group_error cause };
 
-    fn from(error: StreamError) -> LinesError {
+    fn from(error: GroupError) -> LinesError {
         match error {
-            StreamError::Memory => LinesError::Memory,
-            StreamError::TooLong(line) => LinesError::Fault(JournalFault::TooLong(line)),
-            StreamError::Read | StreamError::Full => LinesError::Read,
+            GroupError::Memory => LinesError::Memory,
+            GroupError::Fault(fault) => LinesError::Fault(fault),
         }
     }
 }
@@ -102,17 +101,6 @@ impl From<NewFileFault> for CompactError {
 
     fn from(fault: NewFileFault) -> CompactError {
         CompactError::New(fault)
-    }
-}
-
-impl From<StreamError> for CompactError {
-    ghost use Rattle.mds_retention.specs.Telling.{stream_error};
-    ghost use Rattle.mds_retention.specs.declared.error.CompactError.TheVariants.{Old};
-
-    ghost from_gives = { λ cause error. error ≡ Old (stream_error cause) };
-
-    fn from(error: StreamError) -> CompactError {
-        CompactError::Old(LinesError::from(error))
     }
 }
 

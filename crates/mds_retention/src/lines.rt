@@ -1,133 +1,116 @@
 //! The requests that the lines of a journal tell, one after another.
-ghost use Rattle.std.specs.Prelude.{◌≡◌, ◌+◌, ◌<◌, ◌^◌, [], IfOk, IfErr, IfSome, IfNone, OnOk};
-ghost use Rattle.std.specs.Io.KnownBytes.{Keeps};
-ghost use Rattle.mds_table.specs.Json.{max_bytes};
-ghost use Rattle.mds_entries.specs.Form.{form_line};
-ghost use Rattle.mds_journal.specs.Stream.{IsStream, HandsOut, StandsForNothing, unread_of, lines_given, most_of};
-ghost use Rattle.mds_retention.specs.Telling.{HasTold, TellsBy, TellsNext, IsFormFault, IsLineFault};
+ghost use Rattle.std.specs.Prelude.{◌≡◌, ◌+◌, ◌<◌, ◌^◌, ℕ, List, [], Option, IfOk, IfErr, IfSome, IfNone};
+ghost use Rattle.mds_entries.specs.Entry.{Tells};
+ghost use Rattle.mds_groups.specs.Form.{texts_in};
+ghost use Rattle.mds_retention.specs.Telling.{Gives, entry_error};
+ghost use Rattle.mds_retention.specs.Place.{IsPlaceOf};
+ghost use Rattle.mds_retention.specs.Texts.{HandsOn, HasRead, IsOut, IsReading, ReadsAll, number_of, text_of};
+ghost use Rattle.mds_retention.specs.Lines.{HasTold, StopsLines};
 
 use crate::error::LinesError;
+use crate::place::Place;
+use crate::texts::TextLines;
 use mds_core::Request;
-use mds_entries::{EntryFault, EntryReader, is_form};
-use mds_journal::{JournalFault, LineStream};
-use mds_table::MAX_BYTES;
+use mds_entries::{EntryFault, EntryReader};
+use mds_groups::GroupFault;
+use mds_journal::JournalFault;
 use std::alloc::Global;
 use std::io::Read;
 
-/// The requests that the lines of a reader tell, from the second line to the last that counts. The first names the form.
+/// The requests that the lines of a reader tell, to the last that counts. The first line names the form.
 #[derive(Drop)]
 pub struct RequestLines<R: Read> {
-    lines: LineStream<R>,
+    texts: TextLines<R>,
     entries: EntryReader,
-    line: Vec<u8>,
 }
 
 impl<R: Read + Drop> RequestLines<R> {
-    ghost use Rattle.mds_retention.specs.Lines.{AreLines, left_of, number_of, text_of};
-
-    /// The requests of what a reader gives, once its first line was read.
-    ///
-    /// # Errors
-    ///
-    /// `Fault` where the first line doesn't name the form, or is too long; `Read`, `Memory`.
-    pub fn open(alloc: Global, reader: R) -> Result<RequestLines<R>, LinesError>
-        ensures lines { IfOk result AreLines }
-        ensures told { IfOk result
-            (λ lines. HasTold (R.remaining reader) [] (left_of R.remaining lines)) }
-        ensures number { IfOk result (λ lines. number_of lines ≡ 1) }
-        ensures fault { IfErr result (IsFormFault (R.remaining reader)) }
-    {
-        let mut lines = LineStream::new(alloc, reader, MAX_BYTES);
-        let mut line = Vec::new(alloc);
-        read_form(&mut lines, &mut line)?;
-        Ok(RequestLines {
-            lines,
-            entries: EntryReader::new(alloc),
-            line,
-        })
-    }
-
-    /// The requests of what a reader gives, where the line of the form stands before it.
-    pub(crate) fn behind(alloc: Global, reader: R) -> RequestLines<R>
-        ensures lines { AreLines result }
-        ensures all { Keeps (R.remaining reader) (left_of R.remaining result) }
-        ensures number { number_of result ≡ 0 }
+    /// The requests of what a reader gives.
+    pub fn open(alloc: Global, reader: R) -> RequestLines<R>
+        ensures lines { IsReading result.texts }
+        ensures told { HasTold R.remaining (R.remaining reader) result [] }
+        ensures count { result.texts.count ≡ 0 }
     {
         RequestLines {
-            lines: LineStream::new(alloc, reader, MAX_BYTES),
+            texts: TextLines::open(alloc, reader),
             entries: EntryReader::new(alloc),
-            line: Vec::new(alloc),
+        }
+    }
+
+    /// The requests of what a reader gives, where the lines up to a place stand before that.
+    pub(crate) fn behind(alloc: Global, reader: R, place: Place) -> RequestLines<R>
+        ensures lines { IsReading result.texts }
+        ensures read { (known : Option (List ℕ)) (lines : List (List ℕ)) (groups : List (List (List ℕ)))
+            → IsPlaceOf lines groups place → Gives known lines (R.remaining reader)
+            → HasRead R.remaining known result.texts (texts_in groups) }
+    {
+        RequestLines {
+            texts: TextLines::behind(alloc, reader, place),
+            entries: EntryReader::new(alloc),
         }
     }
 
     /// How many requests were read.
     pub fn count(&self) -> usize
-        requires { 0 < number_of self.now }
-        ensures { result + 1 ≡ number_of self.now }
+        ensures { result ≡ self.now.texts.count }
     {
-        self.lines.number() - 1
+        self.texts.count()
     }
 
-    /// The text of the line that was read last, without its gate.
-    pub fn text(&self) -> &[u8]
-        ensures { result.now ≡ text_of self.now }
+    /// How far the lines were read.
+    pub(crate) fn place(&self) -> Place
+        ensures { result ≡ self.now.texts.place }
     {
-        &self.line
+        self.texts.place()
+    }
+
+    /// The text of the line whose request was read last, without its gate.
+    pub fn text(&self) -> &[u8]
+        requires lines { IsReading self.now.texts }
+        requires out { IsOut self.now.texts }
+        ensures { result.now ≡ text_of self.now.texts }
+    {
+        self.texts.text()
     }
 
     /// The request of the next line, or `None` where no more lines count.
     ///
     /// # Errors
     ///
-    /// `Fault` where the line tells none, or is too long; `Read`, `Memory`.
+    /// `Fault` where the first line names no form, a group isn't as it was written, a line is too long, or tells no request; `Read`,
+    /// `Memory`.
     pub fn next(&mut self) -> Result<Option<Request>, LinesError>
-        requires { AreLines self.old }
-        ensures lines { AreLines self.new }
-        ensures request { IfOk result (λ next. IfSome next
-            (TellsNext (left_of R.remaining self.old) (left_of R.remaining self.new))) }
-        ensures text { IfOk result (λ next. IfSome next (TellsBy (text_of self.new)
-            (left_of R.remaining self.old) (left_of R.remaining self.new))) }
+        requires { IsReading self.old.texts }
+        ensures lines { IsReading self.new.texts }
+        ensures next { IfOk result (λ next. IfSome next
+            (λ _. HandsOn R.remaining self.old.texts self.new.texts)) }
+        ensures out { IfOk result (λ next. IfSome next (λ _. IsOut self.new.texts)) }
+        ensures request { IfOk result (λ next. IfSome next (Tells (text_of self.new.texts))) }
         ensures number { IfOk result (λ next. IfSome next
-            (λ request. number_of self.new ≡ number_of self.old + 1)) }
+            (λ _. self.new.texts.count ≡ self.old.texts.count + 1)) }
         ensures done { IfOk result (λ next. IfNone next
-            (StandsForNothing (left_of R.remaining self.old))) }
-        ensures stays { IfOk result (λ next. IfNone next
-            (number_of self.new ≡ number_of self.old)) }
-        ensures few { number_of self.old < 2 ^ 64 }
-        ensures fault { IfErr result
-            (IsLineFault (number_of self.old) (left_of R.remaining self.old)) }
+            (ReadsAll R.remaining self.old.texts self.new.texts)) }
+        ensures few { IfOk result (λ next. IfSome next (λ _. self.new.texts.count < 2 ^ 64)) }
+        ensures fault { IfErr result (StopsLines R.remaining self.old) }
     {
-        let number = self.lines.number();
-        if !self.lines.next_line(&mut self.line)? {
+        if !self.texts.next()? {
             return Ok(None);
         }
-        match self.entries.read(&self.line) {
+        match self.entries.read(self.texts.text()) {
             Ok(request) => Ok(Some(request)),
-            Err(EntryFault::Memory) => Err(LinesError::Memory),
-            Err(_) => Err(LinesError::Fault(JournalFault::BadLine(number))),
+            Err(fault) => Err(entry_fault(fault, self.texts.number())),
         }
     }
 }
 
-/// Reads the first line, which has to name the form.
-pub(crate) fn read_form<R: Read>(
-    lines: &mut LineStream<R>,
-    line: &mut Vec<u8>,
-) -> Result<(), LinesError>
-    requires stream { IsStream lines.old }
-    requires limit { most_of lines.old ≡ max_bytes }
-    requires number { lines_given lines.old ≡ 0 }
-    ensures stream { IsStream lines.new }
-    ensures limit { most_of lines.new ≡ max_bytes }
-    ensures form { OnOk result
-        (HandsOut (unread_of R.remaining lines.old) form_line (unread_of R.remaining lines.new)) }
-    ensures number { OnOk result (lines_given lines.new ≡ 1) }
-    ensures fault { IfErr result (IsFormFault (unread_of R.remaining lines.old)) }
+/// Why the text of the line of this number tells no request.
+fn entry_fault(fault: EntryFault, number: usize) -> LinesError
+    ensures { result ≡ entry_error number fault }
 {
-    let is_there = lines.next_line(line)?;
-    if is_there && is_form(line) {
-        Ok(())
-    } else {
-        Err(LinesError::Fault(JournalFault::Form))
+    match fault {
+        EntryFault::Memory => LinesError::Memory,
+        EntryFault::BadLine | EntryFault::NoLine => {
+            LinesError::Fault(GroupFault::Journal(JournalFault::BadLine(number)))
+        }
     }
 }

@@ -1,23 +1,21 @@
 //! A new journal that is made while another process adds lines to the old one.
 ghost use Rattle.std.specs.Prelude.{◌≡◌, ◌⊎◌, ◌≤◌, [], ℕ, List, length, Option, Some, IfOk, IfErr, OnOk};
 ghost use Rattle.mds_core.specs.declared.request.Request.{Request as Requested};
-ghost use Rattle.mds_compact.specs.Compaction.{kept_of};
-ghost use Rattle.mds_compact.specs.Cutting.{IsCutBy};
 ghost use Rattle.mds_retention.specs.Draft.{IsWritten};
 ghost use Rattle.mds_retention.specs.Compacting.{AreReadings, IsOfNew, IsReadAgain, IsWriteFault, StandsWhole};
-ghost use Rattle.mds_retention.specs.Copying.{AreTotalsOf, IsMarkedBy};
 ghost use Rattle.mds_retention.specs.Telling.{IsTaken};
-ghost use Rattle.mds_retention.specs.NewJournal.{HasSince, IsBeginFault, IsEndFault, IsFollowed, IsFollowedTo, IsMarksFault, IsNewJournal, MayBeEnded};
+ghost use Rattle.mds_retention.specs.NewJournal.{HasSince, IsBeginFault, IsFirstOf, IsFollowed, IsFollowedTo, IsMarksFault, IsNewJournal, MayBeEnded};
+ghost use Rattle.mds_retention.specs.Rest.{IsEndFault};
 
 use crate::compacting::Readings;
 use crate::copying::kept_lines;
 use crate::draft::Draft;
 use crate::error::CompactError;
-use crate::passes::{Marked, Totals, marks_of, survey_of, thinning_of};
-use crate::place::{Place, read_on};
+use crate::passes::{Totals, marks_of, survey_of, thinning_of};
+use crate::rest::{Reached, read_on};
 use mds_compact::Cutting;
 use mds_file::{Followed, NewName};
-use mds_journal::Device;
+use mds_journal::{Device, Group};
 use std::alloc::Global;
 use std::hash::RandomState;
 use std::io::Read;
@@ -28,7 +26,14 @@ use std::sync::Wait;
 #[derive(Drop)]
 pub struct NewJournal<D: Device + Drop> {
     draft: Draft<D>,
-    place: Place,
+    reached: Reached,
+}
+
+/// What stays of the first lines of a journal, and how far these reach.
+#[derive(Drop)]
+struct First {
+    marks: Vec<bool>,
+    reached: Reached,
 }
 
 /// Begins a new journal: of the requests that the lines of an old one tell at first, those that stay in a compaction, and behind
@@ -60,11 +65,12 @@ pub fn begin_journal<R: Read + Drop, F: Followed, N: NewName>(
     ensures order { IfErr result (λ error. N.keeps name.new → N.is_taken name.old → IsOfNew error) }
 {
     name.is_free()?;
-    let marked = marked_by(alloc, old.first, old.second, old.third, from, hasher)?;
+    let first = marked_by(alloc, old.first, old.second, old.third, from, hasher)?;
+    let room = Group::new(alloc)?;
     let file = name.draft()?;
-    let mut draft = Draft::new(alloc, file);
-    match begin_draft(alloc, old.fourth, marked, followed, &mut draft) {
-        Ok(place) => Ok(NewJournal { draft, place }),
+    let mut draft = Draft::new(alloc, room, file);
+    match begin_draft(alloc, old.fourth, first, followed, &mut draft) {
+        Ok(reached) => Ok(NewJournal { draft, reached }),
         Err(error) => {
             name.discard(draft.into_file());
             Err(error)
@@ -80,15 +86,13 @@ fn marked_by<R: Read + Drop>(
     third: R,
     from: u64,
     hasher: RandomState,
-) -> Result<Marked, CompactError>
-    ensures within { IfOk result (λ marked. marked.totals.kept ≤ marked.totals.events) }
-    ensures count { IfOk result (λ marked. (history : List Requested)
-        × IsTaken (R.remaining first) history × (length marked.marks.items ≡ length history)) }
-    ensures marks { IfOk result (λ marked. (bytes : List ℕ) → R.remaining first ≡ Some bytes
+) -> Result<First, CompactError>
+    ensures within { IfOk result (λ one. one.reached.totals.kept ≤ one.reached.totals.events) }
+    ensures count { IfOk result (λ one. (history : List Requested)
+        × IsTaken (R.remaining first) history × (length one.marks.items ≡ length history)) }
+    ensures marks { IfOk result (λ one. (bytes : List ℕ) → R.remaining first ≡ Some bytes
         → IsReadAgain bytes (R.remaining second) → IsReadAgain bytes (R.remaining third)
-        → (history cut : List Requested) × IsTaken (Some bytes) history × IsCutBy [] history cut
-        × IsMarkedBy from cut history marked.marks.items
-        × AreTotalsOf history (kept_of marked.marks.items history) marked.totals) }
+        → IsFirstOf from bytes one.marks.items one.reached) }
     ensures fault { IfErr result
         (IsMarksFault (R.remaining first) (R.remaining second) (R.remaining third)) }
 {
@@ -98,46 +102,45 @@ fn marked_by<R: Read + Drop>(
     let stays = surveyed.marks.as_slice();
     let thinning = thinning_of(alloc, second, survey, stays, from)?;
     let marked = marks_of(alloc, third, thinning, stays)?;
-    Ok(marked)
+    Ok(First {
+        marks: marked.marks,
+        reached: Reached {
+            place: surveyed.place,
+            totals: marked.totals,
+        },
+    })
 }
 
-/// Writes the marked lines of a reader into an empty file, and all that came behind them.
+/// Writes the marked texts of a reader into an empty file, and all that came behind them.
 fn begin_draft<R: Read + Drop, F: Followed, D: Device + Drop>(
     alloc: Global,
     reader: R,
-    marked: Marked,
+    first: First,
     followed: &mut F,
     draft: &mut Draft<D>,
-) -> Result<Place, CompactError>
+) -> Result<Reached, CompactError>
     requires usable { D.may_be_used draft.old.file }
     requires start { draft.old.size ≡ 0 }
     requires page { draft.old.page.items ≡ [] }
-    requires within { marked.totals.kept ≤ marked.totals.events }
-    ensures open { IfOk result (λ place. MayBeEnded D.seen D.may_leave D.is_true D.may_be_used
-        (record { draft = draft.new; place = place })) }
-    ensures begun { IfOk result (λ place. (from : ℕ) (first : List ℕ) (history cut : List Requested)
-        → IsTaken (Some first) history → IsReadAgain first (R.remaining reader)
-        → IsCutBy [] history cut → IsMarkedBy from cut history marked.marks.items
-        → AreTotalsOf history (kept_of marked.marks.items history) marked.totals
-        → HasSince first (F.content followed.old)
-        → IsNewJournal D.seen D.may_leave D.is_true from first (F.content followed.new)
-        (record { draft = draft.new; place = place })) }
+    requires group { draft.old.group ≡ [] }
+    requires within { first.reached.totals.kept ≤ first.reached.totals.events }
+    ensures open { IfOk result (λ reached. MayBeEnded D.seen D.may_leave D.is_true D.may_be_used
+        (record { draft = draft.new; reached = reached })) }
+    ensures begun { IfOk result (λ reached. (from : ℕ) (bytes : List ℕ)
+        → IsFirstOf from bytes first.marks.items first.reached → IsReadAgain bytes (R.remaining reader)
+        → HasSince bytes (F.content followed.old)
+        → IsNewJournal D.seen D.may_leave D.is_true from bytes (F.content followed.new)
+        (record { draft = draft.new; reached = reached })) }
     ensures fault { IfErr result (λ error.
-        IsWriteFault (R.remaining reader) (length marked.marks.items) error
-        ⊎ ((first : List ℕ) (history : List Requested) → IsTaken (Some first) history
-        → IsReadAgain first (R.remaining reader) → length marked.marks.items ≡ length history
-        → AreTotalsOf history (kept_of marked.marks.items history) marked.totals
-        → HasSince first (F.content followed.old) → IsEndFault (F.content followed.new) error)) }
+        IsWriteFault (R.remaining reader) (length first.marks.items) error
+        ⊎ ((from : ℕ) (bytes : List ℕ)
+        → IsFirstOf from bytes first.marks.items first.reached → IsReadAgain bytes (R.remaining reader)
+        → HasSince bytes (F.content followed.old) → IsEndFault (F.content followed.new) error)) }
 {
     draft.begin()?;
-    let bytes = kept_lines(alloc, reader, &marked.marks, draft)?;
-    let start = Place {
-        bytes,
-        lines: marked.marks.len() + 1,
-        totals: marked.totals,
-    };
-    let place = read_on(alloc, followed, start, draft)?;
-    Ok(place)
+    kept_lines(alloc, reader, &first.marks, draft)?;
+    let reached = read_on(alloc, followed, first.reached, draft)?;
+    Ok(reached)
 }
 
 /// Reads the old journal on until no other process has it, and gives the new one its name. It answers how many requests the old
@@ -175,7 +178,7 @@ pub fn end_journal<R: Wait, F: Followed, N: NewName>(
     ensures kept { N.keeps name.new → N.keeps name.old }
 {
     let mut draft = journal.draft;
-    match read_to_end(rt, alloc, followed, journal.place, &mut draft) {
+    match read_to_end(rt, alloc, followed, journal.reached, &mut draft) {
         Ok(totals) => {
             name.link(draft.into_file())?;
             Ok(totals)
@@ -192,30 +195,30 @@ fn read_to_end<R: Wait, F: Followed, D: Device + Drop>(
     rt: &R,
     alloc: Global,
     followed: &mut F,
-    start: Place,
+    start: Reached,
     draft: &mut Draft<D>,
 ) -> Result<Totals, CompactError>
     requires { MayBeEnded D.seen D.may_leave D.is_true D.may_be_used
-        (record { draft = draft.old; place = start }) }
+        (record { draft = draft.old; reached = start }) }
     ensures written { IfOk result (λ totals. (from : ℕ) (first : List ℕ)
         → IsNewJournal D.seen D.may_leave D.is_true from first (F.content followed.old)
-        (record { draft = draft.old; place = start })
+        (record { draft = draft.old; reached = start })
         → (last : List ℕ) × (F.content followed.new ≡ Some last) × (out : List ℕ)
         × IsFollowedTo from first last totals out × IsWritten D.may_leave D.is_true out draft.new) }
     ensures fault { IfErr result (λ error. (from : ℕ) (first : List ℕ)
         → IsNewJournal D.seen D.may_leave D.is_true from first (F.content followed.old)
-        (record { draft = draft.old; place = start })
+        (record { draft = draft.old; reached = start })
         → IsEndFault (F.content followed.new) error) }
     ensures all { OnOk result (F.is_all followed.new) }
 {
-    let mut place = start;
+    let mut reached = start;
     for _ in rt.forever() {
         // What is there once nobody has it is all that ever comes.
         let is_left = followed.is_left()?;
-        place = read_on(alloc, followed, place, draft)?;
+        reached = read_on(alloc, followed, reached, draft)?;
         if is_left {
             draft.flush()?;
-            return Ok(place.totals);
+            return Ok(reached.totals);
         }
     }
     unreachable!()

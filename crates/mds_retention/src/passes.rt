@@ -5,11 +5,13 @@ ghost use Rattle.mds_compact.specs.Compaction.{kept_of};
 ghost use Rattle.mds_compact.specs.Cutting.{IsCuttingOf};
 ghost use Rattle.mds_compact.specs.Passes.{IsSurveyOf, IsThinningOf, IsMarkingOf};
 ghost use Rattle.mds_compact.specs.declared.cutting.Cut.{Cut as Cuts};
-ghost use Rattle.mds_retention.specs.Telling.{BeginsWith, IsTaken, IsJournalFault, IsAgainFault};
+ghost use Rattle.mds_retention.specs.Telling.{BeginsWith, IsJournalFault, IsAgainFault};
+ghost use Rattle.mds_retention.specs.Place.{IsTakenTo};
 ghost use Rattle.mds_retention.specs.Copying.{AreTotalsOf, IsMarkedBy, IsSurveyed};
 
 use crate::error::LinesError;
 use crate::lines::RequestLines;
+use crate::place::Place;
 use mds_compact::{Cutting, Marking, Survey, Thinning};
 use mds_core::Request;
 use std::alloc::{AllocError, Global};
@@ -25,6 +27,8 @@ pub struct Surveyed {
     pub survey: Survey,
     /// Whether the cuts leave each request. The later passes read so many, and none behind them.
     pub marks: Vec<bool>,
+    /// How far the lines were read.
+    pub place: Place,
 }
 
 impl Surveyed {
@@ -98,18 +102,21 @@ pub fn survey_of<R: Read + Drop>(
     hasher: RandomState,
 ) -> Result<Surveyed, LinesError>
     ensures survey { IfOk result (λ surveyed. (history : List Requested)
-        × IsTaken (R.remaining reader) history × (length surveyed.marks.items ≡ length history)
+        × IsTakenTo (R.remaining reader) history surveyed.place
+        × (length surveyed.marks.items ≡ length history)
         × ((cuts : List Cuts) → IsCuttingOf cuts [] [] cutting → IsSurveyed cuts history surveyed)) }
     ensures fault { IfErr result (IsJournalFault (R.remaining reader)) }
 {
-    let mut lines = RequestLines::open(alloc, reader)?;
+    let mut lines = RequestLines::open(alloc, reader);
     let mut surveyed = Surveyed {
         cutting,
         survey: Survey::open(alloc, hasher),
         marks: Vec::new(alloc),
+        place: Place::start(),
     };
     'requests: loop {
         let Some(request) = lines.next()? else {
+            surveyed.place = lines.place();
             return Ok(surveyed);
         };
         surveyed.note(&request)?;
@@ -135,7 +142,7 @@ pub fn thinning_of<R: Read + Drop>(
         → IsThinningOf from (kept_of stays.now history) [] thinning) }
     ensures fault { IfErr result (IsAgainFault (R.remaining reader) (length stays.now)) }
 {
-    let mut lines = RequestLines::open(alloc, reader)?;
+    let mut lines = RequestLines::open(alloc, reader);
     let mut thinning = Thinning::open(survey, from);
     for mark in stays {
         let Some(request) = lines.next()? else {
@@ -181,7 +188,7 @@ pub fn marks_of<R: Read + Drop>(
     ensures within { IfOk result (λ marked. marked.totals.kept ≤ marked.totals.events) }
     ensures fault { IfErr result (IsAgainFault (R.remaining reader) (length stays.now)) }
 {
-    let mut lines = RequestLines::open(alloc, reader)?;
+    let mut lines = RequestLines::open(alloc, reader);
     let mut marking = Marking::open(thinning);
     let mut marks = Vec::with_capacity(alloc, stays.len())?;
     let mut totals = Totals {

@@ -66,7 +66,7 @@ pub fn events_of<R: Read + Drop>(
         (λ lines. HasEvents key (R.remaining reader) lines.items)) }
     ensures fault { IfErr result (IsJournalFault (R.remaining reader)) }
 {
-    let mut lines = RequestLines::open(alloc, reader)?;
+    let mut lines = RequestLines::open(alloc, reader);
     let mut events = VehicleEvents {
         key,
         is_there: false,

@@ -6,7 +6,6 @@ use crate::problem::{Problem, tell};
 use crate::status::Status;
 use mds_groups::GroupFault;
 use mds_io::{MAX_CALLS, PrintError, write_all_of};
-use mds_journal::JournalFault;
 use std::alloc::Global;
 use std::fmt::Write as _;
 use std::io::Write;
@@ -30,14 +29,13 @@ impl<'a> From<Problem<'a>> for JournalProblem<'a> {
     }
 }
 
-impl From<JournalFault> for JournalProblem<'_> {
+impl From<GroupFault> for JournalProblem<'_> {
     ghost use Rattle.mds_commands.specs.declared.vehicles.problem.JournalProblem.TheVariants.{NotAJournal};
-    ghost use Rattle.mds_groups.specs.declared.fault.GroupFault.TheVariants.{Journal};
 
-    ghost from_gives = { λ fault problem. problem ≡ NotAJournal (Journal fault) };
+    ghost from_gives = { λ fault problem. problem ≡ NotAJournal fault };
 
-    fn from(fault: JournalFault) -> Self {
-        JournalProblem::NotAJournal(GroupFault::Journal(fault))
+    fn from(fault: GroupFault) -> Self {
+        JournalProblem::NotAJournal(fault)
     }
 }
 

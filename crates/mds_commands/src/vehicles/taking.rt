@@ -2,14 +2,15 @@
 ghost use Rattle.std.specs.Prelude.{◌≡◌, ◌+◌, ◌<◌, ◌≤◌, ◌^◌, List, ℕ, length, true, false, IfOk, IfErr, OnOk};
 ghost use Rattle.mds_core.specs.declared.request.Request.{Request};
 ghost use Rattle.mds_entries.specs.Entry.{Tells};
-ghost use Rattle.mds_groups.specs.Stream.{AreWhole, HasTaken, texts_of};
+ghost use Rattle.mds_groups.specs.Form.{IsJournal};
+ghost use Rattle.mds_groups.specs.Stream.{HasTaken, texts_of};
 ghost use Rattle.mds_journal.specs.Stream.{lines_given};
 ghost use Rattle.mds_commands.specs.Roster.{Accepts};
-ghost use Rattle.mds_commands.specs.Taking.{IsEntryFault, IsJournalFault, IsTakenBy, IsTaking, StopsAmong, StopsBy, TakesAll, TakesOn, TakesTexts};
+ghost use Rattle.mds_commands.specs.Taking.{IsEntryFault, IsJournalBy, IsJournalFault, IsTaking, StopsAmong, StopsBy, TakesAll, TakesOn, TakesTexts};
 
 use crate::roster::Roster;
 use mds_entries::{EntryFault, EntryReader};
-use mds_groups::{GroupError, GroupFault, GroupStream, WholeGroup};
+use mds_groups::{GroupError, GroupFault, GroupStream, JournalForm, WholeGroup};
 use mds_journal::{JournalFault, LineStream, StreamError};
 use mds_table::{MAX_BYTES, Tables};
 use std::alloc::{AllocError, Global};
@@ -81,6 +82,17 @@ pub struct Taken {
     pub groups: usize,
 }
 
+/// The same, and what stands behind the lines.
+#[derive(Drop)]
+pub struct TakenJournal<R: Read> {
+    /// What they come to.
+    pub taken: Taken,
+    /// The form that the first line names.
+    pub form: JournalForm,
+    /// What comes behind the last line that counts.
+    pub behind: LineStream<R>,
+}
+
 /// The roster over the tables of the requests that the lines of a reader tell, to the last that counts.
 ///
 /// # Errors
@@ -91,8 +103,8 @@ pub fn roster_of<R: Read + Drop>(
     reader: R,
     tables: Tables,
     hasher: RandomState,
-) -> Result<Taken, TakeError>
-    ensures ok { IfOk result (IsTakenBy tables (R.remaining reader)) }
+) -> Result<TakenJournal<R>, TakeError>
+    ensures ok { IfOk result (IsJournalBy R.remaining tables (R.remaining reader)) }
     ensures fault { IfErr result (IsJournalFault tables (R.remaining reader)) }
 {
     let mut taking = Taking {
@@ -103,8 +115,8 @@ pub fn roster_of<R: Read + Drop>(
         entries: EntryReader::new(alloc),
         roster: Roster::open(alloc, tables, hasher),
     };
-    taking.take_all()?;
-    Ok(taking.into_taken())
+    let form = taking.take_all()?;
+    Ok(taking.into_journal(form))
 }
 
 /// The lines of a reader, and what they came to so far.
@@ -119,39 +131,48 @@ struct Taking<R: Read> {
 }
 
 impl<R: Read + Drop> Taking<R> {
-    fn into_taken(self) -> Taken
-        ensures roster { result.roster ≡ self.roster }
-        ensures lines { result.lines ≡ lines_given self.lines }
-        ensures groups { result.groups ≡ self.count }
+    fn into_journal(self, form: JournalForm) -> TakenJournal<R>
+        ensures roster { result.taken.roster ≡ self.roster }
+        ensures lines { result.taken.lines ≡ lines_given self.lines }
+        ensures groups { result.taken.groups ≡ self.count }
+        ensures form { result.form ≡ form }
+        ensures behind { result.behind ≡ self.lines }
     {
-        let lines = self.lines.number();
         let Taking {
-            lines: _lines,
+            lines: behind,
             line: _line,
             groups: _groups,
             count,
             entries: _entries,
             roster,
         } = self;
-        Taken {
+        let taken = Taken {
             roster,
-            lines,
+            lines: behind.number(),
             groups: count,
+        };
+        TakenJournal {
+            taken,
+            form,
+            behind,
         }
     }
 }
 
 impl<R: Read> Taking<R> {
-    fn take_all(&mut self) -> Result<(), TakeError>
+    /// Takes all lines that count, and answers the form that the first one names.
+    fn take_all(&mut self) -> Result<JournalForm, TakeError>
         requires { IsTaking self.old }
+        ensures taking { IsTaking self.new }
         ensures all { OnOk result (TakesAll R.remaining self.old self.new) }
-        ensures whole { OnOk result ((lines : List (List ℕ)) (groups : List (List (List ℕ)))
-            → HasTaken self.new.groups lines groups → AreWhole lines groups) }
+        ensures whole { IfOk result (λ form.
+            (lines : List (List ℕ)) (groups : List (List (List ℕ)))
+            → HasTaken self.new.groups lines groups → IsJournal form lines groups) }
         ensures fault { IfErr result (StopsBy R.remaining self.old) }
     {
         'lines: while self.take_line()? {}
         match self.groups.finish(self.lines.number()) {
-            Ok(()) => Ok(()),
+            Ok(form) => Ok(form),
             Err(fault) => Err(TakeError::Fault(fault)),
         }
     }

@@ -6,11 +6,11 @@ ghost use Rattle.mds_pool.specs.Serving.{Fits, names_of};
 
 use super::{Counts, Listed, TWICE, opening};
 use mds_book::{NamedLedger, Packed};
-use mds_follow::{Disk, RecordLog, RequestReader};
-use mds_journal::{Device, Memory};
+use mds_follow::{Aside, Disk, RecordLog, RequestReader};
+use mds_journal::{Device, DeviceError, Memory};
 use mds_log::BlankLog;
 use mds_pool::{Alarm, Held, NewBook, Port, RecordedBook};
-use std::alloc::Global;
+use std::alloc::{AllocError, Global};
 use std::marker::Brand;
 use std::random::RandomSource;
 use std::sync::Wait;
@@ -22,9 +22,32 @@ use test_fixtures::{Lack, again, room_behind};
 const BEFORE: &[u8] =
     b" {\"form\":\"mds_city\",\"version\":1}\n {\"device_id\":\"00000000-0000-4000-8000-00000000000a\",\"provider_id\":\"00000000-0000-4000-8000-000000000001\"}\n#{\"device_id\":\"00000000";
 
+/// That torn line.
+const TORN: &[u8] = b"#{\"device_id\":\"00000000";
+
 /// The same once B is registered, but for room behind it.
 const AFTER: &[u8] =
     b" {\"form\":\"mds_city\",\"version\":1}\n {\"device_id\":\"00000000-0000-4000-8000-00000000000a\",\"provider_id\":\"00000000-0000-4000-8000-000000000001\"}\n {\"device_id\":\"00000000-0000-4000-8000-00000000000b\",\"provider_id\":\"00000000-0000-4000-8000-000000000001\"}\n#";
+
+/// A place in memory for what is cut off a journal.
+#[derive(Drop)]
+struct Shelf {
+    bytes: Vec<u8>,
+}
+
+impl Aside for Shelf {
+    ghost stand = { λ shelf bytes. shelf.bytes.items ≡ bytes };
+
+    fn put(&mut self, bytes: &[u8]) -> Result<(), DeviceError> {
+        if !self.bytes.is_empty() {
+            return Err(DeviceError::Failed);
+        }
+        match self.bytes.extend_from_slice(bytes) {
+            Ok(()) => Ok(()),
+            Err(AllocError) => Err(DeviceError::Memory),
+        }
+    }
+}
 
 /// An alarm that nobody hears.
 #[derive(Drop)]
@@ -50,6 +73,7 @@ fn ended<
     opening: NewBook,
     reader: RequestReader<D>,
     log: BlankLog,
+    shelf: &mut Shelf,
 ) -> Result<(Held, u128, Disk<D>), Lack>
 where
     P::In: Send,
@@ -57,17 +81,20 @@ where
     requires fits { Fits (names_of L.name L.parts L.log L.marks L.tables)
         (names_of M.name M.parts M.log M.marks M.tables) opening }
     requires at_first { IsAtFirstRequest D.seen D.may_leave
-        D.may_be_used D.is_true reader.opening }
+        D.may_be_used D.is_true reader }
     requires log { log ≡ J.log }
     requires begins { BeginsOver J.start J.held (D.moment reader.opening.device)
         (D.seen reader.opening.device) }
 {
     let opened = RecordedBook::<Disk<D>, Packed<L>, Packed<M>, J>::open(
-        rt, alloc, opening, reader, log,
+        rt, alloc, opening, reader, log, shelf,
     );
-    let Ok(book) = opened else {
+    let Ok(mut book) = opened else {
         return Err(Lack::Memory);
     };
+    if book.record_all(rt).is_err() {
+        return Err(Lack::Memory);
+    }
     let held = book.held(rt, alloc)?;
     match book.serve(rt, alloc, port, 2, &Silence) {
         Ok(end) => Ok((held, end.book.settled.accepted(), end.file)),
@@ -84,6 +111,8 @@ struct End {
     accepted: u128,
     /// The bytes of the journal.
     bytes: Vec<u8>,
+    /// What was put aside of it.
+    cut: Vec<u8>,
     /// How many answers of status 200 were begun.
     good: usize,
 }
@@ -96,6 +125,9 @@ fn ended_over<R: Threads + Wait + RandomSource + Sync>(rt: &R, alloc: Global) ->
     let Ok(reader) = RequestReader::open(alloc, Memory::new(alloc, BEFORE)?) else {
         return Err(Lack::Memory);
     };
+    let mut shelf = Shelf {
+        bytes: Vec::new(alloc),
+    };
     let (held, accepted, disk) = ended::<Memory, R, Listed<'_>, Brand, Brand, Brand>(
         rt,
         alloc,
@@ -103,12 +135,14 @@ fn ended_over<R: Threads + Wait + RandomSource + Sync>(rt: &R, alloc: Global) ->
         opening,
         reader,
         BlankLog::new(),
+        &mut shelf,
     )?;
     let bytes = Vec::from_slice(alloc, disk.journal.device.bytes())?;
     Ok(End {
         held,
         accepted,
         bytes,
+        cut: shelf.bytes,
         good: counts.good.load(Ordering::SeqCst),
     })
 }
@@ -127,7 +161,13 @@ fn comes_to_its_end<R: Threads + Wait + RandomSource + Sync>(
 ) -> Result<bool, Lack> {
     let end = again!(ended_over(rt, alloc))?;
     let is_kept = room_behind(&end.bytes, AFTER).is_some();
-    Ok(end.held == ONE_VEHICLE && end.accepted == 2 && is_kept && end.good >= 3)
+    Ok(
+        end.held == ONE_VEHICLE
+            && end.accepted == 2
+            && is_kept
+            && end.cut.as_slice() == TORN
+            && end.good >= 3,
+    )
 }
 
 #[test]

@@ -1,4 +1,4 @@
-use Rattle.std.proofs.Common.{◌≡◌, ℕ, List, inl, inr, refl, subst, rules}
+use Rattle.std.proofs.Common.{◌≡◌, inl, inr, refl, subst, rules}
 use Rattle.std.proofs.KnownBytes.{Keeps-refl}
 use Rattle.std.specs.Io.KnownBytes.{Appends}
 use Rattle.mds_io.specs.Page.{AppendsFront}

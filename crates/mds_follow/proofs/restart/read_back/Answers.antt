@@ -1,13 +1,14 @@
-use Rattle.std.proofs.Common.{◌≡◌, ◌∙◌, ◌+◌, ◌++◌, ℕ, List, Result, Bool, IfOk, length, refl, sym, ap, subst, arith}
+use Rattle.std.proofs.Common.{◌≡◌, ◌∙◌, ◌++◌, ℕ, List, [], length, refl, sym, ap, subst, arith}
+use Rattle.std.specs.List.{AllZip}
 use Rattle.mds_core.specs.declared.request.Request.{Request}
-use Rattle.mds_journal.specs.Opening.{number_of, unread_bytes}
+use Rattle.mds_entries.specs.Entry.{Tells}
 use Rattle.mds_journal.proofs.MomentLemmas.{still_untouched}
 use Rattle.mds_log.specs.Log.{Acceptance, requests}
 use Rattle.mds_follow.specs.Record.{recorded_at}
 use Rattle.mds_follow.specs.Pieces.{requests_in}
 use Rattle.mds_follow.specs.Restart.{IsRefilled}
-use Rattle.mds_follow.specs.declared.start_fault.StartFault.{StartFault}
 use Rattle.mds_follow.proofs.ReadBack.{at_one_moment, on_ok, read_none}
+use Rattle.mds_follow.proofs.Readings.{first_texts}
 use Rattle.mds_follow.proofs.restart.read_back.Goals as goal
 
 -- nothing is read yet but the form
@@ -17,11 +18,12 @@ pieces-init g c =
     let empty = c.requires.none.2 in
     let first = c.requires.at_first in
     let piece = c.args.piece in
-    let opening = c.args.ahead.now.reader.opening in
+    let reader = c.args.ahead.now.reader in
+    let seen = g.D.Device.seen in
+    let is_true = g.D.Device.is_true in
     let Refilled : List Acceptance → Type 0 = λ w. IsRefilled c.args.seat.now w in
-    let At : List Acceptance → Type 0 = λ w. w ≡ recorded_at (g.D.Device.moment opening.device) (requests w) in
-    let Counted : Result Bool StartFault → Type 0 = λ w. IfOk w (λ _. number_of opening ≡ piece.number + length (requests_in piece)) in
-    let size : length (requests_in piece) ≡ 0 = ap (λ (w : List Request). length w) empty.empty in
+    let At : List Acceptance → Type 0 = λ w. w ≡ recorded_at (g.D.Device.moment reader.opening.device) (requests w) in
+    let Told : List Acceptance → Type 0 = λ w. AllZip Tells [] (requests w) in
     record {
       reading = record { reading = first.reading; limit = first.limit };
       read_on = record {
@@ -30,12 +32,10 @@ pieces-init g c =
       };
       halfway = record {
         refilled = subst Refilled (sym none) c.requires.none.1;
-        number = omega (arith, empty.number, ap (λ (w : List Acceptance). length w) none);
-        counted = subst Counted (sym empty.more) (omega (arith, first.number, empty.number, size));
-        short = omega (arith, empty.number, size);
-        ahead = λ truth.
-            read_none (g.D.Device.seen opening.device) (unread_bytes g.D.Device.seen opening) c.args.keeper.now piece.number (requests_in piece) piece.end none empty.empty empty.more
-            (first.form truth);
+        numbered = omega (arith, ap (λ (w : List Request). length w) empty.empty);
+        before = [];
+        told = subst Told (sym none) tt;
+        ahead = read_none seen is_true reader [] piece refl empty.empty empty.more (first_texts seen is_true reader first.form);
       };
       keep = refl;
       at_start = λ truth. subst At (sym none) refl;

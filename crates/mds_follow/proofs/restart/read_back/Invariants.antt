@@ -12,7 +12,7 @@ abbrev pub invariant-pieces : goal.invariant-pieces
 invariant-pieces g l = record {
   reading : IsAtRequest g.D.Device.seen g.D.Device.may_leave g.D.Device.may_be_used g.D.Device.is_true l.ahead.reader.opening;
   read_on : IsReadOn g.D.Device.seen g.D.Device.may_leave g.D.Device.is_true g.D.Device.moment g.D.Device.left_since l.fn.ahead.reader.opening l.ahead.reader.opening;
-  halfway : IsHalfway g.D.Device.seen g.D.Device.is_true (resuming l.ahead.reader.opening l.seat l.keeper l.piece);
+  halfway : IsHalfway g.D.Device.seen g.D.Device.is_true (resuming l.ahead.reader l.seat l.keeper l.piece);
   keep : l.seat.keeps_all ≡ l.fn.seat.keeps_all;
   at_start : g.D.Device.is_true l.ahead.reader.opening.device → l.keeper ≡ recorded_at (g.D.Device.moment l.fn.ahead.reader.opening.device) (requests l.keeper);
 }

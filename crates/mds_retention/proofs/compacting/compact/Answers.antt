@@ -2,7 +2,7 @@ use Rattle.std.proofs.Common.{◌≡◌, ◌∙◌, [], ℕ, Bool, List, Some, i
 use Rattle.mds_core.specs.declared.request.Request.{Request}
 use Rattle.mds_compact.specs.Compaction.{kept_of}
 use Rattle.mds_compact.specs.Passes.{IsSurveyOf, IsThinningOf}
-use Rattle.mds_retention.specs.Copying.{AreTotalsOf, HasKept, IsMarkedBy}
+use Rattle.mds_retention.specs.Copying.{AreTotalsOf, HasKeptIn, IsMarkedBy}
 use Rattle.mds_retention.specs.Compacting.{IsCompactFault, StandsWhole}
 use Rattle.mds_retention.specs.Telling.{BeginsWith, IsAgainFault}
 use Rattle.mds_retention.specs.declared.error.CompactError.TheVariants.{Old}
@@ -23,9 +23,9 @@ returns-clause-made g c = λ first readings is found stands.
     → IsThinningOf from (kept_of stays history) [] thinning → IsMarkedBy from (kept_of stays history) history marked.marks.items × AreTotalsOf history (kept_of marked.marks.items history) marked.totals in
     let thin = subst Thin c.deref.ensures.value c.in_ok-thinning.ensures.thinning in
     let mark = subst Mark c.deref-2.ensures.value c.in_ok-marked.ensures.marks in
-    let Whole : List Bool → Type 0 = λ marks. StandsWhole (HasKept (known c.args.old.fourth) marks) found in
+    let Whole : List Bool → Type 0 = λ marks. StandsWhole (HasKeptIn (known c.args.old.fourth) marks) found in
     let made = compacted_to known c.args.old first c.args.from cuts survey.0 c.in_ok-surveyed.surveyed thinning marked.marks.items (record { cuts = c.in_ok-cut.cut; totals = marked.totals }) found
-    readings survey.1 surveyed (λ bytes is_known begins. thin bytes survey.0 is_known begins survey.2 surveyed.survey)
+    readings survey.1.0 surveyed (λ bytes is_known begins. thin bytes survey.0 is_known begins survey.2 surveyed.survey)
     (λ bytes is_known begins thinned. mark c.args.from bytes survey.0 is_known begins survey.2 thinned) (c.in_ok-cut.ensures.totals survey.0 c.in_ok-surveyed.surveyed.marks.items surveyed.cutting)
     (subst Whole c.deref-3.ensures.value (c.in_ok-write_new.ensures.made is found stands)) in
     made
@@ -44,9 +44,9 @@ returns-clause-crash g c = λ first readings is found stands.
     → IsThinningOf from (kept_of stays history) [] thinning → IsMarkedBy from (kept_of stays history) history marked.marks.items × AreTotalsOf history (kept_of marked.marks.items history) marked.totals in
     let thin = subst Thin c.deref.ensures.value c.in_ok-thinning.ensures.thinning in
     let mark = subst Mark c.deref-2.ensures.value c.in_ok-marked.ensures.marks in
-    let Whole : List Bool → Type 0 = λ marks. StandsWhole (HasKept (known c.args.old.fourth) marks) found in
+    let Whole : List Bool → Type 0 = λ marks. StandsWhole (HasKeptIn (known c.args.old.fourth) marks) found in
     let made = compacted_to known c.args.old first c.args.from cuts survey.0 c.in_ok-surveyed.surveyed thinning marked.marks.items (record { cuts = c.in_ok-cut.cut; totals = marked.totals }) found
-    readings survey.1 surveyed (λ bytes is_known begins. thin bytes survey.0 is_known begins survey.2 surveyed.survey)
+    readings survey.1.0 surveyed (λ bytes is_known begins. thin bytes survey.0 is_known begins survey.2 surveyed.survey)
     (λ bytes is_known begins thinned. mark c.args.from bytes survey.0 is_known begins survey.2 thinned) (c.in_ok-cut.ensures.totals survey.0 c.in_ok-surveyed.surveyed.marks.items surveyed.cutting)
     (subst Whole c.deref-3.ensures.value (c.in_ok-write_new.ensures.made is found stands)) in
     inr (made.0, made.1, made.2.0)
@@ -65,12 +65,12 @@ returns-in_err-write_new-clause-crash g c = λ first readings is found stands.
     → IsThinningOf from (kept_of stays history) [] thinning → IsMarkedBy from (kept_of stays history) history marked.marks.items × AreTotalsOf history (kept_of marked.marks.items history) marked.totals in
     let thin = subst Thin c.deref.ensures.value c.in_ok-thinning.ensures.thinning in
     let mark = subst Mark c.deref-2.ensures.value c.in_ok-marked.ensures.marks in
-    let Whole : List Bool → Type 0 = λ marks. StandsWhole (HasKept (known c.args.old.fourth) marks) found in
+    let Whole : List Bool → Type 0 = λ marks. StandsWhole (HasKeptIn (known c.args.old.fourth) marks) found in
     elim (c.in_err-write_new.ensures.crash is found stands) [
       | inl was ↦ inl (c.in_ok-is_free.ensures.stands found was)
       | inr whole ↦
           let made = compacted_to known c.args.old first c.args.from cuts survey.0 c.in_ok-surveyed.surveyed thinning marked.marks.items (record { cuts = c.in_ok-cut.cut; totals = marked.totals }) found
-          readings survey.1 surveyed (λ bytes is_known begins. thin bytes survey.0 is_known begins survey.2 surveyed.survey)
+          readings survey.1.0 surveyed (λ bytes is_known begins. thin bytes survey.0 is_known begins survey.2 surveyed.survey)
           (λ bytes is_known begins thinned. mark c.args.from bytes survey.0 is_known begins survey.2 thinned) (c.in_ok-cut.ensures.totals survey.0 c.in_ok-surveyed.surveyed.marks.items surveyed.cutting)
           (subst Whole c.deref-3.ensures.value whole) in
           inr (made.0, made.1, made.2.0)
@@ -82,7 +82,7 @@ returns-in_err-cut-clause-fault g c =
     let survey = c.in_ok-surveyed.ensures.survey in
     let surveyed = survey.3 cuts c.in_ok-cutting.ensures in
     let why = c.in_err-cut.ensures.fault survey.0 c.in_ok-surveyed.surveyed.marks.items surveyed.cutting in
-    let fault : IsCompactFault g.R.Read.remaining c.args.old cuts c.in_err-cut.field-0.0 = cut_fault g.R.Read.remaining c.args.old cuts survey.0 c.in_err-cut.field-0.0 survey.1 why in
+    let fault : IsCompactFault g.R.Read.remaining c.args.old cuts c.in_err-cut.field-0.0 = cut_fault g.R.Read.remaining c.args.old cuts survey.0 c.in_err-cut.field-0.0 survey.1.0 why in
     search rules
 
 pub returns-in_err-marked-clause-fault : goal.returns-in_err-marked-clause-fault
@@ -91,5 +91,5 @@ returns-in_err-marked-clause-fault g c =
     let survey = c.in_ok-surveyed.ensures.survey in
     let count : length c.deref-2.result.now ≡ length survey.0 = ap length c.deref-2.ensures.value ∙ survey.2 in
     let Again : ℕ → Type 0 = λ n. IsAgainFault (known c.args.old.third) n c.in_err-marked.field-0.0 in
-    let fault : IsCompactFault known c.args.old c.args.cuts.now (Old c.in_err-marked.field-0.0) = inr (survey.0, survey.1, inr (inl (subst Again count c.in_err-marked.ensures.fault))) in
+    let fault : IsCompactFault known c.args.old c.args.cuts.now (Old c.in_err-marked.field-0.0) = inr (survey.0, survey.1.0, inr (inl (subst Again count c.in_err-marked.ensures.fault))) in
     search rules

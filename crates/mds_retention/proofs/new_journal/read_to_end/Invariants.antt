@@ -8,8 +8,8 @@ abbrev pub invariant-loop : goal.invariant-loop
 invariant-loop g l = record {
   usable : g.D.Device.may_be_used l.draft.file;
   draft : IsDraft g.D.Device.seen g.D.Device.may_leave g.D.Device.is_true l.draft;
-  within : l.place.totals.kept ≤ l.place.totals.events;
+  within : l.reached.totals.kept ≤ l.reached.totals.events;
   seen : (from : ℕ) (first : List ℕ)
-      → IsNewJournal g.D.Device.seen g.D.Device.may_leave g.D.Device.is_true from first (g.F.Followed.content l.fn.followed) (record { draft = l.fn.draft; place = l.fn.start })
-      → IsNewJournal g.D.Device.seen g.D.Device.may_leave g.D.Device.is_true from first (g.F.Followed.content l.followed) (record { draft = l.draft; place = l.place });
+      → IsNewJournal g.D.Device.seen g.D.Device.may_leave g.D.Device.is_true from first (g.F.Followed.content l.fn.followed) (record { draft = l.fn.draft; reached = l.fn.start })
+      → IsNewJournal g.D.Device.seen g.D.Device.may_leave g.D.Device.is_true from first (g.F.Followed.content l.followed) (record { draft = l.draft; reached = l.reached });
 }

@@ -1,6 +1,4 @@
-use Rattle.std.proofs.Common.{◌≡◌, ℕ, suc, ◌+◌, ◌<◌, ◌∙◌, get_or, List, ◌∷◌, ◌++◌, length, take, drop, sym, subst, ap, arith}
-use Rattle.mds_core.specs.declared.request.Request.{Request}
-use Rattle.mds_entries.specs.Entry.{Tells}
+use Rattle.std.proofs.Common.{◌≡◌, ℕ, suc, ◌+◌, ◌<◌, get_or, List, length, take, drop, sym, subst}
 use Rattle.mds_groups.specs.Stream.{texts_held, texts_of}
 use Rattle.mds_commands.specs.Taking.{IsEntryFault, StopsAmong, TakesTexts}
 use Rattle.mds_commands.proofs.ErrorLemmas.{passed_on}

@@ -1,52 +1,36 @@
-use Rattle.std.proofs.Common.{◌≡◌, ◌+◌, Result, Bool, IfOk, length, sym, subst, arith}
+use Rattle.std.proofs.Common.{◌≡◌, ◌∙◌, ℕ, List, Vec, Global, Result, length, ap, subst, arith}
 use Rattle.std.proofs.lemmas.List.{length-map}
 use Rattle.mds_entries.specs.declared.entry.EntryFault.{EntryFault}
-use Rattle.mds_follow.specs.Reading.{IsEndOf, IsEndOfTexts}
-use Rattle.mds_follow.specs.Pieces.{requests_in, texts_in}
-use Rattle.mds_follow.specs.declared.start_fault.StartFault.{StartFault}
-use Rattle.mds_follow.proofs.PieceLemmas.{end_behind, end_told, few_lines, piece_ends}
+use Rattle.mds_follow.specs.Pieces.{AreRead, requests_in, texts_in}
+use Rattle.mds_follow.proofs.PieceLemmas.{all_read_from, few_lines, some_read_from, text_behind}
 use Rattle.mds_follow.proofs.piece.Piece.read.Goals as goal
 use Rattle.mds_follow.proofs.piece.Piece.read.Goals.{in-Ok, in-Err}
 
 -- there are no more requests than lines
 pub len-requires : goal.len-requires
 len-requires g c =
-    omega (arith, c.requires, few_lines c.args.lines.now (requests_in c.read_texts-told.new.self) c.read_texts-told.result c.read_texts-told.ensures)
+    omega (arith, c.requires.few, few_lines c.args.lines.now (requests_in c.read_texts-told.new.self) c.read_texts-told.result c.read_texts-told.ensures.read)
 
-pub overflow_add-number : goal.overflow_add-number
-overflow_add-number g c =
-    omega (arith, c.requires, c.len.ensures, few_lines c.args.lines.now (requests_in c.read_texts-told.new.self) c.read_texts-told.result c.read_texts-told.ensures)
-
--- the end is that of the lines, or what their first fault says
-pub returns-clause-all : goal.returns-clause-all
-returns-clause-all g c =
+-- a text behind them tells none, so its number stands there
+pub fault_at-requires : goal.fault_at-requires
+fault_at-requires g c other =
     let lines = c.args.lines.now in
     let told = requests_in c.read_texts-told.new.self in
-    let number = c.args.number + length told in
-    let All : Result Bool StartFault → Type 0 = λ w. IfOk w (λ _. (w ≡ c.args.end) × (length told ≡ length lines)) in
-    let Read : Result (Unit {0}) EntryFault → Type 0 = λ w. All (end_behind number w c.args.end) in
-    let read : Read c.read_texts-told.result = end_told lines told number c.read_texts-told.result c.args.end c.read_texts-told.ensures in
-    elim c.match-told.branch [
-      | in-Ok w ↦ subst All (sym w.self-is) (subst Read w.in-Ok.is read)
-      | in-Err w ↦ subst All (sym w.self-is) tt
-    ]
+    let Read : Result (Unit {0}) EntryFault → Type 0 = λ w. AreRead (texts_in lines) told w in
+    let behind = text_behind (texts_in lines) told c.in-Err.fault (subst Read c.in-Err.is c.read_texts-told.ensures.read) other in
+    let all : length c.deref.result.now ≡ length c.args.self.now.numbers.items =
+    ap (λ (w : List ℕ). length w) (c.deref.ensures.value ∙ ap (λ (v : Vec ℕ Global). v.items) c.read_texts-told.ensures.numbers) in
+    omega (arith, behind, all, c.len.ensures, c.requires.numbered, length-map lines (λ line. line.items))
 
-pub returns-clause-few : goal.returns-clause-few
-returns-clause-few g c = few_lines c.args.lines.now (requests_in c.read_texts-told.new.self) c.read_texts-told.result c.read_texts-told.ensures
+pub returns-clause-fewer : goal.returns-clause-fewer
+returns-clause-fewer g c = few_lines c.args.lines.now (requests_in c.read_texts-told.new.self) c.read_texts-told.result c.read_texts-told.ensures.read
 
--- what comes behind the lines comes behind the requests, or what their first fault says
 pub returns-clause-read : goal.returns-clause-read
-returns-clause-read g c bytes left hands ends =
+returns-clause-read g c =
     let lines = c.args.lines.now in
     let told = requests_in c.read_texts-told.new.self in
-    let number = c.args.number in
-    let texts = texts_in lines in
-    let Ends : Result Bool StartFault → Type 0 = λ w. IsEndOf bytes left number told w in
-    let Read : Result (Unit {0}) EntryFault → Type 0 = λ w. IsEndOf bytes left number told (end_behind (number + length told) w c.args.end) in
-    let size : length texts ≡ length lines = length-map lines (λ line. line.items) in
-    let after : IsEndOfTexts left (number + length texts) c.args.end = rw size ends in
-    let read = piece_ends bytes left number texts told c.read_texts-told.result c.args.end hands after c.read_texts-told.ensures in
+    let Read : Result (Unit {0}) EntryFault → Type 0 = λ w. AreRead (texts_in lines) told w in
     elim c.match-told.branch [
-      | in-Ok w ↦ subst Ends (sym w.self-is) (subst Read w.in-Ok.is read)
-      | in-Err w ↦ rw (w.self-is, w.fault_at.ensures, w.len.ensures) (subst Read w.in-Err.is read)
+      | in-Ok w ↦ all_read_from (texts_in lines) c.args.end _ (subst Read w.in-Ok.is c.read_texts-told.ensures.read) w.self-is
+      | in-Err w ↦ some_read_from (texts_in lines) c.args.end _ w.in-Err.fault w.fault_at.result (subst Read w.in-Err.is c.read_texts-told.ensures.read) (rw (w.deref.ensures.value, w.len.ensures) at w.fault_at.ensures) w.self-is
     ]

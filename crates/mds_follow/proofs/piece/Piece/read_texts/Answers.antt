@@ -1,12 +1,21 @@
-use Rattle.std.proofs.Common.{◌-◌, ◌/◌, length, take, drop, refl, sym, ◌∙◌}
+use Rattle.std.proofs.Common.{◌-◌, ◌/◌, length, take, drop, refl, sym, ap, ◌∙◌}
 use Rattle.mds_follow.specs.Pieces.{texts_in}
+use Rattle.mds_follow.specs.declared.piece.Piece.{Piece}
 use Rattle.mds_follow.proofs.PieceLemmas.{both_read, left_in, left_out, texts_of_both}
 use Rattle.mds_follow.proofs.piece.Piece.read_texts.Goals as goal
 use Rattle.mds_follow.proofs.piece.Piece.read_texts.Goals.{then-is_err, else-is_err}
 
+-- the numbers stay
+pub returns-clause-numbers : goal.returns-clause-numbers
+returns-clause-numbers g c =
+    elim c.if-is_err.branch [
+      | then-is_err w ↦ ap (λ (p : Piece). p.numbers) w.self-is ∙ c.read_both-ones.ensures.numbers
+      | else-is_err w ↦ ap (λ (p : Piece). p.numbers) w.self-is ∙ c.read_both-ones.ensures.numbers
+    ]
+
 -- nothing is kept behind a line that tells no request
-pub returns : goal.returns
-returns g c =
+pub returns-clause-read : goal.returns-clause-read
+returns-clause-read g c =
     let lines = c.args.lines.now in
     let at = length lines / 2 in
     let new = c.read_both-ones.new.self in

@@ -14,7 +14,7 @@ invariant_of-result g c =
       subst (λ (n : ℕ). AreWorkers n (slice_set c.in-Ok.opened.1.items 0 c.resume.new.seat)) (sym many)
           (first_resumed c.args.opening.seats c.in-Ok.opened.1.items c.index_mut.result.now c.resume.new.seat c.requires.fits.seats.0 c.in-Ok.ensures.seats
           c.index_mut.ensures.value c.resume.ensures.keep),
-      resumed c.args.opening.seats c.in-Ok.opened.1.items c.resume.new.seat _ c.requires.fits.seats.0 c.in-Ok.ensures.seats c.in-Ok-resume.ensures.refilled,
+      resumed c.args.opening.seats c.in-Ok.opened.1.items c.resume.new.seat c.requires.fits.seats.0 c.in-Ok.ensures.seats c.in-Ok-resume.ensures.asked.all,
     )
 
 -- nothing was done to the file

@@ -1,5 +1,4 @@
-use Rattle.std.proofs.Common.{◌≡◌, ℕ, ◌+◌, ◌-◌, ◌≤◌, List, Option, Some, None, length, true, false, refl, sym, subst, arith, rules}
-use Rattle.mds_table.specs.Tables.{Tables}
+use Rattle.std.proofs.Common.{◌≡◌, ◌-◌, ◌≤◌, Some, None, length, true, false, refl, subst, arith, rules}
 use Rattle.mds_groups.specs.Stream.{Refuses, Takes}
 use Rattle.mds_journal.specs.Stream.{lines_given, unread_of}
 use Rattle.mds_commands.specs.Taking.{IsShort}
