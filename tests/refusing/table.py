@@ -102,6 +102,7 @@ TESTED = {
     ("mds_pool", "test_edge", "a_book_is_settled_after_a_refused_growth"): ["serve_and_settle"],
     ("mds_pool", "test_edge", "a_book_is_served_over_its_journal_after_a_refused_growth"): [
         "RecordedBook::open",
+        "RecordedBook::record_all",
         "RecordedBook::held",
         "RecordedBook::serve",
     ],
@@ -121,6 +122,7 @@ TESTED = {
         "Journal::append",
     ],
     ("mds_journal", "test_journal", "a_reader_is_read_after_a_refused_growth"): ["LineStream::next_line"],
+    ("mds_journal", "test_journal", "a_gate_is_opened_after_a_refused_growth"): ["LineStream::open_gate"],
     ("mds_journal", "test_journal", "calls_are_made_after_a_refused_growth"): [
         "Opening::start",
         "Opening::next_line",
@@ -132,12 +134,8 @@ TESTED = {
         "Device::cut",
     ],
     ("mds_file", "test_journal", "a_file_grows_after_a_refused_growth"): ["open_file"],
-    ("mds_file", "test_journal", "a_new_file_is_made_after_a_refused_growth"): [
-        "NewFile::at",
-        "NewName::is_free",
-        "NewName::draft",
-        "NewName::link",
-    ],
+    ("mds_file", "test_journal", "a_new_file_is_made_after_a_refused_growth"): ["NewFile::at", "make_file"],
+    ("mds_file", "test_journal", "a_file_that_came_stays_after_a_refused_growth"): ["NewName::draft", "NewName::link"],
     ("mds_file", "test_journal", "a_file_is_followed_after_a_refused_growth"): [
         "FollowedFile::open",
         "Followed::rest",
@@ -173,6 +171,9 @@ WITHIN = {
     "mds_http::answer_bytes": "mds_http::bytes_of",
     "mds_book::Book::refill": "mds_follow::resume",
     "mds_follow::Record::append": "mds_follow::SharedFollower::commit",
+    "mds_follow::Aside::put": "mds_follow::resume",
+    "mds_journal::Opening::rest": "mds_follow::resume",
+    "mds_file::NewName::is_free": "mds_file::make_file",
     "mds_follow::Follower::follow_all": "mds_pool::RecordedBook::serve",
     "mds_pool::Recorder::commit": "mds_pool::RecordedBook::serve",
 }

@@ -1,6 +1,8 @@
 //! Journals in files of the system. A test runs in a folder of its own.
 use crate::ahead::ROOM;
-use mds_file::{FileFault, Followed, FollowedFile, NewFile, NewFileFault, NewName, open_file};
+use mds_file::{
+    FileFault, Followed, FollowedFile, NewFile, NewFileFault, NewName, make_file, open_file,
+};
 use mds_journal::{Device, Group, read_all};
 use std::alloc::Global;
 use std::fs;
@@ -86,11 +88,7 @@ fn faults_are_told_after_a_refused_growth(rt: HostRuntime) {
 /// Makes a file with these bytes under a name, over what an earlier process left.
 fn make(rt: &HostRuntime, path: &str, bytes: &[u8]) -> Result<(), NewFileFault> {
     let mut name = NewFile::<Brand>::at(*rt, rt.alloc(), path)?;
-    name.is_free()?;
-    let mut file = name.draft()?;
-    file.write_at(0, bytes)?;
-    file.sync()?;
-    name.link(file)
+    make_file(&mut name, bytes)
 }
 
 /// Whether a new file is made with its bytes and loses its other name, and whether none is made over it.
