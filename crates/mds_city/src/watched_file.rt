@@ -4,6 +4,7 @@ ghost use Rattle.std.specs.Prelude.{◌≡◌};
 use crate::progress::{Progress, Teller};
 use mds_journal::{Device, DeviceError};
 use mds_metrics::{Board, Gauge};
+use memchr::memchr_iter;
 use std::alloc::Global;
 use std::io::Write;
 use std::sync::Arc;
@@ -234,7 +235,7 @@ fn time_between(begun: Option<Duration>, ended: Option<Duration>) -> Option<Dura
 }
 
 fn line_feeds(bytes: &[u8]) -> u64 {
-    bytes.iter().filter(|byte| **byte == b'\n').count() as u64
+    memchr_iter(b'\n', bytes).count() as u64
 }
 
 /// The syncs among which one counts that took so many microseconds.
