@@ -18,10 +18,13 @@ TESTED = {
     ("mds_core", "test_rules", "fleet_calls_succeed_after_a_refused_growth"): ["Fleet::step", "Fleet::events", "run"],
     ("mds_core", "test_rules", "a_list_of_events_grows_after_a_refused_growth"): ["EventList::with_room", "EventList::push"],
     ("mds_past", "test_shards", "a_packed_past_takes_events_after_a_refused_growth"): ["Past::reserve"],
-    ("mds_compact", "test_retention", "a_history_is_compacted_after_a_refused_growth"): ["compaction"],
-    ("mds_compact", "test_retention", "passes_are_begun_anew_after_a_refused_growth"): ["Survey::note", "Thinning::take"],
+    ("mds_compact", "test_retention", "histories_are_compacted_after_a_refused_growth"): [
+        "compaction",
+        "Survey::note",
+        "Thinning::take",
+    ],
     ("mds_compact", "test_retention", "cuts_leave_the_first_events_after_a_refused_growth"): ["Cutting::open"],
-    ("mds_retention", "test_retention", "a_journal_is_compacted_after_a_refused_growth"): ["compact"],
+    ("mds_retention", "test_retention", "journals_are_compacted_after_a_refused_growth"): ["compact"],
     ("mds_retention", "test_retention", "requests_are_read_after_a_refused_growth"): ["RequestLines::next"],
     ("mds_retention", "test_retention", "events_are_read_after_a_refused_growth"): ["events_of"],
     ("mds_retention", "test_retention", "passes_are_made_after_a_refused_growth"): [
@@ -30,7 +33,7 @@ TESTED = {
         "marks_of",
         "kept_lines",
     ],
-    ("mds_retention", "test_retention", "a_new_journal_is_ended_after_a_refused_growth"): ["begin_journal", "end_journal"],
+    ("mds_retention", "test_retention", "new_journals_are_ended_after_a_refused_growth"): ["begin_journal", "end_journal"],
     ("mds_retention", "test_retention", "lines_are_drafted_after_a_refused_growth"): [
         "Draft::begin",
         "Draft::add_text",

@@ -4,6 +4,12 @@
 #[cfg(test)]
 mod compaction;
 #[cfg(test)]
-mod journals;
+mod files;
+#[cfg(test)]
+mod following;
+#[cfg(test)]
+mod reading;
 #[cfg(test)]
 mod retention;
+#[cfg(test)]
+mod texts;
