@@ -98,20 +98,36 @@ const TWO_GROUPS: &[&str] = &[
     "{\"crc32\":\"b056d061\"}",
 ];
 
-/// Whether the lines of a draft are those that were added, and no text as long as a check is.
+/// Whether the lines of a draft are those that were added.
 fn a_draft_has_its_texts(alloc: Global) -> Result<bool, NewFileFault> {
     let mut draft = Draft::new(alloc, Group::new(alloc)?, Memory::new(alloc, b"")?);
     draft.begin()?;
     draft.add_text(REGISTRATION.as_bytes())?;
     draft.flush()?;
     draft.add_text(FREE_1.as_bytes())?;
-    let of_a_check = draft.add_text(b"01234567890123456789");
     draft.flush()?;
-    let is_refused = of_a_check == Err(NewFileFault::CannotWrite);
-    Ok(is_refused && draft.into_file().bytes() == lines_of(alloc, TWO_GROUPS)?.as_slice())
+    Ok(draft.into_file().bytes() == lines_of(alloc, TWO_GROUPS)?.as_slice())
+}
+
+/// What is answered where a text that is as long as a check is added.
+fn text_of_a_check(alloc: Global) -> Result<NewFileFault, NewFileFault> {
+    let mut draft = Draft::new(alloc, Group::new(alloc)?, Memory::new(alloc, b"")?);
+    draft.begin()?;
+    match draft.add_text(b"01234567890123456789") {
+        Err(fault) if fault != NewFileFault::Memory => Ok(fault),
+        _ => Err(NewFileFault::Memory),
+    }
 }
 
 #[test]
 fn lines_are_drafted_after_a_refused_growth(rt: HostRuntime) {
     assert_eq!(rt; again!(a_draft_has_its_texts(rt.alloc())), Ok(true));
+}
+
+#[test]
+fn no_text_is_taken_for_a_check_after_a_refused_growth(rt: HostRuntime) {
+    assert_eq!(rt;
+        again!(text_of_a_check(rt.alloc())),
+        Ok(NewFileFault::CannotWrite)
+    );
 }
