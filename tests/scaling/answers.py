@@ -73,12 +73,14 @@ class Answers:
         if key is None:
             return []
         is_list = told[2].startswith(LIST_BEGIN)
-        return [(key[1], 1 + (self.events_in(told) if is_list else json.loads(told[2])["events"]))]
+        return [(key[1], 1 + (self.events_in(key[1], told) if is_list else json.loads(told[2])["events"]))]
 
-    def events_in(self, told):
-        """How many events a list has, of which a part may be recorded alone."""
+    def events_in(self, device, told):
+        """How many events a list has, or at least has: a part may be recorded alone, and of a regular vehicle the length tells how many
+        there are."""
         length = int(told[0].rpartition(b"content-length: ")[2].partition(b"\r\n")[0])
-        return told[2].count(b'"event_id"') if length == len(told[2]) else self.lengths.count(length)
+        is_regular = told[2].startswith(LIST_BEGIN + compact(listed(device, 0)).encode())
+        return self.lengths.count(length) if is_regular and length > len(told[2]) else told[2].count(b'"event_id"')
 
     def accepted(self, head, request, said):
         """What a batch had accepted. Where it is of one vehicle alone its target names that."""
