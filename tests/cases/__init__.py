@@ -1,5 +1,6 @@
 """The cases of tests/program, by subject."""
 
+from cases.again import gates_opened_meanwhile
 from cases.batches import batches, items
 from cases.calls import CALLS
 from cases.commands import commands, examples, orders, paths, spaced_paths, wrong_words
@@ -74,6 +75,7 @@ INTERPLAYS = [
     holds_little,
     input_that_stays_open,
     input_that_tells_enough,
+    gates_opened_meanwhile,
     files_opened,
     table_beside_a_journal,
     output_that_ends_midway,

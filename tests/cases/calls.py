@@ -12,13 +12,13 @@ from itertools import product
 from pathlib import Path
 
 from cases.commands import MISTAKE
-from cases.debugging import BAD, EVENTS, MAX_SCRIPT, NOBODY, SECOND, START, UNKNOWN
+from cases.debugging import BAD, EVENTS, EVENTS_OF_A, MAX_SCRIPT, NOBODY, SECOND, START, UNKNOWN
 from cases.helps import ALL
 from cases.inputs import ENOUGH, REPLAYED
 from cases.replays import A, B, P, batch, event, history, identifier, item, replayed, turn
 from cases.serve import NO_CONNECTION, SERVED, SERVED_ONE
 from cases.streams import LONG, LONG_FILES
-from cases.tables import MOST_ROWS, ONE_ROW, ONE_ROW_PRINTED, PROFILE, table_file, table_printed
+from cases.tables import HEARD, MOST_ROWS, ONE_ROW, ONE_ROW_PRINTED, PROFILE, table_file, table_printed
 from cases.tables import bad as bad_row
 from cases.timed import in_table, tables_file, tables_printed
 from cases.vehicles import LONG as LONG_LINE
@@ -41,6 +41,8 @@ FILES = {
     "table.json": ONE_ROW,
     "journal": journal(registered(A)),
     "faulty": "7\n{\n7\n7\n",
+    "told-journal": journal(registered(A), WOKEN),
+    "events.lines": "\n".join(EVENTS_OF_A),
     # one of each further kind of fault
     "unread-journal": journal("{"),
     "early-journal": journal(WOKEN),
@@ -55,6 +57,8 @@ FILES = {
 DEBUG = f"debug events.json {P} {A}"
 STARTED = f"events 2 refused 0\n{START}"
 NOTHING = "accepted 0 refused 0\n"
+MADE = " with other files, new"
+"""Behind the status of a run that made this file."""
 
 # On which descriptor calls are interrupted, and what comes of it: the status, the output and the faults.
 READS = [
@@ -85,6 +89,9 @@ PROBLEMS = [
     (["replay", LONG_PATH], 3, cannot_read(LONG_PATH)),
     (f"debug events.json {P} {B}", 1, NOBODY),
     (f"debug events.json {P} x", 2, BAD),
+    (f"events told-journal {P} {B}", 1, NOBODY),
+    ("compact told-journal journal --before 9", 3, "mds_city: journal is there\n"),
+    ("compact told-journal nowhere/new --before 9", 3, "mds_city: cannot write nowhere/new\n"),
     ("vehicles faulty", 3, not_a_journal("form")),
     ("vehicles unread-journal", 3, not_a_journal("bad_line 1")),
     ("vehicles early-journal", 3, not_a_journal("refused 1")),
@@ -104,6 +111,9 @@ WRITES = [
     ("replay events.json", OUT, (3, "0 ok non_contactable"[:MOVED], OUTPUT)),
     (DEBUG, OUT, (3, STARTED[:MOVED], OUTPUT)),
     ("vehicles journal", OUT, (3, "vehicle"[:MOVED], OUTPUT)),
+    (f"events told-journal {P} {A}", OUT, (3, WOKEN[:MOVED], OUTPUT)),
+    ("compact told-journal new --before 9", OUT, (f"3{MADE}", "registrations"[:MOVED], OUTPUT)),
+    ("replay --lines --unlimited events.lines", OUT, (3, "0 ok non_contactable"[:MOVED], OUTPUT)),
     ("table --table long-table.json", OUT, (3, table_printed(MOST_ROWS)[:MOVED], OUTPUT)),
     ("replay long-events.json", OUT, (3, "0 ok available"[:MOVED], OUTPUT)),
     ("vehicles long-journal", OUT, (3, "vehicle"[:MOVED], OUTPUT)),
@@ -321,6 +331,30 @@ def whole_by_bytes(program, case, on):
     if counts.writes != BY_BYTES * counts.bytes:
         wrong.append(f"{counts}, in place of {BY_BYTES} writes for each byte")
     return [f"{case.words}: {complaint}" for complaint in wrong]
+
+
+OPENED = f"available 2 from {','.join(HEARD.split())}\n"
+"""How the line of the vehicle of two events ends where it may have opened in any state from which its first type leads."""
+# The words of each command that prints, and what it prints.
+PRINTED = [
+    ("table", table_printed(PROFILE)),
+    ("table --table table.json", ONE_ROW_PRINTED),
+    *[(f"replay {options}events.json", REPLAYED) for options in ("", "--workers 4 ")],
+    *[(f"replay --lines {options}events.lines", REPLAYED) for options in ("", "--unlimited ")],
+    ("replay --any events.json", REPLAYED.replace("available 2\n", OPENED)),
+    (DEBUG, STARTED),
+    ("vehicles journal", LISTED),
+    ("vehicles --check journal", f"{LISTED}lines 2 groups 1\n"),
+    (f"events told-journal {P} {A}", f"{WOKEN}\n"),
+    ("compact told-journal new --before 9", "registrations 1 events 1 of 1\n"),
+]
+
+
+def outputs_by_bytes(program):
+    """What each command prints goes out whole, where each call takes a byte or is interrupted."""
+    for words, out in PRINTED:
+        status = f"0{MADE}" if words.startswith("compact") else 0
+        yield from whole_by_bytes(program, Case(words, status=status, out=out, files=files_of(words)), OUT)
 
 
 def lines_by_bytes(program):
@@ -602,6 +636,7 @@ CALLS = [
     interrupted_in_a_row,
     failed_calls,
     pages_by_bytes,
+    outputs_by_bytes,
     lines_by_bytes,
     lack_by_bytes,
     problems_by_bytes,

@@ -17,14 +17,14 @@ from harness.building import Refusal
 from harness.case import CLOSED, FOLDER, MAX_BYTES, MAX_ITEMS, NO_MEMORY, NO_STREAMS, OUTPUT, Case
 from harness.case import cannot_read, not_a_batch, not_a_table, told
 from harness.counting import ROOT
+from harness.running import differences, label, words_of
 
 EXAMPLE = ROOT / "examples/lost-and-back"
-EVENTS = batch(
-    [
-        event(A, "e1", "comms_lost", "non_contactable", 1000),
-        event(A, "e2", "comms_restored trip_end", "available", 2000),
-    ]
-)
+EVENTS_OF_A = [
+    event(A, "e1", "comms_lost", "non_contactable", 1000),
+    event(A, "e2", "comms_restored trip_end", "available", 2000),
+]
+EVENTS = batch(EVENTS_OF_A)
 MAX_SCRIPT = 1048576
 START = "0 0 removed possible removed\n"
 WITHIN = "1 1 non_contactable possible removed,available,non_operational,reserved,on_trip,elsewhere\n"
@@ -233,20 +233,38 @@ def answers_each_line_at_a_terminal(program):
                 yield f"status {child.returncode}, {rest!r} and {faults!r} behind `quit`"
 
 
-def prints_the_same_at_a_terminal(program):
-    """A script that is typed at a terminal, up to its end, prints what it prints elsewhere."""
+MOST_TYPED = 1000
+"""More than someone types, and fewer bytes than a terminal takes at once."""
+
+
+def may_be_typed(case):
+    """Whether the case has a script, of lines that a terminal hands over as they are."""
+    if case.stdin or case.stdout or case.stderr or isinstance(case.given, bytes) or len(case.given) > MOST_TYPED:
+        return False
+    return case.given.replace("\n", "").replace("\t", "").isprintable() or not case.given
+
+
+def typed_at_a_terminal(program, case):
+    """What is wrong with a run of a case whose script is typed, up to its end."""
     with tempfile.TemporaryDirectory() as folder:
-        Path(folder, "events.json").write_text(EVENTS)
-        for script, lines in SCRIPTS:
-            if isinstance(script, bytes) or len(script) > 1000 or not script.replace("\n", "").replace("\t", "").isprintable():
-                continue
-            with at_a_terminal(program, WORDS, folder) as (child, typed):
-                # The first of them hands over a line without a line feed, if there is one, and the next one ends the input.
-                os.write(typed, script.encode() + b"\x04\x04")
-                out, faults = child.communicate(timeout=SECONDS)
-                wanted = "events 2 refused 0\n" + START + lines
-                if (child.returncode, out.decode(), faults) != (0, wanted, b""):
-                    yield f"{script!r}: status {child.returncode}, {out!r} and {faults!r}, in place of {wanted!r}"
+        for name, text in case.files.items():
+            if text is FOLDER:
+                Path(folder, name).mkdir()
+            else:
+                Path(folder, name).write_text(text)
+        with at_a_terminal(program, words_of(case), folder) as (child, typed):
+            # The first of them hands over a line without a line feed, if there is one, and the next one ends the input.
+            os.write(typed, case.given.encode() + b"\x04\x04")
+            out, faults = child.communicate(timeout=SECONDS)
+            yield from differences(case, child.returncode, out, faults)
+
+
+def prints_the_same_at_a_terminal(program):
+    """A script that is typed at a terminal, up to its end, prints what it prints elsewhere, and ends alike: also where events of the
+    vehicle are refused, by a table that is named, and where there is a fault."""
+    for case in (*scripts(), *faults()):
+        if may_be_typed(case):
+            yield from (f"{label(case)}, {case.given!r}: {it}" for it in typed_at_a_terminal(program, case))
 
 
 MANY_MOVES = 300

@@ -18,12 +18,16 @@ LONG = {
     "table --table table.json": "",
     f"debug events.json {P} {A}": "step\nchain\n" * EVENTS,
     "vehicles journal": "",
+    f"events journal-of-one {P} {A}": "",
+    "replay --lines --unlimited events.lines": "",
 }
 """The words of commands, and their standard input."""
 LONG_FILES = {
     "events.json": batch(history(A, 0, EVENTS)),
     "table.json": table_file(MOST_ROWS),
     "journal": journal(*[registered(identifier(1, number)) for number in range(VEHICLES)]),
+    "journal-of-one": journal(registered(A), *history(A, 0, EVENTS)),
+    "events.lines": "\n".join(history(A, 0, EVENTS)),
 }
 FRONT, MOST_WAITING = 1000, (1 << 16) + 1000
 """Bytes that are read of standard output, and as many as that and a pipe hold."""

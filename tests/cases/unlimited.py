@@ -18,6 +18,9 @@ FAULTS = [
     (f"7\n{padded('7', MAX_BYTES + 1)}", ["fault not_object"], "too_long"),
     (f"7\n{padded('7', MAX_BYTES + 1)}\n7\n", ["fault not_object"], "too_long"),
     (f"7\n{'x' * (3 * MAX_BYTES)}\n", ["fault not_object"], "too_long"),
+    # also of spaces alone
+    (" " * (MAX_BYTES + 1), [], "too_long"),
+    (f"7\n{' ' * (3 * MAX_BYTES)}\n7\n", ["fault not_object"], "too_long"),
 ]
 
 
@@ -54,6 +57,7 @@ def unlimited_lines():
     yield from within_limits()
     yield from lines_beyond_limits()
     yield from long_file()
+    yield from line_without_end()
     files = {"lines": "{", "bad-table.json": "{"}
     yield told(f"{WORDS[0]} --table bad-table.json", not_a_table("not_json"), files=files)
     yield told("replay --lines --unlimited nothing", cannot_read("nothing"), files=files)
@@ -68,6 +72,12 @@ MANY, VEHICLES = 300_000, 1_000
 """Lines of a long file, and of how many vehicles they are."""
 MOST_HELD = 60_000_000
 """How many bytes of addresses the program may have over them: less than their text, of some 70 MB."""
+
+
+def line_without_end():
+    """A stream without a line feed, and without an end, is told to be too long, in as little memory."""
+    for words in ("replay --lines --unlimited /dev/zero", "replay --lines --unlimited -"):
+        yield told(words, not_a_batch("too_long"), stdin="/dev/zero", memory=MOST_HELD)
 
 
 def long_file():
