@@ -8,7 +8,7 @@ from cases.debugging import answers_each_line_at_a_terminal, goes_on_at_a_termin
 from cases.debugging import faults, holds_little, long_sessions, reads_its_script_before_it_prints
 from cases.debugging import reads_no_script_before_its_start, scripts, starts_before_its_script
 from cases.depot import depots
-from cases.events import events_of_a_vehicle, no_events_of_it
+from cases.events import events_of_a_vehicle, no_events_of_it, time_grows_with_the_lines
 from cases.helps import help_asked_for, version_asked_for
 from cases.inputs import input_that_stays_open, input_that_tells_enough
 from cases.largest import largest
@@ -76,6 +76,7 @@ INTERPLAYS = [
     input_that_stays_open,
     input_that_tells_enough,
     gates_opened_meanwhile,
+    time_grows_with_the_lines,
     files_opened,
     table_beside_a_journal,
     output_that_ends_midway,

@@ -529,6 +529,8 @@ def unread_files(program):
 
 
 WORKERS = (1, 2, 4, 5, 64)
+ENDS = (" ", "\n", "\r\n", "\n\n", "\t \n")
+"""What may stand behind a batch: a line feed, as editors write it, and other white space."""
 TWO_TABLES = tables_file((start, [("provider_drop_off", "removed", "available")]) for start in (0, 2000))
 
 
@@ -539,14 +541,15 @@ def replays_by_workers(vehicles):
     for opening, opened in (("", ""), ("--any ", " from removed")):
         ends = "".join(f"vehicle {P} {identifier(2, number)} available 1{opened}\n" for number in range(vehicles))
         out = f"{verdicts}{ends}accepted {vehicles} refused 0\n"
-        yield from ((f"replay {opening}--workers {count} -", out, batch(events), 2 * (count - 1)) for count in WORKERS)
+        for count, end in zip(WORKERS, ENDS):
+            yield from ((f"replay {opening}--workers {count} -", out, batch(events) + it, 2 * (count - 1)) for it in ("", end))
         yield f"replay {opening}-", out, batch(events), 0
         yield f"replay {opening}--lines --workers 64 -", out, "\n".join(events), 0
 
 
 def threads_of_workers(program):
-    """Each worker of a replay, or of a server, but one is a thread that is made. Those of a replay are made twice: they read, and
-    then they judge. A replay of lines, and one without the option, makes none. So it is over several tables."""
+    """Each worker of a replay, or of a server, but one is a thread that is made. Those of a replay are made twice: they read, also
+    where white space is behind the batch, and then they judge. A replay of lines, and one without the option, makes none. So it is over several tables."""
     runs = [(f"{NO_CONNECTION} --workers {count}", SERVED, "", count - 1) for count in WORKERS]
     runs += [*replays_by_workers(67), *replays_by_workers(MAX_ITEMS)]
     runs += [(f"{words} --table tables", *more) for words, *more in runs]

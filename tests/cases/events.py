@@ -1,7 +1,12 @@
 """Journals, and what `events` prints of one vehicle's."""
 
+import resource
+import subprocess
+import tempfile
+from pathlib import Path
+
 from cases.debugging import BAD, NOBODY
-from cases.replays import A, B, P, event, identifier
+from cases.replays import A, B, P, event, history, identifier
 from cases.vehicles import DAMAGED, FAULTS, FORM, GROUP_FAULTS, LONG, NEW, NO_FORM, RESERVED, ROOM, WOKEN
 from cases.vehicles import checked, journal, not_a_journal, registered
 from harness.building import no_random_numbers
@@ -88,3 +93,33 @@ def no_events_of_it():
     for stdout in NO_STREAMS:
         yield told(OF_A, OUTPUT, files={"journal": journal(*NEW, WOKEN)}, stdout=stdout)
         yield Case(OF_A, files={"journal": journal(*NEW)}, stdout=stdout, name="nothing to print")
+
+
+MANY = 40_000
+"""Events of a vehicle."""
+MOST_TIMES, SLACK = 4, 1
+"""How many times as long as `vehicles` takes of the processor `events` may, and seconds more."""
+MOST_SECONDS = 60
+"""Of the processor. The system ends a run behind them."""
+
+
+def seconds_of(program, words, folder):
+    """The status and the output of a run, and for how many seconds it had the processor."""
+    limit = lambda: resource.setrlimit(resource.RLIMIT_CPU, (MOST_SECONDS, MOST_SECONDS))
+    before = resource.getrusage(resource.RUSAGE_CHILDREN)
+    ran = subprocess.run([program, *words.split()], cwd=folder, stdout=subprocess.PIPE, stderr=subprocess.DEVNULL, preexec_fn=limit)
+    behind = resource.getrusage(resource.RUSAGE_CHILDREN)
+    return ran.returncode, ran.stdout.decode(), behind.ru_utime - before.ru_utime + behind.ru_stime - before.ru_stime
+
+
+def time_grows_with_the_lines(program):
+    """The events of a vehicle that has nearly all lines of a journal take about as long as to judge them, and not for each line more."""
+    lines = list(history(A, 0, MANY))
+    with tempfile.TemporaryDirectory() as folder:
+        Path(folder, "journal").write_text(journal(registered(A), *lines))
+        status, _, judged = seconds_of(program, "vehicles journal", folder)
+        *found, printed = seconds_of(program, OF_A, folder)
+    if status or found != [0, "".join(f"{line}\n" for line in lines)]:
+        yield f"`vehicles` ended with {status}, and `events` with {found[0]}, and {len(found[1])} bytes"
+    if printed > MOST_TIMES * judged + SLACK:
+        yield f"`events` took {printed:.1f} s of the processor for {MANY} lines, and `vehicles` {judged:.1f} s"

@@ -9,11 +9,11 @@ from concurrent.futures import ThreadPoolExecutor
 from itertools import product
 from pathlib import Path
 
-from compacting.running import content_amiss, left_amiss, run, totals
+from compacting.running import cannot_write, content_amiss, left_amiss, run, totals
 from compacting.worked import journal_of
 from crashing.lacking import FullDisk
 from harness.building import built
-from harness.case import NO_STREAMS, OUTPUT, Case
+from harness.case import NO_MEMORY, NO_STREAMS, OUTPUT, RANDOM, Case, cannot_read
 from harness.running import outcome
 from model.compaction import staying
 
@@ -27,6 +27,8 @@ OF_FILES = {0, 2, 3, 5, 8, 17, 72, 73, 87, 257, 262, 263, 332} | WRITES | SYNCS 
 MANY, LEFT = 500, 20_000
 """Events of a journal, and how many bytes a disk has left, which are fewer than a tenth of these take."""
 AT_ONCE = 4
+LOADER = 127
+"""The status of a run that comes to its end before the program begins."""
 WITHIN = 20
 """Seconds in which a run ends, whatever fails."""
 
@@ -72,6 +74,10 @@ class Folder:
             yield from content_amiss(self.new.read_bytes(), self.making.content(self.places))
         if is_there not in (None, self.new.exists()):
             yield f"the new file is there: {self.new.exists()}"
+
+    def is_told(self, faults):
+        """Whether this is the whole text of a fault that a call which fails may come to."""
+        return faults in (cannot_read(self.old), cannot_write(self.new), NO_MEMORY, RANDOM, OUTPUT)
 
     def again(self, program):
         """What is wrong with the next run: it has the new file made, or finds that it is there."""
@@ -139,8 +145,10 @@ def each_call_fails(program):
             is_of_new = call.number in SYNCS or call.is_of(WRITES, folder.path)
             if found[0] == 0 and (found != folder.wanted or is_of_new):
                 yield f"error {number}: {found}"
-            if found[0] and (found[0] not in (3, 4, 127) or found[1] not in ("", folder.said) or not found[2]):
+            if found[0] and (found[0] not in (3, 4, LOADER) or found[1] not in ("", folder.said) or not found[2]):
                 yield f"error {number}: {found}"
+            if found[0] in (3, 4) and not folder.is_told(found[2]):
+                yield f"error {number}: it told {found[2]!r}"
             yield from folder.amiss(is_there=True if found[0] == 0 else None)
             yield from folder.again(program)
             folder.new.unlink()
@@ -181,7 +189,7 @@ def on_a_full_disk(program):
         free = free_blocks(folder)
         for way in WAYS:
             status, out, faults = run(program, "compact", folder / "old", folder / "new", "--before", 0, *way)
-            if (status, out) not in ((3, ""), (3, "following\n" if way else "")) or not faults.startswith("mds_city: "):
+            if (status, out) not in ((3, ""), (3, "following\n" if way else "")) or faults != cannot_write(folder / "new"):
                 yield f"without room: {status}, {out!r}, {faults!r}"
             if sorted(os.listdir(folder)) != ["filler", "old"] or free_blocks(folder) != free:
                 yield f"without room: there are {os.listdir(folder)}, and {free_blocks(folder)} free blocks of {free}"

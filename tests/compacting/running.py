@@ -18,6 +18,10 @@ def run(program, *words):
     return ran.returncode, ran.stdout.decode(), re.sub(HOW_FAR, "", ran.stderr.decode())
 
 
+def cannot_write(path):
+    return f"mds_city: cannot write {path}\n"
+
+
 def totals(lines, places):
     """The last line of a run that leaves these places of the lines."""
     registrations = sum(line.time is None for line in lines)

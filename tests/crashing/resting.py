@@ -9,7 +9,8 @@ import threading
 import time
 from pathlib import Path
 
-from cases.vehicles import ROOM
+from cases.replays import batch, event
+from cases.vehicles import ROOM, checked, registered
 from crashing.clients import report, side_by_side
 from crashing.files import AT_REST, Lines, behind, counted, listed_amiss, listed_by, vehicles_text
 from crashing.recording import Recording
@@ -21,7 +22,7 @@ from model.http import answer, error
 from model.tables import Table
 from serving.http import done
 from serving.server import Server
-from serving.wire import ask, get
+from serving.wire import ask, connect, get, post
 
 EACH = 1000
 WORKERS = 4
@@ -36,6 +37,8 @@ MANY = 70_000
 """Events that are recorded before."""
 SLOW = 1.0
 """How long a sync of a slow disk takes, in seconds. A report waits for two."""
+SLOWER = 10.0
+"""The same of one that is slower than anything else here."""
 
 
 def served(server):
@@ -109,11 +112,12 @@ def without_any_request(program):
 
 
 def beside(program, path, ended, told):
-    """Reads the file by `vehicles` until clients are done, and once more, and adds what it told each time."""
+    """Reads the file by `vehicles` until clients are done, and once more, and adds what it told each time. Each second time it's seen to
+    the gates, too."""
     readings, is_last = 0, False
     while not is_last or readings < READINGS:
         readings, is_last = readings + 1, ended.is_set()
-        status, out, faults = listed_by(program, path)
+        status, out, faults = listed_by(program, path, *["--check"] * (readings % 2))
         if status or faults or not out.endswith("\n"):
             raise Unwell(f"`vehicles` said {(status, out[-200:], faults)}")
         counts = [line.split(" ") for line in out.splitlines()]
@@ -224,6 +228,49 @@ def looks_while_others_report(program):
             yield f"vehicles {pair}, behind {before} events: {wrong}"
 
 
+def asked_of(device):
+    """Requests about a vehicle with two events that change nothing, with their answers."""
+    earlier = event(device, "fe", "battery_charged", "available", 1000)
+    unlike = event(device, "ff", "provider_drop_off", "available", 2000)
+    late, stuck = {"error": "late", "index": 0, "last": 1001}, {"at": 0, "error": "no_chain", "held": "non_operational", "index": 0}
+    return [
+        (reporting(device, 0, 2), done(2, [{"error": "repeated", "index": index} for index in range(2)])),
+        (post("/events", batch([earlier])), done(1, [late])),
+        (post("/events", batch([unlike])), done(1, [stuck])),
+        (registering(device), done(1, [{"error": "already_registered", "index": 0}])),
+        (looking(device), answer(200, standing(device, 2))),
+        (listing(device), answer(200, {"events": [listed(device, number) for number in range(2)]})),
+    ]
+
+
+def answered_meanwhile(server, recording, one, other):
+    """What is wrong with answers that rest on what is on the disk, while an event of another vehicle waits for a slow one."""
+    yield from differing(ask(server.port, reporting(other, 0, 2)), done(2), "the events that are on the disk")
+    recording.set(pause=int(SLOWER * 1000000))
+    before, begun = recording.number("writes"), time.monotonic()
+    with connect(server.port) as slow:
+        slow.sendall(reporting(one, 0, 1))
+        begins_to_write(recording, before)
+        requests, answers = zip(*asked_of(other))
+        clients = all_asked(server.port, requests)
+    for client, wanted in zip(clients, answers):
+        yield from differing(client.answer, wanted, f"{client.request[:40]!r}")
+        if client.at > begun + 2 * SLOWER:
+            yield f"{client.request[:40]!r}: the answer {wanted[-100:]!r} took {client.at - begun:.1f} s"
+
+
+def answers_that_rest_on_the_disk(program):
+    """What is answered by what is on the disk already, also to a report that is repeated, late or refused, doesn't wait for what others
+    report of the other half. Each worker has one connection, so that who answers hasn't recorded anything."""
+    for one, other in ((device_at(0), device_at(1)), (device_at(1), device_at(0))):
+        workers = 2 + len(asked_of(other))
+        with tempfile.TemporaryDirectory() as folder:
+            path = Path(folder, "journal")
+            path.write_text(checked((registered(one), registered(other))))
+            with Recording(path) as recording, Server(program, 1, workers, journal=path, env=recording.env) as server:
+                yield from answered_meanwhile(server, recording, one, other)
+
+
 def files_of(server):
     """The paths of the regular files that a server has open, those of its standard streams aside."""
     folder = Path(f"/proc/{server.child.pid}/fd")
@@ -270,6 +317,7 @@ RESTING = [
     ended_by_itself,
     without_any_request,
     looks_while_others_report,
+    answers_that_rest_on_the_disk,
     vehicles_beside_a_server,
     without_a_journal,
     only_one_path,
