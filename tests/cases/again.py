@@ -15,7 +15,7 @@ from harness.case import told
 from harness.running import differences
 
 SECONDS = 60
-"""How long a run may take."""
+"""Within which a run ends."""
 WORDS = "vehicles --check journal"
 FRONT = checked(NEW, (WOKEN,), end="")
 BEHIND = (group(RESERVED), group(registered(B)), group(registered(B).replace("000b", "000c")))

@@ -1,5 +1,6 @@
 """Streams that fail, and memory that is refused."""
 
+import re
 import subprocess
 import tempfile
 from pathlib import Path
@@ -7,7 +8,8 @@ from pathlib import Path
 from cases.replays import A, P, batch, history, identifier, item, replayed
 from cases.tables import MOST_ROWS, ONE_ROW, table_file
 from cases.vehicles import journal, registered
-from harness.case import FULL, NO_MEMORY, NO_STREAMS, OUTPUT, Case, cannot_read, not_a_batch, not_a_table, told
+from harness.case import FULL, HOW_FAR, NO_MEMORY, NO_STREAMS, OUTPUT
+from harness.case import Case, cannot_read, not_a_batch, not_a_table, told, told_slowly
 
 ONE = batch([item()])
 EVENTS, VEHICLES = 5000, 2000
@@ -42,7 +44,7 @@ def streams():
             yield told(words, OUTPUT, **more)
             yield told(words, "", stderr=FULL, **more)
         for words, given in LONG.items():
-            yield told(words, OUTPUT, given=given, files=LONG_FILES, stdout=stdout, name="more than a page")
+            yield told(words, told_slowly(OUTPUT), given=given, files=LONG_FILES, stdout=stdout, name="more than a page")
             yield told(words, "", given=given, files=LONG_FILES, stdout=stdout, stderr=FULL, name="more than a page")
     files = {"table.json": "7"}
     for stderr in NO_STREAMS:
@@ -65,6 +67,11 @@ def memory():
         yield Case(words, memory=8 * 2**20, status=4, faults=NO_MEMORY, **given)
         yield Case(words, memory=8 * 2**20, status=4, stderr=FULL, **given)
     yield replayed(many, ["fault not_object"], [], memory=16 * 2**20, name="where memory is there")
+
+
+def without_how_far(faults):
+    """The bytes of standard error, but for how far a run is that takes long."""
+    return re.sub(HOW_FAR.encode(), b"", faults)
 
 
 def output_that_ends_midway(program):
@@ -92,4 +99,4 @@ def read_from(program, words, folder, most):
             found = child.stdout.read(most)
         status = child.wait(timeout=SECONDS)
         faults.seek(0)
-        return found, status, faults.read()
+        return found, status, without_how_far(faults.read())
