@@ -549,7 +549,8 @@ def replays_by_workers(vehicles):
 
 def threads_of_workers(program):
     """Each worker of a replay, or of a server, but one is a thread that is made. Those of a replay are made twice: they read, also
-    where white space is behind the batch, and then they judge. A replay of lines, and one without the option, makes none. So it is over several tables."""
+    where white space is behind the batch, and then they judge. A replay of lines, and one without the option, makes none. So it is
+    over several tables."""
     runs = [(f"{NO_CONNECTION} --workers {count}", SERVED, "", count - 1) for count in WORKERS]
     runs += [*replays_by_workers(67), *replays_by_workers(MAX_ITEMS)]
     runs += [(f"{words} --table tables", *more) for words, *more in runs]
