@@ -11,7 +11,8 @@
    may have, where it isn't negative. FAILING: the kind of call that fails, from the one of the number FROM on, counted from 1, and
    so MANY of them. HOW: the errno with which they fail, or 0 for EIO, where a write has put half of its bytes there; or -1, where
    they succeed with half of the bytes. PAUSE: how many microseconds a sync waits before it begins. Behind these stand the numbers
-   of syncs of the folder that the file is in, and of the calls so far, by their kinds. */
+   of syncs of the folder that the file is in, by fsync(2) alone, and of the calls so far, by their kinds. The place of a sync of
+   another file is 1 where it is by fsync(2), and 0 by fdatasync(2), which may leave the new names of a folder off the disk. */
 #define _GNU_SOURCE
 #include <dlfcn.h>
 #include <errno.h>
@@ -214,12 +215,12 @@ static int cut(cuts *next, int file, off_t size)
     return done;
 }
 
-static int synced(syncs *next, int file)
+static int synced(syncs *next, int file, int is_whole)
 {
-    if (is_its_folder(file))
+    if (is_whole && is_its_folder(file))
         __atomic_add_fetch(&control[FOLDERS], 1, __ATOMIC_SEQ_CST);
     if (!is_journal(file)) {
-        tell(SETTLED, file, 0, NULL, 0);
+        tell(SETTLED, file, is_whole, NULL, 0);
         int how = fails(SETTLED);
         return how > 0 ? (int)failed(how) : next(file);
     }
@@ -283,13 +284,13 @@ int ftruncate64(int file, off64_t size)
 int fdatasync(int file)
 {
     NEXT(syncs, "fdatasync");
-    return synced(next, file);
+    return synced(next, file, 0);
 }
 
 int fsync(int file)
 {
     NEXT(syncs, "fsync");
-    return synced(next, file);
+    return synced(next, file, 1);
 }
 
 /* The connection that was taken, if one was. What was kept of an earlier one with its descriptor is forgotten. */

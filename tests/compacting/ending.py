@@ -12,18 +12,25 @@ from pathlib import Path
 from compacting.running import cannot_write, content_amiss, left_amiss, run, totals
 from compacting.worked import journal_of
 from crashing.lacking import FullDisk
+from crashing.recording import Recording
 from harness.building import built
-from harness.case import NO_MEMORY, NO_STREAMS, OUTPUT, RANDOM, Case, cannot_read
+from harness.case import NO_MEMORY, NO_STREAMS, OUTPUT, RANDOM, Case, cannot_read, padded
 from harness.running import outcome
 from model.compaction import staying
 
 BEFORE = 9
 WAYS = (), ("--follow",)
 EVENTS = ("1a 2n 3a 4r", "1a 2np 3a 4n 5a", "")
-WRITES, SYNCS, LINKS = {1, 18, 20, 77, 285, 296}, {74, 75}, {82, 86, 264, 265, 316}
-"""Numbers of calls (syscalls(2)) that write or cut a file, that sync one, and that give it a name."""
-OF_FILES = {0, 2, 3, 5, 8, 17, 72, 73, 87, 257, 262, 263, 332} | WRITES | SYNCS | LINKS
-"""Those, and others that open, read, look at, lock, close or remove one."""
+WRITES, SYNCS, LINKS, REMOVALS = {1, 18, 20, 77, 285, 296}, {74, 75}, {82, 86, 264, 265, 316}, {87, 263}
+"""Numbers of calls (syscalls(2)) that write or cut a file, that sync one, that give it a name, and that remove one."""
+OF_A_FOLDER = {74}
+"""Those that sync a folder's new names: fdatasync(2) may leave them off the disk."""
+OF_A_LOCK = {73, 332}
+"""Those that lock a file, and look where it stands: until they are made a file may be another's, so it isn't removed."""
+OF_FILES = {0, 2, 3, 5, 8, 17, 72, 257, 262} | WRITES | SYNCS | LINKS | REMOVALS | OF_A_LOCK
+"""All these, and others that open, read, look at or close one."""
+PAGE, PAGES, LONG = 1 << 22, 3, 1 << 16
+"""Bytes of a new file that are written at once, how many times as many a journal has, and how long each of its texts is."""
 MANY, LEFT = 500, 20_000
 """Events of a journal, and how many bytes a disk has left, which are fewer than a tenth of these take."""
 AT_ONCE = 4
@@ -79,6 +86,14 @@ class Folder:
         """Whether this is the whole text of a fault that a call which fails may come to."""
         return faults in (cannot_read(self.old), cannot_write(self.new), NO_MEMORY, RANDOM, OUTPUT)
 
+    def beside(self):
+        """What stands in the folder beside the two files, and how many bytes each has."""
+        return {it.name: it.stat().st_size for it in self.path.iterdir() if it not in (self.old, self.new)}
+
+    def left_by(self, call):
+        """What stands there behind a run of which a call failed, and that this doesn't explain."""
+        return {} if call.number in REMOVALS else {it: size for it, size in self.beside().items() if size or call.number not in OF_A_LOCK}
+
     def again(self, program):
         """What is wrong with the next run: it has the new file made, or finds that it is there."""
         was_there = self.new.exists()
@@ -86,6 +101,8 @@ class Folder:
         wanted = (3, "", f"mds_city: {self.new} is there\n") if was_there else self.wanted
         if found != wanted:
             yield f"the next run: {found}, in place of {wanted}"
+        if not was_there and self.beside():
+            yield f"the next run left {self.beside()}"
         yield from self.amiss(is_there=True)
 
 
@@ -137,7 +154,7 @@ def killed_at_each_call(program):
 
 def each_call_fails(program):
     """Each call on a file fails with the error of a disk, or for want of room. Where a write or a sync of the new file, or of its folder,
-    failed, the status says so."""
+    failed, the status says so. Nothing is left beside the files, but where its removal failed, or an empty file where it wasn't locked."""
 
     def ended(folder, at, call):
         for number in (errno.EIO, errno.ENOSPC):
@@ -149,6 +166,8 @@ def each_call_fails(program):
                 yield f"error {number}: {found}"
             if found[0] in (3, 4) and not folder.is_told(found[2]):
                 yield f"error {number}: it told {found[2]!r}"
+            if left := folder.left_by(call):
+                yield f"error {number}: {found}, and there is {left}"
             yield from folder.amiss(is_there=True if found[0] == 0 else None)
             yield from folder.again(program)
             folder.new.unlink()
@@ -157,8 +176,8 @@ def each_call_fails(program):
 
 
 def synced_in_order(program):
-    """All that is written is synced before it has the new name, and the folder before the run tells of it. So a power cut leaves no
-    file of that name, or a whole one."""
+    """All that is written is synced before it has the new name, and the folder, by fsync(2), before the run tells of it. So a power cut
+    leaves no file of that name, or a whole one."""
     for way in WAYS:
         yield from (f"{' '.join(way)}: {it}" for it in order_amiss(program, way))
 
@@ -171,13 +190,48 @@ def order_amiss(program, way):
         wrote = [at for at, call in enumerate(calls) if call.is_of(WRITES, folder)]
         synced = [at for at, call in enumerate(calls) if call.is_of(SYNCS, folder)]
         named = [at for at, call in enumerate(calls) if call.number in LINKS]
-        of_folder = [at for at, call in enumerate(calls) if call.number in SYNCS and call.path == folder]
+        of_folder = [at for at, call in enumerate(calls) if call.number in OF_A_FOLDER and call.path == folder]
         told = [at for at, call in enumerate(calls) if call.number in WRITES and call.first == 1]
         order = [wrote[-1:], synced[-1:], named[:1], of_folder[-1:], told[-1:]]
         if not all(order) or order != sorted(order):
             yield f"the last write, its sync, the name, the sync of the folder and the text stand at {order}"
         if any(calls[at].path == f"{folder}/new" for at in wrote):
             yield "it was written under its own name"
+
+
+def in_pages(program, folder, way, **numbers):
+    """A run over a journal of several pages, all of which stays, where so many calls on the new file fail: its status and outputs, and how
+    many writes and syncs that had."""
+    making = journal_of(" ".join(f"{time}{'an'[time % 2]}" for time in range(1, PAGES * PAGE // LONG)))
+    making.texts = [padded(text, LONG) for text in making.texts]
+    (folder / "old").write_bytes(making.content())
+    with Recording(folder / "new.part", **numbers) as recording:
+        found = run(program, "compact", folder / "old", folder / "new", "--before", 0, *way, env=recording.env)
+        return found, recording.number("writes"), recording.number("syncs")
+
+
+def synced_page_by_page(program):
+    """A large file is synced once for each page that is written, beside the syncs at its begin and its end."""
+    for way in WAYS:
+        with tempfile.TemporaryDirectory() as name:
+            found, _, syncs = in_pages(program, Path(name), way)
+            if found[0]:
+                yield f"{way}: {found}"
+                continue
+            size = Path(name, "new").stat().st_size
+            if not 2 < syncs <= size // PAGE + 2:
+                yield f"{way}: a file of {size} bytes had {syncs} syncs, of pages of {PAGE}"
+
+
+def without_room_behind_a_page(program):
+    """There is room for a page of the new file alone. So a run that follows fails before it says that. Nothing is left of the file."""
+    for way in WAYS:
+        with tempfile.TemporaryDirectory() as name:
+            found, writes, _ = in_pages(program, Path(name), way, room=PAGE * 3 // 2)
+            if found != (3, "", f"mds_city: cannot write {name}/new\n") or writes < 2:
+                yield f"{way}: {found} behind {writes} writes"
+            if os.listdir(name) != ["old"]:
+                yield f"{way}: there are {os.listdir(name)}"
 
 
 def on_a_full_disk(program):
@@ -211,4 +265,12 @@ def output_that_fails(program):
             yield f"{stream}: {status}, {faults!r}"
 
 
-ENDING = [killed_at_each_call, each_call_fails, synced_in_order, on_a_full_disk, output_that_fails]
+ENDING = [
+    killed_at_each_call,
+    each_call_fails,
+    synced_in_order,
+    synced_page_by_page,
+    without_room_behind_a_page,
+    on_a_full_disk,
+    output_that_fails,
+]

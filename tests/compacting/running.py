@@ -12,9 +12,12 @@ IN_GROUPS = (0, 7)
 """An old journal is of version 1, or of version 2 in groups of so many lines."""
 
 
-def run(program, *words):
-    """The status and both outputs of a run, but for how far it is where it takes long."""
-    ran = subprocess.run([program, *map(str, words)], capture_output=True, timeout=SECONDS)
+def run(program, *words, env=None, seconds=SECONDS):
+    """The status and both outputs of a run, but for how far it is where it takes long. One that doesn't end is ended."""
+    try:
+        ran = subprocess.run([program, *map(str, words)], capture_output=True, env=env, timeout=seconds)
+    except subprocess.TimeoutExpired:
+        return f"none after {seconds} seconds", "", ""
     return ran.returncode, ran.stdout.decode(), re.sub(HOW_FAR, "", ran.stderr.decode())
 
 

@@ -16,7 +16,7 @@ from crashing.hurting import ROOMS
 from crashing.lacking import FullDisk
 from crashing.leaving import Disk
 from crashing.paths import WAKE, aside_amiss, begun, not_started, refused
-from crashing.recording import CUT, OPENED, SETTLED, WRITE, Recording
+from crashing.recording import BY_FSYNC, CUT, OPENED, SETTLED, WRITE, Recording
 from crashing.reports import device_at, listed
 from crashing.walking import CHANGING
 from harness.case import cannot_read
@@ -39,6 +39,7 @@ MOST_LEFT = 40
 """Files that a crash may leave at one moment, of which all or so many are looked at."""
 LONG_NAME = 252
 """So long is the name of a file that one with `.cut` behind it is too long."""
+LINK_TO = "link to "
 LEFT = 8192
 """How many bytes are left on a full disk; more stand behind the lines."""
 GATES = (CLOSED, b"\0", b"\n", b"x", b"\xff")
@@ -177,11 +178,13 @@ def not_put_aside(program, path, content, **more):
 
 
 def lay_at(path, how="empty file"):
-    """Lays something at a path: a file, an empty one, a folder, a link to a file or to nothing."""
+    """Lays something at a path: a file, an empty one, a folder, a pipe, or a link to a name beside it."""
     if how == "folder":
         path.mkdir()
-    elif how.startswith("link"):
-        path.symlink_to("journal" if how == "link" else "nowhere")
+    elif how == "pipe":
+        os.mkfifo(path)
+    elif how.startswith(LINK_TO):
+        path.symlink_to(how.removeprefix(LINK_TO))
     else:
         path.write_text("what was cut before" if how == "file" else "")
 
@@ -208,7 +211,7 @@ def started_beside(program, path, end, names):
 def places_that_are_taken(program):
     """Where something stands already in the place for what is cut off, it stays, and the bytes go into the next file; and a start that
     cuts off but room makes none."""
-    for how in ("file", "empty file", "folder", "link", "link to nothing"):
+    for how in ("file", "empty file", "folder", "pipe", f"{LINK_TO}journal", f"{LINK_TO}nowhere"):
         with tempfile.TemporaryDirectory() as folder:
             path, second = Path(folder, "journal"), Path(folder, "journal.cut.1")
             lay_at(aside_of(path), how)
@@ -252,19 +255,45 @@ def places_that_are_all_taken(program):
 
 
 def places_that_cannot_be_had(program):
-    """A name that is too long, a folder where the new file is written, and a full disk."""
+    """A name that is too long, and a full disk."""
     with tempfile.TemporaryDirectory() as folder:
         yield from not_put_aside(program, Path(folder, "j" * LONG_NAME), FRONT + TORN)
-        Path(folder, "journal.cut.part").mkdir()
-        yield from (f"a folder: {it}" for it in not_put_aside(program, Path(folder, "journal"), FRONT + TORN))
-        if aside_of(f"{folder}/journal").exists():
-            yield "a folder: it is put aside"
     with FullDisk() as folder:
         room = os.statvfs(folder)
         content = FRONT + TORN + bytes(2 * LEFT) + TORN
         free = room.f_bavail * room.f_bsize - len(content)
         Path(folder, "filler").write_bytes(bytes(max(free - LEFT, 0)))
         yield from (f"a full disk: {it}" for it in not_put_aside(program, Path(folder, "journal"), content))
+
+
+def where_it_is_written(program):
+    """Until it is whole it stands at a name of its own. What a run left there goes. A folder, a pipe or a link that stands there is no such
+    file: none is written through, or waited for."""
+    for how in ("file", "empty file"):
+        with tempfile.TemporaryDirectory() as folder:
+            path = Path(folder, "journal")
+            lay_at(part := Path(folder, "journal.cut.part"), how)
+            path.write_bytes(FRONT + TORN)
+            with Server(program, 1, journal=path) as server:
+                server.success = COUNT
+                yield from (f"{how}: {it}" for it in server.end())
+            yield from (f"{how}: {it}" for it in aside_amiss(path, TORN))
+            if part.exists():
+                yield f"{how}: it is there still"
+    for how in ("folder", "pipe", f"{LINK_TO}nowhere", f"{LINK_TO}pipe", f"{LINK_TO}folder"):
+        yield from (f"{how}: {it}" for it in written_through(program, how))
+
+
+def written_through(program, how):
+    """What is wrong with a start that has such a thing where what is cut off is written, which stays, and so does all beside it."""
+    with tempfile.TemporaryDirectory() as folder:
+        for name in ("folder", "pipe"):
+            lay_at(Path(folder, name), name)
+        lay_at(part := Path(folder, "journal.cut.part"), how)
+        was = standing_at(part)
+        yield from not_put_aside(program, Path(folder, "journal"), FRONT + TORN)
+        if sorted(os.listdir(folder)) != ["folder", "journal", part.name, "pipe"] or standing_at(part) != was:
+            yield f"there are {sorted(os.listdir(folder))}, or {part.name} isn't as it was"
 
 
 def recorded_start(program, content, **numbers):
@@ -282,16 +311,18 @@ def recorded_start(program, content, **numbers):
 
 
 def on_the_disk_first(program):
-    """What is cut off is on the disk, and so is its name, before the journal is cut; where a write of it or a sync of either fails nothing
-    is cut."""
+    """What is cut off is on the disk, and so is its name, by fsync(2) of the folder, before the journal is cut; where a write of it or a sync
+    of either fails nothing is cut."""
     content = FRONT + TORN
     entries, _, _ = recorded_start(program, content)
     at = [place for place, it in enumerate(entries) if it.kind == OPENED and b"journal.cut" in it.data]
     cut = next((place for place, it in enumerate(entries) if it.kind == CUT), len(entries))
     files = {entries[place].file for place in at}
-    settled = [it.file for it in entries[at[0] : cut] if it.kind == SETTLED] if at else []
-    if not files & set(settled) or len(settled) < 2:
+    settled = [it for it in entries[at[0] : cut] if it.kind == SETTLED] if at else []
+    if not any(it.file in files for it in settled):
         yield f"before the cut {settled} were synced, of {files} that were opened"
+    if not any(it.file not in files and it.at == BY_FSYNC for it in settled):
+        yield f"before the cut the folder wasn't synced by fsync(2), but {settled}"
     for number in range(1, sum(it.kind == SETTLED for it in entries[:cut]) + 1):
         _, ended, left = recorded_start(program, content, failing=SETTLED, first=number, many=1)
         if ended is None or left != content:
@@ -314,5 +345,6 @@ ASIDE = [
     one_crash_behind_another,
     places_that_are_all_taken,
     places_that_cannot_be_had,
+    where_it_is_written,
     on_the_disk_first,
 ]

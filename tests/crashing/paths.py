@@ -134,8 +134,8 @@ def links(program):
 
 
 def names_in_folders(program):
-    """A file that is made, one that is there, and one behind a link in another folder: its folder is synced before the server
-    listens, so that no power cut takes the name away."""
+    """A file that is made, one that is there, and one behind a link in another folder: its folder is synced, by fsync(2), before the
+    server listens, so that no power cut takes the name away."""
     with tempfile.TemporaryDirectory() as folder:
         path, elsewhere = Path(folder, "journal"), Path(folder, "elsewhere")
         elsewhere.mkdir()
@@ -144,7 +144,7 @@ def names_in_folders(program):
         for place in (path, path, link):
             with Recording(place) as recording, Server(program, 1, journal=place, env=recording.env):
                 if recording.number("folders") != 1:
-                    yield f"{place.name}: its folder was synced {recording.number('folders')} times"
+                    yield f"{place.name}: its folder was synced {recording.number('folders')} times by fsync(2)"
 
 
 def one_server_at_a_time(program):

@@ -16,6 +16,9 @@ WOKEN, TRIED, SHUT, STREAMED, MADE, LISTENED, KINDS = range(50, 57)
 """Kinds that are recorded where all calls are: descriptors that were opened, made and closed; the file's lock, what stands at a path,
 advice, syncs of another file; waits for what is ready, what is asked about, sleep; waits for a lock, and threads that are told of one;
 calls that take a connection, ends of a side, bytes on streams, and calls that wait for bytes."""
+BY_FSYNC = 1
+"""The place of a sync of another file where it is by fsync(2). That of a folder has to be: fdatasync(2) may leave its new names off the
+disk."""
 NUMBERS = ("room", "failing", "first", "many", "pause", "how", "folders")
 """Those that are heeded while the server runs, and behind them one that it counts. Behind these it counts the calls by kind."""
 COUNTED = {"writes": WRITE, "cuts": CUT, "syncs": SYNC, "reads": READ}

@@ -5,6 +5,7 @@ from collections import Counter, defaultdict
 
 from crashing.recording import (
     ADVISED,
+    BY_FSYNC,
     CLOSED,
     CUT,
     ENDED,
@@ -71,7 +72,7 @@ class Opening:
             yield "synced"
         elif entry.kind == ADVISED and (entry.file, entry.at) == (self.file, os.POSIX_FADV_DONTNEED):
             yield "dropped"
-        elif entry.kind == SETTLED and entry.file == self.folder_file:
+        elif entry.kind == SETTLED and (entry.file, entry.at) == (self.folder_file, BY_FSYNC):
             yield "folder synced"
 
     def missing(self):
