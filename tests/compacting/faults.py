@@ -9,6 +9,7 @@ from cases.replays import A, P
 from cases.tables import ONE_ROW, PROFILE, table_file
 from cases.vehicles import DAMAGED, FAULTS, GROUP_FAULTS, NEW, NO_FORM, WOKEN, checked, journal, not_a_journal
 from compacting.running import cannot_write, content_amiss, run
+from crashing.aside import LINK_TO, lay_at, standing_at
 from harness.building import no_random_numbers
 from harness.case import RANDOM, cannot_read, not_a_table, padded, told
 from harness.running import differences, outcome
@@ -17,6 +18,10 @@ from harness.texts import as_bytes
 BEFORE = ("--before", "9")
 WAYS = (BEFORE, (*BEFORE, "--follow"))
 """Without a server the two tell the same."""
+PLACES = ("file", "folder", "pipe", *(f"{LINK_TO}{name}" for name in ("file", "folder", "pipe", "old", "nowhere")))
+"""What may be laid at a path."""
+WITHIN = 20
+"""Seconds in which a run ends that does nothing."""
 
 
 def untouched(program, files, words, wanted):
@@ -99,25 +104,60 @@ def no_old_file(program):
 
 
 def a_new_file_that_is_there(program):
-    """Nothing is written over a file, the old one, a folder or a link that leads nowhere."""
+    """Nothing is written over a file, the old one, a folder, a pipe or a link, also one that leads nowhere; and that is told before anything
+    is done, also of an old journal with a fault."""
     there = (3, "", "mds_city: @/new is there\n")
     old = journal(*NEW, WOKEN)
     for way in WAYS:
         for text in ("", "what was there", old):
             yield from untouched(program, {"old": old, "new": text}, ["@/old", "@/new", *way], there)
         yield from untouched(program, {"old": old}, ["@/old", "@/old", *way], (3, "", "mds_city: @/old is there\n"))
+    for how, way, text in product(PLACES, WAYS, (old, journal("{"))):
+        yield from (f"{how}: {it}" for it in beside_a_place(program, "new", how, way, text, "NEW is there"))
+
+
+def beside_a_place(program, place, how, way, old, told):
+    """What is wrong with a compaction where this is laid at a place beside the old file: it has to tell that of the new one, and all stays
+    as it was."""
     with tempfile.TemporaryDirectory() as name:
-        path = Path(name, "old")
-        path.write_text(old)
-        for kind in ("folder", "link"):
-            new = Path(name, kind)
-            if kind == "folder":
-                new.mkdir()
-            else:
-                new.symlink_to("nowhere")
-            found = run(program, "compact", path, new, *BEFORE)
-            if found != (3, "", f"mds_city: {new} is there\n") or sorted(os.listdir(name))[-1] != "old":
-                yield f"{kind}: {found}, and {os.listdir(name)}"
+        paths = [Path(name, it) for it in ("file", "folder", "pipe", "old", place)]
+        for path in paths[:3]:
+            lay_at(path, path.name)
+        paths[3].write_text(old)
+        lay_at(paths[4], how)
+        was = [standing_at(path) for path in paths]
+        found = run(program, "compact", f"{name}/old", f"{name}/new", *way, seconds=WITHIN)
+        wanted = (3, "", f"mds_city: {told.replace('NEW', f'{name}/new')}\n")
+        if found != wanted:
+            yield f"{way}: {found}, in place of {wanted}"
+        if sorted(os.listdir(name)) != sorted(path.name for path in paths) or [standing_at(path) for path in paths] != was:
+            yield f"{way}: there are {sorted(os.listdir(name))}, or others than before"
+
+
+def where_it_is_written(program):
+    """Until it is whole the new file stands at a name of its own. What an earlier run left there goes. A folder, a pipe or a link that stands
+    there is no such file: none is written through, or waited for."""
+    old = journal(*NEW, WOKEN)
+    for how, way in product(("folder", "pipe", *(f"{LINK_TO}{name}" for name in ("folder", "pipe", "nowhere"))), WAYS):
+        yield from (f"{how}: {it}" for it in beside_a_place(program, "new.part", how, way, old, "cannot write NEW"))
+    for how, way in product(("file", "empty file", f"{LINK_TO}earlier"), WAYS):
+        yield from (f"{how}: {it}" for it in over_an_earlier_one(program, how, way, old))
+
+
+def over_an_earlier_one(program, how, way, old):
+    """What is wrong with a compaction that finds what an earlier one left."""
+    with tempfile.TemporaryDirectory() as name:
+        earlier, new = Path(name, "earlier"), Path(name, "new")
+        Path(name, "old").write_text(old)
+        earlier.write_text("what stands elsewhere")
+        lay_at(Path(name, "new.part"), how)
+        found = run(program, "compact", f"{name}/old", new, *way, seconds=WITHIN)
+        if found[0] or sorted(os.listdir(name)) != ["earlier", "new", "old"] or new.is_symlink():
+            yield f"{way}: {found}, and there are {sorted(os.listdir(name))}"
+        else:
+            yield from (f"{way}: {it}" for it in content_amiss(new.read_bytes(), old.encode()))
+        if earlier.read_text() != "what stands elsewhere":
+            yield f"{way}: a file that a link led to has {earlier.read_bytes()[:200]!r}"
 
 
 def no_place_for_it(program):
@@ -208,6 +248,7 @@ FAULTY = [
     judged_first,
     no_old_file,
     a_new_file_that_is_there,
+    where_it_is_written,
     no_place_for_it,
     without_random_numbers,
     no_words,

@@ -17,7 +17,7 @@ from cases.vehicles import group, journal, not_a_journal
 from compacting.running import IN_GROUPS, SECONDS, content_amiss, run, totals
 from compacting.worked import journal_of
 from crashing.files import counted, texts_in
-from crashing.recording import Recording
+from crashing.recording import LOCKED, Recording
 from crashing.reports import FIRST_TIME, device_at, listed, listing, looking, parts_of, registering, reporting, status_of
 from harness.building import built
 from harness.counting import Unwell
@@ -290,6 +290,8 @@ def lines_that_come_in(program, in_groups):
 
 REST, BUSY = 1, 0.1
 """For how many seconds nothing comes, and how many of a processor may be taken meanwhile."""
+SOON, TRIES = 1, 5
+"""Seconds in which a run ends once no server has the old file, of so many runs at least one: the machine may be busy with others."""
 
 
 def calls_on(recording):
@@ -297,8 +299,13 @@ def calls_on(recording):
     return {name: recording.number(name) for name in ("writes", "syncs")}
 
 
+def open_files(child):
+    return len(os.listdir(f"/proc/{child.pid}/fd"))
+
+
 def rests_between_looks(program):
-    """While nothing comes the old file is looked at a few times a second alone, and nothing is done to the new one."""
+    """While nothing comes the old file is looked at a few times a second alone, and nothing is done to the new one. No look takes a
+    descriptor that it doesn't give back: at most one is open for the moment."""
     making = journal_of(RIDES)
     with tempfile.TemporaryDirectory() as name:
         old, new = Path(name, "old"), Path(name, "new")
@@ -307,8 +314,11 @@ def rests_between_looks(program):
             if following.line() != "following\n":
                 yield f"it ended with {following.ended()}"
             clock = ~following.child.pid << 3 | 2
-            begun, calls = time.clock_gettime(clock), calls_on(recording)
+            begun, calls, files = time.clock_gettime(clock), calls_on(recording), open_files(following.child)
+            looks = recording.count(LOCKED)
             time.sleep(REST)
+            if (more := open_files(following.child) - files) > 1:
+                yield f"behind {recording.count(LOCKED) - looks} looks {more} more files are open"
             if (busy := time.clock_gettime(clock) - begun) > BUSY:
                 yield f"it took {busy:.2f} s of a processor in {REST} s"
             if calls_on(recording) != calls:
@@ -317,12 +327,39 @@ def rests_between_looks(program):
             yield "it didn't end well"
 
 
+def the_change_is_seen_soon(program):
+    """A run that follows ends soon once nobody has the old file: until then no server has the new one, and none answers."""
+    making, found = journal_of(RIDES), []
+    with tempfile.TemporaryDirectory() as name:
+        for number in range(TRIES):
+            old, new = Path(name, f"old-{number}"), Path(name, f"new-{number}")
+            with growing(making, len(making.lines), old, 0):
+                following = Following(program, old, new, LATER)
+                if following.line() != "following\n":
+                    yield f"it ended with {following.ended()}"
+                time.sleep(PAUSE)
+            begun = time.monotonic()
+            yield from ended_amiss(following, making, staying(making.lines, LATER), new)
+            found.append(time.monotonic() - begun)
+            if found[-1] < SOON:
+                return
+    yield f"it ended {', '.join(f'{seconds:.1f}' for seconds in found)} s behind the server"
+
+
 def beside_another_that_makes_it(program):
-    """A run that made the new file, and then finds another one in its place that is made by a run which follows, takes that for none of
-    its own: it gives it no name, and the other run makes it whole."""
+    """A run that made the new file, or found what an earlier one left of it, and then finds another one in its place that is made by a
+    run which follows, takes that for none of its own: it gives it no name, and the other run makes it whole."""
+    for earlier in (None, "what an earlier run left"):
+        yield from (f"{earlier}: {it}" for it in made_by_another(program, earlier))
+
+
+def made_by_another(program, earlier):
+    """What is wrong with two runs that make one file, where this was left of it, if anything was."""
     making = journal_of(f"{RIDES} {SINCE}")
     with tempfile.TemporaryDirectory() as name:
         old, new = Path(name, "old"), Path(name, "new")
+        if earlier:
+            Path(name, "new.part").write_text(earlier)
         hold, held, more = held_at_the_lock(Path(name))
         with growing(making, len(making.lines), old, 0):
             hold.touch()
@@ -475,6 +512,7 @@ FOLLOWING = [
     followed_to_the_end,
     lines_that_come,
     rests_between_looks,
+    the_change_is_seen_soon,
     beside_another_that_makes_it,
     the_last_look,
     a_fault_that_comes,
