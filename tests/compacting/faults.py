@@ -104,8 +104,8 @@ def no_old_file(program):
 
 
 def a_new_file_that_is_there(program):
-    """Nothing is written over a file, the old one, a folder, a pipe or a link, also one that leads nowhere; and that is told before anything
-    is done, also of an old journal with a fault."""
+    """Nothing is written over a file, the old one, a folder, a pipe or a link, also one that leads nowhere. That is told before anything is
+    done, also where the old journal has a fault."""
     there = (3, "", "mds_city: @/new is there\n")
     old = journal(*NEW, WOKEN)
     for way in WAYS:
@@ -117,8 +117,8 @@ def a_new_file_that_is_there(program):
 
 
 def beside_a_place(program, place, how, way, old, told):
-    """What is wrong with a compaction where this is laid at a place beside the old file: it has to tell that of the new one, and all stays
-    as it was."""
+    """What is wrong with a compaction where this is laid at a place beside the old file: this has to be told of NEW, and all stays as it
+    was."""
     with tempfile.TemporaryDirectory() as name:
         paths = [Path(name, it) for it in ("file", "folder", "pipe", "old", place)]
         for path in paths[:3]:
@@ -135,8 +135,8 @@ def beside_a_place(program, place, how, way, old, told):
 
 
 def where_it_is_written(program):
-    """Until it is whole the new file stands at a name of its own. What an earlier run left there goes. A folder, a pipe or a link that stands
-    there is no such file: none is written through, or waited for."""
+    """Until it is whole the new file stands at a name of its own. What an earlier run left there goes. A folder, a pipe or a link that
+    stands there is no such file: none is written through, or waited for."""
     old = journal(*NEW, WOKEN)
     for how, way in product(("folder", "pipe", *(f"{LINK_TO}{name}" for name in ("folder", "pipe", "nowhere"))), WAYS):
         yield from (f"{how}: {it}" for it in beside_a_place(program, "new.part", how, way, old, "cannot write NEW"))

@@ -337,7 +337,7 @@ def the_change_is_seen_soon(program):
                 following = Following(program, old, new, LATER)
                 if following.line() != "following\n":
                     yield f"it ended with {following.ended()}"
-                time.sleep(PAUSE)
+                time.sleep(LOOKS)
             begun = time.monotonic()
             yield from ended_amiss(following, making, staying(making.lines, LATER), new)
             found.append(time.monotonic() - begun)

@@ -267,8 +267,8 @@ def places_that_cannot_be_had(program):
 
 
 def where_it_is_written(program):
-    """Until it is whole it stands at a name of its own. What a run left there goes. A folder, a pipe or a link that stands there is no such
-    file: none is written through, or waited for."""
+    """Until it is whole it stands at a name of its own. What an earlier start left there goes. A folder, a pipe or a link that stands there
+    is no such file: none is written through, or waited for."""
     for how in ("file", "empty file"):
         with tempfile.TemporaryDirectory() as folder:
             path = Path(folder, "journal")
@@ -311,8 +311,8 @@ def recorded_start(program, content, **numbers):
 
 
 def on_the_disk_first(program):
-    """What is cut off is on the disk, and so is its name, by fsync(2) of the folder, before the journal is cut; where a write of it or a sync
-    of either fails nothing is cut."""
+    """What is cut off is on the disk, and so is its name, by fsync(2) of the folder, before the journal is cut; where a write of it or a
+    sync of either fails nothing is cut."""
     content = FRONT + TORN
     entries, _, _ = recorded_start(program, content)
     at = [place for place, it in enumerate(entries) if it.kind == OPENED and b"journal.cut" in it.data]
