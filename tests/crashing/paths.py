@@ -2,6 +2,7 @@
 
 import errno
 import os
+import re
 import socket
 import stat
 import tempfile
@@ -19,7 +20,7 @@ from crashing.recording import LOCKED, OPENED, Recording
 from crashing.reports import device_at, registering
 from crashing.resting import SLOW
 from harness.building import BY_BYTES, Counting, built, no_random_numbers
-from harness.case import RANDOM, SOCKET, cannot_read, not_a_table
+from harness.case import HOW_FAR, RANDOM, SOCKET, cannot_read, not_a_table
 from harness.counting import Skipped
 from harness.texts import differing
 from serving.http import done
@@ -44,13 +45,14 @@ RESERVED = event(DEVICE, "1", "reservation_start", "reserved", 2000)
 
 
 def not_started(program, path, faults, **more):
-    """What is wrong with a server that isn't to start, but to tell this."""
+    """What is wrong with a server that isn't to start, but to tell this, and how far it is where it takes long."""
     wanted = (3, "", faults)
     try:
         with Server(program, 1, journal=path, **more):
             yield f"it listened, in place of {wanted}"
     except NotListening as fault:
-        if fault.ended != wanted:
+        status, out, told = fault.ended
+        if (status, out, re.sub(HOW_FAR, "", told)) != wanted:
             yield f"it ended with {fault.ended}, in place of {wanted}"
 
 
