@@ -123,7 +123,7 @@ fn told_behind(alloc: Global, bytes: &[u8]) -> Option<String> {
     let mut line = Vec::new(alloc);
     let mut text = String::new(alloc);
     let mut is_open = false;
-    loop {
+    for _ in 0..20 {
         if stream.next_line(&mut line).ok()? {
             text.push('|').ok()?;
             text.push_str(str::from_utf8(&line).ok()?).ok()?;
@@ -134,6 +134,7 @@ fn told_behind(alloc: Global, bytes: &[u8]) -> Option<String> {
             is_open = true;
         }
     }
+    None
 }
 
 /// Bytes, and their lines with those behind the first closed gate.
