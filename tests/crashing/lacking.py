@@ -27,7 +27,7 @@ from model.http import answer, error
 from model.tables import Table
 from serving.connections import BODY, SMALL_ROOM, long_list, sent_behind_at
 from serving.http import done
-from serving.limits import TOO_LONG, moved_on
+from serving.limits import TOO_LONG, answer_at, moved_on
 from serving.server import NotListening, Server, aside_of, told_of_cut
 from serving.wire import ask, connect, get, post
 
@@ -49,6 +49,9 @@ KEPT_AGAIN = "mds_city: journal kept again\n"
 LOST = "mds_city: journal\n"
 HELD_BACK = answer(503, NOT_KEPT)
 NO_MEMORY = "mds_city: out of memory\n"
+LACKING_MEMORY = (4, "", NO_MEMORY)
+TOGETHER = 32
+"""Servers of which each has another growth refused, that are looked at together."""
 STANDARD = 3
 """Open files, of the standard streams."""
 TORN = '#{"device_id":'
@@ -489,6 +492,42 @@ def starts_without_memory(program):
         yield from starts_over_without(program, content)
 
 
+def end_without(program, number):
+    """How a server of one connection over no file ended, where this growth of memory was refused and all behind it: nothing where its
+    client was let go, so that it waits for another; what a registration was answered; what the file told; and whether it came to
+    that growth."""
+    with tempfile.TemporaryDirectory() as folder, Refusal(number, many=EACH) as refusal:
+        path = Path(folder, "journal")
+        try:
+            with Server(program, 1, journal=path, env=refusal.env) as server:
+                answered = answer_at(server, registering(DEVICE))
+                ended = server.ended() if answered else None
+        except NotListening as fault:
+            ended, answered = fault.ended, b""
+        told = Lines().told(counted(path.read_bytes())) if path.exists() else {}
+        return ended, answered, told, refusal.came()
+
+
+def end_amiss(ended, answered, told, _):
+    """What is wrong with an end where memory may be wanting: that is told as such, also where what was accepted can't be recorded for
+    it, and what was answered is recorded."""
+    if ended not in (None, LACKING_MEMORY, (0, f"accepted {len(told)}\n", "")) or (answered == done(1) and told != {DEVICE: 0}):
+        yield f"{answered!r} was answered, it ended with {ended}, and the file tells {told}"
+
+
+def ends_without_memory(program):
+    """Each growth of memory in turn that is refused with all behind it, over a journal: the end tells of that, and not of the journal."""
+    found = []
+    with ThreadPoolExecutor(os.cpu_count()) as pool:
+        while len(found) < EACH and all(came for *_, came in found):
+            numbers = range(len(found) + 1, len(found) + 1 + TOGETHER)
+            found += pool.map(lambda number: end_without(program, number), numbers)
+    for number, end in enumerate(found, 1):
+        yield from (f"growth {number} and all behind it refused: {it}" for it in end_amiss(*end))
+    if not any(ended == LACKING_MEMORY and answered not in (b"", done(1)) and not told for ended, answered, told, _ in found):
+        yield f"of {len(found)} ends none is for want of memory behind a registration that isn't recorded"
+
+
 def outcome_in(program, limit):
     """How a server ended that starts in so many kilobytes of address space, over no file, and takes one connection; and whether it
     listened before."""
@@ -545,6 +584,7 @@ LACKING = [
     a_write_that_fails_once,
     starts_that_fail,
     starts_without_memory,
+    ends_without_memory,
     starts_in_little_space,
     starts_without_threads,
 ]

@@ -25,13 +25,23 @@ from serving.wire import SECONDS, ask, close, connect, get, hang_up, post
 
 METRICS, READY = get("/metrics"), get("/ready")
 SERIES = re.compile(r"([a-z_]+(?:\{[^}]*\})?) ([0-9]+(?:\.[0-9]{6})?)")
+LIST = get(f"/vehicles/{P}/{A}/events")
 REQUESTS, ANSWERS, HTTP_FAULTS = "mds_city_requests_total", "mds_city_http_responses_total", "mds_city_http_faults_total"
+WAITING_TO_COME, LEAVING, LEAVING_BYTES = "mds_city_waiting_connections", "mds_city_leaving_answers", "mds_city_leaving_answer_bytes"
+DROPPED = "mds_city_dropped_connections_total"
+DROPPED_FOR_ROOM = f'{DROPPED}{{reason="room"}}'
+SYNCS = "mds_city_journal_sync_seconds"
+SYNC_BUCKET = re.compile(SYNCS + r'_bucket\{le="([0-9.]+)"\}')
 KEPT_AGAIN = "mds_city: journal not kept\nmds_city: journal kept again\n"
 SLOW_CLIENTS = 200
 SOON = 5
 """Seconds in which an answer comes of a port that no client holds up."""
 PAUSE = 2.0
 """Seconds that a sync takes that is slow."""
+A_WHILE, GROUPS = 0.03, 5
+"""The same of one that takes a while, and of how many groups the syncs do."""
+A_LITTLE = 0.001
+"""Seconds by which a sum of times may differ."""
 PART = 5
 """How many bytes come of a request that isn't whole."""
 LATE = 20
@@ -49,6 +59,7 @@ OF_VERSION_2 = [
 REFUSED = checked(FLEET, end="#" + group(FLEET[0])[1:] + "#")
 """Behind the lines stands a group that isn't accepted. So a start reads the file twice."""
 READY_ANSWER = answer(200, {})
+NOT_READY = re.compile(rb'HTTP/1\.1 503 Service Unavailable\r\n(?:.*\r\n)*\r\n\{"read":([0-9]+),"of":([0-9]+)\}')
 NOT_FOUND = error(404, "not_found")
 
 
@@ -193,12 +204,24 @@ def counts_where_a_client_goes(program):
 def waits(coming, leaving=0, late=0):
     """The figures of so many clients whose requests aren't whole, or whose answers leave, and that were let go since they were late."""
     return {
-        "mds_city_waiting_connections": coming,
+        WAITING_TO_COME: coming,
         "mds_city_waiting_request_bytes": PART * coming,
-        "mds_city_leaving_answers": leaving,
-        'mds_city_dropped_connections_total{reason="late"}': late,
-        'mds_city_dropped_connections_total{reason="room"}': 0,
+        LEAVING: leaving,
+        **({} if leaving else {LEAVING_BYTES: 0}),
+        f'{DROPPED}{{reason="late"}}': late,
+        DROPPED_FOR_ROOM: 0,
     }
+
+
+def taken_by_the_system(port):
+    """How many bytes of answers of this port left the server and aren't read, by the system's list."""
+    count = 0
+    for line in Path("/proc/net/tcp").read_text().splitlines()[1:]:
+        _, here, there, _, queues, *_ = line.split()
+        leaves, came = (int(number, 16) for number in queues.split(":"))
+        ports = [int(it.partition(":")[2], 16) for it in (here, there)]
+        count += (leaves if ports[0] == port else 0) + (came if ports[1] == port else 0)
+    return count
 
 
 def counts_who_waits_and_who_is_let_go(program):
@@ -207,16 +230,18 @@ def counts_who_waits_and_who_is_let_go(program):
     port = numbered_port()
     with Server(program, None, workers=1, metrics=port) as server:
         yield from long_list(server, A)
+        size = len(ask(server.port, LIST))
         silent, going = connect(server.port), connect(server.port)
         taking = connect(server.port, room=SMALL_ROOM)
         for client in (silent, going):
             client.sendall(METRICS[:PART])
-        taking.sendall(get(f"/vehicles/{P}/{A}/events"))
+        taking.sendall(LIST)
         wanted = waits(coming=2, leaving=1)
         found = awaited(port, wanted)
         yield from differing(found, wanted, "beside three clients")
-        if not found["mds_city_leaving_answer_bytes"]:
-            yield "an answer that leaves has no bytes"
+        least = size - taken_by_the_system(server.port)
+        if not 0 < least <= found[LEAVING_BYTES] <= size:
+            yield f"of an answer of {size} bytes, {least} of which are to leave, {found[LEAVING_BYTES]} are told"
         for client in (going, taking):
             close(client, reset=True)
         for what, wanted in (("beside one", waits(coming=1)), ("once it is late", waits(coming=0, late=1))):
@@ -265,15 +290,37 @@ def figures_while_all_workers_wait(program):
             yield from differing(found, wanted, "with a journal")
             if found["mds_city_journal_bytes"] != len(path.read_bytes().rstrip(b"\n")):
                 yield f"the journal has {found['mds_city_journal_bytes']} bytes"
-            if found['mds_city_journal_sync_seconds_bucket{le="1"}'] >= found["mds_city_journal_sync_seconds_count"]:
+            if found[f'{SYNCS}_bucket{{le="1"}}'] >= found[f"{SYNCS}_count"]:
                 yield "a slow sync isn't told"
-            recording.set(pause=30000)
-            for number in range(2, 7):
-                ask(server.port, registering(device_at(number)))
-            found = figures_at(port)
-            slow, slower = (found[f'mds_city_journal_sync_seconds_bucket{{le="{most}"}}'] for most in ("0.02", "0.05"))
-            if slower <= slow:
-                yield f"{slow} syncs took 20 ms, and {slower} took 50, of some that took 30"
+
+
+def counts_each_sync(program):
+    """Each sync counts, of a group's lines and of its gate: once, among those that took as long, and with its seconds."""
+    port = numbered_port()
+    with tempfile.TemporaryDirectory() as folder:
+        path = Path(folder, "journal")
+        with Recording(path) as recording, Server(
+            program, None, workers=1, journal=path, env=recording.env, metrics=port
+        ) as server:
+            yield from syncs_amiss(server, port, recording)
+
+
+def syncs_amiss(server, port, recording):
+    """What is wrong with what is counted of the syncs of some groups, each of which takes a while."""
+    recording.set(pause=int(A_WHILE * 1000000))
+    before, synced, begun = figures_at(port), recording.number("syncs"), time.monotonic()
+    for number in range(GROUPS):
+        ask(server.port, registering(device_at(number)))
+    passed, count = time.monotonic() - begun, recording.number("syncs") - synced
+    more = {name: value - before[name] for name, value in figures_at(port).items() if name.startswith(SYNCS)}
+    yield from differing(more, {f"{SYNCS}_count": count, f'{SYNCS}_bucket{{le="+Inf"}}': count}, "behind slow syncs")
+    if count != 2 * GROUPS:
+        yield f"{count} syncs of {GROUPS} groups"
+    if not count * A_WHILE - A_LITTLE <= more[f"{SYNCS}_sum"] <= passed + A_LITTLE:
+        yield f"{count} syncs of {A_WHILE} s took {more[f'{SYNCS}_sum']} s, of {passed} s that passed"
+    for most, to_there in [(float(it.group(1)), more[it.group()]) for it in map(SYNC_BUCKET.fullmatch, more) if it]:
+        if most < A_WHILE and to_there or (count - to_there) * most > passed:
+            yield f"of {count} syncs of {A_WHILE} s, in {passed} s, {to_there} took {most} s at most"
 
 
 SOFT = 8 << 30
@@ -299,9 +346,7 @@ def ready_once_it_listens(program):
             ask(server.port, reporting(device_at(1), 0, 5))
         with Recording(path, pause=int(PAUSE * 1000000)) as recording:
             starting = Server(program, None, workers=2, journal=path, env=recording.env, metrics=port)
-            early = answer_once_there(port)
-            if not early.startswith(b"HTTP/1.1 503 ") or not re.search(rb'\{"read":[0-9]+,"of":[0-9]+\}$', early):
-                yield f"before it listens: {early!r}"
+            yield from amiss_while_it_reads(port, path.stat().st_size)
             recording.set(pause=0)
             with starting:
                 if told_at(port, READY) != READY_ANSWER:
@@ -314,6 +359,20 @@ def ready_once_it_listens(program):
                 ask(starting.port, reporting(device_at(2), 0, 1))
                 wanted = {"mds_city_newest_event_timestamp_seconds": 1.004, **of_kind("event", done=1)}
                 yield from differing(figures_at(port), wanted, "behind an older event of another vehicle")
+
+
+def amiss_while_it_reads(port, size):
+    """What is wrong with what a server answers that reads a journal of so many bytes, until it has read some of them, and not all: how
+    many it read, of how many, which it doesn't know at first."""
+    read, of = 0, 0
+    while not 0 < read < of:
+        early = answer_once_there(port)
+        told, before = NOT_READY.fullmatch(early), read
+        read, of = map(int, told.groups()) if told else (0, 0)
+        if not told or of not in (0, size) or not before <= read <= of:
+            yield f"before it listens, of {size} bytes, behind {before}: {early!r}"
+            return
+        time.sleep(0.02)
 
 
 def lines_amiss(program, port, path, what):
@@ -421,6 +480,7 @@ FIGURES = [
     counts_where_a_client_goes,
     figures_beside_slow_clients,
     figures_while_all_workers_wait,
+    counts_each_sync,
     the_limit_in_force,
     ready_once_it_listens,
     lines_of_the_journal,

@@ -16,7 +16,7 @@ from harness.case import NO_MEMORY
 from model.http import answer, error
 from crashing.reports import parts_of
 from model.tables import Table
-from serving.figures import ANSWERS, REQUESTS, figures_at
+from serving.figures import ANSWERS, METRICS, READY, REQUESTS, figures_at, told_at
 from serving.http import E1, LOOK, Exchange, done, look, registered, vehicle
 from serving.server import NotListening, Server, numbered_port
 from serving.wire import ask, connect, get, post
@@ -75,6 +75,9 @@ def turns():
 
 TURNS = list(turns())
 ACCEPTED = 4
+BESIDE = [METRICS, READY]
+"""What is asked at the port of figures then."""
+OK = b"HTTP/1.1 200 OK\r\n"
 KINDS = ["registration", "event", "look", "list", "look", None]
 """What each turn asks for, as figures name it."""
 
@@ -172,23 +175,41 @@ def figures_of(port):
         return figures_at(port)
 
 
+def beside(port):
+    """What is answered at the port of figures, or nothing where the connection is closed for want of memory."""
+    for request in BESIDE:
+        try:
+            yield told_at(port, request)
+        except ConnectionError:
+            yield b""
+
+
+def other_answers_beside(answers):
+    """What is wrong with answers of the port of figures, of which one may tell that there was no memory."""
+    for request, found in zip(BESIDE, answers):
+        if not found.startswith(OK) and found not in (b"", FIXED):
+            yield f"at the port of figures {request!r} was answered {found!r}"
+
+
 def refused(program, number, over_journal=False):
     """A run with this growth refused, over a journal that isn't there yet if it has one: what is wrong with it, the answers of each
-    turn, and whether the run came to the growth."""
-    answers, port = [], numbered_port()
+    turn and beside them, and whether the run came to the growth."""
+    answers, told, port = [], [], numbered_port()
     with Refusal(number) as refusal, tempfile.TemporaryDirectory() as folder:
         journal = Path(folder, "journal") if over_journal else None
         try:
             with Server(program, len(TURNS) + 2, env=refusal.env, journal=journal, metrics=port) as server:
                 answers = served(server)
                 is_whole = len(answers) == len(TURNS)
-                wrong = [*other_answers(answers), *(miscounted(answers, figures_of(port)) if is_whole else [])]
+                told = list(beside(port)) if is_whole else []
+                wrong = [*other_answers(answers), *other_answers_beside(told)]
+                wrong += miscounted(answers, figures_of(port)) if is_whole else []
                 wrong += ended_otherwise(server, is_whole, refusal)
         except NotListening as fault:
             wrong = [] if refusal.came() and fault.ended == (4, "", NO_MEMORY) else [str(fault)]
         if not refusal.came() and max(map(len, answers), default=1) > 1:
             wrong.append("an answer of status 503, where no growth was refused")
-        return [f"growth {number}: {text}" for text in wrong], answers, refusal.came()
+        return [f"growth {number}: {text}" for text in wrong], [*answers, *told], refusal.came()
 
 
 def never_told(came):
@@ -197,13 +218,16 @@ def never_told(came):
     for turn, found in zip(TURNS, came):
         for told, then in sorted(turn.lacks() - found):
             yield f"no growth has {turn.exchange.request[:60]!r} answered {told!r}, and then {then!r}"
+    for request, found in zip(BESIDE, came[len(TURNS) :]):
+        if FIXED not in found:
+            yield f"no growth has {request!r} answered {FIXED!r} at the port of figures"
 
 
 def each_growth_refused(program, over_journal=False):
     """Each growth in turn, until they run out: each answer is the right one, or one of the two that say that there was no
     memory, after which the same request is answered; what is accepted is counted; and where the server ends for want of
     memory, it says so. None ends it by a connection. Each want that may be told is, at some growth."""
-    came = [set() for _ in TURNS]
+    came = [set() for _ in (*TURNS, *BESIDE)]
     with ThreadPoolExecutor(os.cpu_count()) as pool:
         for start in range(1, MOST, AT_ONCE):
             numbers = range(start, start + AT_ONCE)

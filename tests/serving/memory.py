@@ -9,7 +9,7 @@ import time
 from pathlib import Path
 from socket import MSG_PEEK
 
-from cases.replays import A, P, batch, history
+from cases.replays import A, batch, history
 from harness.building import Refusal
 from harness.case import MAX_BYTES, MAX_ITEMS, padded
 from harness.counting import ROOT, Unwell
@@ -18,11 +18,13 @@ from model.http import error
 from serving.connections import SMALL_ROOM, TRIES
 from serving.connections import long_list as vehicle_of_long_list
 from serving.crowds import many_open_files
+from serving.figures import DROPPED, DROPPED_FOR_ROOM, LEAVING, LIST, WAITING_TO_COME, all_of, figures_at
+from serving.figures import differing as figures_amiss
 from serving.growths import FIXED
 from serving.http import EMPTY, Exchange, done, look, registered
 from serving.limits import MOST_GROWTHS, answer_at, growth_of_a_connection
 from serving.looking import Looks
-from serving.server import Server
+from serving.server import Server, numbered_port
 from serving.talking import talk_over
 from serving.wire import connect, get, post, read_all
 
@@ -63,6 +65,8 @@ LEAST_STACK = 2**20
 BUSY = 60
 """How many seconds the server may take to take in what was sent."""
 OPEN_FILES = 16384
+MOST_OFF = 1 << 20
+"""How many bytes a process may have more or less when its figures are told than a moment later."""
 
 
 def waits_at(port):
@@ -212,6 +216,20 @@ def beside_others_without_room(program, env):
         yield from server.drain()
 
 
+def let_go_amiss(port, waiting, count):
+    """What is wrong with how many clients figures say to be let go for room, several of them, where so many wait, by the figure of this
+    name, or were let go."""
+    end = time.monotonic() + BUSY
+    while True:
+        found = figures_at(port)
+        told = found[waiting] + all_of(found, DROPPED)
+        if told == count or time.monotonic() > end:
+            break
+        time.sleep(0.1)
+    if told != count or found[DROPPED_FOR_ROOM] < 2:
+        yield f"of {count} clients {found[waiting]} are told to wait, and {found[DROPPED_FOR_ROOM]} to be let go for room"
+
+
 def settings_of_unit():
     """What the unit sets for the C library."""
     line = re.search(r"^Environment=(.*)$", (ROOT / "deploy/mds_city@.service").read_text(), re.MULTILINE)
@@ -228,10 +246,10 @@ def bodies_that_never_end(program):
 def endless_bodies(program, env, times):
     """The same in this environment, where they may take so many times as much memory as they have bytes."""
     many_open_files(OPEN_FILES)
-    body = padded("[]", MAX_BYTES)
+    body, port = padded("[]", MAX_BYTES), numbered_port()
     allowed = times * (MOST_HELD + WORKERS * MAX_BYTES)
     with (
-        Server(program, EACH, workers=WORKERS, env=env) as server,
+        Server(program, EACH, workers=WORKERS, env=env, metrics=port) as server,
         Looks(server, look(A, "removed", 0, None)) as looks,
     ):
         yield from talk_over(server, registered(A))
@@ -247,6 +265,7 @@ def endless_bodies(program, env, times):
             kept = MOST_HELD // len(body) - 1
             if closed(opened[:-kept]) < ENDLESS - kept - 1 - WORKERS or closed(opened[-kept + WORKERS :]):
                 yield f"{closed(opened)} were closed, {closed(opened[-kept:])} of the last {kept}"
+            yield from let_go_amiss(port, WAITING_TO_COME, ENDLESS)
             yield from looks.once()
             opened[-1].sendall(b" ")
             yield from differing(read_all(opened[-1]), EMPTY)
@@ -276,15 +295,16 @@ def heads_that_announce_much(program):
 def answers_that_nobody_reads(program):
     """Lists, three times as much as the server holds of answers, whose clients read nothing: it lets go of the one that came first,
     and the one that came last has its list whole."""
-    asked = get(f"/vehicles/{P}/{A}/events")
-    with Server(program, EACH, workers=WORKERS) as server, contextlib.ExitStack() as opened:
+    port = numbered_port()
+    with Server(program, EACH, workers=WORKERS, metrics=port) as server, contextlib.ExitStack() as opened:
         yield from vehicle_of_long_list(server, A)
-        whole = server.ask(asked)
+        whole = server.ask(LIST)
         readers = []
         for _ in range(3 * MOST_HELD // len(whole)):
             readers.append(opened.enter_context(connect(server.port, room=SMALL_ROOM)))
-            readers[-1].sendall(asked)
+            readers[-1].sendall(LIST)
             readers[-1].recv(1, MSG_PEEK)  # the answers leave in this order
+        yield from let_go_amiss(port, LEAVING, len(readers))
         yield from differing(read_all(readers[-1]), whole)
         if read_all(readers[0], gone=True) == whole:
             yield f"the first of {len(readers)} lists of {len(whole)} bytes was held"
@@ -303,7 +323,7 @@ def long_list(program):
         server.forget_most_memory()
         before = server.memory()
         with connect(server.port, room=SMALL_ROOM) as reading:
-            reading.sendall(get(f"/vehicles/{P}/{A}/events"))
+            reading.sendall(LIST)
             reading.settimeout(BUSY)
             reading.recv(1, MSG_PEEK)
             length = sum(map(len, iter(lambda: reading.recv(1 << 20), b"")))
@@ -312,6 +332,25 @@ def long_list(program):
         if times > MOST_OF_LIST or length < 200 * LISTED:
             yield f"a list takes {times:.2f} times its {length} bytes, in place of {MOST_OF_LIST}"
         yield from server.end()
+
+
+def what_the_process_has_now(program):
+    """Figures tell what the process has, and not what it had at most: an alarm would never be over by that."""
+    port = numbered_port()
+    env = {**os.environ, **settings_of_unit()}
+    with Server(program, None, env=env, metrics=port) as server:
+        yield from vehicle_of_long_list(server, A)
+        server.ask(LIST)
+        figures_at(port)  # for which memory is taken, too
+        found = figures_at(port)
+        for name, now, most in (("resident", "VmRSS", "VmHWM"), ("virtual", "VmSize", "VmPeak")):
+            told, has, had = found[f"process_{name}_memory_bytes"], server.bytes_of(now), server.bytes_of(most)
+            if had - has < 2 * MOST_OFF:
+                yield f"it had {had} {name} bytes at most, and still has {has}"
+            if abs(told - has) > MOST_OFF:
+                yield f"{told} {name} bytes are told of a process that has {has}, and had {had} at most"
+        threads = len(os.listdir(f"/proc/{server.child.pid}/task"))
+        yield from figures_amiss(found, {"process_threads": threads}, "of the process")
 
 
 def stack_of_the_first_thread(program):
@@ -338,5 +377,6 @@ MEMORY = [
     heads_that_announce_much,
     answers_that_nobody_reads,
     long_list,
+    what_the_process_has_now,
     stack_of_the_first_thread,
 ]
