@@ -1,4 +1,4 @@
-"""Disks without room, limits of a file's size, calls on the file and ports that fail, and starts without memory or threads."""
+"""Disks without room, limits of a file's size, calls on the file and ports that fail, and starts and ends without memory or threads."""
 
 import contextlib
 import os
