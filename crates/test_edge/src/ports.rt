@@ -1,12 +1,13 @@
 //! A port over a system that is played: who comes to it, what it is told of, and its clock.
 use crate::peers::{Act, LATER, LOST, Played};
 use mds_http::Face;
+use mds_metrics::Board;
 use mds_pool::{Ending, Port};
 use mds_socket::{Ready, System, WaitingPort};
 use std::alloc::{AllocError, Global};
 use std::io::{self, ErrorKind, Read, Write};
-use std::sync::Wait;
 use std::sync::atomic::{AtomicBool, AtomicU64, AtomicUsize, Ordering};
+use std::sync::{Arc, Wait};
 use test_fixtures::rows;
 
 /// What the system does at the next call that takes a connection or waits, and that it is an answer to.
@@ -356,4 +357,23 @@ fn said_of_taking<R: Wait + Copy>(rt: R, alloc: Global) -> Result<Vec<u64>, Allo
 fn a_new_connection_is_waited_for_where_none_waits(rt: HostRuntime) {
     let expected = [TAKING[0].1, TAKING[1].1];
     assert!(rt; said_of_taking(rt, rt.alloc()).is_ok_and(|said| said.as_slice() == &expected[..]));
+}
+
+/// Which of three workers have a tally at a port, before it has a board, and then, where that is one of two workers.
+fn have_tallies<R: Wait + Copy>(rt: R, alloc: Global) -> Result<[[bool; 3]; 2], AllocError> {
+    let system = PlayedSystem::new(&[], None, 0);
+    let mut port = WaitingPort::new(alloc, rt, system, Face::open(alloc)?);
+    let before = [0, 1, 2].map(|worker| port.tally(worker).is_some());
+    port.set_board(Arc::new(alloc, Board::new(alloc, "1.2.3", 2)?)?);
+    let then = [0, 1, 2].map(|worker| port.tally(worker).is_some());
+    Ok([before, then])
+}
+
+/// None counts in that of another: there are no more than the board has.
+#[test]
+fn each_worker_has_a_tally_of_its_own(rt: HostRuntime) {
+    assert_eq!(rt;
+        have_tallies(rt, rt.alloc()),
+        Ok([[false; 3], [true, true, false]])
+    );
 }
