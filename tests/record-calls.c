@@ -10,9 +10,10 @@
    CONTROL: where it is given, a file of numbers of 8 bytes that are heeded while the program runs. ROOM: how many bytes the file
    may have, where it isn't negative. FAILING: the kind of call that fails, from the one of the number FROM on, counted from 1, and
    so MANY of them. HOW: the errno with which they fail, or 0 for EIO, where a write has put half of its bytes there; or -1, where
-   they succeed with half of the bytes. PAUSE: how many microseconds a sync waits before it begins. Behind these stand the numbers
-   of syncs of the folder that the file is in, by fsync(2) alone, and of the calls so far, by their kinds. The place of a sync of
-   another file is 1 where it is by fsync(2), and 0 by fdatasync(2), which may leave the new names of a folder off the disk. */
+   they succeed with half of the bytes. PAUSE: how many microseconds a sync waits before it begins. PIECE: how many bytes a call sends
+   at most, where it isn't 0. Behind these stand the numbers of syncs of the folder that the file is in, by fsync(2) alone, and of
+   the calls so far, by their kinds. The place of a sync of another file is 1 where it is by fsync(2), and 0 by fdatasync(2), which
+   may leave the new names of a folder off the disk. */
 #define _GNU_SOURCE
 #include <dlfcn.h>
 #include <errno.h>
@@ -38,7 +39,7 @@
 enum { WRITE = 1, CUT, SYNC, READ, ENDED = 10, TAKEN = 20, RECEIVED, SENT };
 enum { OPENED = 30, CLOSED, LOCKED, FOUND, ADVISED, SETTLED, WAITED, ASKED, SLEPT, PARKED };
 enum { WOKEN = 50, TRIED, SHUT, STREAMED, MADE, LISTENED, KINDS };
-enum { ROOM, FAILING, FROM, MANY, PAUSE, HOW, FOLDERS, COUNTS, NUMBERS = COUNTS + KINDS };
+enum { ROOM, FAILING, FROM, MANY, PAUSE, HOW, PIECE, FOLDERS, COUNTS, NUMBERS = COUNTS + KINDS };
 enum { FILES = 65536, SHORT = -1 };
 
 static int64_t nowhere[NUMBERS] = { -1 }, *control = nowhere, kept_of_each = INT64_MAX;
@@ -327,10 +328,11 @@ ssize_t send(int file, const void *bytes, size_t size, int flags)
 {
     NEXT(sends, "send");
     int how = fails(SENT);
+    size_t piece = (size_t)control[PIECE], most = piece && piece < size ? piece : size;
     if (how > 0)
         return failed(how);
-    note_some(SENT, 1, file, (int64_t)size, bytes, size);
-    return next(file, bytes, size_of(size, how), flags);
+    note_some(SENT, 1, file, (int64_t)most, bytes, most);
+    return next(file, bytes, size_of(most, how), flags);
 }
 
 /* The calls that are recorded with all others. */

@@ -19,7 +19,7 @@ calls that take a connection, ends of a side, bytes on streams, and calls that w
 BY_FSYNC = 1
 """The place of a sync of another file where it is by fsync(2). That of a folder has to be: fdatasync(2) may leave its new names off the
 disk."""
-NUMBERS = ("room", "failing", "first", "many", "pause", "how", "folders")
+NUMBERS = ("room", "failing", "first", "many", "pause", "how", "piece", "folders")
 """Those that are heeded while the server runs, and behind them one that it counts. Behind these it counts the calls by kind."""
 COUNTED = {"writes": WRITE, "cuts": CUT, "syncs": SYNC, "reads": READ}
 ALL_NUMBERS = len(NUMBERS) + KINDS

@@ -40,9 +40,9 @@ PAUSE = 0.3
 """For how many seconds a client that read its answer does nothing before each piece that it sends then."""
 LET_GO = 10
 """How many seconds a server may take, at most, to close the sockets of clients that went."""
-HASTE, LOOKS, A_MOMENT = 1024, 100, 0.001
-"""Of how many clients behind a silent one the first bytes aren't waited for, how many come then, and how late those send: sooner than
-a worker waits."""
+HASTE, FIRST, LOOKS, A_MOMENT = 1024, 128, 100, 0.001
+"""Of how many clients behind a silent one the first bytes aren't waited for, before how many of these it is silent, how many come then,
+and how late those send: sooner than a worker waits."""
 READ_ON = 1.8
 """For how many seconds it is read on at least, in which nothing comes."""
 BODY, CHUNKS, TOO_LONG = b"0" * 1000, b"2\r\n[]\r\n0\r\n\r\n", b"0" * (MAX_BYTES + 1)
@@ -53,6 +53,17 @@ ANNOUNCED = {"body": "", "missing": len(BODY)}
 def spelled(request):
     """The request, with the name of its length's field in all small letters, in capitals, and in both by turns."""
     return [request.replace(b"Content-Length", name) for name in (b"content-length", b"CONTENT-LENGTH", b"cONTENT-lENGTH")]
+
+
+def among_others(request):
+    """The request, with other fields before the one of its length, behind it, and on both sides."""
+    start, length = request.removesuffix(b"\r\n\r\n").split(b"\r\n")
+    others = [b"Host: localhost", b"Accept: */*"]
+    for fields in ([*others, length], [length, *others], [others[0], length, others[1]]):
+        yield b"\r\n".join([start, *fields, b"", b""])
+
+
+LOOK_WITH_BODY = changed(method="GET", target="/table", **ANNOUNCED)
 
 
 # What is answered before a body comes, and the body; and requests that are answered whole, with something behind them.
@@ -67,7 +78,10 @@ BEHIND = [
     (changed(lengths=["+1000"], body=""), error(400, "bad_length"), BODY),
     (changed(lengths=[str(len(TOO_LONG))], body=""), error(413, "too_long"), TOO_LONG),
     (changed(method="GET", target=f"/vehicles/{P}/{A}", **ANNOUNCED), error(404, "unregistered"), BODY),
-    *[(request, answer(200, {"rows": Table().listed()}), BODY) for request in spelled(changed(method="GET", target="/table", **ANNOUNCED))],
+    *[
+        (request, answer(200, {"rows": Table().listed()}), BODY)
+        for request in (*spelled(LOOK_WITH_BODY), *among_others(LOOK_WITH_BODY))
+    ],
     (changed(body="[1,2"), error(400, "not_json"), BODY),
     (changed(body="7"), error(400, "not_list"), BODY),
     (changed(body=MANY), error(400, "too_many"), BODY),
@@ -377,8 +391,9 @@ def behind_one_silent(program):
 
 
 def waited_for_again(program):
-    """Behind a silent client the first bytes of the next clients aren't waited for, and of those behind them they are again: the
-    system is asked to tell of few of these. It is tried again, as on a busy machine one of them may be silent for too long."""
+    """Behind a silent client the first bytes of the next clients aren't waited for, and of those behind them they are again, also
+    where it sends a byte then: the system is asked to tell of few of these. It is tried again, as on a busy machine one of them may
+    be silent for too long."""
     with tempfile.TemporaryDirectory() as folder, Recording(Path(folder, "none")) as recording:
         with Server(program, None, env=recording.env) as server:
             asked = []
@@ -389,10 +404,15 @@ def waited_for_again(program):
 
 
 def asked_behind_a_silent_one(server, recording):
-    """How often the system is asked to tell of clients that come behind those who aren't waited for."""
-    with connect(server.port):
+    """How often the system is asked to tell of clients that come behind those who aren't waited for. Amid these a byte comes from the
+    silent one, which then goes."""
+    with connect(server.port) as slow:
         time.sleep(PAUSE)
-        looked(server, HASTE)
+        looked(server, FIRST)
+        with contextlib.suppress(ConnectionError):  # it may be let go by then
+            slow.sendall(b"G")
+        time.sleep(PAUSE)
+    looked(server, HASTE - FIRST)
     before = recording.count(ASKED)
     looked(server, LOOKS, A_MOMENT)
     return recording.count(ASKED) - before

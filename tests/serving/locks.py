@@ -1,4 +1,5 @@
-"""Vehicles of one half, whose devices' identifiers are even, beside a list that is being made of a vehicle of the other half."""
+"""Vehicles of one half, whose devices' identifiers are even, beside a list that is being made of a vehicle of the other half; and
+requests beside the bytes of a long one that are freed."""
 
 import os
 import tempfile
@@ -7,12 +8,12 @@ from pathlib import Path
 
 from cases.replays import A, B, P, batch, event, history, identifier, turn
 from harness.building import built
-from harness.case import MAX_ITEMS
+from harness.case import MAX_BYTES, MAX_ITEMS, padded
 from harness.counting import Unwell
 from harness.texts import differing
 from model.http import answer
 from serving.connections import silent
-from serving.http import Exchange, done, look, registered
+from serving.http import EMPTY, Exchange, done, look, registered
 from serving.server import Server
 from serving.sizes import listed
 from serving.talking import talk_over
@@ -34,19 +35,25 @@ LONG, LISTS = 50000, 40
 """A long list, and how often it is asked for at most. To copy all of it takes 20 ms."""
 LOOKS = 1000000
 """Connections of a worker: more than there are looks while those lists are made."""
+FREED = 3 * MAX_BYTES // 2
+"""The list of a request with the longest body has more room than these bytes, and nothing else that is freed beside it."""
 MOST_SECONDS = 0.005
 """For how long no look is answered meanwhile, in the best case. What passes while other programs have the processors isn't
 counted: it is so long by the clock, and by the processor time of the server."""
 
 
 class Hold:
-    """Lists that aren't finished as long as it is on. As a context it has the environment of their server."""
+    """Lists that aren't finished as long as it is on; or, where so many bytes are given, what frees as many. As a context it has the
+    environment of their server."""
+
+    def __init__(self, freed=0):
+        self.sizes = {"FREED": str(freed)} if freed else {"LEAST": str(LEAST)}
 
     def __enter__(self):
         self.folder = tempfile.TemporaryDirectory()
         self.file, self.held = (Path(self.folder.name, name) for name in ("hold", "held"))
         shim = built("hold-growth.so", "tests/hold-growth.c", "-shared", "-fPIC", "-O1", "-ldl")
-        self.env = {**os.environ, "LD_PRELOAD": str(shim), "LEAST": str(LEAST)}
+        self.env = {**os.environ, **self.sizes, "LD_PRELOAD": str(shim)}
         self.env.update({"HOLD": str(self.file), "HELD": str(self.held)})
         return self
 
@@ -61,12 +68,12 @@ class Hold:
         self.file.unlink(missing_ok=True)
 
     def has_begun(self):
-        """Waits until a list isn't finished."""
+        """Waits until one is held."""
         for _ in range(100 * SECONDS):
             if self.held.exists():
                 return
             time.sleep(0.01)
-        raise Unwell("no list takes as many bytes as one should")
+        raise Unwell("nothing takes or frees as many bytes as it should")
 
 
 def list_of(device, events):
@@ -147,4 +154,30 @@ def beside_long_list(program):
             yield f"beside a list of {LONG} events no look was answered for so many seconds: {longest}"
 
 
-LOCKS = [two_halves, beside_long_list]
+def beside_a_long_body_that_is_freed(program):
+    """While a worker frees the bytes of a long body, others take requests and answer them."""
+    with Hold(freed=FREED) as hold, Server(program, EACH, workers=WORKERS, env=hold.env) as server:
+        yield from talk_over(server, registered(A))
+        hold.on()
+        try:
+            yield from talk_over(server, Exchange(post("/events", padded("[]", MAX_BYTES)), EMPTY))
+            hold.has_begun()
+            for _ in range(WORKERS):
+                yield from answered_in_time(server, look(A, "removed", 0, None))
+        finally:
+            hold.off()
+        yield from server.end()
+
+
+def answered_in_time(server, exchange):
+    """What is wrong with an answer, which comes within some seconds."""
+    server.count()
+    with connect(server.port) as connection:
+        connection.sendall(exchange.request)
+        if silent(connection, SECONDS):
+            yield f"{exchange.request!r} wasn't answered in {SECONDS} s, while the bytes of a long body were freed"
+        else:
+            yield from differing(read_all(connection), exchange.answer)
+
+
+LOCKS = [two_halves, beside_long_list, beside_a_long_body_that_is_freed]
