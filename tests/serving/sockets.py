@@ -13,6 +13,7 @@ import time
 from pathlib import Path
 
 from cases.replays import A, batch, item
+from crashing.recording import ASKED, RECEIVED, SENT, TAKEN, WAITED, Recording
 from harness.building import built, no_random_numbers
 from harness.case import OUTPUT, RANDOM, SOCKET
 from harness.counting import Skipped, Unwell
@@ -41,6 +42,8 @@ LEAST_AT_ONCE = 5
 second piece."""
 LONGEST_WAIT = 1000
 """For how many milliseconds a worker may wait that looks after connections."""
+IDLE, MOST_CALLS, AT_REST = 16, 4, 1.5
+"""Workers that have nothing to do, how many calls each of them may make in a second, and how many seconds they are left so."""
 
 
 def addresses_of(port):
@@ -196,6 +199,37 @@ def calls_at_connections(program):
             yield f"a wait of {longest} ms"
 
 
+def calls_at_rest(program):
+    """Workers that have nothing to do make a few calls a second: while nobody is there, while a request isn't whole, and while one is
+    kept by a slow disk whose client has sent more, and its end."""
+    request = post("/events", batch([item()]))
+    with tempfile.TemporaryDirectory() as folder, Recording(Path(folder, "journal")) as recording:
+        with Server(program, None, IDLE, env=recording.env, journal=Path(folder, "journal")) as server:
+            yield from talk_over(server, registered(A))
+            yield from few_calls(recording, "nobody was there", lambda: time.sleep(AT_REST))
+            with connect(server.port) as client:
+                client.sendall(request[:-1])
+                yield from few_calls(recording, "a request wasn't whole", lambda: time.sleep(AT_REST))
+                recording.set(pause=int(1e6 * AT_REST))
+                client.sendall(request[-1:] + b"x")
+                client.shutdown(socket.SHUT_WR)
+                yield from few_calls(recording, "a request was kept", lambda: client.recv(1))
+
+
+def few_calls(recording, meanwhile, wait):
+    """What is wrong with how many calls are made for connections while that is waited for."""
+    count, begun = calls_for_connections(recording), time.monotonic()
+    wait()
+    count, seconds = calls_for_connections(recording) - count, time.monotonic() - begun
+    if count > MOST_CALLS * (seconds + 1) * IDLE:
+        yield f"{count} calls of {IDLE} workers in {seconds:.1f} s while {meanwhile}"
+
+
+def calls_for_connections(recording):
+    """How many calls so far took connections and bytes, sent some, asked the system to tell of a connection, or waited for that."""
+    return sum(map(recording.count, (TAKEN, RECEIVED, SENT, ASKED, WAITED)))
+
+
 def last_line_that_nobody_reads(program):
     """Where nobody reads the last line any more, that is told, as of any other output, with a journal too."""
     with tempfile.TemporaryDirectory() as folder:
@@ -245,6 +279,7 @@ SOCKETS = [
     options_of_a_connection,
     options_at_a_port_of_a_number,
     calls_at_connections,
+    calls_at_rest,
     last_line_that_nobody_reads,
     without_random_numbers,
 ]
