@@ -18,6 +18,7 @@ from harness.building import loading_client
 from harness.case import MAX_BYTES, MAX_ITEMS, padded
 from scaling.lives import unclosed
 from serving.http import done, head
+from serving.memory import taken_in
 from serving.server import Server
 from serving.wire import ask, ask_in_pieces, connect, get, hang_up, post, read_all
 
@@ -38,6 +39,10 @@ MOST_MAPPINGS = 8
 """Mappings that the C library may have made more."""
 BODIES, MOST_OF_BODIES = 24, 40 << 20
 """Bodies of the longest that come at once, and the bytes that may be kept behind them."""
+LISTS, OF_A_LIST = 400, 30_000
+"""Requests that come side by side, and for how many bytes their lists have room: each could be kept for others (mds_socket)."""
+MOST_OF_LISTS = 64 * 32_768 + (1 << 20)
+"""The bytes that may be kept behind them: 64 of the longest lists that are, and some."""
 MOST_OF_LIST = 10
 """How many times the bytes of its text a list may take of address space."""
 LINGERING, MOST_OF_LINGERING = 20, 2
@@ -188,6 +193,27 @@ def bodies_at_once(server):
         yield f"{kept} bytes are kept behind {BODIES} bodies"
 
 
+def lists_at_once(program):
+    """What is kept for later requests behind many of some kilobytes that come side by side: no more lists than 64. The C library gives
+    each of them back by itself."""
+    request = post("/events", padded("[]", OF_A_LIST // 2))
+    env = {**os.environ, **AS_THE_UNIT, "MALLOC_MMAP_THRESHOLD_": str(OF_A_LIST // 4)}
+    with Server(program, None, workers=WORKERS, env=env) as server, ExitStack() as stack:
+        wanted, sockets, before = ask(server.port, request), server.sockets(), Held.by(server)
+        clients = [stack.enter_context(connect(server.port)) for _ in range(LISTS)]
+        for client in clients:
+            client.sendall(request[:-1])
+        taken_in(server, sockets + LISTS)
+        for client in clients:
+            client.sendall(request[-1:])
+        if any(read_all(client) != wanted for client in clients):
+            yield f"some of {LISTS} requests that come side by side were answered otherwise"
+        yield from unclosed(server, sockets)
+        kept = Held.by(server).memory - before.memory
+        if kept > MOST_OF_LISTS:
+            yield f"{kept} bytes are kept behind {LISTS} requests"
+
+
 def lingering(server):
     """What clients hold that stay behind their answers: the server has sent those, and needs them no more."""
     before = Held.by(server)
@@ -239,7 +265,8 @@ def many_vehicles(server):
 
 
 def nothing_grows(program, times, told=lambda text: None):
-    """What a server over a journal holds behind each kind."""
+    """What a server over a journal holds behind each kind, and one behind many requests that come side by side."""
+    yield from lists_at_once(program)
     env = {**os.environ, **AS_THE_UNIT}
     with tempfile.TemporaryDirectory() as folder:
         with Server(program, None, workers=WORKERS, journal=Path(folder, "journal"), env=env) as server:

@@ -48,6 +48,9 @@ WRITING = (25, 80)
 """The same for one that reads a long answer slowly: 30 in which the system takes nothing of it, and 60 in all."""
 LAST_READ = (1, 8)
 """The same for a client that sends nothing behind its answer: 2."""
+SEVERAL_SILENT, APART, IN_ALL = 8, 0.25, 1.99
+"""Clients that are silent behind their answers, how many seconds each comes behind the one before it, and for how many each is kept at
+least, by a clock of milliseconds."""
 AT_ITS_END = (-1, 1)
 """The same for one whose request was granted, so that nothing more is expected of it: it isn't waited for."""
 LAST_READS = (8, 20)
@@ -450,6 +453,24 @@ def silent_behind_its_answer(program):
     return let_go_behind_its_answer(program, *LAST_READ)
 
 
+def silent_for_all_their_time(program):
+    """Clients that are silent behind their answers are kept for all the time that they have, however often the server looks at its
+    clock, since others come: at no time more of them are let go than had it."""
+    with Server(program, None) as server, contextlib.ExitStack() as kept:
+        before, since = server.sockets(), []
+        end = time.monotonic() + SEVERAL_SILENT * APART + LAST_READ[1]
+        while (now := time.monotonic()) < end and (len(since) < SEVERAL_SILENT or server.sockets() > before):
+            if len(since) < SEVERAL_SILENT and now >= max(since, default=0) + APART:
+                since.append(now)
+                kept.enter_context(answered(server))
+            yield from talk_over(server, Exchange(NOWHERE, error(404, "not_found")))
+            left = len(since) + before - server.sockets()
+            over = sum(time.monotonic() - begun >= IN_ALL for begun in since)
+            if left > over:
+                yield f"{left} clients were let go, of which {over} had had {IN_ALL} s"
+                return
+
+
 def trickling_behind_its_answer(program):
     """A client that goes on sending bytes behind its answer, one each time."""
     return let_go_behind_its_answer(program, *LAST_READS, piece=b"x", pause=0.3)
@@ -711,6 +732,7 @@ LIMITS = [
     answered_where_no_memory_is_left,
     sending_behind_want_of_memory,
     silent_behind_its_answer,
+    silent_for_all_their_time,
     trickling_behind_its_answer,
     sending_behind_an_answer_that_took_long,
     sending_while_it_stood_still,

@@ -6,7 +6,7 @@ import struct
 import subprocess
 import tempfile
 from concurrent.futures import ThreadPoolExecutor
-from itertools import product
+from itertools import islice, product
 from pathlib import Path
 
 from cases.largest import LONG_TYPED, LONG_TYPES, long_events
@@ -37,6 +37,8 @@ MOST_DEEP = 127
 """How deep lists and objects may be."""
 TYPED, MORE_LISTS, MOST_ALIKE = 3 * MAX_ITEMS, 200, 1.15
 """Events of one list of types, more lists than are looked through, and how many times as much memory as many events may take."""
+OWN_LISTS, MOST_SLOWER, SLACK = 2 * MAX_ITEMS, 4, 0.1
+"""Events that have a list of types each, how many times longer than with one list they may take, and seconds more."""
 DEEP_WORKERS, MOST_OF_DEEP = 16, 4 * MAX_BYTES
 """Workers that read deep bodies, and how many bytes each may take."""
 
@@ -157,12 +159,31 @@ def told_of(server, device, kinds):
     return server.success - before
 
 
+KINDS = [f"{'kind_of_an_event_':.<28}{number}".replace(".", "_") for number in range(10)]
+OF_KINDS = [(name, "removed available", "available") for name in KINDS]
+
+
+def time_of_lists_of_types(program):
+    """Events that each have a list of types of their own take little longer than as many with one list: those that came before aren't
+    all looked through."""
+    lists_of_five, took = [" ".join(five) for five in islice(product(KINDS, repeat=5), OWN_LISTS)], []
+    with Server(program, None, table=table_file(OF_KINDS)) as server:
+        for number, kinds in enumerate((OWN_LISTS * lists_of_five[:1], lists_of_five)):
+            device = identifier(7, 2 * number)
+            yield from talk_over(server, registered(device))
+            before = server.processor_time()
+            if told_of(server, device, kinds) != len(kinds):
+                yield f"not all events of {device} were accepted"
+            took.append(server.processor_time() - before)
+    if took[1] > MOST_SLOWER * took[0] + SLACK:
+        yield f"{OWN_LISTS} events took {took[1]:.2f} s with as many lists of types, and {took[0]:.2f} s with one"
+
+
 def memory_of_lists_of_types(program):
     """A list of types that came before isn't kept again, as long as it's one of the first 128, also behind more lists than that: of so
     many events memory grows by as much as at first."""
-    names = [f"{'kind_of_an_event_':.<28}{number}".replace(".", "_") for number in range(10)]
-    lists_of_three = [" ".join(three) for three in product(names, repeat=3)][:MORE_LISTS]
-    table, grown = table_file([(name, "removed available", "available") for name in names]), []
+    lists_of_three = [" ".join(three) for three in product(KINDS, repeat=3)][:MORE_LISTS]
+    table, grown = table_file(OF_KINDS), []
     often = TYPED * lists_of_three[:1]
     with Server(program, None, table=table, env={**os.environ, **AS_THE_UNIT}) as server:
         # of a vehicle that isn't there: so all is there that a batch takes
@@ -246,6 +267,7 @@ SIZES = [
     largest_tables,
     memory_behind_a_long_table,
     memory_of_lists_of_types,
+    time_of_lists_of_types,
     many_requests_of_many_seats,
     memory_behind_long_items,
     memory_of_deep_values,
