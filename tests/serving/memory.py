@@ -62,6 +62,8 @@ MOST_OF_LIST = 2.2
 """How many times as much memory as its text the list may take, until the last byte of it is sent."""
 LEAST_STACK = 2**20
 """How many bytes of stack the first thread has at least once the server listens."""
+FEW, ROUNDS, MOST_SLOWER = 100, 20, 1.5
+"""Requests that go on side by side, how often each does, and how many times longer that may take behind as many as may wait."""
 BUSY = 60
 """How many seconds the server may take to take in what was sent."""
 OPEN_FILES = 16384
@@ -150,6 +152,35 @@ def memory_of_waiting(program):
             yield from looks.once()
         yield from looks.judged(f"{WAITING} connections that wait")
         yield from server.drain()
+
+
+def slower_behind_many(program):
+    """A burst of as many connections as may wait makes the server no slower for those who wait behind it. It is tried again, as on a
+    busy machine any bytes may take long."""
+    many_open_files(OPEN_FILES)
+    for _ in range(TRIES):
+        with Server(program, None) as server:
+            sockets, first = server.sockets(), seconds_of_bytes(server)
+            with connections(server.port, WAITING, FRONT):
+                taken_in(server, sockets + WAITING)
+            gone_from(server, sockets)
+            seconds = seconds_of_bytes(server)
+        if seconds <= MOST_SLOWER * first:
+            return
+    yield f"{1e6 * first:.0f} µs of a processor for bytes of requests, and {1e6 * seconds:.0f} behind {WAITING} connections that waited"
+
+
+def seconds_of_bytes(server):
+    """How long the server has a processor while some requests go on by a byte each, again and again."""
+    with connections(server.port, FEW, FRONT) as opened:
+        taken_in(server)
+        before = server.processor_time()
+        for _ in range(ROUNDS):
+            for connection in opened:
+                connection.sendall(b" ")
+            while waits_at(server.port):
+                time.sleep(0.001)
+        return server.processor_time() - before
 
 
 def gone_from(server, sockets):
@@ -371,6 +402,7 @@ def stack_of_the_first_thread(program):
 
 MEMORY = [
     memory_of_waiting,
+    slower_behind_many,
     waiting_beside_a_refused_growth,
     waiting_beside_others_without_room,
     bodies_that_never_end,

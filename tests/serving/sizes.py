@@ -37,7 +37,7 @@ MOST_DEEP = 127
 """How deep lists and objects may be."""
 TYPED, MORE_LISTS, MOST_ALIKE = 3 * MAX_ITEMS, 200, 1.15
 """Events of one list of types, more lists than are looked through, and how many times as much memory as many events may take."""
-OWN_LISTS, MOST_SLOWER, SLACK = 2 * MAX_ITEMS, 4, 0.1
+OWN_LISTS, MOST_SLOWER, SLACK = MAX_ITEMS, 20, 0.1
 """Events that have a list of types each, how many times longer than with one list they may take, and seconds more."""
 DEEP_WORKERS, MOST_OF_DEEP = 16, 4 * MAX_BYTES
 """Workers that read deep bodies, and how many bytes each may take."""
