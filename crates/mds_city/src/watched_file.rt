@@ -4,7 +4,6 @@ ghost use Rattle.std.specs.Prelude.{◌≡◌};
 use crate::progress::{Progress, Teller};
 use mds_journal::{Device, DeviceError};
 use mds_metrics::{Board, Gauge};
-use memchr::memchr_iter;
 use std::alloc::Global;
 use std::io::Write;
 use std::sync::Arc;
@@ -12,6 +11,13 @@ use std::time::{Clock, Duration};
 
 /// What opens the gate before a group of lines.
 const OPEN_GATE: &[u8] = b" ";
+
+/// Eight line feeds; of each of eight bytes all bits but the highest; and that one.
+const LINE_FEEDS: u64 = 0x0A0A_0A0A_0A0A_0A0A;
+
+const LOW_BITS: u64 = 0x7F7F_7F7F_7F7F_7F7F;
+
+const HIGH_BITS: u64 = 0x8080_8080_8080_8080;
 
 /// A file, and the board on which its figures stand. What is answered is what the file answers.
 ///
@@ -234,8 +240,22 @@ fn time_between(begun: Option<Duration>, ended: Option<Duration>) -> Option<Dura
     Some(ended?.saturating_sub(begun?))
 }
 
+/// How many line feeds there are. Eight bytes are looked at at a time: a start counts those of the whole journal, and each group has some.
 fn line_feeds(bytes: &[u8]) -> u64 {
-    memchr_iter(b'\n', bytes).count() as u64
+    let (eights, rest) = bytes.as_chunks::<8>();
+    let mut count = rest.iter().filter(|byte| **byte == b'\n').count() as u64;
+    for eight in eights {
+        count = count.saturating_add(line_feeds_of(*eight));
+    }
+    count
+}
+
+/// How many of eight bytes are line feeds.
+fn line_feeds_of(eight: [u8; 8]) -> u64 {
+    let word = u64::from_le_bytes(eight) ^ LINE_FEEDS;
+    // A byte that isn't 0 has its highest bit then: its own, or a carry of its others, which goes no further.
+    let others = (word & LOW_BITS).wrapping_add(LOW_BITS) | word;
+    u64::from((!others & HIGH_BITS).count_ones())
 }
 
 /// The syncs among which one counts that took so many microseconds.
