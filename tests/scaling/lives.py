@@ -65,7 +65,7 @@ class Size:
 
 
 SHORT = Size((18, 3), 60_000, 20)
-WHOLE = Size((30, 10), 100_000, 20, 500_000)
+WHOLE = Size((30, 10), 60_000, 20, 500_000)
 
 
 def folder_of(size):
