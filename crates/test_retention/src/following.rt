@@ -1,8 +1,7 @@
 //! New journals of ones that another process goes on with.
 use crate::files::MemoryName;
 use crate::texts::{
-    CHECKED, FORM, FREE_1, FREE_3, FREE_5, GROUP, OF_CHECKED, REGISTRATION, RIDE_2, RIDE_4, RIDE_6,
-    RIDES, lines_of,
+    CHECKED, FREE_1, FREE_5, GROUP, OF_CHECKED, REGISTRATION, RIDE_4, RIDE_6, RIDES, lines_of,
 };
 use mds_file::{FileFault, Followed, NewFileFault};
 use mds_groups::GroupFault;
@@ -47,7 +46,7 @@ impl<'a> Followed for Growing<'a> {
     }
 }
 
-/// A journal of four rides, and what it has in the end.
+/// A journal of four rides, and the lines that come behind them.
 struct Case {
     old: &'static [&'static str],
     since: &'static [&'static str],
@@ -87,96 +86,40 @@ const TOTALS: Totals = Totals {
     kept: 4,
 };
 
-/// Six rides.
-const SIX: &[&str] = &[
-    FORM,
-    REGISTRATION,
-    FREE_1,
-    RIDE_2,
-    FREE_3,
-    RIDE_4,
-    FREE_5,
-    RIDE_6,
-];
-
 const CASES: &[Case] = &[
     Case {
         old: RIDES,
-        since: SIX,
+        since: &[FREE_5, RIDE_6],
         end: Came::Whole,
     },
     Case {
         old: RIDES,
-        since: SIX,
+        since: &[FREE_5, RIDE_6],
         end: Came::Dropped,
     },
     Case {
         old: GROUP,
-        since: &[
-            CHECKED,
-            OF_CHECKED,
-            REGISTRATION,
-            FREE_1,
-            RIDE_2,
-            FREE_3,
-            RIDE_4,
-            "{\"crc32\":\"174f3507\"}",
-            FREE_5,
-            RIDE_6,
-            "{\"crc32\":\"dd703660\"}",
-        ],
+        since: &[FREE_5, RIDE_6, "{\"crc32\":\"dd703660\"}"],
         end: Came::Whole,
     },
     // Lines of another kind have their numbers, and so has a group whose check isn't that of its lines.
     Case {
         old: RIDES,
-        since: &[
-            FORM,
-            REGISTRATION,
-            FREE_1,
-            RIDE_2,
-            FREE_3,
-            RIDE_4,
-            REGISTRATION,
-            "7",
-        ],
+        since: &[REGISTRATION, "7"],
         end: Came::Failed(CompactError::Old(LinesError::Fault(GroupFault::Journal(
             JournalFault::BadLine(7),
         )))),
     },
     Case {
         old: GROUP,
-        since: &[
-            CHECKED,
-            OF_CHECKED,
-            REGISTRATION,
-            FREE_1,
-            RIDE_2,
-            FREE_3,
-            RIDE_4,
-            "{\"crc32\":\"174f3507\"}",
-            REGISTRATION,
-            "7",
-            "{\"crc32\":\"03580a69\"}",
-        ],
+        since: &[REGISTRATION, "7", "{\"crc32\":\"03580a69\"}"],
         end: Came::Failed(CompactError::Old(LinesError::Fault(GroupFault::Journal(
             JournalFault::BadLine(9),
         )))),
     },
     Case {
         old: GROUP,
-        since: &[
-            CHECKED,
-            OF_CHECKED,
-            REGISTRATION,
-            FREE_1,
-            RIDE_2,
-            FREE_3,
-            RIDE_4,
-            "{\"crc32\":\"174f3507\"}",
-            REGISTRATION,
-            "{\"crc32\":\"03580a69\"}",
-        ],
+        since: &[REGISTRATION, "{\"crc32\":\"03580a69\"}"],
         end: Came::Failed(CompactError::Old(LinesError::Fault(GroupFault::Damaged(8)))),
     },
 ];
@@ -189,7 +132,8 @@ fn came_of<R: RandomSource + Wait>(
     case: &Case,
 ) -> Result<Came, CompactError> {
     let old = lines_of(alloc, case.old)?;
-    let since = lines_of(alloc, case.since)?;
+    let mut all = lines_of(alloc, case.old)?;
+    all.extend_from_slice(&lines_of(alloc, case.since)?)?;
     let readings = Readings {
         first: old.as_slice(),
         second: old.as_slice(),
@@ -197,7 +141,7 @@ fn came_of<R: RandomSource + Wait>(
         fourth: old.as_slice(),
     };
     let mut followed = Growing {
-        bytes: &since,
+        bytes: &all,
         there: old.len(),
     };
     let mut name = MemoryName::new(alloc, false);
